@@ -1,0 +1,8 @@
+pub mod Text
+pub mod View
+pub mod Ends
+pub mod Merged
+pub mod Forest
+pub mod Reading
+pub mod ErrorText
+pub mod Options

@@ -1,0 +1,26 @@
+-- Events with each stretch of texts as one.
+use Rattle.std.specs.Prelude.{ℕ, List, [], ◌∷◌, ◌++◌, Option, Some, None}
+use Rattle.tocmark_event.specs.View.{EventView, Leaf, Text}
+
+-- events whose first text, if they begin with one, has this text before it
+abbrev pub after_text : List ℕ → List EventView → List EventView
+after_text t (Leaf (Text u) ∷ es) = Leaf (Text (t ++ u)) ∷ es
+after_text t es = Leaf (Text t) ∷ es
+
+-- each longest stretch of texts is one text of their joined texts; all else stays
+abbrev pub merged : List EventView → List EventView
+merged [] = []
+merged (Leaf (Text t) ∷ es) = after_text t (merged es)
+merged (e ∷ es) = e ∷ merged es
+
+abbrev pub pending_text : Option (List ℕ) → List EventView
+pending_text None = []
+pending_text (Some t) = Leaf (Text t) ∷ []
+
+abbrev pub with_text : Option (List ℕ) → List EventView → List EventView
+with_text None es = es
+with_text (Some t) es = after_text t es
+
+abbrev pub or_empty : Option (List ℕ) → List ℕ
+or_empty None = []
+or_empty (Some t) = t

@@ -1,0 +1,457 @@
+//! Markdown events: what a parser gives and what the writer takes.
+
+ghost use Rattle.std.specs.Prelude.{◌≡◌, ◌++◌, ◌↔◌, map, string_bytes, IfOk, OnOk, IsTrue};
+ghost use Rattle.std.specs.Option.{option_map};
+ghost use Rattle.tocmark_event.specs.Text.{text_of};
+ghost use Rattle.tocmark_event.specs.View.{event_view, tag_view, code_view, attribute_view, end_of};
+ghost use Rattle.tocmark_event.specs.Merged.{merged, pending_text, or_empty};
+
+use std::alloc::{AllocError, Global};
+
+pub mod flags;
+pub mod text;
+
+pub use flags::ParserOptions;
+pub use text::{CowStr, OwnedWords, Words};
+
+/// The level of a heading, 1 to 6.
+#[derive(Clone, Copy, Debug, PartialEq, Eq)]
+pub enum HeadingLevel {
+    H1,
+    H2,
+    H3,
+    H4,
+    H5,
+    H6,
+}
+
+/// The kind of a block quote, as `[!NOTE]` names it.
+#[derive(Clone, Copy, Debug, PartialEq, Eq)]
+pub enum BlockQuoteKind {
+    Note,
+    Tip,
+    Important,
+    Warning,
+    Caution,
+}
+
+/// The alignment of a table's column.
+#[derive(Clone, Copy, Debug, PartialEq, Eq)]
+pub enum Alignment {
+    None,
+    Left,
+    Center,
+    Right,
+}
+
+/// The delimiters of a metadata block: `---` or `+++`.
+#[derive(Clone, Copy, Debug, PartialEq, Eq)]
+pub enum MetadataBlockKind {
+    YamlStyle,
+    PlusesStyle,
+}
+
+/// How a link or an image was written.
+#[derive(Clone, Copy, Debug, PartialEq, Eq)]
+pub enum LinkType {
+    /// `[text](destination)`
+    Inline,
+    /// `[text][label]`
+    Reference,
+    /// `[text][label]` with no definition
+    ReferenceUnknown,
+    /// `[label][]`
+    Collapsed,
+    /// `[label][]` with no definition
+    CollapsedUnknown,
+    /// `[label]`
+    Shortcut,
+    /// `[label]` with no definition
+    ShortcutUnknown,
+    /// `<https://example.org>`
+    Autolink,
+    /// `<me@example.org>`
+    Email,
+    /// `[[page]]`, or with a pothole `[[page|text]]`
+    WikiLink { has_pothole: bool },
+}
+
+/// The kind of a code block, with texts of type `T`.
+#[derive(Clone, Debug, Drop, PartialEq, Eq)]
+pub enum CodeBlockKindOf<T> {
+    /// Four spaces before each line.
+    Indented,
+    /// Between fences; the text is the info string.
+    Fenced(T),
+}
+
+/// A container's start, with texts of type `T`.
+#[derive(Clone, Debug, Drop, PartialEq, Eq)]
+pub enum TagOf<T> {
+    Paragraph,
+    Heading {
+        level: HeadingLevel,
+        id: Option<T>,
+        classes: Vec<T>,
+        /// Each with its value, if it has one.
+        attrs: Vec<(T, Option<T>)>,
+    },
+    BlockQuote(Option<BlockQuoteKind>),
+    CodeBlock(CodeBlockKindOf<T>),
+    HtmlBlock,
+    /// A list with its first number, or none for bullets.
+    List(Option<u64>),
+    Item,
+    /// A footnote's definition with its label.
+    FootnoteDefinition(T),
+    DefinitionList,
+    DefinitionListTitle,
+    DefinitionListDefinition,
+    /// A table with the alignments of its columns.
+    Table(Vec<Alignment>),
+    TableHead,
+    TableRow,
+    TableCell,
+    Emphasis,
+    Strong,
+    Strikethrough,
+    Superscript,
+    Subscript,
+    Link {
+        link_type: LinkType,
+        dest_url: T,
+        title: T,
+        /// The label, as it was written; empty where there is none.
+        id: T,
+    },
+    Image {
+        link_type: LinkType,
+        dest_url: T,
+        title: T,
+        /// The label, as it was written; empty where there is none.
+        id: T,
+    },
+    MetadataBlock(MetadataBlockKind),
+}
+
+/// A container's end.
+#[derive(Clone, Copy, Debug, PartialEq, Eq)]
+pub enum TagEnd {
+    Paragraph,
+    Heading(HeadingLevel),
+    BlockQuote(Option<BlockQuoteKind>),
+    CodeBlock,
+    HtmlBlock,
+    /// True where the list is ordered.
+    List(bool),
+    Item,
+    FootnoteDefinition,
+    DefinitionList,
+    DefinitionListTitle,
+    DefinitionListDefinition,
+    Table,
+    TableHead,
+    TableRow,
+    TableCell,
+    Emphasis,
+    Strong,
+    Strikethrough,
+    Superscript,
+    Subscript,
+    Link,
+    Image,
+    MetadataBlock(MetadataBlockKind),
+}
+
+/// An event, with texts of type `T`.
+#[derive(Clone, Debug, Drop, PartialEq, Eq)]
+pub enum EventOf<T> {
+    Start(TagOf<T>),
+    End(TagEnd),
+    Text(T),
+    Code(T),
+    InlineMath(T),
+    DisplayMath(T),
+    /// A line of an HTML block.
+    Html(T),
+    InlineHtml(T),
+    /// A reference to a footnote, with its label.
+    FootnoteReference(T),
+    SoftBreak,
+    HardBreak,
+    Rule,
+    /// A task list's box; true where it is checked.
+    TaskListMarker(bool),
+}
+
+/// A code block's kind in the events of a parser.
+pub type CodeBlockKind<'a> = CodeBlockKindOf<CowStr<'a>>;
+
+/// A container's start in the events of a parser.
+pub type Tag<'a> = TagOf<CowStr<'a>>;
+
+/// An event of a parser.
+///
+/// `Event::Text(CowStr::Borrowed("a"))` is a text, `Event::Start(Tag::Paragraph)` opens a paragraph
+/// and `Event::End(TagEnd::Paragraph)` ends it.
+pub type Event<'a> = EventOf<CowStr<'a>>;
+
+/// A container's start that owns its texts as strings.
+pub type OwnedTag = TagOf<String>;
+
+/// An event that owns its texts as strings: what is kept between calls.
+pub type OwnedEvent = EventOf<String>;
+
+fn copied_texts<T: Words, U: OwnedWords + Drop>(
+    alloc: Global,
+    texts: &[T],
+) -> Result<Vec<U>, AllocError>
+    ensures { IfOk result (λ copies. map U.Words.bytes copies.items ≡ map T.bytes texts.now) }
+{
+    let mut copies = Vec::new(alloc);
+    for text in texts {
+        copies.push(U::from_text(alloc, text.words())?)?;
+    }
+    Ok(copies)
+}
+
+fn copied_text<T: Words, U: OwnedWords>(
+    alloc: Global,
+    text: &Option<T>,
+) -> Result<Option<U>, AllocError>
+    ensures { IfOk result (λ copy. option_map U.Words.bytes copy ≡ option_map T.bytes text.now) }
+{
+    match text {
+        None => Ok(None),
+        Some(text) => Ok(Some(U::from_text(alloc, text.words())?)),
+    }
+}
+
+fn copied_attributes<T: Words, U: OwnedWords + Drop>(
+    alloc: Global,
+    attributes: &[(T, Option<T>)],
+) -> Result<Vec<(U, Option<U>)>, AllocError>
+    ensures { IfOk result (λ copies. map (attribute_view U.Words.bytes) copies.items ≡ map (attribute_view T.bytes) attributes.now) }
+{
+    let mut copies = Vec::new(alloc);
+    for (key, value) in attributes {
+        let key = U::from_text(alloc, key.words())?;
+        let value = copied_text(alloc, value)?;
+        copies.push((key, value))?;
+    }
+    Ok(copies)
+}
+
+fn copied_alignments(alloc: Global, alignments: &[Alignment]) -> Result<Vec<Alignment>, AllocError>
+    ensures { IfOk result (λ copies. copies.items ≡ alignments.now) }
+{
+    let mut copies = Vec::new(alloc);
+    for alignment in alignments {
+        copies.push(*alignment)?;
+    }
+    Ok(copies)
+}
+
+impl<T: Words> TagOf<T> {
+    /// The end of this container. It takes no memory.
+    pub fn to_end(&self) -> TagEnd
+        ensures { result ≡ end_of (tag_view T.bytes self.now) }
+    {
+        match self {
+            TagOf::Paragraph => TagEnd::Paragraph,
+            TagOf::Heading { level, .. } => TagEnd::Heading(*level),
+            TagOf::BlockQuote(kind) => TagEnd::BlockQuote(*kind),
+            TagOf::CodeBlock(_) => TagEnd::CodeBlock,
+            TagOf::HtmlBlock => TagEnd::HtmlBlock,
+            TagOf::List(start) => TagEnd::List(start.is_some()),
+            TagOf::Item => TagEnd::Item,
+            TagOf::FootnoteDefinition(_) => TagEnd::FootnoteDefinition,
+            TagOf::DefinitionList => TagEnd::DefinitionList,
+            TagOf::DefinitionListTitle => TagEnd::DefinitionListTitle,
+            TagOf::DefinitionListDefinition => TagEnd::DefinitionListDefinition,
+            TagOf::Table(_) => TagEnd::Table,
+            TagOf::TableHead => TagEnd::TableHead,
+            TagOf::TableRow => TagEnd::TableRow,
+            TagOf::TableCell => TagEnd::TableCell,
+            TagOf::Emphasis => TagEnd::Emphasis,
+            TagOf::Strong => TagEnd::Strong,
+            TagOf::Strikethrough => TagEnd::Strikethrough,
+            TagOf::Superscript => TagEnd::Superscript,
+            TagOf::Subscript => TagEnd::Subscript,
+            TagOf::Link { .. } => TagEnd::Link,
+            TagOf::Image { .. } => TagEnd::Image,
+            TagOf::MetadataBlock(kind) => TagEnd::MetadataBlock(*kind),
+        }
+    }
+
+    /// An equal tag that owns its texts. An `Err` says that memory ran out.
+    pub fn copied<U: OwnedWords + Drop>(&self, alloc: Global) -> Result<TagOf<U>, AllocError>
+        ensures { IfOk result (λ copy. tag_view U.Words.bytes copy ≡ tag_view T.bytes self.now) }
+    {
+        match self {
+            TagOf::Paragraph => Ok(TagOf::Paragraph),
+            TagOf::Heading {
+                level,
+                id,
+                classes,
+                attrs,
+            } => Ok(TagOf::Heading {
+                level: *level,
+                id: copied_text(alloc, id)?,
+                classes: copied_texts(alloc, classes)?,
+                attrs: copied_attributes(alloc, attrs)?,
+            }),
+            TagOf::BlockQuote(kind) => Ok(TagOf::BlockQuote(*kind)),
+            TagOf::CodeBlock(CodeBlockKindOf::Indented) => {
+                Ok(TagOf::CodeBlock(CodeBlockKindOf::Indented))
+            }
+            TagOf::CodeBlock(CodeBlockKindOf::Fenced(info)) => Ok(TagOf::CodeBlock(
+                CodeBlockKindOf::Fenced(U::from_text(alloc, info.words())?),
+            )),
+            TagOf::HtmlBlock => Ok(TagOf::HtmlBlock),
+            TagOf::List(start) => Ok(TagOf::List(*start)),
+            TagOf::Item => Ok(TagOf::Item),
+            TagOf::FootnoteDefinition(label) => Ok(TagOf::FootnoteDefinition(U::from_text(
+                alloc,
+                label.words(),
+            )?)),
+            TagOf::DefinitionList => Ok(TagOf::DefinitionList),
+            TagOf::DefinitionListTitle => Ok(TagOf::DefinitionListTitle),
+            TagOf::DefinitionListDefinition => Ok(TagOf::DefinitionListDefinition),
+            TagOf::Table(alignments) => Ok(TagOf::Table(copied_alignments(alloc, alignments)?)),
+            TagOf::TableHead => Ok(TagOf::TableHead),
+            TagOf::TableRow => Ok(TagOf::TableRow),
+            TagOf::TableCell => Ok(TagOf::TableCell),
+            TagOf::Emphasis => Ok(TagOf::Emphasis),
+            TagOf::Strong => Ok(TagOf::Strong),
+            TagOf::Strikethrough => Ok(TagOf::Strikethrough),
+            TagOf::Superscript => Ok(TagOf::Superscript),
+            TagOf::Subscript => Ok(TagOf::Subscript),
+            TagOf::Link {
+                link_type,
+                dest_url,
+                title,
+                id,
+            } => Ok(TagOf::Link {
+                link_type: *link_type,
+                dest_url: U::from_text(alloc, dest_url.words())?,
+                title: U::from_text(alloc, title.words())?,
+                id: U::from_text(alloc, id.words())?,
+            }),
+            TagOf::Image {
+                link_type,
+                dest_url,
+                title,
+                id,
+            } => Ok(TagOf::Image {
+                link_type: *link_type,
+                dest_url: U::from_text(alloc, dest_url.words())?,
+                title: U::from_text(alloc, title.words())?,
+                id: U::from_text(alloc, id.words())?,
+            }),
+            TagOf::MetadataBlock(kind) => Ok(TagOf::MetadataBlock(*kind)),
+        }
+    }
+}
+
+impl<T: Words> EventOf<T> {
+    /// An equal event that owns its texts. An `Err` says that memory ran out.
+    pub fn copied<U: OwnedWords + Drop>(&self, alloc: Global) -> Result<EventOf<U>, AllocError>
+        ensures { IfOk result (λ copy. event_view U.Words.bytes copy ≡ event_view T.bytes self.now) }
+    {
+        match self {
+            EventOf::Start(tag) => Ok(EventOf::Start(tag.copied(alloc)?)),
+            EventOf::End(end) => Ok(EventOf::End(*end)),
+            EventOf::Text(text) => Ok(EventOf::Text(U::from_text(alloc, text.words())?)),
+            EventOf::Code(text) => Ok(EventOf::Code(U::from_text(alloc, text.words())?)),
+            EventOf::InlineMath(text) => Ok(EventOf::InlineMath(U::from_text(
+                alloc,
+                text.words(),
+            )?)),
+            EventOf::DisplayMath(text) => {
+                Ok(EventOf::DisplayMath(U::from_text(alloc, text.words())?))
+            }
+            EventOf::Html(text) => Ok(EventOf::Html(U::from_text(alloc, text.words())?)),
+            EventOf::InlineHtml(text) => Ok(EventOf::InlineHtml(U::from_text(
+                alloc,
+                text.words(),
+            )?)),
+            EventOf::FootnoteReference(label) => Ok(EventOf::FootnoteReference(U::from_text(
+                alloc,
+                label.words(),
+            )?)),
+            EventOf::SoftBreak => Ok(EventOf::SoftBreak),
+            EventOf::HardBreak => Ok(EventOf::HardBreak),
+            EventOf::Rule => Ok(EventOf::Rule),
+            EventOf::TaskListMarker(checked) => Ok(EventOf::TaskListMarker(*checked)),
+        }
+    }
+}
+
+impl<'a> EventOf<CowStr<'a>> {
+    /// An equal event that owns its texts and can outlive their source. An `Err` says that memory
+    /// ran out.
+    pub fn to_static(&self, alloc: Global) -> Result<Event<'static>, AllocError>
+        ensures { IfOk result (λ copy. event_view text_of copy ≡ event_view text_of self.now) }
+    {
+        self.copied(alloc)
+    }
+}
+
+fn push_text<U: OwnedWords + Drop>(
+    alloc: Global,
+    events: &mut Vec<EventOf<U>>,
+    text: Option<String>,
+) -> Result<(), AllocError>
+    ensures { OnOk result (map (event_view U.Words.bytes) events.new.items ≡ map (event_view U.Words.bytes) events.old.items ++ pending_text (option_map string_bytes text)) }
+{
+    if let Some(text) = text {
+        events.push(EventOf::Text(U::from_text(alloc, text.as_str())?))?;
+    }
+    Ok(())
+}
+
+fn joined(alloc: Global, text: Option<String>, more: &str) -> Result<String, AllocError>
+    ensures { IfOk result (λ whole. string_bytes whole ≡ or_empty (option_map string_bytes text) ++ more.now) }
+{
+    let mut whole = match text {
+        None => String::new(alloc),
+        Some(text) => text,
+    };
+    whole.push_str(more)?;
+    Ok(whole)
+}
+
+/// The events, with each longest stretch of texts as one text, for any types of texts.
+pub fn merge_all<T: Words, U: OwnedWords + Drop>(
+    alloc: Global,
+    events: &[EventOf<T>],
+) -> Result<Vec<EventOf<U>>, AllocError>
+    ensures { IfOk result (λ all. map (event_view U.Words.bytes) all.items ≡ merged (map (event_view T.bytes) events.now)) }
+{
+    let mut all = Vec::new(alloc);
+    let mut pending: Option<String> = None;
+    for event in events {
+        match event {
+            EventOf::Text(text) => pending = Some(joined(alloc, pending, text.words())?),
+            _ => {
+                push_text(alloc, &mut all, pending)?;
+                pending = None;
+                all.push(event.copied(alloc)?)?;
+            }
+        }
+    }
+    push_text(alloc, &mut all, pending)?;
+    Ok(all)
+}
+
+/// The events, with each longest stretch of Text events as one Text of their joined texts; all else
+/// stays. An `Err` says that memory ran out.
+///
+/// `a`, `b`, a soft break and `c` become `ab`, the soft break and `c`. Empty texts join like others,
+/// so that a stretch of them stays one empty text.
+pub fn merge_texts(alloc: Global, events: &[Event<'_>]) -> Result<Vec<Event<'static>>, AllocError>
+    ensures { IfOk result (λ all. map (event_view text_of) all.items ≡ merged (map (event_view text_of) events.now)) }
+{
+    merge_all(alloc, events)
+}
