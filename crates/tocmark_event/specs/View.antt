@@ -62,11 +62,30 @@ pub data LeafView : Type 0 where
   Rule : LeafView
   TaskListMarker : Bool → LeafView
 
--- an event: a container starts, a container ends, or a leaf
-pub data EventView : Type 0 where
-  Start : TagView → EventView
-  End : TagEnd → EventView
-  Leaf : LeafView → EventView
+-- an event with leaves of type L: a container starts, a container ends, or a leaf
+pub data EventWith (L : Type 0) : Type 0 where
+  Start : TagView → EventWith L
+  End : TagEnd → EventWith L
+  Leaf : L → EventWith L
+
+-- an event
+abbrev pub EventView : Type 0
+EventView = EventWith LeafView
+
+-- a leaf, and for a text its spelling in the source where that is known
+pub record SourcedLeaf : Type 0 where
+  pub leaf : LeafView
+  pub source : Option (List ℕ)
+
+-- an event of a unit that is to be written
+abbrev pub SourcedEvent : Type 0
+SourcedEvent = EventWith SourcedLeaf
+
+-- the event without its source text
+abbrev pub unsourced : SourcedEvent → EventView
+unsourced (Start t) = Start t
+unsourced (End k) = End k
+unsourced (Leaf l) = Leaf l.leaf
 
 abbrev pub code_view : {T : Type 0} → (T → List ℕ) → CodeBlockKindOf T → CodeView
 code_view bytes kind.Indented = Indented
