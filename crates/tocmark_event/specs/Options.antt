@@ -1,24 +1,73 @@
--- The options, as plain values.
-use Rattle.std.specs.Prelude.{◌≡◌, false, codes}
+-- The options.
+use Rattle.std.specs.Prelude.{◌≡◌, ℕ, List, Bool, false, codes}
 use Rattle.tocmark_event.specs.declared.options.Options.{Options}
 
+-- the options as plain values: tokens are characters, the strong token its bytes
+pub record OptionsView : Type 0 where
+  pub newlines_after_headline : ℕ
+  pub newlines_after_paragraph : ℕ
+  pub newlines_after_codeblock : ℕ
+  pub newlines_after_htmlblock : ℕ
+  pub newlines_after_table : ℕ
+  pub newlines_after_rule : ℕ
+  pub newlines_after_list : ℕ
+  pub newlines_after_blockquote : ℕ
+  pub newlines_after_rest : ℕ
+  pub newlines_after_metadata : ℕ
+  pub code_block_token_count : ℕ
+  pub code_block_token : ℕ
+  pub list_token : ℕ
+  pub ordered_list_token : ℕ
+  pub increment_ordered_list_bullets : Bool
+  pub emphasis_token : ℕ
+  pub strong_token : List ℕ
+  pub use_html_for_super_sub_script : Bool
+
+abbrev pub options_view : Options → OptionsView
+options_view o = record {
+  newlines_after_headline = o.newlines_after_headline;
+  newlines_after_paragraph = o.newlines_after_paragraph;
+  newlines_after_codeblock = o.newlines_after_codeblock;
+  newlines_after_htmlblock = o.newlines_after_htmlblock;
+  newlines_after_table = o.newlines_after_table;
+  newlines_after_rule = o.newlines_after_rule;
+  newlines_after_list = o.newlines_after_list;
+  newlines_after_blockquote = o.newlines_after_blockquote;
+  newlines_after_rest = o.newlines_after_rest;
+  newlines_after_metadata = o.newlines_after_metadata;
+  code_block_token_count = o.code_block_token_count;
+  code_block_token = o.code_block_token;
+  list_token = o.list_token;
+  ordered_list_token = o.ordered_list_token;
+  increment_ordered_list_bullets = o.increment_ordered_list_bullets;
+  emphasis_token = o.emphasis_token;
+  strong_token = o.strong_token.now;
+  use_html_for_super_sub_script = o.use_html_for_super_sub_script;
+}
+
+-- what `Options::default` gives
+abbrev pub default_options : OptionsView
+default_options = record {
+  newlines_after_headline = 2;
+  newlines_after_paragraph = 2;
+  newlines_after_codeblock = 2;
+  newlines_after_htmlblock = 1;
+  newlines_after_table = 2;
+  newlines_after_rule = 2;
+  newlines_after_list = 2;
+  newlines_after_blockquote = 2;
+  newlines_after_rest = 1;
+  newlines_after_metadata = 1;
+  code_block_token_count = 4;
+  code_block_token = 96;
+  list_token = 42;
+  ordered_list_token = 46;
+  increment_ordered_list_bullets = false;
+  emphasis_token = 42;
+  strong_token = codes "**";
+  use_html_for_super_sub_script = false;
+}
+
 -- two line feeds behind most blocks, fences of four backticks, and `*` wherever there is a choice
-pub record IsDefault (o : Options) : Type 0 where
-  pub newlines_after_headline : o.newlines_after_headline ≡ 2
-  pub newlines_after_paragraph : o.newlines_after_paragraph ≡ 2
-  pub newlines_after_codeblock : o.newlines_after_codeblock ≡ 2
-  pub newlines_after_htmlblock : o.newlines_after_htmlblock ≡ 1
-  pub newlines_after_table : o.newlines_after_table ≡ 2
-  pub newlines_after_rule : o.newlines_after_rule ≡ 2
-  pub newlines_after_list : o.newlines_after_list ≡ 2
-  pub newlines_after_blockquote : o.newlines_after_blockquote ≡ 2
-  pub newlines_after_rest : o.newlines_after_rest ≡ 1
-  pub newlines_after_metadata : o.newlines_after_metadata ≡ 1
-  pub code_block_token_count : o.code_block_token_count ≡ 4
-  pub code_block_token : o.code_block_token ≡ 96
-  pub list_token : o.list_token ≡ 42
-  pub ordered_list_token : o.ordered_list_token ≡ 46
-  pub increment_ordered_list_bullets : o.increment_ordered_list_bullets ≡ false
-  pub emphasis_token : o.emphasis_token ≡ 42
-  pub strong_token : o.strong_token.now ≡ codes "**"
-  pub use_html_for_super_sub_script : o.use_html_for_super_sub_script ≡ false
+abbrev pub IsDefault : Options → Type 0
+IsDefault o = options_view o ≡ default_options
