@@ -1,0 +1,4 @@
+pub mod Escape
+pub mod Buffered
+pub mod Draft
+pub mod DraftOf
