@@ -1,0 +1,4 @@
+//! How events are written as Markdown.
+#![tactic(auto)]
+
+pub mod escape;
