@@ -39,15 +39,19 @@ place_of e = record {
   next = option_map (λ r. event_view string_bytes r.now) e.next;
 }
 
--- a character of a stretch, with those before it, nearest first, and those after it
-abbrev pub spot : List ℕ → ℕ → List ℕ → Spot
-spot before c after = record {
+-- a character with the one just before it, whether all before it are digits, and those after it
+abbrev pub spot_from : Option ℕ → Bool → ℕ → List ℕ → Spot
+spot_from before only_digits c after = record {
   character = c;
-  before = slice_get before 0;
-  after_digits = is_some (slice_get before 0) && list_all is_ascii_digit before;
+  before = before;
+  after_digits = is_some before && only_digits;
   after = slice_get after 0;
   before_last = is_none (slice_get after 1);
 }
+
+-- a character of a stretch, with those before it, nearest first, and those after it
+abbrev pub spot : List ℕ → ℕ → List ℕ → Spot
+spot before c after = spot_from (slice_get before 0) (list_all is_ascii_digit before) c after
 
 -- whether the flag with these bits is set
 abbrev pub has : Place → ℕ → Bool
