@@ -72,11 +72,11 @@ abbrev pub is_encoded : Place → Spot → Bool
 is_encoded p s = ((is_first s && p.first_encoded) || (is_last s && p.last_encoded)) && not (is_white_space s.character)
 
 -- `&#d;` with the decimal code
-abbrev pub coded : ℕ → List ℕ
+unfoldable pub coded : ℕ → List ℕ
 coded c = codes "&#" ++ decimal c ++ codes ";"
 
 -- the reference that stands for a line ending, an ampersand, or a blank at the front
-abbrev pub reference : Place → Spot → Option (List ℕ)
+unfoldable pub reference : Place → Spot → Option (List ℕ)
 reference p s =
     if s.character == line_feed then Some (codes "&#10;")
     else if s.character == carriage_return then Some (codes "&#13;")
@@ -90,7 +90,7 @@ abbrev pub begins_block : Place → Spot → Bool
 begins_block p s = is_first s && p.at_front && not p.in_table
 
 -- whether nothing of this paragraph's line follows the stretch
-abbrev pub ends_line : Option EventView → Bool
+unfoldable pub ends_line : Option EventView → Bool
 ends_line None = true
 ends_line (Some (End k)) = true
 ends_line (Some (Leaf SoftBreak)) = true
@@ -106,11 +106,11 @@ abbrev pub is_alone : Place → Spot → Bool
 is_alone p s = option_map_or goes_on_marker s.after (ends_line p.next)
 
 -- whether the marker of a block could be read here
-abbrev pub is_marker : Place → Spot → Bool
+unfoldable pub is_marker : Place → Spot → Bool
 is_marker p s = begins_block p s && is_alone p s
 
 -- a backslash: last, or before what it would escape or a line ending, as they are written
-abbrev pub doubles_backslash : Place → Spot → Bool
+unfoldable pub doubles_backslash : Place → Spot → Bool
 doubles_backslash p s =
     option_map_or (λ c. is_ascii_punctuation c || c == line_feed || c == carriage_return
     || (s.before_last && p.last_encoded && not (is_white_space c))) s.after true
@@ -152,7 +152,7 @@ abbrev pub ends_number : Place → Spot → Bool
 ends_number p s = not p.in_table && s.after_digits
 
 -- whether a link, an image or a reference to a footnote follows
-abbrev pub opens_label : Option EventView → Bool
+unfoldable pub opens_label : Option EventView → Bool
 opens_label (Some (Start (Link k d t i))) = true
 opens_label (Some (Start (Image k d t i))) = true
 opens_label (Some (Leaf (FootnoteReference t))) = true
@@ -163,7 +163,7 @@ abbrev pub opens_image : Place → Spot → Bool
 opens_image p s = is_last s && opens_label p.next
 
 -- whether Markdown could read the character as a marker
-abbrev pub is_read_as_marker : Place → Spot → Bool
+unfoldable pub is_read_as_marker : Place → Spot → Bool
 is_read_as_marker p s =
     let c = s.character in
     if char_set_contains (codes "*[]<~`") c then true
@@ -186,11 +186,11 @@ abbrev pub is_own_token : Place → ℕ → Bool
 is_own_token p c = c == p.token && not (char_set_contains (codes "*_") c)
 
 -- whether a character has a backslash before it
-abbrev pub needs_backslash : Place → Spot → Bool
+unfoldable pub needs_backslash : Place → Spot → Bool
 needs_backslash p s = is_read_as_marker p s || is_own_token p s.character
 
 -- a character as it is, with a backslash before it where it needs one
-abbrev pub with_backslash : Place → Spot → List ℕ
+unfoldable pub with_backslash : Place → Spot → List ℕ
 with_backslash p s = if needs_backslash p s then backslash ∷ s.character ∷ [] else s.character ∷ []
 
 -- how a character is written: the first rule that applies

@@ -1,8 +1,9 @@
 //! How a stretch of text is written, so that it is read back as that text.
 
-ghost use Rattle.std.specs.Prelude.{◌≡◌, ◌++◌, chars, encode_utf8_all, string_bytes, IfOk, OnOk};
+ghost use Rattle.std.specs.Prelude.{◌≡◌, ◌++◌, ◌&&◌, chars, encode_utf8_all, string_bytes, false, IfOk, OnOk};
+ghost use Rattle.std.specs.Char.{is_ascii_digit};
 ghost use Rattle.tocmark_event.specs.View.{event_view};
-ghost use Rattle.std.specs.Option.{option_map};
+ghost use Rattle.std.specs.Option.{option_map, option_map_or};
 ghost use Rattle.tocmark_spelling.specs.Characters.{is_alphanumeric};
 ghost use Rattle.tocmark_spelling.specs.Escape.{place_of, has, spot_from, escaped, written, reference, coded, with_backslash, needs_backslash, is_read_as_marker, is_literal, is_encoded, is_marker, is_alone, ends_line, goes_on_marker, doubles_backslash, opens_superscript, opens_emphasis, opens_cell, opens_heading, opens_label, is_own_token};
 
@@ -51,6 +52,7 @@ struct Spot {
 }
 
 /// Whether a character is an ASCII letter or digit, or past ASCII alphabetic or a number.
+#[tactic(auto, unfolding(crate::specs::Characters::is_alphanumeric))]
 pub fn is_alphanumeric(c: char) -> bool
     ensures { result ≡ is_alphanumeric c }
 {
@@ -67,12 +69,19 @@ fn spot_from(before: Option<char>, only_digits: bool, character: char, after: &s
     let mut rest = after.chars();
     let next = rest.next();
     let before_last = rest.next().is_none();
-    Spot { character, before, after_digits: before.is_some() && only_digits, after: next, before_last }
+    Spot {
+        character,
+        before,
+        after_digits: before.is_some() && only_digits,
+        after: next,
+        before_last,
+    }
 }
 
 /// Whether nothing more of the line follows a stretch before this event.
+#[tactic(auto, unfolding(crate::specs::Escape::ends_line))]
 fn ends_line(next: Option<&OwnedEvent>) -> bool
-    ensures { result ≡ ends_line (option_map (λ e. event_view string_bytes e.now) next) }
+    ensures { result ≡ ends_line (option_map (λ e. event_view string_bytes e.now) next.entry) }
 {
     match next {
         None => true,
@@ -84,8 +93,9 @@ fn ends_line(next: Option<&OwnedEvent>) -> bool
 }
 
 /// Whether this event begins with a bracket.
+#[tactic(auto, unfolding(crate::specs::Escape::opens_label))]
 fn opens_label(next: Option<&OwnedEvent>) -> bool
-    ensures { result ≡ opens_label (option_map (λ e. event_view string_bytes e.now) next) }
+    ensures { result ≡ opens_label (option_map (λ e. event_view string_bytes e.now) next.entry) }
 {
     match next {
         Some(EventOf::Start(TagOf::Link { .. })) => true,
@@ -103,6 +113,7 @@ fn goes_on_marker(c: char) -> bool
 }
 
 /// Whether the marker of a block could be read at this character.
+#[tactic(auto, unfolding(crate::specs::Escape::is_marker))]
 fn is_marker(place: &EscapePlace<'_>, spot: Spot) -> bool
     ensures { result ≡ is_marker (place_of place.now) spot }
 {
@@ -114,6 +125,7 @@ fn is_marker(place: &EscapePlace<'_>, spot: Spot) -> bool
     begins_block && is_alone
 }
 
+#[tactic(auto, unfolding(crate::specs::Escape::doubles_backslash))]
 fn doubles_backslash(place: &EscapePlace<'_>, spot: Spot) -> bool
     ensures { result ≡ doubles_backslash (place_of place.now) spot }
 {
@@ -136,6 +148,7 @@ fn is_alphanumeric_at(c: Option<char>) -> bool
 }
 
 /// Whether Markdown could read the character as a marker.
+#[tactic(auto, unfolding(crate::specs::Escape::is_read_as_marker))]
 fn is_read_as_marker(place: &EscapePlace<'_>, spot: Spot) -> bool
     ensures { result ≡ is_read_as_marker (place_of place.now) spot }
 {
@@ -153,7 +166,10 @@ fn is_read_as_marker(place: &EscapePlace<'_>, spot: Spot) -> bool
             is_marker(place, spot) && place.flags.contains(ParserOptions::ENABLE_DEFINITION_LIST)
         }
         '{' => {
-            place.in_heading && place.flags.contains(ParserOptions::ENABLE_HEADING_ATTRIBUTES)
+            place.in_heading
+                && place
+                    .flags
+                    .contains(ParserOptions::ENABLE_HEADING_ATTRIBUTES)
         }
         '_' => !(is_alphanumeric_at(spot.before) && is_alphanumeric_at(spot.after)),
         '|' => is_first || place.in_table || place.flags.contains(ParserOptions::ENABLE_TABLES),
@@ -165,6 +181,7 @@ fn is_read_as_marker(place: &EscapePlace<'_>, spot: Spot) -> bool
     }
 }
 
+#[tactic(auto, unfolding(crate::specs::Escape::needs_backslash))]
 fn needs_backslash(place: &EscapePlace<'_>, spot: Spot) -> bool
     ensures { result ≡ needs_backslash (place_of place.now) spot }
 {
@@ -187,6 +204,7 @@ fn is_encoded(place: &EscapePlace<'_>, spot: Spot) -> bool
 }
 
 /// The reference that stands for a line ending, an ampersand, or a blank at the front.
+#[tactic(auto, unfolding(crate::specs::Escape::reference))]
 fn reference(place: &EscapePlace<'_>, spot: Spot) -> Option<&'static str>
     ensures { option_map (λ r. r.now) result ≡ reference (place_of place.now) spot }
 {
@@ -201,6 +219,14 @@ fn reference(place: &EscapePlace<'_>, spot: Spot) -> Option<&'static str>
     }
 }
 
+/// Whether all is digits, with one more character.
+fn is_digits(only_digits: bool, c: char) -> bool
+    ensures { result ≡ (is_ascii_digit c && only_digits) }
+{
+    c.is_ascii_digit() && only_digits
+}
+
+#[tactic(auto, using(crate::proofs::EscapeLemmas::encoded_code), unfolding(crate::specs::Escape::coded))]
 fn push_code(to: &mut String, c: char) -> Result<(), AllocError>
     ensures { OnOk result (string_bytes to.new ≡ string_bytes to.old ++ encode_utf8_all (coded c)) }
 {
@@ -208,6 +234,7 @@ fn push_code(to: &mut String, c: char) -> Result<(), AllocError>
     write!(to, "&#{code};")
 }
 
+#[tactic(auto, using(crate::proofs::EscapeLemmas::encoded_one, crate::proofs::EscapeLemmas::encoded_two), unfolding(crate::specs::Escape::with_backslash))]
 fn push_with_backslash(
     to: &mut String,
     place: &EscapePlace<'_>,
@@ -222,11 +249,8 @@ fn push_with_backslash(
 }
 
 /// Writes one character by the first rule that applies.
-fn push_character(
-    to: &mut String,
-    place: &EscapePlace<'_>,
-    spot: Spot,
-) -> Result<(), AllocError>
+#[tactic(auto, using(crate::proofs::EscapeLemmas::encoded_one), unfolding(crate::specs::Escape::written))]
+fn push_character(to: &mut String, place: &EscapePlace<'_>, spot: Spot) -> Result<(), AllocError>
     ensures { OnOk result (string_bytes to.new ≡ string_bytes to.old ++ encode_utf8_all (written (place_of place.now) spot)) }
 {
     if is_literal(place, spot.character) {
@@ -246,11 +270,7 @@ fn push_character(
 /// Line endings and ampersands become references, and so do a blank at the front and, where the place
 /// asks for it, the first and the last character. What could be read as a marker there has a backslash
 /// before it. An `Err` says that memory ran out.
-pub fn escape_text(
-    alloc: Global,
-    text: &str,
-    place: &EscapePlace<'_>,
-) -> Result<String, AllocError>
+pub fn escape_text(alloc: Global, text: &str, place: &EscapePlace<'_>) -> Result<String, AllocError>
     ensures { IfOk result (λ s. string_bytes s ≡ escaped (place_of place.now) text.now) }
 {
     let mut escaped = String::new(alloc);
@@ -260,7 +280,7 @@ pub fn escape_text(
     while let Some(character) = rest.next() {
         let spot = spot_from(before, only_digits, character, rest.as_str());
         push_character(&mut escaped, place, spot)?;
-        only_digits = character.is_ascii_digit() && only_digits;
+        only_digits = is_digits(only_digits, character);
         before = Some(character);
     }
     Ok(escaped)
