@@ -1,5 +1,5 @@
 -- Events that wait for their unit, as plain values.
-use Rattle.std.specs.Prelude.{ℕ, List, Option, Some, None, string_bytes, String}
+use Rattle.std.specs.Prelude.{ℕ, List, Option, string_bytes, String}
 use Rattle.std.specs.Option.{option_map}
 use Rattle.std.specs.Borrow.{Bor}
 use Rattle.tocmark_event.specs.View.{EventView, Start, End, Leaf, SourcedEvent, event_view}
@@ -21,5 +21,4 @@ buffered_view b = sourced (event_of b) (option_map string_bytes b.source)
 
 -- the event that follows, if there is one
 abbrev pub next_view : Option (Bor (EventOf (String Global))) → Option EventView
-next_view None = None
-next_view (Some e) = Some (event_view string_bytes e.now)
+next_view next = option_map (λ e. event_view string_bytes e.now) next

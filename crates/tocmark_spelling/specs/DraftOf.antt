@@ -1,8 +1,5 @@
 -- What the renderer's fields mean.
 use Rattle.std.specs.Global.{Global}
-use Rattle.tocmark_spelling.specs.Buffered.{next_view}
-use Rattle.tocmark_spelling.specs.Escape.{Place}
-use Rattle.tocmark_spelling.specs.declared.escape.EscapePlace.{EscapePlace}
 use Rattle.std.specs.Prelude.{◌≡◌, ℕ, List, [], false, String, string_bytes, Option, Some, None, Result, Ok, Err}
 use Rattle.tocmark_event.specs.declared.options.Error.{Error}
 use Rattle.tocmark_event.specs.declared.options.Error.TheVariants as error
@@ -29,20 +26,6 @@ RefusesNone e answer = ⊥
 abbrev pub Steps : {X D : Type 0} → Result X Error → D → Option D → Type 0
 Steps (Ok x) new answer = answer ≡ Some new
 Steps (Err e) new answer = RefusesNone e answer
-
--- where a stretch of text stands, as plain values
-abbrev pub place_view : EscapePlace → Place
-place_view e = record {
-  flags = e.flags;
-  token = e.token;
-  literal = e.literal;
-  first_encoded = e.first_encoded;
-  last_encoded = e.last_encoded;
-  at_front = e.at_front;
-  in_table = e.in_table;
-  in_heading = e.in_heading;
-  next = next_view e.next;
-}
 
 -- what a new document's first unit begins with
 abbrev pub nothing_drafted : Draft

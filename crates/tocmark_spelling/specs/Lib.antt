@@ -1,4 +1,8 @@
+pub mod Characters
 pub mod Escape
+pub mod Unescape
+pub mod Leaves
+pub mod Destination
 pub mod Buffered
 pub mod Draft
 pub mod DraftOf

@@ -1,4 +1,4 @@
-//! The text of one unit of events.
+//! How events are written as Markdown.
 #![tactic(auto)]
 
 pub mod escape;

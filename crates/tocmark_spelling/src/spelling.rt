@@ -5,7 +5,8 @@ ghost use Rattle.tocmark_event.specs.View.{event_view};
 ghost use Rattle.tocmark_event.specs.Options.{options_view};
 ghost use Rattle.tocmark_spelling.specs.Buffered.{buffered_view, next_view};
 ghost use Rattle.tocmark_spelling.specs.Draft.{filled, gap_owed, with_gap, with_open, level_of, with_marker, is_in_heading, ends_opening, is_at_front, is_bare, is_text, opened_paragraph, opened_heading, closed, place_of, with_text, shown, texted, broken, soft_break, started_heading, goes_on, following, step, run};
-ghost use Rattle.tocmark_spelling.specs.DraftOf.{draft_of, between, nothing_drafted, place_view, Steps, Writes};
+ghost use Rattle.tocmark_spelling.specs.Escape.{place_of as escape_place};
+ghost use Rattle.tocmark_spelling.specs.DraftOf.{draft_of, between, nothing_drafted, Steps, Writes};
 ghost use Rattle.tocmark_event.specs.declared.event.flags.ParserOptions.{ParserOptions};
 
 use crate::escape::{EscapePlace, escape_text};
@@ -235,7 +236,7 @@ impl Renderer {
         flags: ParserOptions,
         next: Option<&'a OwnedEvent>,
     ) -> EscapePlace<'a>
-        ensures { place_view result ≡ place_of (options_view options.now) flags (next_view next.entry) (draft_of self.now) }
+        ensures { escape_place result ≡ place_of (options_view options.now) flags (next_view next.entry) (draft_of self.now) }
     {
         EscapePlace {
             flags,

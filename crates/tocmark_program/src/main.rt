@@ -1,0 +1,110 @@
+//! Reads Markdown on standard input, and writes it back on standard output.
+#![tactic(auto)]
+
+mod fault;
+
+ghost use Rattle.std.specs.Prelude.{◌≡◌, ◌≢◌, ◌≤◌, ℕ, List, true, false, IfErr, IfSome, OnOk, string_bytes};
+ghost use Rattle.std.specs.Str.{IsUtf8};
+ghost use Rattle.std.specs.Io.KnownBytes.{Appends};
+ghost use Rattle.tocmark_program.specs.Program.{is_right, status_of, IsWriteFault};
+
+use fault::Fault;
+use std::alloc::Global;
+use std::io::{Read, Write};
+use std::process::ExitCode;
+use std::{env, io};
+use tocmark::core_reader::CoreReader;
+use tocmark::event::{Event, ParserOptions};
+use tocmark::reader::Reader;
+use tocmark::{Error, cmark};
+
+/// The events of a reading, without their ranges.
+#[derive(Drop)]
+struct Events<'a>(std::slice::Iter<'a, (Event<'a>, (usize, usize))>);
+
+impl<'a> Iterator for Events<'a> {
+    type Item = &'a Event<'a>;
+
+    ghost use Rattle.std.specs.Slice.Iter.{iter_rest};
+    ghost use Rattle.std.specs.Iterator.{item_count};
+
+    ghost remaining = { item_count (λ s. iter_rest s.0) };
+
+    fn next(&mut self) -> Option<&'a Event<'a>> {
+        match self.0.next() {
+            Some(pair) => Some(&pair.0),
+            None => None,
+        }
+    }
+}
+
+/// Whether the arguments are those of a call: none.
+fn are_right(words: &[String]) -> bool
+    ensures { result ≡ is_right words.now }
+{
+    words.is_empty()
+}
+
+/// The text, read and written back.
+fn rewritten(alloc: Global, text: &str) -> Result<String, Error> {
+    let flags = ParserOptions(0);
+    let reading = CoreReader.read(alloc, text, flags)?;
+    let mut output = String::new(alloc);
+    let state = cmark(
+        alloc,
+        Events(reading.events.iter()),
+        &mut output,
+        CoreReader,
+        flags,
+    )?;
+    drop(state);
+    Ok(output)
+}
+
+/// The input, read and written back. Nothing of it is written yet.
+fn converted<I: Read>(alloc: Global, input: &mut I) -> Result<String, Fault>
+    ensures unwritten { IfErr result (λ fault. ¬ (IsWriteFault fault)) }
+    ensures text { IfSome (I.remaining input.old) (λ bytes. OnOk result (IsUtf8 bytes)) }
+{
+    let mut bytes = Vec::new(alloc);
+    if input.read_to_end(&mut bytes).is_err() {
+        return Err(Fault::Read);
+    }
+    let Ok(text) = std::str::from_utf8(&bytes) else {
+        return Err(Fault::NotUtf8);
+    };
+    match rewritten(alloc, text) {
+        Ok(output) => Ok(output),
+        Err(error) => Err(Fault::Markdown(error)),
+    }
+}
+
+fn write_out<O: Write>(output: &mut O, text: &str) -> Result<(), Fault>
+    ensures done { OnOk result (Appends (O.contents output.old) (O.contents output.new) text.now) }
+    ensures fault { IfErr result IsWriteFault }
+{
+    if output.write_all(text.as_bytes()).is_err() || output.flush().is_err() {
+        return Err(Fault::Write);
+    }
+    Ok(())
+}
+
+/// The whole call. Output is written only after the input was read and rendered.
+fn answer<I: Read, O: Write>(
+    alloc: Global,
+    words: &[String],
+    input: &mut I,
+    output: &mut O,
+) -> Result<(), Fault>
+    ensures usage { is_right words.now ≡ false → (result ≡ Err Fault.Usage) × (input.new ≡ input.old) × (output.new ≡ output.old) }
+    ensures right { is_right words.now ≡ true → result ≢ Err Fault.Usage }
+    ensures unwritten { IfErr result (λ fault. ¬ (IsWriteFault fault) → output.new ≡ output.old) }
+    ensures done { OnOk result ((text : List ℕ) × Appends (O.contents output.old) (O.contents output.new) text) }
+    ensures text { IfSome (I.remaining input.old) (λ bytes. OnOk result (IsUtf8 bytes)) }
+{
+    if !are_right(words) {
+        return Err(Fault::Usage);
+    }
+    let text = converted(alloc, input)?;
+    write_out(output, text.as_str())
+}
