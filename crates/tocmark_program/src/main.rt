@@ -108,3 +108,70 @@ fn answer<I: Read, O: Write>(
     let text = converted(alloc, input)?;
     write_out(output, text.as_str())
 }
+
+/// The program: the status that it ends with.
+///
+/// `words` are the arguments without the program's name, `input` is read whole, `output` gets the
+/// Markdown after success alone, and `faults` one line for a fault. The answer is 0 after success, 2 for
+/// wrong arguments, where no input is read, and 1 for any other fault: the input can't be read, it isn't
+/// UTF-8, its events are refused or memory runs out, or the output can't be written.
+pub fn run<I: Read, O: Write, F: Write>(
+    alloc: Global,
+    words: &[String],
+    input: &mut I,
+    output: &mut O,
+    faults: &mut F,
+) -> u8
+    ensures status { result ≤ 2 }
+    ensures usage { is_right words.now ≡ false → (result ≡ 2) × (input.new ≡ input.old) × (output.new ≡ output.old) }
+    ensures right { is_right words.now ≡ true → result ≤ 1 }
+    ensures done { result ≡ 0 → (text : List ℕ) × Appends (O.contents output.old) (O.contents output.new) text }
+    ensures text { IfSome (I.remaining input.old) (λ bytes. result ≡ 0 → IsUtf8 bytes) }
+{
+    match answer(alloc, words, input, output) {
+        Ok(()) => 0,
+        Err(fault) => {
+            complain(faults, &fault);
+            status_of(&fault)
+        }
+    }
+}
+
+/// Writes a fault's line. One that can't be written changes nothing.
+fn complain<F: Write>(faults: &mut F, fault: &Fault) {
+    let _ = writeln!(faults, "{fault}");
+}
+
+fn status_of(fault: &Fault) -> u8
+    ensures { result ≡ status_of fault.now }
+{
+    match fault {
+        Fault::Usage => 2,
+        Fault::Read => 1,
+        Fault::NotUtf8 => 1,
+        Fault::Markdown(_) => 1,
+        Fault::Write => 1,
+    }
+}
+
+fn words_of(rt: &HostRuntime) -> io::Result<Vec<String>> {
+    let mut words = Vec::new(rt.alloc());
+    for word in env::args(rt)?.skip(1) {
+        words.push(word)?;
+    }
+    Ok(words)
+}
+
+fn main(rt: HostRuntime) -> ExitCode {
+    let mut input = rt.stdin();
+    let mut output = rt.stdout();
+    let mut faults = rt.stderr();
+    let Ok(words) = words_of(&rt) else {
+        complain(&mut faults, &Fault::Usage);
+        return ExitCode::from(2);
+    };
+    ExitCode::from(run(rt.alloc(), &words, &mut input, &mut output, &mut faults))
+}
+
+#[cfg(test)]
+mod tests;
