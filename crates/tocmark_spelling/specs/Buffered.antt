@@ -1,0 +1,26 @@
+-- Events that wait for their unit, as plain values.
+use Rattle.std.specs.Prelude.{ℕ, List, [], ◌∷◌, Option, Some, None, string_bytes}
+use Rattle.std.specs.Option.{option_map}
+use Rattle.std.specs.Borrow.{Bor}
+use Rattle.tocmark_event.specs.Text.{text_of}
+use Rattle.tocmark_event.specs.View.{EventView, EventWith, Start, End, Leaf, SourcedEvent, event_view}
+use Rattle.tocmark_event.specs.declared.event.EventOf.{EventOf}
+use Rattle.tocmark_event.specs.declared.event.text.CowStr.{CowStr}
+use Rattle.tocmark_spelling.specs.declared.spelling.BufferedEvent.{BufferedEvent}
+
+-- an event with its spelling in the source, which only a leaf has
+abbrev pub sourced : EventView → Option (List ℕ) → SourcedEvent
+sourced (Start t) source = Start t
+sourced (End k) source = End k
+sourced (Leaf l) source = Leaf (record { leaf = l; source = source })
+
+abbrev pub event_of : BufferedEvent → EventView
+event_of b = event_view string_bytes b.event
+
+abbrev pub buffered_view : BufferedEvent → SourcedEvent
+buffered_view b = sourced (event_of b) (option_map string_bytes b.source)
+
+-- the event that follows a unit, if there is one
+abbrev pub next_view : Option (Bor (EventOf CowStr)) → Option EventView
+next_view None = None
+next_view (Some e) = Some (event_view text_of e.now)

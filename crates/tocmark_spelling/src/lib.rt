@@ -1,0 +1,4 @@
+//! What a unit of events is made of.
+#![tactic(auto)]
+
+pub mod spelling;

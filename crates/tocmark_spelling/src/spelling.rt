@@ -1,0 +1,12 @@
+//! Events that wait.
+
+use tocmark_event::event::OwnedEvent;
+
+/// An event that waits until its unit is whole, with its spelling in the source where that is known.
+#[derive(Debug, Drop)]
+pub struct BufferedEvent {
+    /// The event.
+    pub event: OwnedEvent,
+    /// For a text, what stands in the source for it.
+    pub source: Option<String>,
+}
