@@ -1,0 +1,1 @@
+-- The units of a list of events, as trees.

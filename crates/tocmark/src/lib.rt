@@ -1,0 +1,7 @@
+//! Markdown events back to Markdown.
+#![tactic(auto)]
+
+mod state;
+mod taker;
+
+pub use state::{Progress, State};
