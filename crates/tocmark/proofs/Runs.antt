@@ -1,5 +1,5 @@
 -- What a loop over events, and a call after others, add to a walk.
-use Rattle.std.proofs.Common.{◌≡◌, ℕ, ◌+◌, ◌-◌, ◌^◌, min, List, [], ◌∷◌, ◌++◌, length, sum_by, Result, Ok, None, ap, sym, ◌∙◌, subst, arith, false, true}
+use Rattle.std.proofs.Common.{◌≡◌, ℕ, ◌+◌, ◌-◌, ◌^◌, min, List, [], ◌∷◌, ◌++◌, length, sum_by, Result, Ok, Err, None, ap, sym, ◌∙◌, subst, arith, false, true}
 use Rattle.std.proofs.lemmas.List.{map-append}
 use Rattle.std.proofs.lemmas.List.Sums.{sum_by-append}
 use Rattle.std.specs.Borrow.{Bor}
@@ -18,9 +18,9 @@ use Rattle.tocmark.specs.declared.state.Held.{Held}
 use Rattle.tocmark.specs.declared.state.Progress.{Progress}
 use Rattle.tocmark.specs.Ranges.{Pair, unranged}
 use Rattle.tocmark.specs.Walk.{Done, done, Rendering, Standing, Walk, go_on, walk, step, advance, nothing_yet, ended, script}
-use Rattle.tocmark.specs.Writes.{Makes}
+use Rattle.tocmark.specs.Writes.{Makes, RefusesAt}
 use Rattle.tocmark.specs.StateView.{standing_of, pairs, Counts, Adds, Ends, rendering, unknown}
-use Rattle.tocmark.proofs.Walks.{walk_after, walk_more, Makes-more, step_unranged}
+use Rattle.tocmark.proofs.Walks.{walk_after, walk_more, Makes-more, Makes-then, step_unranged, RefusesAt-longer}
 
 pub no_ok : {A : Type 0} → false ≡ true → A
 no_ok h = absurd (cc)
@@ -76,3 +76,18 @@ Ends-with gives w v o o' reading flags source r p s e h m k =
     Ends-from gives w v (rendering o reading) flags source r p s h
     (subst (λ (x : OptionsView). Makes gives unknown w v r done (ended (rendering x reading) s)) e m)
     (subst (λ (x : OptionsView). IfOk r (λ n. Counts n 0 (sum_by length (ended (rendering x reading) s).texts))) e k)
+
+-- the first call of a run that was refused
+pub Adds-script : {W : Type 0} (gives : W → List ℕ → W → Type 0) (w v : W) (how : Rendering) (flags : ParserOptions) (source : List ℕ) (e : Error) (held : Held) (q : List Pair) → Adds gives w v how flags source (Err e) held [] q → RefusesAt gives unknown w v e (script how source (nothing_yet flags) q)
+Adds-script gives w v how flags source e held q a =
+    RefusesAt-longer gives unknown w v e (walk how source (nothing_yet flags) q).texts (walk how source (nothing_yet flags) q).outcome (λ t. ended how t)
+    (subst (λ (ts : List (List ℕ)). RefusesAt gives unknown w v e (record { texts = ts; outcome = (walk how source (nothing_yet flags) q).outcome })) (sym a.added) a.made)
+
+-- the last call of a run
+pub Ends-script : {W : Type 0} (gives : W → List ℕ → W → Type 0) (w v u : W) (how : Rendering) (flags : ParserOptions) (source : List ℕ) (n : Progress) (r : Result Progress Error) (held : Held) (q : List Pair) → Adds gives w v how flags source (Ok n) held [] q → Ends gives v u how flags source r q → Makes gives unknown w u r done (script how source (nothing_yet flags) q)
+Ends-script gives w v u how flags source n r held q a b =
+    let k : script how source (nothing_yet flags) q ≡ record { texts = (walk how source (nothing_yet flags) q).texts ++ b.more; outcome = (script how source (nothing_yet flags) q).outcome } =
+    ap (λ (ts : List (List ℕ)). record { texts = ts; outcome = (script how source (nothing_yet flags) q).outcome }) b.added in
+    subst (λ (x : Walk Done). Makes gives unknown w u r done x) (sym k)
+    (Makes-then gives unknown w v u r done done (walk how source (nothing_yet flags) q).texts (λ _. record { texts = b.more; outcome = (script how source (nothing_yet flags) q).outcome })
+    (subst (λ (ts : List (List ℕ)). FoldsTo gives w ts v) (sym a.added) a.made.1) b.made)
