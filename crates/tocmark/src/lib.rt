@@ -18,8 +18,11 @@ ghost use Rattle.tocmark.specs.StateView.{IsFinished, pairs, rendering, unknown}
 pub use state::{Progress, State};
 use std::alloc::Global;
 use std::fmt;
+pub use tocmark_core_reader as core_reader;
 use tocmark_event::event::{Event, ParserOptions};
-pub use tocmark_event::options::{Error, Options};
+pub use tocmark_event::options::{
+    DEFAULT_CODE_BLOCK_TOKEN_COUNT, Error, Options, OptionsError, SUPPORTED_PARSER_OPTIONS,
+};
 use tocmark_event::reader::Reader;
 pub use tocmark_event::{event, reader};
 

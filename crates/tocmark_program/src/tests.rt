@@ -109,12 +109,18 @@ fn broken_streams(rt: HostRuntime) -> Result<(), Fail> {
     let status = run(alloc, &words, &mut Broken, &mut output, &mut faults);
     assert_eq!(rt; status, 1);
     assert_eq!(rt; output.len(), 0);
-    assert_eq!(rt; faults.as_slice(), b"tocmark: cannot read standard input\n".as_slice());
+    assert_eq!(rt;
+        faults.as_slice(),
+        b"tocmark: cannot read standard input\n".as_slice()
+    );
     faults.clear();
     let mut input = b"x".as_slice();
     let status = run(alloc, &words, &mut input, &mut Broken, &mut faults);
     assert_eq!(rt; status, 1);
-    assert_eq!(rt; faults.as_slice(), b"tocmark: cannot write standard output\n".as_slice());
+    assert_eq!(rt;
+        faults.as_slice(),
+        b"tocmark: cannot write standard output\n".as_slice()
+    );
     let mut input = b"x".as_slice();
     let status = run(alloc, &words, &mut input, &mut output, &mut Broken);
     assert_eq!(rt; status, 0);
