@@ -1,5 +1,5 @@
 -- What the program is asked, and what it answers.
-use Rattle.std.specs.Prelude.{◌≡◌, ℕ, List, [], ◌∷◌, Bool, true, false, String}
+use Rattle.std.specs.Prelude.{ℕ, List, [], ◌∷◌, Bool, true, false, String}
 use Rattle.std.specs.Global.{Global}
 use Rattle.tocmark_program.specs.declared.fault.Fault.{Fault}
 use Rattle.tocmark_program.specs.declared.fault.Fault.TheVariants.{Usage, Read, NotUtf8, Markdown, Write}

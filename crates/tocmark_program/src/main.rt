@@ -3,7 +3,7 @@
 
 mod fault;
 
-ghost use Rattle.std.specs.Prelude.{◌≡◌, ◌≢◌, ◌≤◌, ℕ, List, true, false, IfErr, IfSome, OnOk, string_bytes};
+ghost use Rattle.std.specs.Prelude.{◌≡◌, ◌≤◌, ℕ, List, true, false, IfErr, IfSome, OnOk, string_bytes};
 ghost use Rattle.std.specs.Str.{IsUtf8};
 ghost use Rattle.std.specs.Io.KnownBytes.{Appends};
 ghost use Rattle.tocmark_program.specs.Program.{is_right, status_of, IsWriteFault};
@@ -63,7 +63,7 @@ fn rewritten(alloc: Global, text: &str) -> Result<String, Error> {
 
 /// The input, read and written back. Nothing of it is written yet.
 fn converted<I: Read>(alloc: Global, input: &mut I) -> Result<String, Fault>
-    ensures unwritten { IfErr result (λ fault. ¬ (IsWriteFault fault)) }
+    ensures fault { IfErr result (λ fault. (status_of fault ≡ 1) × ¬ (IsWriteFault fault)) }
     ensures text { IfSome (I.remaining input.old) (λ bytes. OnOk result (IsUtf8 bytes)) }
 {
     let mut bytes = Vec::new(alloc);
@@ -81,7 +81,7 @@ fn converted<I: Read>(alloc: Global, input: &mut I) -> Result<String, Fault>
 
 fn write_out<O: Write>(output: &mut O, text: &str) -> Result<(), Fault>
     ensures done { OnOk result (Appends (O.contents output.old) (O.contents output.new) text.now) }
-    ensures fault { IfErr result IsWriteFault }
+    ensures fault { IfErr result (λ fault. (status_of fault ≡ 1) × IsWriteFault fault) }
 {
     if output.write_all(text.as_bytes()).is_err() || output.flush().is_err() {
         return Err(Fault::Write);
@@ -97,7 +97,7 @@ fn answer<I: Read, O: Write>(
     output: &mut O,
 ) -> Result<(), Fault>
     ensures usage { is_right words.now ≡ false → (result ≡ Err Fault.Usage) × (input.new ≡ input.old) × (output.new ≡ output.old) }
-    ensures right { is_right words.now ≡ true → result ≢ Err Fault.Usage }
+    ensures right { is_right words.now ≡ true → IfErr result (λ fault. status_of fault ≡ 1) }
     ensures unwritten { IfErr result (λ fault. ¬ (IsWriteFault fault) → output.new ≡ output.old) }
     ensures done { OnOk result ((text : List ℕ) × Appends (O.contents output.old) (O.contents output.new) text) }
     ensures text { IfSome (I.remaining input.old) (λ bytes. OnOk result (IsUtf8 bytes)) }
