@@ -13,7 +13,7 @@ use Rattle.tocmark_event.specs.declared.event.flags.ParserOptions.{ParserOptions
 use Rattle.tocmark_render.specs.Chosen.{DocumentView, Refuses, Gives}
 use Rattle.tocmark.specs.StateView.{keeping}
 use Rattle.tocmark.specs.Ranges.{Pair, unranged}
-use Rattle.tocmark.specs.Walk.{Done, done, Kept, Rendering, Standing, Walk, go_on, stay, refuse, handed_text, hand_walk, nested, with_event, joins, flushed, is_due, flushed_before, advance, step, walk, flushed_rest, ended_at, ended}
+use Rattle.tocmark.specs.Walk.{Done, done, Kept, Rendering, Standing, Walk, go_on, stay, refuse, handed_text, hand_walk, nested, with_event, joins, flush_of, flushed, is_due, flushed_before, advance, step, walk, flushed_rest, ended_at, ended}
 use Rattle.tocmark.specs.Writes.{Makes, RefusesAt}
 
 ok_err : {A : Type 0} (s : A) (e : Error) → Ok s ≡ Err e → ⊥
@@ -97,6 +97,10 @@ joins_texts e s = go (nested s.open_tags (unsourced e))
     go : (r : Result (List TagEnd) Error) → (with_event s e r).texts ≡ []
     go (Ok os) = refl
     go (Err x) = refl
+
+pub flushed_is : (how : Rendering) (next : Option EventView) (s : Standing) → flushed how next s ≡ flush_of s (how.choice s.document s.pending next)
+unfolding flushed
+flushed_is how next s = refl
 
 pub flushed_ok : (how : Rendering) (next : Option EventView) (s : Standing) (x : List ℕ × Kept) → how.choice s.document s.pending next ≡ Ok x → flushed how next s ≡ hand_walk x.0 (record s { pending = []; document = x.1 })
 unfolding flushed

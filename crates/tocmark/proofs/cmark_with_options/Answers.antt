@@ -1,10 +1,10 @@
-use Rattle.std.proofs.Common.{◌≡◌, ◌∙◌, List, [], ℕ, Result, Err, Ok, refl, sym, subst, false, true}
+use Rattle.std.proofs.Common.{◌∙◌, [], Result, Err, Ok, refl, subst}
 use Rattle.std.proofs.lemmas.Result.{err_from_is_err_and}
 use Rattle.tocmark_event.specs.declared.options.Error.{Error}
 use Rattle.tocmark.specs.declared.state.Progress.{Progress}
-use Rattle.tocmark.specs.Walk.{Rendering, Standing, done, nothing_yet, script, walk}
+use Rattle.tocmark.specs.Walk.{Rendering, done, nothing_yet, script}
 use Rattle.tocmark.specs.Writes.{Makes, RefusesAt}
-use Rattle.tocmark.specs.StateView.{Ends, Stands, pairs, rendering_of, standing_of, unknown}
+use Rattle.tocmark.specs.StateView.{Ends, Stands, pairs, rendering_of, unknown}
 use Rattle.tocmark.proofs.Runs.{Adds-script, Ends-script, no_ok}
 use Rattle.tocmark.proofs.cmark_with_options.Goals as goal
 
