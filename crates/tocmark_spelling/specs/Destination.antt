@@ -1,6 +1,8 @@
 -- Destinations and titles of links (CommonMark, sections 6.3 and 4.7).
 use Rattle.std.specs.Prelude.{ℕ, ◌+◌, ◌-◌, Bool, true, false, not, ◌&&◌, ◌||◌, ◌==◌, nat_lt, nat_le, if◌then◌else◌, List, [], ◌∷◌, ◌++◌, codes, flat_map}
 use Rattle.std.specs.List.{list_any}
+use Rattle.tocmark_event.specs.declared.event.LinkType.{LinkType}
+use Rattle.tocmark_event.specs.declared.event.LinkType.TheVariants.{Shortcut}
 use Rattle.tocmark_spelling.specs.Characters.{line_feed, carriage_return, space, quotation_mark, ampersand, opening_parenthesis, closing_parenthesis, less_than, greater_than, backslash}
 
 abbrev pub destination_character : ℕ → List ℕ
@@ -59,3 +61,8 @@ inline_closing dest title_of = codes "](" ++ destination false dest ++ title tit
 -- what stands behind the label of a link's definition
 abbrev pub definition_closing : List ℕ → List ℕ → List ℕ
 definition_closing dest title_of = codes "]: " ++ destination true dest ++ title title_of
+
+-- what closes a link of this type behind its text or label; a `Shortcut` is closed as a definition
+abbrev pub link_closing : LinkType → List ℕ → List ℕ → List ℕ
+link_closing Shortcut dest title_of = definition_closing dest title_of
+link_closing k dest title_of = inline_closing dest title_of

@@ -2,3 +2,4 @@
 #![tactic(auto)]
 
 pub mod escape;
+pub mod text_modifications;
