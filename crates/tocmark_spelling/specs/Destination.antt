@@ -1,5 +1,5 @@
 -- Destinations and titles of links (CommonMark, sections 6.3 and 4.7).
-use Rattle.std.specs.Prelude.{ℕ, ◌+◌, ◌-◌, Bool, true, false, not, ◌&&◌, ◌||◌, ◌==◌, nat_lt, nat_le, if◌then◌else◌, List, [], ◌∷◌, ◌++◌, codes, flat_map}
+use Rattle.std.specs.Prelude.{ℕ, ◌+◌, ◌-◌, Bool, true, false, not, ◌&&◌, ◌||◌, ◌==◌, nat_lt, nat_le, if◌then◌else◌, List, [], ◌∷◌, ◌++◌, codes, length, flat_map}
 use Rattle.std.specs.List.{list_any}
 use Rattle.tocmark_event.specs.declared.event.LinkType.{LinkType}
 use Rattle.tocmark_event.specs.declared.event.LinkType.TheVariants.{Shortcut}
@@ -31,8 +31,8 @@ is_unbalanced open_ones (c ∷ cs) =
 
 -- whether a destination stands in `<` and `>`; the empty one does in a definition
 abbrev pub needs_brackets : Bool → List ℕ → Bool
-needs_brackets in_definition [] = in_definition
-needs_brackets in_definition (c ∷ cs) = list_any ends_destination (c ∷ cs) || is_unbalanced 0 (c ∷ cs)
+needs_brackets in_definition text =
+    (in_definition && length text == 0) || list_any ends_destination text || is_unbalanced 0 text
 
 -- a destination, in a definition or not
 abbrev pub destination : Bool → List ℕ → List ℕ
@@ -51,8 +51,7 @@ title_text text = flat_map title_character text
 
 -- a space and the title in quotes; nothing for the empty one
 abbrev pub title : List ℕ → List ℕ
-title [] = []
-title (c ∷ cs) = codes " \"" ++ title_text (c ∷ cs) ++ codes "\""
+title text = if length text == 0 then [] else codes " \"" ++ title_text text ++ codes "\""
 
 -- what closes an inline link with this destination and title
 abbrev pub inline_closing : List ℕ → List ℕ → List ℕ

@@ -2,10 +2,10 @@
 
 ghost use Rattle.std.specs.Prelude.{◌≡◌, ◌++◌, chars, encode_utf8_all, string_bytes, IfOk, OnOk, Some};
 ghost use Rattle.std.specs.Option.{option_map};
-ghost use Rattle.std.specs.List.{repeat};
+ghost use Rattle.std.specs.List.{repeat, list_any};
 ghost use Rattle.std.specs.Fmt.{WritesOnOk, WritesInCalls};
-ghost use Rattle.tocmark_spelling.specs.Destination.{destination_text, destination_character, needs_brackets, ends_destination, is_unbalanced, title_text, title_character, link_closing};
-ghost use Rattle.tocmark_spelling.specs.Leaves.{longest_run, in_cell, is_blank, needs_spaces, span, code_span, math_text};
+ghost use Rattle.tocmark_spelling.specs.Destination.{destination, destination_text, destination_character, needs_brackets, ends_destination, is_unbalanced, title, title_text, title_character, link_closing};
+ghost use Rattle.tocmark_spelling.specs.Leaves.{longest_run, in_cell, cell_character, is_blank, first_is, last_is, needs_spaces, padding, span, code_span, math_text};
 
 use std::alloc::{AllocError, Global};
 use std::fmt;
@@ -81,7 +81,7 @@ fn ends_destination(byte: u8) -> bool
 fn is_unbalanced(destination: &str) -> bool
     ensures { result ≡ is_unbalanced 0 destination.now }
 {
-    let mut depth = 0;
+    let mut depth = 0usize;
     for byte in destination.as_bytes() {
         match byte {
             b'(' if depth > 2 => return true,
@@ -94,14 +94,54 @@ fn is_unbalanced(destination: &str) -> bool
     depth != 0
 }
 
+fn holds_end(destination: &str) -> bool
+    ensures { result ≡ list_any ends_destination destination.now }
+{
+    destination.as_bytes().iter().any(|byte| ends_destination(*byte))
+}
+
 /// Whether a destination, in a definition or not, is written in brackets.
 fn needs_brackets(destination: &str, in_definition: bool) -> bool
     ensures { result ≡ needs_brackets in_definition destination.now }
 {
-    if destination.is_empty() {
-        return in_definition;
+    let is_missing = in_definition && destination.is_empty();
+    is_missing || holds_end(destination) || is_unbalanced(destination)
+}
+
+/// A destination as a link has it or, with `in_definition`, a definition.
+#[derive(Clone, Copy)]
+struct Destination<'a> {
+    text: &'a str,
+    in_definition: bool,
+}
+
+impl fmt::Display for Destination<'_> {
+    ghost output = { λ d. Some (destination d.in_definition d.text.now) };
+
+    fn fmt<W: fmt::Write>(&self, f: &mut fmt::Formatter<W>) -> fmt::Result {
+        let text = EscapeDestination(self.text);
+        if needs_brackets(self.text, self.in_definition) {
+            write!(f, "<{text}>")
+        } else {
+            write!(f, "{text}")
+        }
     }
-    destination.as_bytes().iter().any(|byte| ends_destination(*byte)) || is_unbalanced(destination)
+}
+
+/// A title in quotes behind a space, or nothing for the empty one.
+#[derive(Clone, Copy)]
+struct Title<'a>(&'a str);
+
+impl fmt::Display for Title<'_> {
+    ghost output = { λ t. Some (title t.0.now) };
+
+    fn fmt<W: fmt::Write>(&self, f: &mut fmt::Formatter<W>) -> fmt::Result {
+        if self.0.is_empty() {
+            return Ok(());
+        }
+        let text = EscapeLinkTitle(self.0);
+        write!(f, " \"{text}\"")
+    }
 }
 
 /// Writes what closes a link behind its text or label: destination and title in parentheses, and for a
@@ -115,22 +155,17 @@ pub fn close_link<F: fmt::Write>(
 ) -> fmt::Result
     ensures { OnOk result (WritesInCalls F.write_str_gives f.old (link_closing link_type uri.now title.now) f.new) }
 {
-    let in_definition = matches!(link_type, LinkType::Shortcut);
-    let destination = EscapeDestination(uri);
-    let separator = if in_definition { "]: " } else { "](" };
-    if needs_brackets(uri, in_definition) {
-        write!(f, "{separator}<{destination}>")?;
-    } else {
-        write!(f, "{separator}{destination}")?;
+    let title = Title(title);
+    match link_type {
+        LinkType::Shortcut => {
+            let destination = Destination { text: uri, in_definition: true };
+            write!(f, "]: {destination}{title}")
+        }
+        _ => {
+            let destination = Destination { text: uri, in_definition: false };
+            write!(f, "]({destination}{title})")
+        }
     }
-    if !title.is_empty() {
-        let title = EscapeLinkTitle(title);
-        write!(f, " \"{title}\"")?;
-    }
-    if !in_definition {
-        f.write_char(')')?;
-    }
-    Ok(())
 }
 
 /// The length of the longest run of a character.
@@ -140,8 +175,12 @@ pub fn max_consecutive_chars(text: &str, search: char) -> usize
     let mut longest = 0;
     let mut current = 0;
     for c in text.chars() {
-        current = if c == search { current + 1 } else { 0 };
-        longest = longest.max(current);
+        if c == search {
+            current += 1;
+            longest = longest.max(current);
+        } else {
+            current = 0;
+        }
     }
     longest
 }
@@ -176,7 +215,9 @@ pub fn in_cell(alloc: Global, text: &str, in_table: bool) -> Result<String, Allo
     Ok(cell)
 }
 
-fn push_in_cell(cell: &mut String, c: char) -> Result<(), AllocError> {
+fn push_in_cell(cell: &mut String, c: char) -> Result<(), AllocError>
+    ensures { OnOk result (string_bytes cell.new ≡ string_bytes cell.old ++ encode_utf8_all (cell_character c)) }
+{
     if c == '|' {
         cell.push('\\')?;
     }
@@ -189,13 +230,39 @@ fn is_blank(text: &str) -> bool
     text.as_bytes().iter().all(|byte| *byte == b' ')
 }
 
+fn first_is(text: &str, byte: u8) -> bool
+    ensures { result ≡ first_is byte text.now }
+{
+    match text.as_bytes().first() {
+        Some(first) => *first == byte,
+        None => false,
+    }
+}
+
+#[tactic(auto, using(crate::proofs::SpanLemmas::last_is_at))]
+fn last_is(text: &str, byte: u8) -> bool
+    ensures { result ≡ last_is byte text.now }
+{
+    match text.as_bytes().last() {
+        Some(last) => *last == byte,
+        None => false,
+    }
+}
+
 /// Whether the spaces that a reader takes away have to be added.
 fn needs_spaces(text: &str) -> bool
     ensures { result ≡ needs_spaces text.now }
 {
-    let first = text.as_bytes().first().copied();
-    let last = text.as_bytes().last().copied();
-    first == Some(b'`') || last == Some(b'`') || first == Some(b' ') && last == Some(b' ')
+    let has_backtick = first_is(text, b'`') || last_is(text, b'`');
+    let has_spaces = first_is(text, b' ') && last_is(text, b' ');
+    has_backtick || has_spaces
+}
+
+/// The space that is added at each end of a code span.
+fn padding(text: &str) -> &'static str
+    ensures { result.now ≡ padding text.now }
+{
+    if needs_spaces(text) { " " } else { "" }
 }
 
 fn span(alloc: Global, text: &str) -> Result<String, AllocError>
@@ -204,9 +271,10 @@ fn span(alloc: Global, text: &str) -> Result<String, AllocError>
     if is_blank(text) {
         return format!(in alloc; "`{text}`");
     }
-    let ticks = Repeated('`', max_consecutive_chars(text, '`') + 1);
-    let space = if needs_spaces(text) { " " } else { "" };
-    format!(in alloc; "{ticks}{space}{text}{space}{ticks}")
+    let longest = max_consecutive_chars(text, '`');
+    let ticks = Repeated('`', longest + 1);
+    let padding = padding(text);
+    format!(in alloc; "{ticks}{padding}{text}{padding}{ticks}")
 }
 
 /// A code span, in a table or not. The run of backticks round it is one longer than the longest run in
