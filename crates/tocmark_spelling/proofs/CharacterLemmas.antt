@@ -1,11 +1,11 @@
 -- A rule for characters that changes ASCII alone is one for the bytes of a text.
-use Rattle.std.proofs.Common.{◌≡◌, ℕ, zero, suc, ◌+◌, ◌<◌, ◌≤◌, Bool, true, false, cond, codes, List, [], ◌∷◌, ◌++◌, length, get_or, chars, encode_utf8, encode_utf8_all, append-nil, append_assoc, IsUtf8, refl, sym, ap, ◌∙◌, inl, inr, lit<, arith, rules}
+use Rattle.std.proofs.Common.{◌≡◌, ℕ, suc, ◌<◌, ◌≤◌, Bool, true, false, cond, codes, List, [], ◌∷◌, ◌++◌, length, get_or, encode_utf8, encode_utf8_all, append-nil, append_assoc, refl, sym, ap, ◌∙◌, inl, inr, lit<, arith, rules}
 use Rattle.std.specs.Prelude.{◌==◌, ◌||◌}
 use Rattle.std.specs.Str.{IsAscii}
 use Rattle.std.proofs.lemmas.Bool.Decides.{nat_tests}
-use Rattle.std.specs.List.{flat_map, All}
+use Rattle.std.specs.List.{flat_map}
 use Rattle.std.proofs.lemmas.Bool.{cases_lt}
-use Rattle.std.proofs.lemmas.Str.{chars-nil, chars_past_char, encode_ascii, encodes-IsAscii, inside_one}
+use Rattle.std.proofs.lemmas.Str.{encode_ascii, encodes-IsAscii, inside_one}
 use Rattle.std.proofs.lemmas.List.Concat.{flat_map-append}
 use Rattle.tocmark_spelling.specs.Destination.{destination_character, title_character}
 use Rattle.tocmark_spelling.specs.Leaves.{cell_character}
@@ -64,19 +64,22 @@ destination_rule = record {
       either IsFixed (c == 38) _ _ (text_fixed (codes "&amp;") (search rules))
       (either IsFixed (c == 10) _ _ (text_fixed (codes "&#10;") (search rules))
       (either IsFixed (c == 13) _ _ (text_fixed (codes "&#13;") (search rules))
-      (either IsFixed (c == 92 || c == 60 || c == 62) _ _ (two_fixed 92 c (lit< tt) low) (one_fixed c low)))) }
+      (either IsFixed (c == 92 || c == 60 || c == 62) _ _ (two_fixed 92 c (lit< tt) low) (one_fixed c low))));
+}
 
 pub title_rule : IsAsciiRule title_character
 title_rule = record {
   kept = λ c past. grind (arith, nat_tests);
   ascii = λ c low.
       either IsFixed (c == 38) _ _ (text_fixed (codes "&amp;") (search rules))
-      (either IsFixed (c == 34 || c == 92) _ _ (two_fixed 92 c (lit< tt) low) (one_fixed c low)) }
+      (either IsFixed (c == 34 || c == 92) _ _ (two_fixed 92 c (lit< tt) low) (one_fixed c low));
+}
 
 pub cell_rule : IsAsciiRule cell_character
 cell_rule = record {
   kept = λ c past. grind (arith, nat_tests);
-  ascii = λ c low. either IsFixed (c == 124) _ _ (two_fixed 92 124 (lit< tt) (lit< tt)) (one_fixed c low) }
+  ascii = λ c low. either IsFixed (c == 124) _ _ (two_fixed 92 124 (lit< tt) (lit< tt)) (one_fixed c low);
+}
 
 -- a turn of a loop that writes a text by the rule
 pub written_more : (f : ℕ → List ℕ) → IsAsciiRule f → (bs rest old new whole : List ℕ) (c : ℕ) → bs ≡ encode_utf8 c ++ rest
