@@ -2,4 +2,5 @@
 #![tactic(auto)]
 
 pub mod escape;
+pub mod laws;
 pub mod text_modifications;
