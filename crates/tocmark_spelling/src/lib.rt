@@ -2,4 +2,6 @@
 #![tactic(auto)]
 
 pub mod escape;
+pub mod laws;
+pub mod text_modifications;
 pub mod spelling;
