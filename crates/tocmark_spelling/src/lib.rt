@@ -3,5 +3,5 @@
 
 pub mod escape;
 pub mod laws;
-pub mod text_modifications;
 pub mod spelling;
+pub mod text_modifications;
