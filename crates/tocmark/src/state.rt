@@ -337,13 +337,13 @@ where
         × ((source : List ℕ) → Makes W.takes W.refuses writer.old writer.new result (standing_of held.new) (walk (rendering_with R.reading tools.now) source (standing_of held.old) (pairs xs)))
         × ((source : List ℕ) → IfOk result (λ p. Counts p (length xs) (sum_by length (walk (rendering_with R.reading tools.now) source (standing_of held.old) (pairs xs)).texts))) }
 {
-    let mut progress = Progress::default();
+    let mut taken = Progress::default();
     for event in events {
         let written = take(tools, held, event, None, writer)?;
-        progress.events_consumed = progress.events_consumed.saturating_add(1);
-        progress.bytes_written = progress.bytes_written.saturating_add(written);
+        taken.events_consumed = taken.events_consumed.saturating_add(1);
+        taken.bytes_written = taken.bytes_written.saturating_add(written);
     }
-    Ok(progress)
+    Ok(taken)
 }
 
 /// Writes all that is pending as one unit. Returns the length of its text in bytes.
@@ -414,7 +414,30 @@ impl<R: Reader + Drop> State<R> {
         })
     }
 
-    /// Takes events.
+    /// The error, after which every call answers `Failed`.
+    fn failed(&mut self, error: Error) -> Error
+        ensures state { self.new ≡ record self.old { status = Status.Failed } }
+        ensures error { result ≡ error }
+    {
+        self.status = Status::Failed;
+        error
+    }
+
+    /// Takes events, and hands the text of each unit to the writer, once the event behind the unit has
+    /// come. The events needn't outlive the call; the writer is to be the same in all calls.
+    ///
+    /// A unit is a container at top level with all that is in it, or a leaf at top level. Each nonempty
+    /// text is handed by one `write_str`. The answer counts the events of this call and the bytes that
+    /// it handed.
+    ///
+    /// An `Err` is one of these, and every later call answers `Failed`:
+    /// - `FormatFailed`: the writer refused a text in this call.
+    /// - `UnexpectedEvent`: an End that isn't the innermost open container's, found after the unit
+    ///   before it is written, or a unit with events that cannot stand where they do.
+    /// - `Unrepresentable`: no spelling of a unit reads back.
+    /// - `OutOfMemory`: memory ran out.
+    /// - `Finished`, after `finish`, even for no events, and `Failed`, after another error: nothing is
+    ///   handed, and no memory is taken.
     pub fn process<'a, I, W>(&mut self, events: I, writer: &mut W) -> Result<Progress, Error>
     where
         I: IntoIterator<Item = &'a Event<'a>>,
@@ -440,21 +463,20 @@ impl<R: Reader + Drop> State<R> {
                 };
                 match take_all(&tools, &mut self.held, events, writer) {
                     Ok(progress) => Ok(progress),
-                    Err(error) => {
-                        self.status = Status::Failed;
-                        Err(error)
-                    }
+                    Err(error) => Err(self.failed(error)),
                 }
             }
-            Status::Finished => {
-                self.status = Status::Failed;
-                Err(Error::Finished)
-            }
+            Status::Finished => Err(self.failed(Error::Finished)),
             Status::Failed => Err(Error::Failed),
         }
     }
 
-    /// Takes the end of the events.
+    /// Takes the end of the events: hands the text of what is pending, and then the definitions that
+    /// are left. The counts are 0 events and the bytes that it handed.
+    ///
+    /// On a finished state it answers zeros and hands nothing; it takes no memory then. An `Err` is
+    /// `UnexpectedEvent` where a container is open, `Failed` after another error (no memory is taken
+    /// for it), and else as in `process`; every later call answers `Failed`.
     pub fn finish<W: fmt::Write>(&mut self, writer: &mut W) -> Result<Progress, Error>
         ensures active { (flags : ParserOptions) (source : List ℕ) (p : List Pair) → Stands R.reading flags source self.old p →
             Ends W.write_str_gives writer.old writer.new (rendering_of R.reading self.old) flags source result p }
@@ -479,10 +501,7 @@ impl<R: Reader + Drop> State<R> {
                             bytes_written,
                         })
                     }
-                    Err(error) => {
-                        self.status = Status::Failed;
-                        Err(error)
-                    }
+                    Err(refusal) => Err(self.failed(refusal)),
                 }
             }
             Status::Finished => Ok(Progress::default()),
