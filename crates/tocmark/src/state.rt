@@ -662,3 +662,70 @@ impl<R: Reader + Drop> State<R> {
         }
     }
 }
+
+fn copied_events(alloc: Global, events: &[BufferedEvent]) -> Result<Vec<BufferedEvent>, AllocError>
+    ensures { IfOk result (λ copies. map buffered_view copies.items ≡ map buffered_view events.now) }
+{
+    let mut copies = Vec::new(alloc);
+    for buffered in events {
+        copies.push(copied_event(alloc, buffered)?)?;
+    }
+    Ok(copies)
+}
+
+fn copied_event(alloc: Global, buffered: &BufferedEvent) -> Result<BufferedEvent, AllocError>
+    ensures { IfOk result (λ copy. buffered_view copy ≡ buffered_view buffered.now) }
+{
+    let event = buffered.event.copied(alloc)?;
+    let source = match &buffered.source {
+        Some(text) => copied_source(alloc, Some(text.as_str()))?,
+        None => None,
+    };
+    Ok(BufferedEvent { event, source })
+}
+
+fn copied_ends(alloc: Global, ends: &[TagEnd]) -> Result<Vec<TagEnd>, AllocError>
+    ensures { IfOk result (λ copies. copies.items ≡ ends.now) }
+{
+    let mut copies = Vec::new(alloc);
+    for end in ends {
+        copies.push(*end)?;
+    }
+    Ok(copies)
+}
+
+impl Held {
+    fn copied(&self, alloc: Global) -> Result<Held, AllocError>
+        ensures { IfOk result (λ copy. standing_of copy ≡ standing_of self.now) }
+    {
+        Ok(Held {
+            document: self.document.copied(alloc)?,
+            pending: copied_events(alloc, &self.pending)?,
+            open_tags: copied_ends(alloc, &self.open_tags)?,
+            range_end: self.range_end,
+            is_deferred: self.is_deferred,
+        })
+    }
+}
+
+impl<R: Clone> State<R> {
+    /// A state that stands where this one does, with the same options and flags and a clone of the
+    /// reader. An `Err` says that memory ran out. This state stays as it is.
+    pub fn clone(&self) -> Result<State<R>, AllocError>
+        ensures status { IfOk result (λ copy. copy.status ≡ self.now.status) }
+        ensures options { IfOk result (λ copy. options_kept copy.options ≡ options_kept self.now.options) }
+        ensures standing { IfOk result (λ copy. standing_of copy.held ≡ standing_of self.now.held) }
+        ensures reader { IfOk result (λ copy. R.is_clone self.now.reader copy.reader) }
+    {
+        let reader = self.reader.clone()?;
+        let options = KeptOptions::new(self.alloc, self.options.options())?;
+        let held = self.held.copied(self.alloc)?;
+        Ok(State {
+            alloc: self.alloc,
+            reader,
+            options,
+            status: self.status,
+            held,
+        })
+    }
+}
