@@ -4,16 +4,19 @@
 mod laws;
 mod state;
 mod taker;
+#[cfg(test)]
+mod tests;
 
-ghost use Rattle.std.specs.Prelude.{◌≡◌, List, ℕ, IfOk, IsOk};
+ghost use Rattle.std.specs.Prelude.{◌≡◌, List, Option, ℕ, IfOk, IsOk};
 ghost use Rattle.std.specs.Borrow.{Bor};
 ghost use Rattle.std.specs.Iterator.{IsFinite, DrainsIf};
 ghost use Rattle.tocmark_event.specs.Options.{default_options, options_view};
 ghost use Rattle.tocmark_event.specs.declared.event.EventOf.{EventOf};
 ghost use Rattle.tocmark_event.specs.declared.event.text.CowStr.{CowStr};
+ghost use Rattle.tocmark.specs.Ranges.{Range};
 ghost use Rattle.tocmark.specs.Walk.{done, nothing_yet, script};
 ghost use Rattle.tocmark.specs.Writes.{Makes};
-ghost use Rattle.tocmark.specs.StateView.{IsFinished, pairs, rendering, unknown};
+ghost use Rattle.tocmark.specs.StateView.{IsFinished, pairs, ranged_pairs, rendering, unknown};
 
 pub use state::{Progress, State};
 use std::alloc::Global;
@@ -84,4 +87,59 @@ where
     state.process(events, writer)?;
     state.finish(writer)?;
     Ok(state)
+}
+
+/// Writes events with their ranges in a source, with the default options:
+/// `cmark_with_source_range_and_options` with `Options::default()`.
+pub fn cmark_with_source_range<'a, I, W, R>(
+    alloc: Global,
+    pairs: I,
+    source: &str,
+    writer: &mut W,
+    reader: R,
+    parser_options: ParserOptions,
+) -> Result<State<R>, Error>
+where
+    I: IntoIterator<Item = (&'a Event<'a>, Option<(usize, usize)>)>,
+    W: fmt::Write,
+    R: Reader + Drop,
+    requires { (it : I.IntoIter) → I.into_iter_gives pairs it → I.IntoIter.can_next it × IsFinite (I.IntoIter.remaining it) }
+    ensures made { (it : I.IntoIter) × (xs : List (Bor (EventOf CowStr) × Option Range)) × I.into_iter_gives pairs it
+        × DrainsIf I.IntoIter.next_gives (IsOk result) it xs
+        × Makes W.write_str_gives unknown writer.old writer.new result done (script (rendering default_options (R.reading reader)) source.now (nothing_yet parser_options) (ranged_pairs xs)) }
+    ensures finished { IfOk result (λ state. IsFinished state) }
+{
+    let options = Options::default();
+    cmark_with_source_range_and_options(alloc, pairs, source, writer, reader, parser_options, options)
+}
+
+/// Writes events with their ranges in a source: one call of `State::process_with_source_range` and one
+/// of `State::finish` on a new state, which is returned.
+///
+/// `pairs` is any finite iterable of an `&Event` and its byte range, if it has one; the rest is as in
+/// `cmark_with_options`.
+pub fn cmark_with_source_range_and_options<'a, I, W, R>(
+    alloc: Global,
+    pairs: I,
+    source: &str,
+    writer: &mut W,
+    reader: R,
+    parser_options: ParserOptions,
+    options: Options<'_>,
+) -> Result<State<R>, Error>
+where
+    I: IntoIterator<Item = (&'a Event<'a>, Option<(usize, usize)>)>,
+    W: fmt::Write,
+    R: Reader + Drop,
+    requires { (it : I.IntoIter) → I.into_iter_gives pairs it → I.IntoIter.can_next it × IsFinite (I.IntoIter.remaining it) }
+    ensures made { (it : I.IntoIter) × (xs : List (Bor (EventOf CowStr) × Option Range)) × I.into_iter_gives pairs it
+        × DrainsIf I.IntoIter.next_gives (IsOk result) it xs
+        × Makes W.write_str_gives unknown writer.old writer.new result done (script (rendering (options_view options.entry) (R.reading reader)) source.now (nothing_yet parser_options) (ranged_pairs xs)) }
+    ensures finished { IfOk result (λ state. IsFinished state) }
+{
+    let pairs = pairs.into_iter();
+    let mut ranged = State::new(alloc, reader, parser_options, options)?;
+    ranged.process_with_source_range(pairs, source, writer)?;
+    ranged.finish(writer)?;
+    Ok(ranged)
 }
