@@ -15,7 +15,7 @@ use ucd_category::{GeneralCategory, GeneralCategoryGroup};
 use ucd_derived::is_alphabetic;
 
 /// Where a stretch of text stands, and what stands round it.
-#[derive(Clone, Copy)]
+#[derive(Clone, Copy, Debug)]
 pub struct EscapePlace<'a> {
     /// The extensions that are read.
     pub flags: ParserOptions,
