@@ -357,6 +357,10 @@ mod tests {
             let span = code_span(alloc, text, in_table)?;
             assert_eq!(rt; span.as_str(), expected);
         }
+        let cell = in_cell(alloc, "|a", true)?;
+        assert_eq!(rt; cell.as_str(), "\\|a");
+        let twice = Repeated("ab", 2).to_string(alloc)?;
+        assert_eq!(rt; twice.as_str(), "abab");
         let math = math_text(alloc, "$", "a|b", true)?;
         assert_eq!(rt; math.as_str(), "$a\\|b$");
         assert_eq!(rt; max_consecutive_chars("``a```b``", '`'), 3);
