@@ -88,11 +88,11 @@ read_coded c rest s z =
     (ap (λ o. unwrap_or o itself) found ∙ ap (λ (n : ℕ). let r : Spelled = record { character = c; more = n } in r) long)
 
 module _ (P : List ℕ → Type 0) where
-  pick : (b : Bool) (x y : List ℕ) → (b ≡ true → P x) → (b ≡ false → P y) → P (cond b x y)
+  pub pick : (b : Bool) (x y : List ℕ) → (b ≡ true → P x) → (b ≡ false → P y) → P (cond b x y)
   pick true x y p q = p refl
   pick false x y p q = q refl
 
-  pick_some : (b : Bool) (x : List ℕ) (o : Option (List ℕ)) (d : List ℕ) → (b ≡ true → P x) → (b ≡ false → P (unwrap_or o d)) → P (unwrap_or (cond b (Some x) o) d)
+  pub pick_some : (b : Bool) (x : List ℕ) (o : Option (List ℕ)) (d : List ℕ) → (b ≡ true → P x) → (b ≡ false → P (unwrap_or o d)) → P (unwrap_or (cond b (Some x) o) d)
   pick_some true x o d p q = p refl
   pick_some false x o d p q = q refl
 

@@ -141,6 +141,7 @@ all_to_read s bs text e =
 -- a span that isn't blank, piece by piece
 pub span_pieces : (text space : List ℕ) (longest : ℕ) → IsUtf8 text → is_blank text ≡ false → longest ≡ longest_run 96 (chars text) → space ≡ padding text
     → repeat (longest + 1) (encode_utf8 96) ++ (space ++ (text ++ (space ++ repeat (longest + 1) (encode_utf8 96)))) ≡ span text
+unfolding span padding
 span_pieces text space longest u b l p =
     let same : longest ≡ longest_run 96 text = l ∙ longest_run-chars 96 text (lit< tt) u in
     rw (b, p, repeat-ascii (longest + 1) 96 (lit< tt), same) refl

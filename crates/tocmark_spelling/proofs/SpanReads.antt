@@ -3,7 +3,7 @@ use Rattle.std.proofs.Common.{◌≡◌, ℕ, zero, suc, ◌+◌, ◌-◌, ◌<�
 use Rattle.std.specs.Prelude.{◌==◌}
 use Rattle.std.specs.List.{list_all}
 use Rattle.std.proofs.lemmas.Bool.{cases_Bool, and_parts, and_right, eqb-true, le-leb}
-use Rattle.tocmark_spelling.specs.Leaves.{run_length, longest_run, first_is, last_is, is_blank, needs_spaces, ticks, span, code_span, has_run, without_spaces, between_ends, ends_with_run, unspan}
+use Rattle.tocmark_spelling.specs.Leaves.{padding, run_length, longest_run, first_is, last_is, is_blank, needs_spaces, ticks, span, code_span, has_run, without_spaces, between_ends, ends_with_run, unspan}
 
 or_parts_false : (x y : Bool) → (x || y) ≡ false → (x ≡ false) × (y ≡ false)
 or_parts_false true y e = cc
@@ -128,11 +128,12 @@ spaced_kept text e =
     rw (last, blank, long) (take-front text (32 ∷ []))
 
 spaced_span : (text : List ℕ) → is_blank text ≡ false → needs_spaces text ≡ true → span text ≡ ticks text ++ (spaced text ++ ticks text)
-unfolding spaced
+unfolding spaced span padding
 spaced_span text full needs =
     rw (full, needs) (ap (λ (x : List ℕ). ticks text ++ 32 ∷ x) (sym (append_assoc text (32 ∷ []) (ticks text))))
 
 bare_span : (text : List ℕ) → is_blank text ≡ false → needs_spaces text ≡ false → span text ≡ ticks text ++ (text ++ ticks text)
+unfolding span padding
 bare_span text full needs = rw (full, needs) refl
 
 read_spaced_whole : (text : List ℕ) → unspan (ticks text ++ (spaced text ++ ticks text)) ≡ Some (without_spaces (spaced text))
@@ -159,6 +160,7 @@ read_bare_span text some full needs =
     ∙ ap Some (bare_kept text ends.1)
 
 read_blank : (text : List ℕ) → 0 < length text → is_blank text ≡ true → unspan (span text) ≡ Some text
+unfolding span
 read_blank text some blank =
     let shown : span text ≡ replicate 1 96 ++ (text ++ replicate 1 96) = rw blank refl in
     ap unspan shown
@@ -166,6 +168,7 @@ read_blank text some blank =
     ∙ ap Some (blank_kept text blank)
 
 pub code_span-read : (text : List ℕ) → 0 < length text → unspan (code_span false text) ≡ Some text
+unfolding code_span
 code_span-read text some =
     elim (cases_Bool (is_blank text)) [
       | inl blank ↦ read_blank text some blank

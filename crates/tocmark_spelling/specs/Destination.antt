@@ -35,7 +35,7 @@ needs_brackets in_definition text =
     (in_definition && length text == 0) || list_any ends_destination text || is_unbalanced 0 text
 
 -- a destination, in a definition or not
-abbrev pub destination : Bool → List ℕ → List ℕ
+unfoldable pub destination : Bool → List ℕ → List ℕ
 destination in_definition text =
     if needs_brackets in_definition text then codes "<" ++ destination_text text ++ codes ">" else destination_text text
 
@@ -50,7 +50,7 @@ abbrev pub title_text : List ℕ → List ℕ
 title_text text = flat_map title_character text
 
 -- a space and the title in quotes; nothing for the empty one
-abbrev pub title : List ℕ → List ℕ
+unfoldable pub title : List ℕ → List ℕ
 title text = if length text == 0 then [] else codes " \"" ++ title_text text ++ codes "\""
 
 -- what closes an inline link with this destination and title

@@ -37,7 +37,7 @@ abbrev pub needs_spaces : List ℕ → Bool
 needs_spaces text = first_is backtick text || last_is backtick text || (first_is space text && last_is space text)
 
 -- the space that is added at each end
-abbrev pub padding : List ℕ → List ℕ
+unfoldable pub padding : List ℕ → List ℕ
 padding text = if needs_spaces text then codes " " else []
 
 -- the backticks round a text: one more than the longest run in it
@@ -45,13 +45,13 @@ abbrev pub ticks : List ℕ → List ℕ
 ticks text = replicate (longest_run backtick text + 1) backtick
 
 -- spaces alone stand between single backticks, anything else between runs one longer than the longest inside
-abbrev pub span : List ℕ → List ℕ
+unfoldable pub span : List ℕ → List ℕ
 span text =
     if is_blank text then codes "`" ++ (text ++ codes "`")
     else ticks text ++ (padding text ++ (text ++ (padding text ++ ticks text)))
 
 -- a code span, in a table or not (CommonMark, section 6.1)
-abbrev pub code_span : Bool → List ℕ → List ℕ
+unfoldable pub code_span : Bool → List ℕ → List ℕ
 code_span in_table text = span (in_cell in_table text)
 
 -- whether some longest stretch of backticks has this length; at first whether one goes on from before

@@ -15,7 +15,7 @@ use ucd_category::{GeneralCategory, GeneralCategoryGroup};
 use ucd_derived::is_alphabetic;
 
 /// Where a stretch of text stands, and what stands round it.
-#[derive(Clone, Copy)]
+#[derive(Clone, Copy, Debug)]
 pub struct EscapePlace<'a> {
     /// The extensions that are read.
     pub flags: ParserOptions,
@@ -289,37 +289,101 @@ pub fn escape_text(alloc: Global, text: &str, place: &EscapePlace<'_>) -> Result
 #[cfg(test)]
 mod tests {
     use super::*;
+    use std::process::Abort;
     use std::test::Fail;
 
-    fn plain() -> EscapePlace<'static> {
-        EscapePlace {
-            flags: ParserOptions(0),
-            token: '*',
-            literal: false,
-            first_encoded: false,
-            last_encoded: false,
-            at_front: true,
-            in_table: false,
-            in_heading: false,
-            next: None,
+    const PLAIN: EscapePlace<'static> = EscapePlace {
+        flags: ParserOptions(0),
+        token: '*',
+        literal: false,
+        first_encoded: false,
+        last_encoded: false,
+        at_front: false,
+        in_table: false,
+        in_heading: false,
+        next: None,
+    };
+
+    fn check(
+        rt: &impl Abort,
+        alloc: Global,
+        place: &EscapePlace<'_>,
+        rows: &[(&str, &str)],
+    ) -> Result<(), Fail> {
+        for (text, expected) in rows {
+            let escaped = escape_text(alloc, *text, place)?;
+            assert_eq!(rt; escaped.as_str(), *expected);
         }
+        Ok(())
     }
 
     #[test]
-    fn texts_at_a_front(rt: HostRuntime) -> Result<(), Fail> {
+    fn fronts_and_lines(rt: HostRuntime) -> Result<(), Fail> {
+        let at_front = EscapePlace {
+            at_front: true,
+            ..PLAIN
+        };
         let rows = [
             ("1", "1"),
             (". a", ". a"),
             ("1. a", "1\\. a"),
+            ("1a. b", "1a. b"),
             ("a\\\nb", "a\\\\&#10;b"),
+            ("a\\b\\", "a\\b\\\\"),
             ("# a", "\\# a"),
             ("- b", "\\- b"),
+            ("-b", "-b"),
+            ("=", "\\="),
             ("a & b", "a &amp; b"),
+            (" a", "&#32;a"),
+            ("é_é _a", "é_é \\_a"),
+            ("a^b ^", "a^b \\^"),
+            ("|a|$", "\\|a|$"),
+            ("*[x]`<~", "\\*\\[x\\]\\`\\<\\~"),
         ];
-        for (text, expected) in rows {
-            let escaped = escape_text(rt.alloc(), text, &plain())?;
-            assert_eq!(rt; escaped.as_str(), expected);
-        }
-        Ok(())
+        check(&rt, rt.alloc(), &at_front, &rows)?;
+        let rows = [("- b", "- b"), (" a", " a"), ("> a", "\\> a")];
+        check(&rt, rt.alloc(), &PLAIN, &rows)
+    }
+
+    #[test]
+    fn other_places(rt: HostRuntime) -> Result<(), Fail> {
+        let alloc = rt.alloc();
+        let in_table = EscapePlace {
+            at_front: true,
+            in_table: true,
+            ..PLAIN
+        };
+        let rows = [("- a|b", "- a\\|b"), ("# a", "# a"), ("1. a", "1. a")];
+        check(&rt, alloc, &in_table, &rows)?;
+        let in_heading = EscapePlace {
+            flags: ParserOptions::ENABLE_HEADING_ATTRIBUTES,
+            in_heading: true,
+            ..PLAIN
+        };
+        check(&rt, alloc, &in_heading, &[("a # {", "a \\# \\{")])?;
+        let encoded = EscapePlace {
+            first_encoded: true,
+            last_encoded: true,
+            ..PLAIN
+        };
+        check(
+            &rt,
+            alloc,
+            &encoded,
+            &[("a\\b", "&#97;\\\\&#98;"), (" ", " ")],
+        )?;
+        let literal = EscapePlace {
+            literal: true,
+            ..PLAIN
+        };
+        check(&rt, alloc, &literal, &[("*_~^$[", "*_~^$\\[")])?;
+        let footnote = EventOf::FootnoteReference(String::new(alloc));
+        let before_footnote = EscapePlace {
+            token: '+',
+            next: Some(&footnote),
+            ..PLAIN
+        };
+        check(&rt, alloc, &before_footnote, &[("a+!", "a\\+\\!")])
     }
 }

@@ -112,6 +112,7 @@ struct Destination<'a> {
     in_definition: bool,
 }
 
+#[tactic(auto, unfolding(crate::specs::Destination::destination))]
 impl fmt::Display for Destination<'_> {
     ghost output = { λ d. Some (destination d.in_definition d.text.now) };
 
@@ -129,6 +130,7 @@ impl fmt::Display for Destination<'_> {
 #[derive(Clone, Copy)]
 struct Title<'a>(&'a str);
 
+#[tactic(auto, unfolding(crate::specs::Destination::title))]
 impl fmt::Display for Title<'_> {
     ghost output = { λ t. Some (title t.0.now) };
 
@@ -261,6 +263,7 @@ fn needs_spaces(text: &str) -> bool
     has_backtick || has_spaces
 }
 
+#[tactic(auto, unfolding(crate::specs::Leaves::padding))]
 /// The space that is added at each end of a code span.
 fn padding(text: &str) -> &'static str
     ensures { result.now ≡ padding text.now }
@@ -268,6 +271,7 @@ fn padding(text: &str) -> &'static str
     if needs_spaces(text) { " " } else { "" }
 }
 
+#[tactic(auto, unfolding(crate::specs::Leaves::span))]
 fn span(alloc: Global, text: &str) -> Result<String, AllocError>
     ensures { IfOk result (λ s. string_bytes s ≡ span text.now) }
 {
@@ -280,6 +284,7 @@ fn span(alloc: Global, text: &str) -> Result<String, AllocError>
     format!(in alloc; "{ticks}{padding}{text}{padding}{ticks}")
 }
 
+#[tactic(auto, unfolding(crate::specs::Leaves::code_span))]
 /// A code span, in a table or not. The run of backticks round it is one longer than the longest run in
 /// it, but one where it holds spaces alone; a space stands at each end where it begins or ends with a
 /// backtick or begins and ends with a space. An `Err` says that memory ran out.
@@ -352,6 +357,10 @@ mod tests {
             let span = code_span(alloc, text, in_table)?;
             assert_eq!(rt; span.as_str(), expected);
         }
+        let cell = in_cell(alloc, "|a", true)?;
+        assert_eq!(rt; cell.as_str(), "\\|a");
+        let twice = Repeated("ab", 2).to_string(alloc)?;
+        assert_eq!(rt; twice.as_str(), "abab");
         let math = math_text(alloc, "$", "a|b", true)?;
         assert_eq!(rt; math.as_str(), "$a\\|b$");
         assert_eq!(rt; max_consecutive_chars("``a```b``", '`'), 3);

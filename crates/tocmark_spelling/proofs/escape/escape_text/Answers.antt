@@ -1,10 +1,11 @@
 use Rattle.std.proofs.Common.{◌∙◌, [], sym, ap, chars, encode_utf8_all, append-nil, rules}
 use Rattle.std.proofs.lemmas.Str.{IsUtf8-past_char}
-use Rattle.tocmark_spelling.specs.Escape.{place_of}
+use Rattle.tocmark_spelling.specs.Escape.{place_of, escaped}
 use Rattle.tocmark_spelling.proofs.EscapeLemmas.{escape_on-is, escape_on-more, chars_of_empty}
 use Rattle.tocmark_spelling.proofs.escape.escape_text.Goals as goal
 
 pub loop-character-init : goal.loop-character-init
+unfolding escaped
 loop-character-init c = record {
   is_text = search rules;
   same = rw (c.new-escaped.ensures.bytes, c.chars-rest.ensures.rest)

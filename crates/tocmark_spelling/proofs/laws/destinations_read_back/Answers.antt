@@ -1,5 +1,6 @@
 use Rattle.tocmark_spelling.proofs.ReadBack.{destination_text-read}
+use Rattle.tocmark_spelling.proofs.TextLaws.{destination_text-chars-read}
 use Rattle.tocmark_spelling.proofs.laws.destinations_read_back.Goals as goal
 
 pub returns : goal.returns
-returns c = destination_text-read
+returns c = record { characters = destination_text-read; texts = destination_text-chars-read }
