@@ -1,10 +1,8 @@
 -- What is pending begins a forest, and is one where no container is open.
-use Rattle.std.proofs.Common.{◌≡◌, ℕ, subst, List, [], ◌∷◌, ◌++◌, Option, Some, None, Result, Ok, Err, Bool, true, false, if◌then◌else◌, refl, ap, sym, ◌∙◌, length, ◌==◌, reverse, not, ◌&&◌, arith}
-use Rattle.std.proofs.lemmas.List.{length-reverse}
-use Rattle.std.proofs.lemmas.Bool.Decides.{nat_tests}
+use Rattle.std.proofs.Common.{◌≡◌, ℕ, subst, List, [], ◌∷◌, ◌++◌, Option, Some, None, Result, Ok, Err, Bool, true, false, if◌then◌else◌, refl, ap, sym, ◌∙◌, not, ◌&&◌}
 use Rattle.tocmark_event.specs.Ends.{same_end}
-use Rattle.tocmark_event.specs.Forest.{Forest, empty, leaf, node, flat, flat_onto, joined, Opened, Grown, IsBalanced, IsReading, closed_if, read_end, read_one, then_read, read_all, nothing_read, ends_of}
-use Rattle.tocmark_event.specs.View.{EventView, EventWith, Start, End, Leaf, SourcedEvent, SourcedLeaf, TagView, unsourced, end_of}
+use Rattle.tocmark_event.specs.Forest.{Forest, empty, leaf, node, flat_onto, joined, Opened, Grown, IsBalanced, IsReading, closed_if, read_end, read_one, then_read, read_all, nothing_read, ends_of}
+use Rattle.tocmark_event.specs.View.{EventView, Start, End, Leaf, SourcedEvent, SourcedLeaf, unsourced, end_of}
 use Rattle.tocmark_event.specs.declared.event.TagEnd.{TagEnd}
 use Rattle.tocmark_event.specs.declared.options.Error.{Error}
 use Rattle.tocmark_event.specs.declared.options.Error.TheVariants as error

@@ -1,6 +1,3 @@
-use Rattle.std.proofs.Common.{◌≡◌, List, []}
-use Rattle.tocmark_event.specs.Forest.{IsReading}
-use Rattle.tocmark_event.specs.declared.event.TagEnd.{TagEnd}
 use Rattle.tocmark.proofs.Reading.{nothing_nested, reading_balanced}
 use Rattle.tocmark.proofs.laws.pending_events_are_nested.Goals as goal
 
