@@ -1,3 +1,4 @@
 pub mod Walks
 pub mod Runs
 pub mod Trees
+pub mod Reading

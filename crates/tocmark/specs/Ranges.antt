@@ -42,6 +42,7 @@ abbrev pub range_end_after : ℕ → EventView → Range → ℕ
 range_end_after range_end (Start t) range = range_end
 range_end_after range_end e range = range.1
 
+-- the same of an event and its range
 abbrev pub resolved_at : List ℕ → ℕ → EventView → Option Range → Result (SourcedEvent × ℕ) Error
 resolved_at source range_end e None = Ok (sourced e None, range_end)
 resolved_at source range_end e (Some range) =

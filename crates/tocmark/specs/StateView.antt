@@ -30,6 +30,7 @@ abbrev pub Answers : {X Y : Type 0} → Result X Error → Y → Result Y Error 
 Answers (Ok x) y answer = answer ≡ Ok y
 Answers (Err e) y answer = Refuses e answer
 
+-- the options that a state keeps
 abbrev pub options_kept : KeptOptions → OptionsView
 options_kept o = record {
   newlines_after_headline = o.newlines_after_headline;
@@ -52,6 +53,7 @@ options_kept o = record {
   use_html_for_super_sub_script = o.use_html_for_super_sub_script;
 }
 
+-- the flags stay with the document
 abbrev pub keeping : ParserOptions → Result (List ℕ × DocumentView) Error → Result (List ℕ × Kept) Error
 keeping flags (Ok x) = Ok (x.0, record { flags = flags; document = x.1 })
 keeping flags (Err e) = Err e
@@ -64,9 +66,11 @@ rendering options reading = record {
   definitions = λ kept. definitions kept.document;
 }
 
+-- a document with its flags
 abbrev pub kept_of : Document → Kept
 kept_of d = record { flags = document_flags d; document = document_view d }
 
+-- where a state's events stand
 abbrev pub standing_of : Held → Standing
 standing_of h = record {
   pending = map buffered_view h.pending.items;
@@ -80,6 +84,7 @@ standing_of h = record {
 abbrev pub rendering_of : {R : Type 0} → (R → List ℕ → ParserOptions → ReadingView) → State R → Rendering
 rendering_of reading s = rendering (options_kept s.options) (reading s.reader)
 
+-- how units are written in a call
 abbrev pub rendering_with : {R : Type 0} → (R → List ℕ → ParserOptions → ReadingView) → Tools R → Rendering
 rendering_with reading t = rendering (options_view t.options) (reading t.reader.now)
 
@@ -91,6 +96,7 @@ text_now source = option_map (λ s. s.now) source
 abbrev pub pairs : List (Bor (EventOf CowStr)) → List Pair
 pairs xs = map (λ x. unranged (event_view text_of x.now)) xs
 
+-- the state takes events
 abbrev pub IsActive : {R : Type 0} → State R → Type 0
 IsActive s = s.status ≡ Active
 
@@ -116,13 +122,16 @@ pub record Stands {R : Type 0} (reading : R → List ℕ → ParserOptions → R
 abbrev pub at_most : ℕ → ℕ
 at_most n = min n (2 ^ 64 - 1)
 
+-- what a call counts: its events, and the bytes that it handed
 pub record Counts (p : Progress) (events bytes : ℕ) : Type 0 where
   pub events_consumed : p.events_consumed ≡ at_most events
   pub bytes_written : p.bytes_written ≡ at_most bytes
 
+-- a call was refused
 abbrev pub IsFailed : {R : Type 0} → State R → Type 0
 IsFailed s = s.status ≡ Failed
 
+-- the events have ended
 abbrev pub IsFinished : {R : Type 0} → State R → Type 0
 IsFinished s = s.status ≡ Finished
 

@@ -17,6 +17,7 @@ pub record Ranged : Type 0 where
   -- whether a bad range follows
   pub is_cut : Bool
 
+-- an event in front, or the bad range
 abbrev pub with_first : Result (SourcedEvent × ℕ) Error → ℕ → (ℕ → Ranged) → Ranged
 with_first (Ok x) range_end f = record { events = x.0 ∷ (f x.1).events; range_end = (f x.1).range_end; is_cut = (f x.1).is_cut }
 with_first (Err e) range_end f = record { events = []; range_end = range_end; is_cut = true }
@@ -97,6 +98,7 @@ walk_trees how kept (node t kids f) part refused =
     (deferred_unit kept (Start t ∷ flat_onto kids (End (end_of t) ∷ flat_onto f (part_onto part []))) part refused)
     (λ k. walk_trees how k f part refused)
 
+-- a bad range is refused behind the events before it
 abbrev pub end_ranged : Ranged → Standing → Result Standing Error
 end_ranged r s = if r.is_cut then Err error.InvalidSourceRange else Ok (record s { range_end = r.range_end })
 

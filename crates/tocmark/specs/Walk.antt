@@ -77,6 +77,7 @@ nested os (Start t) = Ok (end_of t ∷ os)
 nested os (End k) = closed os k
 nested os (Leaf l) = Ok os
 
+-- the event joins what is pending, where it is nested right
 abbrev pub with_event : Standing → SourcedEvent → Result (List TagEnd) Error → Walk Standing
 with_event s e (Ok os) = stay (record s { pending = s.pending ++ e ∷ []; open_tags = os })
 with_event s e (Err x) = refuse x
@@ -85,6 +86,7 @@ with_event s e (Err x) = refuse x
 unfoldable pub joins : SourcedEvent → Standing → Walk Standing
 joins e s = with_event s e (nested s.open_tags (unsourced e))
 
+-- nothing is pending after a unit's choice, whose text is handed
 abbrev pub flush_of : Standing → Result (List ℕ × Kept) Error → Walk Standing
 flush_of s (Ok x) = hand_walk x.0 (record s { pending = []; document = x.1 })
 flush_of s (Err e) = refuse e
@@ -102,6 +104,7 @@ is_whole os es = false
 abbrev pub is_due : Standing → Bool
 is_due s = not s.is_deferred && is_whole s.open_tags s.pending
 
+-- a unit that waits is left for the end; any other is written
 abbrev pub flushed_or_deferred : Rendering → Bool → EventView → Standing → Walk Standing
 flushed_or_deferred how true next s = stay (record s { is_deferred = true })
 flushed_or_deferred how false next s = flushed how (Some next) s
@@ -114,6 +117,7 @@ flushed_before how next s = if is_due s then flushed_or_deferred how (how.waits 
 unfoldable pub advance : Rendering → SourcedEvent → Standing → Walk Standing
 advance how e s = go_on (flushed_before how (unsourced e) s).texts (flushed_before how (unsourced e) s).outcome (λ t. joins e t)
 
+-- a bad range is refused before anything else
 abbrev pub advance_with : Rendering → Standing → Result (SourcedEvent × ℕ) Error → Walk Standing
 advance_with how s (Ok x) = advance how x.0 (record s { range_end = x.1 })
 advance_with how s (Err e) = refuse e
@@ -135,10 +139,12 @@ beginning kept = record { pending = []; open_tags = []; document = kept; range_e
 abbrev pub nothing_yet : ParserOptions → Standing
 nothing_yet flags = beginning (record { flags = flags; document = new_document })
 
+-- all that is pending is written as one unit, if there is any
 abbrev pub flushed_rest : Rendering → List SourcedEvent → Standing → Walk Standing
 flushed_rest how [] s = stay s
 flushed_rest how (e ∷ es) s = flushed how None s
 
+-- an open container is refused
 abbrev pub ended_at : Rendering → List TagEnd → Standing → Walk Done
 ended_at how [] s = go_on (flushed_rest how s.pending s).texts (flushed_rest how s.pending s).outcome (λ t. hand_walk (how.definitions t.document) done)
 ended_at how (o ∷ os) s = refuse error.UnexpectedEvent

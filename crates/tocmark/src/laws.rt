@@ -1,6 +1,7 @@
 //! Laws of the walk, each the contract of a function that does nothing.
 
-ghost use Rattle.std.specs.Prelude.{◌≡◌, ◌++◌, List, ℕ, Ok};
+ghost use Rattle.std.specs.Prelude.{◌≡◌, ◌++◌, List, [], ℕ, Ok};
+ghost use Rattle.tocmark_event.specs.Forest.{IsBalanced, IsReading};
 ghost use Rattle.tocmark.specs.Ranges.{Pair};
 ghost use Rattle.tocmark.specs.Trees.{Trees, ranged, then_ranged, walk_trees};
 ghost use Rattle.tocmark.specs.Walk.{Kept, Rendering, Standing, beginning, go_on, walk};
@@ -18,4 +19,11 @@ pub fn units_are_trees()
     ensures { (how : Rendering) (source : List ℕ) (kept : Kept) (p : List Pair) →
         (trees : Trees (ranged source 0 p).events)
         × (walk how source (beginning kept) p ≡ then_ranged (ranged source 0 p) (walk_trees how kept trees.whole trees.part trees.refused)) }
+{}
+
+/// What is pending begins a forest, in which the containers are open that the state holds as open; so a
+/// unit that is written is the events of a forest.
+pub fn pending_events_are_nested()
+    ensures { (how : Rendering) (source : List ℕ) (kept : Kept) (s : Standing) (p : List Pair) → (walk how source (beginning kept) p).outcome ≡ Ok s →
+        IsReading s.pending s.open_tags × (s.open_tags ≡ [] → IsBalanced s.pending) }
 {}

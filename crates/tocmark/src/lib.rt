@@ -110,7 +110,15 @@ where
     ensures finished { IfOk result (λ state. IsFinished state) }
 {
     let options = Options::default();
-    cmark_with_source_range_and_options(alloc, pairs, source, writer, reader, parser_options, options)
+    cmark_with_source_range_and_options(
+        alloc,
+        pairs,
+        source,
+        writer,
+        reader,
+        parser_options,
+        options,
+    )
 }
 
 /// Writes events with their ranges in a source: one call of `State::process_with_source_range` and one

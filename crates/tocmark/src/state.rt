@@ -599,7 +599,7 @@ impl<R: Reader + Drop> State<R> {
         ensures active { IsActive self.old → (it : I.IntoIter) × (xs : List (Bor (EventOf CowStr) × Option Range)) × I.into_iter_gives pairs it
             × DrainsIf I.IntoIter.next_gives (IsOk result) it xs
             × ((flags : ParserOptions) (p : List Pair) → Stands R.reading flags source.now self.old p →
-                Adds W.write_str_gives writer.old writer.new (rendering_of R.reading self.old) flags source.now result self.new.held p (ranged_pairs xs)) }
+            Adds W.write_str_gives writer.old writer.new (rendering_of R.reading self.old) flags source.now result self.new.held p (ranged_pairs xs)) }
         ensures same { rendering_of R.reading self.new ≡ rendering_of R.reading self.old }
         ensures stands { OnOk result (self.new.status ≡ self.old.status) }
         ensures refused { OnErr result (IsFailed self.new) }

@@ -4,14 +4,17 @@ ghost use Rattle.std.specs.Prelude.{[]};
 
 use crate::event::{CowStr, Event, ParserOptions, Tag, TagEnd};
 use crate::reader::{Reader, Reading};
-use crate::{Error, Options, Progress, State, cmark};
+use crate::{
+    Error, Options, Progress, State, cmark, cmark_with_options, cmark_with_source_range,
+    cmark_with_source_range_and_options,
+};
 use std::alloc::{AllocError, Global};
 use std::fmt;
 use std::process::Abort;
 use std::test::Fail;
 
 /// A reader that finds nothing in any text.
-#[derive(Debug, Drop)]
+#[derive(Clone, Debug, Drop)]
 struct Nothing;
 
 impl Reader for Nothing {
@@ -147,20 +150,57 @@ fn wrong_ends(rt: HostRuntime) -> Result<(), Fail> {
 }
 
 #[test]
-fn one_call(rt: HostRuntime) -> Result<(), Fail> {
+fn bad_ranges(rt: HostRuntime) -> Result<(), Fail> {
+    let events = [Event::Rule, Event::Text(CowStr::Borrowed("a"))];
+    let ranges = [None, Some((3, 1))];
+    let mut to = writer(9);
+    let mut state = new_state(rt.alloc())?;
+    let pairs = events.iter().zip(ranges.iter().copied());
+    let answer = state.process_with_source_range(pairs, "abcd", &mut to);
+    assert!(rt; matches!(&answer, Err(Error::InvalidSourceRange)));
+    let later = state.finish(&mut to);
+    assert!(rt; matches!(&later, Err(Error::Failed)));
+    assert_eq!(rt; to.texts, 0);
+    Ok(())
+}
+
+#[test]
+fn copies(rt: HostRuntime) -> Result<(), Fail> {
     let events = [
         Event::Text(CowStr::Borrowed("1")),
         Event::Text(CowStr::Borrowed(". a")),
     ];
-    let mut text = String::new(rt.alloc());
-    let mut state = cmark(
-        rt.alloc(),
-        events.iter(),
-        &mut text,
-        Nothing,
-        ParserOptions(0),
-    )?;
-    assert_eq!(rt; text.as_str(), "1. a");
+    let ranges = [Some((0, 1)), Some((1, 4))];
+    let mut to = writer(9);
+    let mut state = new_state(rt.alloc())?;
+    let pairs = events.iter().zip(ranges.iter().copied());
+    let done = state.process_with_source_range(pairs, "1. a", &mut to)?;
+    assert_eq!(rt; done, progress(2, 1));
+    let mut copy = state.clone()?;
+    assert_eq!(rt; state.finish(&mut to)?, progress(0, 3));
+    assert_eq!(rt; copy.finish(&mut to)?, progress(0, 3));
+    Ok(())
+}
+
+#[test]
+fn one_call(rt: HostRuntime) -> Result<(), Fail> {
+    let (alloc, flags) = (rt.alloc(), ParserOptions(0));
+    let events = [
+        Event::Text(CowStr::Borrowed("1")),
+        Event::Text(CowStr::Borrowed(". a")),
+    ];
+    let ranges = [Some((0, 1)), Some((1, 4))];
+    let mut text = String::new(alloc);
+    let mut state = cmark(alloc, events.iter(), &mut text, Nothing, flags)?;
     assert_eq!(rt; state.finish(&mut text)?, progress(0, 0));
+    let options = Options::default();
+    let _with = cmark_with_options(alloc, events.iter(), &mut text, Nothing, flags, options)?;
+    let pairs = events.iter().zip(ranges.iter().copied());
+    let _ranged = cmark_with_source_range(alloc, pairs, "1. a", &mut text, Nothing, flags)?;
+    let pairs = events.iter().zip(ranges.iter().copied());
+    let _both = cmark_with_source_range_and_options(
+        alloc, pairs, "1. a", &mut text, Nothing, flags, options,
+    )?;
+    assert_eq!(rt; text.as_str(), "1. a1. a1. a1. a");
     Ok(())
 }

@@ -42,7 +42,7 @@ returns-in_err-finish-clause-made g c =
       a.1,
       rw a.2 c.into_iter-pairs.ensures.into_iter_gives,
       (a.3.0, a.3.1, λ h. no_ok h),
-          let b = a.4 flags [] (c.in_ok-ranged.ensures.stands c.args.source.now) in
+      let b = a.4 flags [] (c.in_ok-ranged.ensures.stands c.args.source.now) in
           let s : Stands g.R.Reader.reading flags c.args.source.now c.process_with_source_range.new.self (ranged_pairs a.1) = record {
             active = c.in_ok-process_with_source_range.ensures.stands ∙ (c.in_ok-ranged.ensures.stands c.args.source.now).active;
             standing = rw c.in_ok-process_with_source_range.ensures.same b.made.0;
@@ -63,7 +63,7 @@ returns-clause-made g c =
       a.1,
       rw a.2 c.into_iter-pairs.ensures.into_iter_gives,
       a.3,
-          let b = a.4 flags [] (c.in_ok-ranged.ensures.stands c.args.source.now) in
+      let b = a.4 flags [] (c.in_ok-ranged.ensures.stands c.args.source.now) in
           let s : Stands g.R.Reader.reading flags c.args.source.now c.process_with_source_range.new.self (ranged_pairs a.1) = record {
             active = c.in_ok-process_with_source_range.ensures.stands ∙ (c.in_ok-ranged.ensures.stands c.args.source.now).active;
             standing = rw c.in_ok-process_with_source_range.ensures.same b.made.0;

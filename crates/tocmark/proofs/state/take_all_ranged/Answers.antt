@@ -1,4 +1,4 @@
-use Rattle.std.proofs.Common.{◌≡◌, Ok, Err, ℕ, rules, ◌++◌, ◌∷◌, [], length, sum_by}
+use Rattle.std.proofs.Common.{Ok, Err, ℕ, rules, ◌++◌, ◌∷◌, [], length, sum_by}
 use Rattle.std.proofs.iter.Next.{Yields-more}
 use Rattle.std.proofs.lemmas.List.{length-append}
 use Rattle.std.proofs.lemmas.Result.{err_from_is_err_and}

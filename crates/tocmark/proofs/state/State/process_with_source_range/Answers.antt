@@ -1,4 +1,4 @@
-use Rattle.std.proofs.Common.{◌≡◌, Ok, Err, length, sum_by}
+use Rattle.std.proofs.Common.{Ok, Err}
 use Rattle.std.proofs.lemmas.List.{length-map}
 use Rattle.tocmark_event.specs.Options.{options_view}
 use Rattle.tocmark.specs.StateView.{options_kept, ranged_pairs, standing_of}
