@@ -6,3 +6,5 @@ pub mod Forest
 pub mod Reading
 pub mod ErrorText
 pub mod Options
+pub mod Validation
+pub mod Special

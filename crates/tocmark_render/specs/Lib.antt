@@ -5,3 +5,4 @@ pub mod Candidates
 pub mod ReadsBack
 pub mod Placeholder
 pub mod Choice
+pub mod Units

@@ -9,5 +9,4 @@ pub mod escape;
 /// Cites the definitions.
 pub fn cites_definitions()
     ensures { (path : Path) → path ≡ path }
-{
-}
+{}
