@@ -3,5 +3,6 @@
 
 pub mod escape;
 pub mod laws;
+pub mod misplaced;
 pub mod spelling;
 pub mod text_modifications;
