@@ -58,6 +58,17 @@ impl Document {
         }
     }
 
+    /// An equal document. An `Err` says that memory ran out.
+    pub fn copied(&self, alloc: Global) -> Result<Document, AllocError>
+        ensures view { IfOk result (λ copy. document_view copy ≡ document_view self.now) }
+        ensures flags { IfOk result (λ copy. document_flags copy ≡ document_flags self.now) }
+    {
+        Ok(Document {
+            flags: self.flags,
+            renderer: self.renderer.copied(alloc)?,
+        })
+    }
+
     /// Writes a unit and gives its text.
     ///
     /// `next` is the event after the unit, if there is one. An `Err` is `UnexpectedEvent` where the

@@ -1,6 +1,6 @@
 //! Writes the events of one unit.
 
-ghost use Rattle.std.specs.Prelude.{◌≡◌, ◌<◌, ◌+◌, ◌++◌, ◌∷◌, [], map, drop, max, replicate, string_bytes, length, OnOk, is_none, ◌==◌, ◌&&◌, Some};
+ghost use Rattle.std.specs.Prelude.{◌≡◌, ◌<◌, ◌+◌, ◌++◌, ◌∷◌, [], map, drop, max, replicate, string_bytes, length, IfOk, OnOk, is_none, ◌==◌, ◌&&◌, Some};
 ghost use Rattle.tocmark_event.specs.View.{event_view};
 ghost use Rattle.tocmark_event.specs.Options.{options_view};
 ghost use Rattle.tocmark_spelling.specs.Buffered.{buffered_view, following_view};
@@ -130,6 +130,20 @@ impl Renderer {
             open: Vec::new(alloc),
             held: String::new(alloc),
         }
+    }
+
+    /// A renderer that stands where this one does. An `Err` says that memory ran out.
+    pub fn copied(&self, alloc: Global) -> Result<Renderer, AllocError>
+        ensures { IfOk result (λ copy. draft_of copy ≡ draft_of self.now) }
+    {
+        Ok(Renderer {
+            text: String::from_str(alloc, self.text.as_str())?,
+            newlines: self.newlines,
+            owed: self.owed,
+            inline: self.inline,
+            open: Vec::from_slice(alloc, &self.open)?,
+            held: String::from_str(alloc, self.held.as_str())?,
+        })
     }
 
     /// Line feeds until so many stand; they are reserved as a whole.
