@@ -1,5 +1,5 @@
 -- How a line changes a page (CommonMark, appendix "A parsing strategy").
-use Rattle.std.specs.Prelude.{ℕ, ◌-◌, Bool, true, false, ◌==◌, ◌&&◌, nat_lt, nat_le, if◌then◌else◌, List, [], length, slice_get, slice_set, Option, Some, None}
+use Rattle.std.specs.Prelude.{ℕ, ◌-◌, Bool, true, false, ◌==◌, ◌&&◌, nat_lt, nat_le, if◌then◌else◌, List, [], length, map, slice_get, slice_set, Option, Some, None}
 use Rattle.std.specs.List.{fold}
 use Rattle.std.specs.Option.{option_map_or}
 use Rattle.tocmark_event.specs.declared.event.HeadingLevel.{HeadingLevel}
@@ -8,6 +8,7 @@ use Rattle.tocmark_core_scan.specs.Repeat.{repeated}
 use Rattle.tocmark_core_blocks.specs.Lines.{lines_of}
 use Rattle.tocmark_core_blocks.specs.Cells.{cells_of, cell_place, ink_from, moved, trimmed}
 use Rattle.tocmark_core_blocks.specs.Codes.{code_piece, text_piece, heading_piece, keeps_line}
+use Rattle.tocmark_core_blocks.specs.Definitions.{DefinitionView, definition_view}
 use Rattle.tocmark_core_blocks.specs.Containers.{after_quote, container_at, matched, touched_from}
 use Rattle.tocmark_core_blocks.specs.Html.{html_ends}
 use Rattle.tocmark_core_blocks.specs.Leaves.{is_paragraph, leaf_at, leaf_turn, rule_at}
@@ -17,6 +18,8 @@ use Rattle.tocmark_core_blocks.specs.declared.line.Line.{Line}
 use Rattle.tocmark_core_blocks.specs.declared.cell.Cell.{Cell}
 use Rattle.tocmark_core_blocks.specs.declared.cell.Cursor.{Cursor}
 use Rattle.tocmark_core_blocks.specs.declared.block.Place.{Place}
+use Rattle.tocmark_core_blocks.specs.declared.block.Blocks.{Blocks}
+use Rattle.tocmark_core_blocks.specs.declared.definition.Piece.{Piece}
 use Rattle.tocmark_core_blocks.specs.declared.container.Container.{Container}
 use Rattle.tocmark_core_blocks.specs.declared.container.Container.TheVariants as container
 use Rattle.tocmark_core_blocks.specs.declared.container.Opened.{Opened}
@@ -235,3 +238,18 @@ line_taken text s line = cells_taken text (cells_of [] line.start (piece text li
 -- all lines come in, and then all blocks end
 unfoldable pub page_of : List ℕ → State
 page_of text = closed_to text 0 (fold (line_taken text) first_page (lines_of text))
+
+-- what a text is made of, as plain values
+pub record BlocksView : Type 0 where
+  pub blocks : List Block
+  pub pieces : List Piece
+  pub definitions : List DefinitionView
+
+abbrev pub blocks_view : Blocks → BlocksView
+blocks_view b = record { blocks = b.blocks.items; pieces = b.pieces.items; definitions = map definition_view b.definitions.items }
+
+-- the blocks of a text
+unfoldable pub blocks_of : List ℕ → BlocksView
+blocks_of text =
+    let s = page_of text in
+    record { blocks = s.blocks; pieces = s.pieces; definitions = s.definitions }

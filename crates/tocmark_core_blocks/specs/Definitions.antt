@@ -29,8 +29,12 @@ unfoldable pub begins_definition : List ℕ → List Piece → Bool
 begins_definition text [] = false
 begins_definition text (l ∷ ls) = byte_at text l.start == 91
 
+-- U+FFFD stands for U+0000 (CommonMark 2.3)
+unfoldable pub replaced : ℕ → List ℕ
+replaced b = if b == 0 then 0xef ∷ 0xbf ∷ 0xbd ∷ [] else b ∷ []
+
 abbrev pub joined_line : List ℕ → Piece → List ℕ
-joined_line text l = piece text l.start l.end ++ 10 ∷ []
+joined_line text l = flat_map replaced (piece text l.start l.end) ++ 10 ∷ []
 
 -- the lines, each with a line feed behind it
 abbrev pub joined : List ℕ → List Piece → List ℕ

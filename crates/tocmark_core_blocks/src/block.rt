@@ -3,13 +3,14 @@
 ghost use Rattle.std.specs.Prelude.{◌≡◌, IfOk, OnOk};
 ghost use Rattle.std.specs.List.{fold};
 ghost use Rattle.tocmark_core_blocks.specs.Pages.{page};
-ghost use Rattle.tocmark_core_blocks.specs.Blocks.{info_of, goes_directly, quote_opened, is_in_list, list_started, item_opened, container_once, containers_opened, code_taken, html_ended, text_taken, text_started, indented_started, heading_started, fence_started, html_started, rule_started, has_text, underlined, underline_taken, started, leaf_started, turn_of, leaf_ended, touched, cells_taken, line_taken, page_of};
+ghost use Rattle.tocmark_core_blocks.specs.Blocks.{info_of, goes_directly, quote_opened, is_in_list, list_started, item_opened, container_once, containers_opened, code_taken, html_ended, text_taken, text_started, indented_started, heading_started, fence_started, html_started, rule_started, has_text, underlined, underline_taken, started, leaf_started, turn_of, leaf_ended, touched, cells_taken, line_taken, page_of, blocks_view, blocks_of};
 
 use crate::cell::{Cell, Cursor, cell_place, cells, ink_from, moved, trimmed};
 use crate::code::{code_piece, heading_piece, keeps_line, text_piece};
 use crate::container::{
     Container, ContainerStart, ItemStart, after_quote, container_at, matched, touch,
 };
+use crate::definition::{LinkDefinition, Piece};
 use crate::html::{HtmlKind, html_ends};
 use crate::leaf::{Leaf, LeafStart, Turn, is_paragraph, leaf_at, leaf_turn, rule_at};
 use crate::line::{Line, lines};
@@ -18,6 +19,14 @@ use crate::page::{Block, BlockKind, Page};
 use std::alloc::{AllocError, Global};
 use tocmark_core_scan::basic::{minus, piece, plus, set};
 use tocmark_event::event::HeadingLevel;
+
+/// What a text is made of, but for the inlines of paragraphs and headings.
+#[derive(Debug, Drop)]
+pub struct Blocks {
+    pub blocks: Vec<Block>,
+    pub pieces: Vec<Piece>,
+    pub definitions: Vec<LinkDefinition>,
+}
 
 /// A cursor of a line, and how many of the open containers go on there.
 #[derive(Clone, Copy, Debug)]
@@ -506,9 +515,8 @@ impl Page {
     }
 }
 
-/// The blocks of a text. An `Err` says that memory ran out.
 #[tactic(auto, unfolding(crate::specs::Blocks::page_of))]
-pub fn read_blocks(alloc: Global, text: &[u8]) -> Result<Page, AllocError>
+fn read_page(alloc: Global, text: &[u8]) -> Result<Page, AllocError>
     ensures { IfOk result (λ found. page found ≡ page_of text.now) }
 {
     let lines = lines(alloc, text)?;
@@ -516,4 +524,18 @@ pub fn read_blocks(alloc: Global, text: &[u8]) -> Result<Page, AllocError>
     page.take_lines(alloc, text, &lines)?;
     page.close_to(alloc, text, 0)?;
     Ok(page)
+}
+
+/// The blocks of a text in the order of their starts, their pieces, and the link reference definitions
+/// in the order of the text. The text is UTF-8. Places are bytes. An `Err` says that memory ran out.
+#[tactic(auto, unfolding(crate::specs::Blocks::blocks_of))]
+pub fn read_blocks(alloc: Global, text: &[u8]) -> Result<Blocks, AllocError>
+    ensures { IfOk result (λ found. blocks_view found ≡ blocks_of text.now) }
+{
+    let page = read_page(alloc, text)?;
+    Ok(Blocks {
+        blocks: page.blocks,
+        pieces: page.pieces,
+        definitions: page.definitions,
+    })
 }

@@ -1,8 +1,9 @@
 //! Link reference definitions at the front of a paragraph (CommonMark 4.7).
 
 ghost use Rattle.std.specs.Prelude.{◌≡◌, ◌++◌, map, length, IfOk, OnOk};
+ghost use Rattle.std.specs.List.{flat_map};
 ghost use Rattle.tocmark_core_scan.specs.Repeat.{repeated};
-ghost use Rattle.tocmark_core_blocks.specs.Definitions.{begins_definition, joined_line, joined, definition_view, found_view, define_once, definitions_from, line_count};
+ghost use Rattle.tocmark_core_blocks.specs.Definitions.{begins_definition, replaced, joined_line, joined, definition_view, found_view, define_once, definitions_from, line_count};
 
 use std::alloc::{AllocError, Global};
 use tocmark_core_scan::basic::{byte_at, piece};
@@ -38,15 +39,38 @@ fn begins_definition(text: &[u8], lines: &[Piece]) -> bool
     }
 }
 
+#[tactic(auto, unfolding(crate::specs::Definitions::replaced))]
+fn push_byte(content: &mut Vec<u8>, byte: u8) -> Result<(), AllocError>
+    ensures { OnOk result (content.new.items ≡ content.old.items ++ replaced byte) }
+{
+    if byte == 0 {
+        content.push(0xef)?;
+        content.push(0xbf)?;
+        content.push(0xbd)?;
+    } else {
+        content.push(byte)?;
+    }
+    Ok(())
+}
+
+fn push_bytes(content: &mut Vec<u8>, bytes: &[u8]) -> Result<(), AllocError>
+    ensures { OnOk result (content.new.items ≡ content.old.items ++ flat_map replaced bytes.now) }
+{
+    for byte in bytes {
+        push_byte(content, *byte)?;
+    }
+    Ok(())
+}
+
 fn push_line(content: &mut Vec<u8>, text: &[u8], line: Piece) -> Result<(), AllocError>
     ensures { OnOk result (content.new.items ≡ content.old.items ++ joined_line text.now line) }
 {
-    content.extend_from_slice(piece(text, line.start, line.end))?;
+    push_bytes(content, piece(text, line.start, line.end))?;
     content.push(b'\n')?;
     Ok(())
 }
 
-/// The lines, each with a line feed behind it.
+/// The lines, each with a line feed behind it; U+FFFD stands for U+0000.
 fn joined(alloc: Global, text: &[u8], lines: &[Piece]) -> Result<Vec<u8>, AllocError>
     ensures { IfOk result (λ v. v.items ≡ joined text.now lines.now) }
 {

@@ -2,13 +2,19 @@
 //! its depth and its range in bytes, and for each leaf its lines without the prefixes of its containers.
 #![tactic(auto)]
 
-pub mod block;
-pub mod cell;
-pub mod code;
-pub mod container;
-pub mod definition;
-pub mod html;
-pub mod leaf;
-pub mod line;
-pub mod mark;
-pub mod page;
+mod block;
+mod cell;
+mod code;
+mod container;
+mod definition;
+mod html;
+mod leaf;
+mod line;
+mod mark;
+mod page;
+#[cfg(test)]
+mod tests;
+
+pub use block::{Blocks, read_blocks};
+pub use definition::{LinkDefinition, Piece};
+pub use page::{Block, BlockKind};
