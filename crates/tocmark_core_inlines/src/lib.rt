@@ -1,0 +1,7 @@
+//! From the text of a paragraph or a heading to its inlines, by CommonMark 0.31.2.
+#![tactic(auto)]
+
+pub mod emphasis;
+pub mod role;
+pub mod run;
+pub mod tick;
