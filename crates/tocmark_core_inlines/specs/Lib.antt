@@ -1,3 +1,6 @@
 pub mod Run
 pub mod Emphasis
 pub mod Tick
+pub mod Link
+pub mod Definitions
+pub mod Scan

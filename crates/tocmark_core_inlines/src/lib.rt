@@ -1,7 +1,10 @@
 //! From the text of a paragraph or a heading to its inlines, by CommonMark 0.31.2.
 #![tactic(auto)]
 
+pub mod definitions;
 pub mod emphasis;
+pub mod link;
 pub mod role;
 pub mod run;
+pub mod scan;
 pub mod tick;

@@ -1,10 +1,22 @@
 //! What the bytes of a leaf's text are.
 
+use tocmark_event::event::LinkType;
+
 /// A stretch of the texts that a document's inlines have beside its source.
 #[derive(Clone, Copy, Debug)]
 pub struct Stretch {
     pub start: usize,
     pub end: usize,
+}
+
+/// What a link or an image leads to: its destination and title without escapes, and the label by
+/// which it was looked up, as it is written.
+#[derive(Clone, Copy, Debug)]
+pub struct Target {
+    pub link_type: LinkType,
+    pub destination: Stretch,
+    pub title: Stretch,
+    pub id: Stretch,
 }
 
 /// A container among inlines. A link or an image has a number: the place of its target.
