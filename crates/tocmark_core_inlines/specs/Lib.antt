@@ -4,3 +4,5 @@ pub mod Tick
 pub mod Link
 pub mod Definitions
 pub mod Scan
+pub mod Write
+pub mod Inlines

@@ -3,8 +3,10 @@
 
 pub mod definitions;
 pub mod emphasis;
+pub mod inlines;
 pub mod link;
 pub mod role;
 pub mod run;
 pub mod scan;
 pub mod tick;
+pub mod write;
