@@ -45,15 +45,16 @@ defined_as key label destination title s =
       keys = s.keys ++ key ∷ [];
       labels = s.labels ++ l.1 ∷ [];
       entries = s.entries ++ record { destination = d.1; title = t.1 } ∷ [];
-      texts = t.0 }
+      texts = t.0;
+    }
 
 -- one more definition: the label collapsed, destination and title without escapes and references
 unfoldable pub defined : List ℕ → Definition → State → State
 defined bytes found s =
     let label = piece bytes found.label.start found.label.end in
     defined_as (key_of label) (collapsed label)
-      (unescaped (piece bytes found.destination.start found.destination.end))
-      (unescaped (piece bytes found.title.start found.title.end)) s
+    (unescaped (piece bytes found.destination.start found.destination.end))
+    (unescaped (piece bytes found.title.start found.title.end)) s
 
 abbrev pub label_key : List ℕ → Stretch → List ℕ
 label_key texts s = key_of (piece texts s.start s.end)

@@ -22,13 +22,24 @@ inlines_view v = record { nodes = v.nodes.items; targets = v.targets.items; text
 -- the pass at the front of a text of so many bytes
 unfoldable pub scan_start : ℕ → List Target → List ℕ → List Stretch → scan.State
 scan_start length targets texts missed = record {
-  roles = replicate length Plain; runs = []; brackets = []; inactive = 0; place = 0; resume = 0;
-  targets = targets; texts = texts; missed = missed }
+  roles = replicate length Plain;
+  runs = [];
+  brackets = [];
+  inactive = 0;
+  place = 0;
+  resume = 0;
+  targets = targets;
+  texts = texts;
+  missed = missed;
+}
 
 abbrev pub inlines_from : content.State → ℕ → scan.State → State → State
 inlines_from leaf depth after s = record {
   nodes = s.nodes ++ map (moved leaf.places) (written after.roles depth);
-  targets = after.targets; texts = after.texts; missed = after.missed }
+  targets = after.targets;
+  texts = after.texts;
+  missed = after.missed;
+}
 
 -- one more leaf: what each byte is, nodes, their ranges in the source
 unfoldable pub read_inlines : content.State → ℕ → Definitions → State → State

@@ -27,9 +27,13 @@ acts byte inner outer = flanks inner outer && ((byte == 42) || not (flanks outer
 
 unfoldable pub run_between : List ℕ → ℕ → ℕ → ℕ → Run
 run_between bytes place end byte = record {
-  place = place; count = end - place; length = end - place; byte = byte;
+  place = place;
+  count = end - place;
+  length = end - place;
+  byte = byte;
   opens = acts byte (side_at bytes end) (side_before bytes place);
-  closes = acts byte (side_before bytes place) (side_at bytes end) }
+  closes = acts byte (side_before bytes place) (side_at bytes end);
+}
 
 -- the run of a byte that begins at a place
 unfoldable pub run_at : List ℕ → ℕ → ℕ → Run

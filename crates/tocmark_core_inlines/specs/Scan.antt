@@ -47,8 +47,16 @@ pub record State : Type 0 where
 
 abbrev pub scan : Scanner → State
 scan s = record {
-  roles = s.roles.items; runs = s.runs.items; brackets = s.brackets.items; inactive = s.inactive; place = s.place;
-  resume = s.resume; targets = s.targets.items; texts = s.texts.items; missed = s.missed.items }
+  roles = s.roles.items;
+  runs = s.runs.items;
+  brackets = s.brackets.items;
+  inactive = s.inactive;
+  place = s.place;
+  resume = s.resume;
+  targets = s.targets.items;
+  texts = s.texts.items;
+  missed = s.missed.items;
+}
 
 -- what is known of a text before it is read
 pub record Known : Type 0 where
@@ -138,7 +146,8 @@ abbrev pub opened_in : Bool → ℕ → State → State
 opened_in image inner s =
     record s {
       brackets = s.brackets ++ record { start = s.place; inner = inner; runs = length s.runs; image = image; nested = false } ∷ [];
-      resume = inner }
+      resume = inner;
+    }
 
 -- an opening bracket of so many bytes
 unfoldable pub opened : Bool → ℕ → State → State
@@ -200,7 +209,8 @@ line_ended bytes s =
 unfoldable pub spanned : Bracket → ℕ → ℕ → State → State
 spanned b number end s = record s {
   roles = slice_set (slice_set (slice_set s.roles (b.inner - 1) Hidden) b.start (Open (if b.image then Image number else Link number) end)) s.place (Close end);
-  resume = end }
+  resume = end;
+}
 
 -- the delimiters behind so many runs are matched, and these runs forgotten
 unfoldable pub settled : ℕ → State → State

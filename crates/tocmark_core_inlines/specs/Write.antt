@@ -91,4 +91,5 @@ written roles depth = (flushed (fold role_step (write_start depth) roles)).nodes
 unfoldable pub moved : List (ℕ × ℕ) → Node → Node
 moved places node = record node {
   start = (unwrap_or (slice_get places node.start) (0, 0)).0;
-  end = (unwrap_or (slice_get places (node.end - 1)) (0, 0)).1 }
+  end = (unwrap_or (slice_get places (node.end - 1)) (0, 0)).1;
+}

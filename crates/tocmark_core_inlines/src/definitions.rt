@@ -3,14 +3,13 @@
 ghost use Rattle.std.specs.Prelude.{◌≡◌, IfOk, OnOk, map, string_bytes};
 ghost use Rattle.tocmark_core_inlines.specs.Definitions.{entry_of, label_key, collected_view, collected_none, kept, defined, label_at, distinct_labels};
 
+use crate::role::Stretch;
 use std::alloc::{AllocError, Global};
 use std::collections::HashMap;
 use tocmark_core_scan::basic::piece;
 use tocmark_core_scan::label::{collapsed, distinct, key_of};
 use tocmark_core_scan::reference::unescaped;
 use tocmark_core_scan::word::Definition;
-
-use crate::role::Stretch;
 
 /// What a label is defined as, in the texts of the document's inlines.
 #[derive(Clone, Copy, Debug)]
@@ -103,7 +102,12 @@ fn keys(alloc: Global, texts: &[u8], labels: &[Stretch]) -> Result<Vec<String>, 
 }
 
 /// The label at a place of a list; an empty one past its end.
-fn label_text(alloc: Global, texts: &[u8], labels: &[Stretch], place: usize) -> Result<String, AllocError>
+fn label_text(
+    alloc: Global,
+    texts: &[u8],
+    labels: &[Stretch],
+    place: usize,
+) -> Result<String, AllocError>
     ensures { IfOk result (λ t. string_bytes t ≡ label_at texts.now labels.now place) }
 {
     let none = Stretch { start: 0, end: 0 };
@@ -113,7 +117,11 @@ fn label_text(alloc: Global, texts: &[u8], labels: &[Stretch], place: usize) -> 
 
 /// The labels of a list, each of several that match once, as it is spelled first. An `Err` says that
 /// memory ran out.
-pub fn distinct_labels(alloc: Global, texts: &[u8], labels: &[Stretch]) -> Result<Vec<String>, AllocError>
+pub fn distinct_labels(
+    alloc: Global,
+    texts: &[u8],
+    labels: &[Stretch],
+) -> Result<Vec<String>, AllocError>
     ensures { IfOk result (λ v. map string_bytes v.items ≡ distinct_labels texts.now labels.now) }
 {
     let keys = keys(alloc, texts, labels)?;

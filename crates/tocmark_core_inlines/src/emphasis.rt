@@ -4,11 +4,10 @@ ghost use Rattle.std.specs.Prelude.{◌≡◌, OnOk, length};
 ghost use Rattle.tocmark_core_scan.specs.Repeat.{repeated};
 ghost use Rattle.tocmark_core_inlines.specs.Emphasis.{openers, fits, class_of, found, matched, once, run_step, emphasized, emphasis_start};
 
-use std::alloc::{AllocError, Global};
-use tocmark_core_scan::basic::{minus, plus, set};
-
 use crate::role::{Role, Span};
 use crate::run::Run;
+use std::alloc::{AllocError, Global};
+use tocmark_core_scan::basic::{minus, plus, set};
 
 /// The runs that may open, the outermost first, and for each class of closers a place before which none
 /// of them fits.
@@ -68,7 +67,11 @@ impl Openers {
         let inner = minus(plus(opener.place, opener.count), width);
         let span = if two { Span::Strong } else { Span::Emphasis };
         let end = plus(closer.place, width);
-        set(roles, minus(plus(opener.place, opener.count), 1), Role::Hidden);
+        set(
+            roles,
+            minus(plus(opener.place, opener.count), 1),
+            Role::Hidden,
+        );
         set(roles, inner, Role::Open(span, end));
         set(roles, closer.place, Role::Hidden);
         set(roles, minus(end, 1), Role::Close(end));
@@ -77,7 +80,14 @@ impl Openers {
             self.stack.truncate(k);
         } else {
             self.stack.truncate(plus(k, 1));
-            set(&mut self.stack, k, Run { count: left, ..opener });
+            set(
+                &mut self.stack,
+                k,
+                Run {
+                    count: left,
+                    ..opener
+                },
+            );
         }
         Run {
             place: end,

@@ -5,13 +5,12 @@ ghost use Rattle.tocmark_core_scan.specs.Content.{content_view};
 ghost use Rattle.tocmark_core_inlines.specs.Scan.{scan};
 ghost use Rattle.tocmark_core_inlines.specs.Inlines.{inlines_view, scan_start, read_inlines};
 
-use std::alloc::{AllocError, Global};
-use tocmark_core_scan::content::Content;
-
 use crate::definitions::Definitions;
 use crate::role::{Role, Stretch, Target};
 use crate::scan::Scanner;
 use crate::write::{Node, push_moved, write};
+use std::alloc::{AllocError, Global};
+use tocmark_core_scan::content::Content;
 
 /// The nodes of leaves in the order of the document, with ranges in bytes of its source; the targets of
 /// their links and images; the texts that stand nowhere in the source; and the labels that were looked

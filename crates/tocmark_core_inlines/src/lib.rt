@@ -8,5 +8,7 @@ pub mod link;
 pub mod role;
 pub mod run;
 pub mod scan;
+#[cfg(test)]
+mod tests;
 pub mod tick;
 pub mod write;

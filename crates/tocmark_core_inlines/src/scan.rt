@@ -4,6 +4,12 @@ ghost use Rattle.std.specs.Prelude.{◌≡◌, IfOk, OnOk, length, drop};
 ghost use Rattle.tocmark_core_scan.specs.Repeat.{iterated};
 ghost use Rattle.tocmark_core_inlines.specs.Scan.{before_space, scan, ahead_view, stretch, kept, kept_code, kept_resolved, targeted, put_leaf, escaped, referred, code_put, coded, run_taken, marked, opened, imaged, addressed, html_put, tagged, mailed, angled, line_ended, spanned, settled, linked, closed_inline, missing, looked_up, closed_by_label, closed_active, popped, closed, looked_mark, looked, scan_step, ran, scanned};
 
+use crate::definitions::Definitions;
+use crate::emphasis::emphasize;
+use crate::link::{Asked, Bracket, InlineTarget, inline_target, label_asked};
+use crate::role::{Leaf, Role, Span, Stretch, Target};
+use crate::run::{Run, run_at};
+use crate::tick::{last_ticks, push_code, tick_end};
 use std::alloc::{AllocError, Global};
 use tocmark_core_scan::autolink::{mail_end, uri_end};
 use tocmark_core_scan::basic::{byte_at, minus, piece, plus, set, starts_at};
@@ -12,13 +18,6 @@ use tocmark_core_scan::html::{LastEnds, last_ends, raw_html};
 use tocmark_core_scan::label::{collapsed, key_of};
 use tocmark_core_scan::reference::{is_escape, reference_at, unescaped};
 use tocmark_event::event::LinkType;
-
-use crate::definitions::Definitions;
-use crate::emphasis::emphasize;
-use crate::link::{Asked, Bracket, InlineTarget, inline_target, label_asked};
-use crate::role::{Leaf, Role, Span, Stretch, Target};
-use crate::run::{Run, run_at};
-use crate::tick::{last_ticks, push_code, tick_end};
 
 /// What is known of a text before it is read: where no end of raw HTML and no backticks follow.
 #[derive(Drop)]
@@ -169,7 +168,13 @@ impl Scanner {
 
     /// Puts the code span whose text stands between two places, behind so many backticks.
     #[tactic(auto, unfolding(crate::specs::Scan::code_put))]
-    fn put_code(&mut self, bytes: &[u8], from: usize, to: usize, count: usize) -> Result<(), AllocError>
+    fn put_code(
+        &mut self,
+        bytes: &[u8],
+        from: usize,
+        to: usize,
+        count: usize,
+    ) -> Result<(), AllocError>
         ensures { OnOk result (scan self.new ≡ code_put bytes.now from to count (scan self.old)) }
     {
         let text = self.keep_code(piece(bytes, from, to))?;
@@ -214,7 +219,14 @@ impl Scanner {
         match self.brackets.last().copied() {
             Some(bracket) => {
                 let place = minus(self.brackets.len(), 1);
-                set(&mut self.brackets, place, Bracket { nested: true, ..bracket });
+                set(
+                    &mut self.brackets,
+                    place,
+                    Bracket {
+                        nested: true,
+                        ..bracket
+                    },
+                );
             }
             None => {}
         }
@@ -263,7 +275,11 @@ impl Scanner {
             title: empty(),
             id: empty(),
         })?;
-        set(&mut self.roles, self.place, Role::Open(Span::Link(number), end));
+        set(
+            &mut self.roles,
+            self.place,
+            Role::Open(Span::Link(number), end),
+        );
         set(&mut self.roles, last, Role::Close(end));
         self.resume = end;
         Ok(())
@@ -323,7 +339,11 @@ impl Scanner {
             set(&mut self.roles, first, Role::Single(Leaf::HardBreak, end));
         } else {
             set(&mut self.roles, first, Role::Hidden);
-            set(&mut self.roles, self.place, Role::Single(Leaf::SoftBreak, end));
+            set(
+                &mut self.roles,
+                self.place,
+                Role::Single(Leaf::SoftBreak, end),
+            );
         }
     }
 
@@ -355,7 +375,13 @@ impl Scanner {
 
     /// Links the text of a bracket that is closed at the place. No link that is open now can be one.
     #[tactic(auto, unfolding(crate::specs::Scan::linked))]
-    fn link(&mut self, alloc: Global, bracket: Bracket, target: Target, end: usize) -> Result<(), AllocError>
+    fn link(
+        &mut self,
+        alloc: Global,
+        bracket: Bracket,
+        target: Target,
+        end: usize,
+    ) -> Result<(), AllocError>
         ensures { OnOk result (scan self.new ≡ linked bracket target end (scan self.old)) }
     {
         self.settle(alloc, bracket.runs)?;
@@ -369,10 +395,19 @@ impl Scanner {
 
     /// Links the text of a bracket to a destination in parentheses.
     #[tactic(auto, unfolding(crate::specs::Scan::closed_inline))]
-    fn close_inline(&mut self, alloc: Global, bytes: &[u8], bracket: Bracket, found: InlineTarget) -> Result<(), AllocError>
+    fn close_inline(
+        &mut self,
+        alloc: Global,
+        bytes: &[u8],
+        bracket: Bracket,
+        found: InlineTarget,
+    ) -> Result<(), AllocError>
         ensures { OnOk result (scan self.new ≡ closed_inline bytes.now bracket found (scan self.old)) }
     {
-        let destination = self.keep_resolved(alloc, piece(bytes, found.destination.start, found.destination.end))?;
+        let destination = self.keep_resolved(
+            alloc,
+            piece(bytes, found.destination.start, found.destination.end),
+        )?;
         let title = self.keep_resolved(alloc, piece(bytes, found.title.start, found.title.end))?;
         let target = Target {
             link_type: LinkType::Inline,
@@ -396,7 +431,14 @@ impl Scanner {
 
     /// Links the text of a bracket to what a label is defined as.
     #[tactic(auto, unfolding(crate::specs::Scan::looked_up))]
-    fn look_up(&mut self, alloc: Global, bytes: &[u8], definitions: &Definitions, bracket: Bracket, asked: Asked) -> Result<(), AllocError>
+    fn look_up(
+        &mut self,
+        alloc: Global,
+        bytes: &[u8],
+        definitions: &Definitions,
+        bracket: Bracket,
+        asked: Asked,
+    ) -> Result<(), AllocError>
         ensures { OnOk result (scan self.new ≡ looked_up bytes.now definitions.now bracket asked (scan self.old)) }
     {
         let label = piece(bytes, asked.label.start, asked.label.end);
@@ -418,7 +460,13 @@ impl Scanner {
 
     /// Closes a bracket that no parentheses follow.
     #[tactic(auto, unfolding(crate::specs::Scan::closed_by_label))]
-    fn close_by_label(&mut self, alloc: Global, bytes: &[u8], definitions: &Definitions, bracket: Bracket) -> Result<(), AllocError>
+    fn close_by_label(
+        &mut self,
+        alloc: Global,
+        bytes: &[u8],
+        definitions: &Definitions,
+        bracket: Bracket,
+    ) -> Result<(), AllocError>
         ensures { OnOk result (scan self.new ≡ closed_by_label bytes.now definitions.now bracket (scan self.old)) }
     {
         match label_asked(bytes, bracket, self.place) {
@@ -429,7 +477,13 @@ impl Scanner {
 
     /// Closes a bracket that can begin a link or an image.
     #[tactic(auto, unfolding(crate::specs::Scan::closed_active))]
-    fn close_active(&mut self, alloc: Global, bytes: &[u8], definitions: &Definitions, bracket: Bracket) -> Result<(), AllocError>
+    fn close_active(
+        &mut self,
+        alloc: Global,
+        bytes: &[u8],
+        definitions: &Definitions,
+        bracket: Bracket,
+    ) -> Result<(), AllocError>
         ensures { OnOk result (scan self.new ≡ closed_active bytes.now definitions.now bracket (scan self.old)) }
     {
         match inline_target(bytes, plus(self.place, 1)) {
@@ -452,7 +506,12 @@ impl Scanner {
 
     /// Reads a closing bracket.
     #[tactic(auto, unfolding(crate::specs::Scan::closed))]
-    fn close(&mut self, alloc: Global, bytes: &[u8], definitions: &Definitions) -> Result<(), AllocError>
+    fn close(
+        &mut self,
+        alloc: Global,
+        bytes: &[u8],
+        definitions: &Definitions,
+    ) -> Result<(), AllocError>
         ensures { OnOk result (scan self.new ≡ closed bytes.now definitions.now (scan self.old)) }
     {
         match self.brackets.last().copied() {
@@ -492,7 +551,14 @@ impl Scanner {
 
     /// Reads the byte at the place.
     #[tactic(auto, unfolding(crate::specs::Scan::looked))]
-    fn look(&mut self, alloc: Global, bytes: &[u8], ahead: &Ahead, definitions: &Definitions, byte: u8) -> Result<(), AllocError>
+    fn look(
+        &mut self,
+        alloc: Global,
+        bytes: &[u8],
+        ahead: &Ahead,
+        definitions: &Definitions,
+        byte: u8,
+    ) -> Result<(), AllocError>
         ensures { OnOk result (scan self.new ≡ looked bytes.now (ahead_view ahead.now) definitions.now byte (scan self.old)) }
     {
         if byte == b'[' {
@@ -510,7 +576,14 @@ impl Scanner {
 
     /// One byte further.
     #[tactic(auto, unfolding(crate::specs::Scan::scan_step))]
-    fn step(&mut self, alloc: Global, bytes: &[u8], ahead: &Ahead, definitions: &Definitions, byte: u8) -> Result<(), AllocError>
+    fn step(
+        &mut self,
+        alloc: Global,
+        bytes: &[u8],
+        ahead: &Ahead,
+        definitions: &Definitions,
+        byte: u8,
+    ) -> Result<(), AllocError>
         ensures { OnOk result (scan self.new ≡ scan_step bytes.now (ahead_view ahead.now) definitions.now (scan self.old) byte) }
     {
         if self.resume <= self.place {
@@ -521,7 +594,13 @@ impl Scanner {
     }
 
     /// Reads all bytes of a text.
-    fn run(&mut self, alloc: Global, bytes: &[u8], ahead: &Ahead, definitions: &Definitions) -> Result<(), AllocError>
+    fn run(
+        &mut self,
+        alloc: Global,
+        bytes: &[u8],
+        ahead: &Ahead,
+        definitions: &Definitions,
+    ) -> Result<(), AllocError>
         ensures { OnOk result (scan self.new ≡ ran bytes.now (ahead_view ahead.now) definitions.now (scan self.old)) }
     {
         for byte in bytes {
@@ -532,7 +611,12 @@ impl Scanner {
 
     /// Reads a text from its front, and gives each of its bytes a role. An `Err` says that memory ran out.
     #[tactic(auto, unfolding(crate::specs::Scan::scanned))]
-    pub fn read(&mut self, alloc: Global, bytes: &[u8], definitions: &Definitions) -> Result<(), AllocError>
+    pub fn read(
+        &mut self,
+        alloc: Global,
+        bytes: &[u8],
+        definitions: &Definitions,
+    ) -> Result<(), AllocError>
         ensures { OnOk result (scan self.new ≡ scanned bytes.now definitions.now (scan self.old)) }
     {
         let ahead = Ahead {

@@ -122,7 +122,9 @@ fn stripped(text: &[u8]) -> &[u8]
     ensures { result.now ≡ stripped text.now }
 {
     let end = minus(text.len(), 1);
-    let padded = shown(byte_at(text, 0)) == b' ' && shown(byte_at(text, end)) == b' ' && has_ink(text);
+    let padded = shown(byte_at(text, 0)) == b' '
+        && shown(byte_at(text, end)) == b' '
+        && has_ink(text);
     if padded { piece(text, 1, end) } else { text }
 }
 

@@ -3,10 +3,9 @@
 ghost use Rattle.std.specs.Prelude.{◌≡◌, ◌++◌, IfOk, OnOk, map};
 ghost use Rattle.tocmark_core_inlines.specs.Write.{writing, pushed, flushed, opened, closed, single, gone_on, shown, role_step, written, moved};
 
+use crate::role::{Leaf, Role, Span};
 use std::alloc::{AllocError, Global};
 use tocmark_core_scan::basic::{minus, plus};
-
-use crate::role::{Leaf, Role, Span};
 
 /// What stands at a node.
 #[derive(Clone, Copy, Debug)]
