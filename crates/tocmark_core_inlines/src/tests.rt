@@ -5,6 +5,7 @@ use crate::inlines::{Inlines, read_inlines};
 use crate::role::{Leaf, Span, Stretch};
 use crate::write::{Item, Node};
 use std::alloc::{AllocError, Global};
+use std::process::Abort;
 use std::test::Fail;
 use tocmark_core_scan::basic::piece;
 use tocmark_core_scan::content::{Content, Line, content_of};
@@ -149,13 +150,72 @@ fn shown(alloc: Global, definitions: &str, text: &str) -> Result<String, AllocEr
     Ok(out)
 }
 
-#[test]
-fn reads_vectors(rt: HostRuntime) -> Result<(), Fail> {
-    for (definitions, text, want) in vectors::VECTORS {
-        let found = shown(rt.alloc(), definitions, text)?;
-        assert_eq!(rt; found.as_str(), want, "in {text}");
+fn check(rt: &impl Abort, alloc: Global, rows: &[(&str, &str, &str)]) -> Result<(), Fail> {
+    for (definitions, text, want) in rows {
+        let found = shown(alloc, definitions, text)?;
+        assert_eq!(rt; found.as_str(), *want, "in {text}");
     }
     Ok(())
+}
+
+#[test]
+fn escapes(rt: HostRuntime) -> Result<(), Fail> {
+    check(&rt, rt.alloc(), &vectors::ESCAPES)
+}
+
+#[test]
+fn references(rt: HostRuntime) -> Result<(), Fail> {
+    check(&rt, rt.alloc(), &vectors::REFERENCES)
+}
+
+#[test]
+fn code(rt: HostRuntime) -> Result<(), Fail> {
+    check(&rt, rt.alloc(), &vectors::CODE)
+}
+
+#[test]
+fn flanking(rt: HostRuntime) -> Result<(), Fail> {
+    check(&rt, rt.alloc(), &vectors::FLANKING)
+}
+
+#[test]
+fn emphasis(rt: HostRuntime) -> Result<(), Fail> {
+    check(&rt, rt.alloc(), &vectors::EMPHASIS)
+}
+
+#[test]
+fn nesting(rt: HostRuntime) -> Result<(), Fail> {
+    check(&rt, rt.alloc(), &vectors::NESTING)
+}
+
+#[test]
+fn precedence(rt: HostRuntime) -> Result<(), Fail> {
+    check(&rt, rt.alloc(), &vectors::PRECEDENCE)
+}
+
+#[test]
+fn inline_links(rt: HostRuntime) -> Result<(), Fail> {
+    check(&rt, rt.alloc(), &vectors::INLINE_LINKS)
+}
+
+#[test]
+fn link_texts(rt: HostRuntime) -> Result<(), Fail> {
+    check(&rt, rt.alloc(), &vectors::LINK_TEXTS)
+}
+
+#[test]
+fn labels(rt: HostRuntime) -> Result<(), Fail> {
+    check(&rt, rt.alloc(), &vectors::LABELS)
+}
+
+#[test]
+fn images(rt: HostRuntime) -> Result<(), Fail> {
+    check(&rt, rt.alloc(), &vectors::IMAGES)
+}
+
+#[test]
+fn html_and_breaks(rt: HostRuntime) -> Result<(), Fail> {
+    check(&rt, rt.alloc(), &vectors::HTML_AND_BREAKS)
 }
 
 // each of these would take hours if its cost grew with the square of its length

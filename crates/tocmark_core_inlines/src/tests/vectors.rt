@@ -1,6 +1,6 @@
 //! Inlines by sections 2.4, 2.5 and 6 of CommonMark 0.31.2: definitions, a text of lines, and its nodes.
 
-pub static VECTORS: [(&str, &str, &str); 127] = [
+pub static ESCAPES: [(&str, &str, &str); 9] = [
     (
         "",
         "\\!\\\"\\#\\$\\%\\&\\'\\(\\)\\*\\+\\,\\-\\.\\/\\:\\;\\<\\=\\>\\?\\@\\[\\\\\\]\\^\\_\\`\\{\\|\\}\\~",
@@ -38,6 +38,9 @@ pub static VECTORS: [(&str, &str, &str); 127] = [
         "[foo]",
         "0 Link 0..5 Shortcut \"/bar*\" \"ti*tle\" \"foo\"; 1 Text 1..4",
     ),
+];
+
+pub static REFERENCES: [(&str, &str, &str); 6] = [
     (
         "",
         "&amp; &lt; &gt; &quot; &copy; &nbsp;",
@@ -68,6 +71,9 @@ pub static VECTORS: [(&str, &str, &str); 127] = [
         "&#42;foo&#42;\n*foo*",
         "0 Character 0..5 *; 0 Text 5..8; 0 Character 8..13 *; 0 SoftBreak 13..14; 0 Emphasis 14..19; 1 Text 15..18",
     ),
+];
+
+pub static CODE: [(&str, &str, &str); 17] = [
     ("", "`foo`", "0 Code 0..5 \"foo\""),
     ("", "`` foo ` bar ``", "0 Code 0..15 \"foo ` bar\""),
     ("", "` `` `", "0 Code 0..6 \"``\""),
@@ -113,6 +119,9 @@ pub static VECTORS: [(&str, &str, &str); 127] = [
         "\\`` a ` b``",
         "0 Text 1..2; 0 Code 2..7 \"a\"; 0 Text 7..11",
     ),
+];
+
+pub static FLANKING: [(&str, &str, &str); 8] = [
     ("", "*foo bar*", "0 Emphasis 0..9; 1 Text 1..8"),
     ("", "a * foo bar*", "0 Text 0..12"),
     ("", "a*\"foo\"*", "0 Text 0..8"),
@@ -125,6 +134,9 @@ pub static VECTORS: [(&str, &str, &str); 127] = [
         "_ foo bar_ a_\"foo\"_ foo_bar_ пристаням_стремятся_ aa_\"bb\"_cc foo-_(bar)_",
         "0 Text 0..75; 0 Emphasis 75..84; 1 Text 76..83; 0 Text 84..90",
     ),
+];
+
+pub static EMPHASIS: [(&str, &str, &str); 11] = [
     ("", "_foo*", "0 Text 0..5"),
     (
         "",
@@ -172,6 +184,9 @@ pub static VECTORS: [(&str, &str, &str); 127] = [
         "*foo **bar***",
         "0 Emphasis 0..13; 1 Text 1..5; 1 Strong 5..12; 2 Text 7..10",
     ),
+];
+
+pub static NESTING: [(&str, &str, &str); 11] = [
     (
         "",
         "*foo**bar***",
@@ -211,6 +226,9 @@ pub static VECTORS: [(&str, &str, &str); 127] = [
     ("", "*foo**", "0 Emphasis 0..5; 1 Text 1..4; 0 Text 5..6"),
     ("", "***foo**", "0 Text 0..1; 0 Strong 1..8; 1 Text 3..6"),
     ("", "****foo*", "0 Text 0..3; 0 Emphasis 3..8; 1 Text 4..7"),
+];
+
+pub static PRECEDENCE: [(&str, &str, &str); 8] = [
     ("", "*foo****", "0 Emphasis 0..5; 1 Text 1..4; 0 Text 5..8"),
     (
         "",
@@ -247,6 +265,9 @@ pub static VECTORS: [(&str, &str, &str); 127] = [
         "*a `*`*",
         "0 Emphasis 0..7; 1 Text 1..3; 1 Code 3..6 \"*\"",
     ),
+];
+
+pub static INLINE_LINKS: [(&str, &str, &str); 13] = [
     (
         "",
         "[link](/uri \"title\")[link](/uri)[](./target.md)[link]()[link](<>)[]()",
@@ -312,6 +333,9 @@ pub static VECTORS: [(&str, &str, &str); 127] = [
         "[link [foo [bar]]](/uri)[link] bar](/uri)",
         "0 Link 0..24 Inline \"/uri\" \"\" \"\"; 1 Text 1..17; 0 Text 24..41; missed \"bar\"; missed \"link\"",
     ),
+];
+
+pub static LINK_TEXTS: [(&str, &str, &str); 9] = [
     (
         "",
         "[link [bar](/uri)",
@@ -357,6 +381,9 @@ pub static VECTORS: [(&str, &str, &str); 127] = [
         "[foo <bar attr=\"](baz)\">\n[foo`](/uri)`\n[foo<https://example.com/?search=](uri)>",
         "0 Text 0..5; 0 Html 5..24 \"<bar attr=\"](baz)\">\"; 0 SoftBreak 24..25; 0 Text 25..29; 0 Code 29..38 \"](/uri)\"; 0 SoftBreak 38..39; 0 Text 39..43; 0 Link 43..79 Autolink \"https://example.com/?search=](uri)\" \"\" \"\"; 1 Text 44..78",
     ),
+];
+
+pub static LABELS: [(&str, &str, &str); 15] = [
     (
         "[bar]: /url \"title\"",
         "[foo][bar]",
@@ -432,6 +459,9 @@ pub static VECTORS: [(&str, &str, &str); 127] = [
         "[foo][bar][baz]",
         "0 Text 0..5; 0 Link 5..15 Reference \"/url\" \"\" \"baz\"; 1 Text 6..9; missed \"bar\"",
     ),
+];
+
+pub static IMAGES: [(&str, &str, &str); 6] = [
     (
         "[baz]: /url1\n[bar]: /url2",
         "[foo][bar][baz]",
@@ -462,6 +492,9 @@ pub static VECTORS: [(&str, &str, &str); 127] = [
         "<http://foo.bar.baz> <irc://foo.bar:2233/baz> <MAILTO:FOO@BAR.BAZ> <made-up-scheme://foo,bar>",
         "0 Link 0..20 Autolink \"http://foo.bar.baz\" \"\" \"\"; 1 Text 1..19; 0 Text 20..21; 0 Link 21..45 Autolink \"irc://foo.bar:2233/baz\" \"\" \"\"; 1 Text 22..44; 0 Text 45..46; 0 Link 46..66 Autolink \"MAILTO:FOO@BAR.BAZ\" \"\" \"\"; 1 Text 47..65; 0 Text 66..67; 0 Link 67..93 Autolink \"made-up-scheme://foo,bar\" \"\" \"\"; 1 Text 68..92",
     ),
+];
+
+pub static HTML_AND_BREAKS: [(&str, &str, &str); 14] = [
     (
         "",
         "<https://foo.bar/baz bim> <> < https://foo.bar > <m:abc> <foo.bar.baz> https://example.com",
