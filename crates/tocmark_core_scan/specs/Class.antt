@@ -29,13 +29,12 @@ is_in class.TagName b = is_ascii_alphanumeric b || (b == 45)
 is_in class.AttributeStart b = is_ascii_alphabetic b || (b == 95) || (b == 58)
 is_in class.AttributeName b = is_ascii_alphanumeric b || (b == 95) || (b == 46) || (b == 58) || (b == 45)
 is_in class.Unquoted b = is_unquoted b
-is_in class.DoubleQuoted b = not (b == 34)
-is_in class.SingleQuoted b = not (b == 39)
 is_in class.Scheme b = is_ascii_alphanumeric b || (b == 43) || (b == 46) || (b == 45)
 is_in class.Address b = nat_lt 32 b && not (b == 127) && not (b == 60) && not (b == 62)
 is_in class.Mailbox b = is_mailbox b
 is_in class.Domain b = is_ascii_alphanumeric b || (b == 46) || (b == 45)
 is_in (class.Only one) b = b == one
+is_in (class.Except one) b = not (b == one)
 
 abbrev pub run_length : Class → List ℕ → ℕ
 run_length c bytes = length (take_while (is_in c) bytes)

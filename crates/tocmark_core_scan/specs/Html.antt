@@ -4,8 +4,7 @@ use Rattle.std.specs.Char.{is_ascii_alphabetic}
 use Rattle.tocmark_core_scan.specs.Basic.{plus, byte_at, starts_at}
 use Rattle.tocmark_core_scan.specs.Repeat.{iterated}
 use Rattle.tocmark_core_scan.specs.Class.{is_in, run_end}
-use Rattle.tocmark_core_scan.specs.declared.class.Class.{Class}
-use Rattle.tocmark_core_scan.specs.declared.class.Class.TheVariants.{White, TagName, AttributeStart, AttributeName, Unquoted, DoubleQuoted, SingleQuoted}
+use Rattle.tocmark_core_scan.specs.declared.class.Class.TheVariants.{White, TagName, AttributeStart, AttributeName, Unquoted, Except}
 use Rattle.tocmark_core_scan.specs.declared.html.LastEnds.{LastEnds}
 
 -- the place behind a tag's name: a letter, then letters, digits and hyphens
@@ -23,16 +22,16 @@ unfoldable pub closing_tag : List ℕ → ℕ → Option ℕ
 closing_tag bytes place = closing_tag_from bytes (name_end bytes (plus place 2))
 
 -- the place behind a value between quotes
-unfoldable pub quoted_end : List ℕ → ℕ → Class → ℕ → Option ℕ
-quoted_end bytes place inner quote =
-    let end = run_end bytes (plus place 1) inner in
+unfoldable pub quoted_end : List ℕ → ℕ → ℕ → Option ℕ
+quoted_end bytes place quote =
+    let end = run_end bytes (plus place 1) (Except quote) in
     if byte_at bytes end == quote then Some (plus end 1) else None
 
 -- the place behind an attribute's value
 unfoldable pub value : List ℕ → ℕ → Option ℕ
 value bytes place =
-    if byte_at bytes place == 34 then quoted_end bytes place DoubleQuoted 34
-    else (if byte_at bytes place == 39 then quoted_end bytes place SingleQuoted 39
+    if byte_at bytes place == 34 then quoted_end bytes place 34
+    else (if byte_at bytes place == 39 then quoted_end bytes place 39
     else (if run_end bytes place Unquoted == place then None else Some (run_end bytes place Unquoted)))
 
 -- the place behind the value behind an attribute's name, if it has one

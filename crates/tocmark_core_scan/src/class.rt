@@ -24,10 +24,6 @@ pub enum Class {
     AttributeName,
     /// A byte of a value of an attribute that has no quotes.
     Unquoted,
-    /// A byte of a value between double quotes.
-    DoubleQuoted,
-    /// A byte of a value between single quotes.
-    SingleQuoted,
     /// A byte of the scheme of an address, behind the first.
     Scheme,
     /// A byte of an address behind its scheme.
@@ -38,6 +34,8 @@ pub enum Class {
     Domain,
     /// This byte alone.
     Only(u8),
+    /// Any byte but this one.
+    Except(u8),
 }
 
 #[tactic(auto, unfolding(crate::specs::Class::is_unquoted))]
@@ -98,8 +96,6 @@ pub fn is_in(class: Class, byte: u8) -> bool
                 || byte == b'-'
         }
         Class::Unquoted => is_unquoted(byte),
-        Class::DoubleQuoted => byte != b'"',
-        Class::SingleQuoted => byte != b'\'',
         Class::Scheme => {
             byte.is_ascii_alphanumeric() || byte == b'+' || byte == b'.' || byte == b'-'
         }
@@ -107,6 +103,7 @@ pub fn is_in(class: Class, byte: u8) -> bool
         Class::Mailbox => is_mailbox(byte),
         Class::Domain => byte.is_ascii_alphanumeric() || byte == b'.' || byte == b'-',
         Class::Only(one) => byte == one,
+        Class::Except(one) => byte != one,
     }
 }
 

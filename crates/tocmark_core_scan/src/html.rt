@@ -49,10 +49,10 @@ pub fn closing_tag(bytes: &[u8], place: usize) -> Option<usize>
 
 /// The place behind a value between quotes, whose first byte stands at a place.
 #[tactic(auto, unfolding(crate::specs::Html::quoted_end))]
-fn quoted_end(bytes: &[u8], place: usize, inner: Class, quote: u8) -> Option<usize>
-    ensures { result ≡ quoted_end bytes.now place inner quote }
+fn quoted_end(bytes: &[u8], place: usize, quote: u8) -> Option<usize>
+    ensures { result ≡ quoted_end bytes.now place quote }
 {
-    let end = run_end(bytes, plus(place, 1), inner);
+    let end = run_end(bytes, plus(place, 1), Class::Except(quote));
     if byte_at(bytes, end) == quote {
         Some(plus(end, 1))
     } else {
@@ -67,10 +67,10 @@ fn value(bytes: &[u8], place: usize) -> Option<usize>
 {
     let first = byte_at(bytes, place);
     if first == b'"' {
-        return quoted_end(bytes, place, Class::DoubleQuoted, b'"');
+        return quoted_end(bytes, place, b'"');
     }
     if first == b'\'' {
-        return quoted_end(bytes, place, Class::SingleQuoted, b'\'');
+        return quoted_end(bytes, place, b'\'');
     }
     let end = run_end(bytes, place, Class::Unquoted);
     if end == place { None } else { Some(end) }
