@@ -11,6 +11,7 @@ use Rattle.tocmark_core_inlines.specs.declared.definitions.Entry.{Entry}
 use Rattle.tocmark_core_inlines.specs.declared.definitions.Collected.{Collected}
 use Rattle.tocmark_core_inlines.specs.declared.role.Stretch.{Stretch}
 
+-- the entry at a place, if there is one
 abbrev pub entry_at : List Entry → Option ℕ → Option Entry
 entry_at entries None = None
 entry_at entries (Some place) = slice_get entries place
@@ -26,9 +27,11 @@ pub record State : Type 0 where
   pub entries : List Entry
   pub texts : List ℕ
 
+-- what is collected as lists
 abbrev pub collected_view : Collected → State
 collected_view c = record { keys = map string_bytes c.keys.items; labels = c.labels.items; entries = c.entries.items; texts = c.texts.items }
 
+-- nothing is collected yet
 abbrev pub collected_none : State
 collected_none = record { keys = []; labels = []; entries = []; texts = [] }
 
@@ -36,6 +39,7 @@ collected_none = record { keys = []; labels = []; entries = []; texts = [] }
 abbrev pub kept : List ℕ → List ℕ → List ℕ × Stretch
 kept text texts = (texts ++ text, record { start = length texts; end = length (texts ++ text) })
 
+-- one more definition of these texts
 abbrev pub defined_as : List ℕ → List ℕ → List ℕ → List ℕ → State → State
 defined_as key label destination title s =
     let l = kept label s.texts in
@@ -56,12 +60,15 @@ defined bytes found s =
     (unescaped (piece bytes found.destination.start found.destination.end))
     (unescaped (piece bytes found.title.start found.title.end)) s
 
+-- the key of a label among the texts
 abbrev pub label_key : List ℕ → Stretch → List ℕ
 label_key texts s = key_of (piece texts s.start s.end)
 
+-- the empty stretch
 abbrev pub no_stretch : Stretch
 no_stretch = record { start = 0; end = 0 }
 
+-- the text of a stretch
 abbrev pub stretch_text : List ℕ → Stretch → List ℕ
 stretch_text texts s = utf8_lossy (piece texts s.start s.end)
 

@@ -14,6 +14,7 @@ pub record State : Type 0 where
   pub stack : List Run
   pub bottoms : List ℕ
 
+-- roles and machine as lists
 abbrev pub openers : List Role → Openers → State
 openers roles o = record { roles = roles; stack = o.stack.items; bottoms = o.bottoms.items }
 
@@ -37,6 +38,7 @@ abbrev pub found : List Run → Run → ℕ → ℕ → Option ℕ
 found stack closer bottom zero = None
 found stack closer bottom (suc k) = found_at (slice_get stack k) closer bottom k (found stack closer bottom k)
 
+-- the run with so many delimiters left
 abbrev pub with_count : ℕ → Run → Run
 with_count n r = record r { count = n }
 
@@ -61,10 +63,12 @@ matched k opener closer s = matching (if nat_le 2 opener.count && nat_le 2 close
 abbrev pub barred : Run → State → State
 barred closer s = record s { bottoms = slice_set s.bottoms (class_of closer) closer.place }
 
+-- the run of the stack is matched with the closer
 abbrev pub once_on : Option Run → ℕ → Run → State → State × Option Run
 once_on None k closer s = (s, None)
 once_on (Some opener) k closer s = let next = matched k opener closer s in (next.0, Some (next.1))
 
+-- the run at the place that was found is matched, or the class is barred
 abbrev pub once_at : Option ℕ → Run → State → State × Option Run
 once_at None closer s = (barred closer s, None)
 once_at (Some k) closer s = once_on (slice_get s.stack k) k closer s
@@ -75,6 +79,7 @@ once closer s =
     if closer.count == 0 then (s, None)
     else once_at (found s.stack closer (unwrap_or (slice_get s.bottoms (class_of closer)) 0) (length s.stack)) closer s
 
+-- what is left of a run is an opener, if it can be one
 abbrev pub stacked : State × Run → State
 stacked p = if (p.1).opens && nat_lt 0 (p.1).count then record (p.0) { stack = (p.0).stack ++ p.1 ∷ [] } else p.0
 
@@ -82,6 +87,7 @@ stacked p = if (p.1).opens && nat_lt 0 (p.1).count then record (p.0) { stack = (
 unfoldable pub run_step : State → Run → State
 run_step s run = stacked (if run.closes then repeated once run.count run s else (s, run))
 
+-- no run may open yet
 abbrev pub emphasis_start : List Role → State
 emphasis_start roles = record { roles = roles; stack = []; bottoms = replicate 12 0 }
 

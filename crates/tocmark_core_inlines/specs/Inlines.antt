@@ -10,12 +10,14 @@ use Rattle.tocmark_core_inlines.specs.declared.role.Stretch.{Stretch}
 use Rattle.tocmark_core_inlines.specs.declared.role.Target.{Target}
 use Rattle.tocmark_core_inlines.specs.declared.write.Node.{Node}
 
+-- the nodes of the leaves so far, and the texts, targets and missed labels beside them
 pub record State : Type 0 where
   pub nodes : List Node
   pub targets : List Target
   pub texts : List ℕ
   pub missed : List Stretch
 
+-- inlines as lists
 abbrev pub inlines_view : Inlines → State
 inlines_view v = record { nodes = v.nodes.items; targets = v.targets.items; texts = v.texts.items; missed = v.missed.items }
 
@@ -33,6 +35,7 @@ scan_start length targets texts missed = record {
   missed = missed;
 }
 
+-- the nodes of one more leaf behind the others
 abbrev pub inlines_from : content.State → ℕ → scan.State → State → State
 inlines_from leaf depth after s = record {
   nodes = s.nodes ++ map (moved leaf.places) (written after.roles depth);

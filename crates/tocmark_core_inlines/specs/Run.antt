@@ -7,11 +7,13 @@ use Rattle.tocmark_core_scan.specs.declared.side.Side.{Side}
 use Rattle.tocmark_core_scan.specs.declared.side.Side.TheVariants.{Space, Punctuation, Other}
 use Rattle.tocmark_core_inlines.specs.declared.run.Run.{Run}
 
+-- white space
 unfoldable pub is_space : Side → Bool
 is_space Space = true
 is_space Punctuation = false
 is_space Other = false
 
+-- punctuation
 unfoldable pub is_punctuation : Side → Bool
 is_punctuation Space = false
 is_punctuation Punctuation = true
@@ -25,6 +27,7 @@ flanks inner outer = not (is_space inner) && (not (is_punctuation inner) || (is_
 unfoldable pub acts : ℕ → Side → Side → Bool
 acts byte inner outer = flanks inner outer && ((byte == 42) || not (flanks outer inner) || is_punctuation outer)
 
+-- the run between two places
 unfoldable pub run_between : List ℕ → ℕ → ℕ → ℕ → Run
 run_between bytes place end byte = record {
   place = place;

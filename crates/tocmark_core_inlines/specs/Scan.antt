@@ -45,6 +45,7 @@ pub record State : Type 0 where
   pub texts : List ℕ
   pub missed : List Stretch
 
+-- a scanner as its lists
 abbrev pub scan : Scanner → State
 scan s = record {
   roles = s.roles.items;
@@ -63,9 +64,11 @@ pub record Known : Type 0 where
   pub ends : LastEnds
   pub ticks : List ℕ
 
+-- what is known as lists
 abbrev pub ahead_view : Ahead → Known
 ahead_view a = record { ends = a.ends; ticks = a.ticks.items }
 
+-- a stretch by its two places
 abbrev pub stretch : ℕ → ℕ → Stretch
 stretch start end = record { start = start; end = end }
 
@@ -104,6 +107,7 @@ escaped bytes s =
     then record s { roles = slice_set (slice_set s.roles s.place Hidden) (plus s.place 1) Fresh; resume = plus s.place 2 }
     else (if starts_at bytes s.place (codes "\\\n") then put_leaf HardBreak (plus s.place 2) s else s)
 
+-- the character of a reference, if there is one
 abbrev pub referred_to : State → Option Reference → State
 referred_to s None = s
 referred_to s (Some r) = put_leaf (Character r.character) r.next s
@@ -117,6 +121,7 @@ unfoldable pub code_put : List ℕ → ℕ → ℕ → ℕ → State → State
 code_put bytes from to count s =
     let p = kept_code (piece bytes from to) s in put_leaf (Code (p.1)) (plus to count) (p.0)
 
+-- a code span, or backticks that are a text
 abbrev pub coded_to : List ℕ → ℕ → ℕ → State → Option ℕ → State
 coded_to bytes from count s None = record s { resume = from }
 coded_to bytes from count s (Some to) = code_put bytes from to count s
@@ -127,6 +132,7 @@ coded bytes ticks s =
     let from = run_end bytes s.place (Only 96) in
     coded_to bytes from (from - s.place) s (tick_end bytes from (from - s.place) ticks)
 
+-- a run that opens or closes is kept
 abbrev pub with_run : Run → State → State
 with_run r s = if r.opens || r.closes then record s { runs = s.runs ++ r ∷ [] } else s
 
@@ -134,6 +140,7 @@ with_run r s = if r.opens || r.closes then record s { runs = s.runs ++ r ∷ [] 
 unfoldable pub run_taken : List ℕ → ℕ → State → State
 run_taken bytes byte s = let r = run_at bytes s.place byte in with_run r (record s { resume = plus s.place r.count })
 
+-- the innermost bracket, if there is one, has another in it
 abbrev pub marked_last : State → Option Bracket → State
 marked_last s None = s
 marked_last s (Some b) = record s { brackets = slice_set s.brackets (length s.brackets - 1) (record b { nested = true }) }
@@ -142,6 +149,7 @@ marked_last s (Some b) = record s { brackets = slice_set s.brackets (length s.br
 unfoldable pub marked : State → State
 marked s = marked_last s (slice_get s.brackets (length s.brackets - 1))
 
+-- a bracket up to where its text begins
 abbrev pub opened_in : Bool → ℕ → State → State
 opened_in image inner s =
     record s {
@@ -157,10 +165,12 @@ opened image width s = let t = marked s in opened_in image (plus t.place width) 
 unfoldable pub imaged : List ℕ → State → State
 imaged bytes s = if starts_at bytes s.place (codes "![") then opened true 2 s else s
 
+-- the address between its brackets is a link
 abbrev pub addressed_to : ℕ → ℕ → State × ℕ → State
 addressed_to last end (s, number) =
     record s { roles = slice_set (slice_set s.roles s.place (Open (Link number) end)) last (Close end); resume = end }
 
+-- an address leads to itself
 abbrev pub address_target : LinkType → Stretch → Target
 address_target link_type d = record { link_type = link_type; destination = d; title = stretch 0 0; id = stretch 0 0 }
 
@@ -174,6 +184,7 @@ addressed bytes link_type end s =
 unfoldable pub html_put : List ℕ → ℕ → State → State
 html_put bytes end s = let p = kept (piece bytes s.place end) s in put_leaf (Html (p.1)) end (p.0)
 
+-- raw HTML, if there is some
 abbrev pub tagged_to : List ℕ → State → Option ℕ → State
 tagged_to bytes s None = s
 tagged_to bytes s (Some end) = html_put bytes end s
@@ -182,13 +193,16 @@ tagged_to bytes s (Some end) = html_put bytes end s
 unfoldable pub tagged : List ℕ → LastEnds → State → State
 tagged bytes ends s = tagged_to bytes s (raw_html bytes s.place ends)
 
+-- a mail address, or else raw HTML
 abbrev pub mailed_to : List ℕ → LastEnds → State → Option ℕ → State
 mailed_to bytes ends s None = tagged bytes ends s
 mailed_to bytes ends s (Some end) = addressed bytes Email end s
 
+-- an angle bracket that begins no address with a scheme
 unfoldable pub mailed : List ℕ → LastEnds → State → State
 mailed bytes ends s = mailed_to bytes ends s (mail_end bytes s.place)
 
+-- an address with a scheme, or else another construct
 abbrev pub angled_to : List ℕ → LastEnds → State → Option ℕ → State
 angled_to bytes ends s None = mailed bytes ends s
 angled_to bytes ends s (Some end) = addressed bytes Autolink end s
@@ -216,6 +230,7 @@ spanned b number end s = record s {
 unfoldable pub settled : ℕ → State → State
 settled count s = record s { roles = emphasized s.roles (drop count s.runs); runs = take count s.runs }
 
+-- behind a link no open bracket can begin another
 abbrev pub deactivated : Bracket → State → State
 deactivated b s = if not b.image then record s { inactive = length s.brackets } else s
 
@@ -223,6 +238,7 @@ deactivated b s = if not b.image then record s { inactive = length s.brackets } 
 unfoldable pub linked : Bracket → Target → ℕ → State → State
 linked b t end s = let p = targeted t (settled b.runs s) in deactivated b (spanned b (p.1) end (p.0))
 
+-- a target in parentheses
 abbrev pub inline_to : Stretch → Stretch → Target
 inline_to d t = record { link_type = Inline; destination = d; title = t; id = stretch 0 0 }
 
@@ -233,6 +249,7 @@ closed_inline bytes b found s =
     let q = kept_resolved (piece bytes found.title.start found.title.end) (p.0) in
     linked b (inline_to (p.1) (q.1)) found.end (q.0)
 
+-- a text is a label that was missed
 abbrev pub with_missed : State × Stretch → State
 with_missed (s, t) = record s { missed = s.missed ++ t ∷ [] }
 
@@ -240,9 +257,11 @@ with_missed (s, t) = record s { missed = s.missed ++ t ∷ [] }
 unfoldable pub missing : List ℕ → State → State
 missing label s = with_missed (kept (collapsed label) s)
 
+-- what a label is defined as, with the label as it is written
 abbrev pub label_target : Asked → Entry → Stretch → Target
 label_target asked e id = record { link_type = asked.link_type; destination = e.destination; title = e.title; id = id }
 
+-- a link by the definition, or a missing label
 abbrev pub looked_up_as : List ℕ → Bracket → Asked → State → Option Entry → State
 looked_up_as label b asked s None = missing label s
 looked_up_as label b asked s (Some e) = let p = kept label s in linked b (label_target asked e (p.1)) asked.end (p.0)
@@ -253,13 +272,16 @@ looked_up bytes definitions b asked s =
     let label = piece bytes asked.label.start asked.label.end in
     looked_up_as label b asked s (entry_of definitions (key_of label))
 
+-- the label that is to be looked up, if there is one
 abbrev pub closed_asked : List ℕ → Definitions → Bracket → State → Option Asked → State
 closed_asked bytes definitions b s None = s
 closed_asked bytes definitions b s (Some asked) = looked_up bytes definitions b asked s
 
+-- a bracket without parentheses behind it is closed
 unfoldable pub closed_by_label : List ℕ → Definitions → Bracket → State → State
 closed_by_label bytes definitions b s = closed_asked bytes definitions b s (label_asked bytes b s.place)
 
+-- parentheses, or else a label
 abbrev pub closed_found : List ℕ → Definitions → Bracket → State → Option InlineTarget → State
 closed_found bytes definitions b s None = closed_by_label bytes definitions b s
 closed_found bytes definitions b s (Some found) = closed_inline bytes b found s
@@ -274,9 +296,11 @@ popped b s =
     let height = length s.brackets - 1 in
     (record s { brackets = take height s.brackets; inactive = min s.inactive height }, b.image || nat_le s.inactive height)
 
+-- a bracket that can begin a link or an image, or a text
 abbrev pub closed_popped : List ℕ → Definitions → Bracket → State × Bool → State
 closed_popped bytes definitions b (s, active) = if active then closed_active bytes definitions b s else s
 
+-- the innermost bracket, if there is one, is closed
 abbrev pub closed_last : List ℕ → Definitions → State → Option Bracket → State
 closed_last bytes definitions s None = s
 closed_last bytes definitions s (Some b) = closed_popped bytes definitions b (popped b s)
@@ -303,6 +327,7 @@ looked bytes ahead definitions b s =
     else (if b == 60 then angled bytes ahead.ends s
     else looked_mark bytes ahead.ticks b s)))
 
+-- the next place
 abbrev pub next_place : State → State
 next_place s = record s { place = plus s.place 1 }
 
@@ -311,6 +336,7 @@ unfoldable pub scan_step : List ℕ → Known → Definitions → State → ℕ 
 scan_step bytes ahead definitions s b =
     next_place (if nat_le s.resume s.place then looked bytes ahead definitions b s else s)
 
+-- all bytes are read
 abbrev pub ran : List ℕ → Known → Definitions → State → State
 ran bytes ahead definitions s = fold (scan_step bytes ahead definitions) s bytes
 

@@ -13,6 +13,7 @@ pub record State : Type 0 where
   pub count : ℕ
   pub place : ℕ
 
+-- the machine as its list and numbers
 abbrev pub ticks_view : Ticks → State
 ticks_view t = record { last = t.last.items; count = t.count; place = t.place }
 
@@ -20,6 +21,7 @@ ticks_view t = record { last = t.last.items; count = t.count; place = t.place }
 unfoldable pub tick_ended : State → State
 tick_ended s = record s { last = slice_set s.last s.count (plus (s.place - s.count) 1); count = 0 }
 
+-- the next place
 abbrev pub next_place : State → State
 next_place s = record s { place = plus s.place 1 }
 
@@ -27,6 +29,7 @@ next_place s = record s { place = plus s.place 1 }
 unfoldable pub tick_step : State → ℕ → State
 tick_step s b = next_place (if b == 96 then record s { count = plus s.count 1 } else tick_ended s)
 
+-- no backticks yet
 abbrev pub ticks_start : List ℕ → State
 ticks_start bytes = record { last = replicate (plus (length bytes) 1) 0; count = 0; place = 0 }
 
@@ -50,6 +53,7 @@ tick_end bytes from count last =
 unfoldable pub shown : ℕ → ℕ
 shown b = if b == 10 then 32 else b
 
+-- not all is spaces
 abbrev pub has_ink : List ℕ → Bool
 has_ink text = list_any (λ b. not (shown b == 32)) text
 

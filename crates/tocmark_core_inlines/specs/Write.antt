@@ -18,15 +18,19 @@ pub record State : Type 0 where
   pub place : ℕ
   pub resume : ℕ
 
+-- a writer as its list and places
 abbrev pub writing : Writer → State
 writing w = record { nodes = w.nodes.items; depth = w.depth; text = w.text; place = w.place; resume = w.resume }
 
+-- one more node
 unfoldable pub pushed : Item → ℕ → ℕ → State → State
 pushed i start end s = record s { nodes = s.nodes ++ record { depth = s.depth; item = i; start = start; end = end } ∷ [] }
 
+-- no text is open
 abbrev pub without_text : State → State
 without_text s = record s { text = None }
 
+-- the text from there on is a node
 abbrev pub flushed_from : Option ℕ → State → State
 flushed_from None s = s
 flushed_from (Some start) s = without_text (pushed item.Text start s.place s)
@@ -35,6 +39,7 @@ flushed_from (Some start) s = without_text (pushed item.Text start s.place s)
 unfoldable pub flushed : State → State
 flushed s = flushed_from s.text s
 
+-- one level deeper
 abbrev pub deeper : State → State
 deeper s = record s { depth = plus s.depth 1 }
 
@@ -46,6 +51,7 @@ opened span end s = let t = flushed s in deeper (pushed (item.Span span) t.place
 unfoldable pub closed : ℕ → State → State
 closed end s = let t = flushed s in record t { depth = t.depth - 1; resume = end }
 
+-- roles are read again from there on
 abbrev pub resumed : ℕ → State → State
 resumed end s = record s { resume = end }
 
@@ -53,6 +59,7 @@ resumed end s = record s { resume = end }
 unfoldable pub single : Leaf → ℕ → State → State
 single leaf end s = let t = flushed s in resumed end (pushed (item.Leaf leaf) t.place end t)
 
+-- a text is open
 abbrev pub texted : State → Option ℕ → State
 texted s None = record s { text = Some s.place }
 texted s (Some start) = s
@@ -61,6 +68,7 @@ texted s (Some start) = s
 abbrev pub gone_on : State → State
 gone_on s = texted s s.text
 
+-- a text begins here
 abbrev pub fresh : State → State
 fresh s = record s { text = Some s.place }
 
@@ -73,6 +81,7 @@ shown (Open span end) s = opened span end s
 shown (Close end) s = closed end s
 shown (Single leaf end) s = single leaf end s
 
+-- the next place
 abbrev pub next_place : State → State
 next_place s = record s { place = plus s.place 1 }
 
@@ -80,6 +89,7 @@ next_place s = record s { place = plus s.place 1 }
 unfoldable pub role_step : State → Role → State
 role_step s role = next_place (if nat_le s.resume s.place then shown role s else s)
 
+-- nothing is written yet
 abbrev pub write_start : ℕ → State
 write_start depth = record { nodes = []; depth = depth; text = None; place = 0; resume = 0 }
 

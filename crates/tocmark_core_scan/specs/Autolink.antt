@@ -32,6 +32,7 @@ domain_step d b =
     if b == 46 then record { length = 0; hyphen = false; fine = is_label_end d }
     else record { length = plus d.length 1; hyphen = b == 45; fine = d.fine && not ((d.length == 0) && (b == 45)) }
 
+-- before the first byte of a domain
 abbrev pub domain_start : Domain
 domain_start = record { length = 0; hyphen = false; fine = true }
 

@@ -9,9 +9,11 @@ use Rattle.tocmark_core_scan.specs.declared.class.Class.TheVariants as class
 unfoldable pub is_unquoted : ℕ → Bool
 is_unquoted b = not ((b == 32) || (b == 9) || (b == 10) || (b == 13) || (b == 34) || (b == 39) || (b == 61) || (b == 60) || (b == 62) || (b == 96))
 
+-- a round, angle or square bracket
 unfoldable pub is_bracket : ℕ → Bool
 is_bracket b = (b == 40) || (b == 41) || (b == 60) || (b == 62) || (b == 91) || (b == 93)
 
+-- a double quote, a comma, a colon, a semicolon, an @ or a backslash
 unfoldable pub is_separator : ℕ → Bool
 is_separator b = (b == 34) || (b == 44) || (b == 58) || (b == 59) || (b == 64) || (b == 92)
 
@@ -36,6 +38,7 @@ is_in class.Domain b = is_ascii_alphanumeric b || (b == 46) || (b == 45)
 is_in (class.Only one) b = b == one
 is_in (class.Except one) b = not (b == one)
 
+-- how many members of the set stand at the front
 abbrev pub run_length : Class → List ℕ → ℕ
 run_length c bytes = length (take_while (is_in c) bytes)
 

@@ -12,9 +12,11 @@ pub record State : Type 0 where
   pub bytes : List ℕ
   pub places : List (ℕ × ℕ)
 
+-- a content as its lists
 abbrev pub content_view : Content → State
 content_view c = record { bytes = c.bytes.items; places = c.places.items }
 
+-- one more byte, with the range that it stands for
 unfoldable pub put : ℕ → ℕ → ℕ → State → State
 put b start end s = record { bytes = s.bytes ++ b ∷ []; places = s.places ++ (start, end) ∷ [] }
 
@@ -33,6 +35,7 @@ put_bytes start s (b ∷ bs) = put_bytes (plus start 1) (put_byte b start s) bs
 unfoldable pub put_line : List ℕ → State → Line → State
 put_line source s line = put 10 line.end line.next (put_bytes line.start s (piece source line.start line.end))
 
+-- the lines one after the other
 abbrev pub joined : List ℕ → List Line → State
 joined source lines = fold (put_line source) (record { bytes = []; places = [] }) lines
 
@@ -40,6 +43,7 @@ joined source lines = fold (put_line source) (record { bytes = []; places = [] }
 unfoldable pub before_white : List ℕ → ℕ → Option ℕ
 before_white bytes place = if nat_lt 0 place && is_in White (byte_at bytes (place - 1)) then Some (place - 1) else None
 
+-- without the white space at the end
 abbrev pub trimmed : State → State
 trimmed s =
     let end = iterated (before_white s.bytes) (length s.bytes) (length s.bytes) in

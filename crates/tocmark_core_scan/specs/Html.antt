@@ -11,6 +11,7 @@ use Rattle.tocmark_core_scan.specs.declared.html.LastEnds.{LastEnds}
 unfoldable pub name_end : List ℕ → ℕ → Option ℕ
 name_end bytes place = if is_ascii_alphabetic (byte_at bytes place) then Some (run_end bytes place TagName) else None
 
+-- white space and a bracket behind a closing tag's name
 abbrev pub closing_tag_from : List ℕ → Option ℕ → Option ℕ
 closing_tag_from bytes None = None
 closing_tag_from bytes (Some name) =
@@ -52,6 +53,7 @@ tag_close bytes place =
     let at = run_end bytes place White in
     if byte_at bytes at == 62 then Some (plus at 1) else (if starts_at bytes at (codes "/>") then Some (plus at 2) else None)
 
+-- attributes and the end of the tag behind an open tag's name
 abbrev pub open_tag_from : List ℕ → Option ℕ → Option ℕ
 open_tag_from bytes None = None
 open_tag_from bytes (Some name) = tag_close bytes (iterated (attribute bytes) (length bytes) name)
@@ -74,6 +76,7 @@ last_of bytes word =
     let place = iterated (nearer bytes word) (length bytes) (length bytes) in
     if starts_at bytes place word then plus place 1 else 0
 
+-- where the last end of each kind of raw HTML begins
 unfoldable pub last_ends : List ℕ → LastEnds
 last_ends bytes = record {
   comment = last_of bytes (codes "-->");

@@ -12,12 +12,15 @@ pub record State : Type 0 where
   pub out : List ℕ
   pub blank : Bool
 
+-- the machine as its list and its mark
 abbrev pub collapsing : Collapsing → State
 collapsing c = record { out = c.out.items; blank = c.blank }
 
+-- white space came last, and not at the front
 abbrev pub is_blank_due : State → Bool
 is_blank_due s = s.blank && not (length s.out == 0)
 
+-- what is collapsed, with the space that is due
 abbrev pub with_blank : State → List ℕ
 with_blank s = if is_blank_due s then s.out ++ 32 ∷ [] else s.out
 
@@ -27,6 +30,7 @@ collapse_step s b =
     if is_in White b then record s { blank = true }
     else record { out = with_blank s ++ b ∷ []; blank = false }
 
+-- nothing is collapsed yet
 abbrev pub collapse_start : State
 collapse_start = record { out = []; blank = false }
 
@@ -43,10 +47,12 @@ abbrev pub first_place : ℕ → List (List ℕ) → List ℕ → Option ℕ
 first_place n [] q = None
 first_place n (k ∷ ks) q = if bytes_eq k q then Some n else first_place (n + 1) ks q
 
+-- the first place of a key is this one
 abbrev pub is_at : ℕ → Option ℕ → Bool
 is_at place None = false
 is_at place (Some first) = first == place
 
+-- a place, or none
 abbrev pub place_if : Bool → ℕ → List ℕ
 place_if b place = if b then place ∷ [] else []
 

@@ -42,6 +42,7 @@ numeric bytes place =
     then closed_number bytes (plus start 1) (run_end bytes (plus start 1) HexDigit) 16 6
     else closed_number bytes start (run_end bytes start Digit) 10 7
 
+-- a character and the place behind its reference
 unfoldable pub referred : ℕ → ℕ → Option Reference
 referred c next = Some (record { character = c; next = next })
 
@@ -67,12 +68,15 @@ pub record State : Type 0 where
   pub place : ℕ
   pub resume : ℕ
 
+-- the machine as its list and places
 abbrev pub unescaping : Unescaping → State
 unescaping u = record { out = u.out.items; place = u.place; resume = u.resume }
 
+-- the character of a reference is written
 unfoldable pub resolved : Reference → State → State
 resolved r s = record s { out = s.out ++ encode_utf8 r.character; resume = r.next }
 
+-- the character of a reference is written, or else the byte
 abbrev pub resolved_or : ℕ → State → Option Reference → State
 resolved_or b s None = record s { out = s.out ++ b ∷ [] }
 resolved_or b s (Some r) = resolved r s
@@ -83,12 +87,15 @@ unescape_at bytes b s =
     if is_escape bytes s.place then record s { out = s.out ++ byte_at bytes (plus s.place 1) ∷ []; resume = plus s.place 2 }
     else resolved_or b s (reference_at bytes s.place)
 
+-- the next place
 abbrev pub stepped : State → State
 stepped s = record s { place = plus s.place 1 }
 
+-- one byte further
 unfoldable pub unescape_step : List ℕ → State → ℕ → State
 unescape_step bytes s b = stepped (if nat_le s.resume s.place then unescape_at bytes b s else s)
 
+-- nothing is resolved yet
 abbrev pub unescape_start : State
 unescape_start = record { out = []; place = 0; resume = 0 }
 

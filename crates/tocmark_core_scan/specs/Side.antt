@@ -9,6 +9,7 @@ use Rattle.tocmark_core_scan.specs.Basic.{plus, byte_at, character_of}
 use Rattle.tocmark_core_scan.specs.declared.side.Side.{Side}
 use Rattle.tocmark_core_scan.specs.declared.side.Side.TheVariants.{Space, Punctuation, Other}
 
+-- category Zs
 abbrev pub is_space_separator : GeneralCategory → Bool
 is_space_separator SpaceSeparator = true
 is_space_separator _ = false
@@ -40,6 +41,7 @@ code_at bytes place =
     else (if nat_lt first 240 then first % 16 * 4096 + second * 64 + third
     else first % 8 * 262144 + second * 4096 + third * 64 + fourth))
 
+-- a byte of a UTF-8 character behind its first
 unfoldable pub is_continuation : ℕ → Bool
 is_continuation b = nat_le 128 b && nat_lt b 192
 

@@ -53,6 +53,7 @@ ends_bare depth escaped b =
     let paren = ((b == 41) && (depth == 0)) || ((b == 40) && nat_le 32 depth) in
     blank || (paren && not escaped)
 
+-- the open parentheses behind a byte
 unfoldable pub depth_after : ℕ → Bool → ℕ → ℕ
 depth_after depth escaped b = if escaped then depth else (if b == 40 then plus depth 1 else (if b == 41 then depth - 1 else depth))
 
@@ -63,14 +64,17 @@ bare depth escaped place (b ∷ bs) =
     if ends_bare depth escaped b then (depth, place)
     else bare (depth_after depth escaped b) (escapes escaped b) (plus place 1) bs
 
+-- a word by its three places
 abbrev pub word : ℕ → ℕ → ℕ → Word
 word start end next = record { start = start; end = end; next = next }
 
+-- a bare destination: its parentheses are balanced
 unfoldable pub bare_word : List ℕ → ℕ → Option Word
 bare_word bytes from =
     let found = bare 0 false from (drop from bytes) in
     if found.0 == 0 then Some (word from (found.1) (found.1)) else None
 
+-- the word before the byte that closes it
 abbrev pub word_to : ℕ → Option ℕ → Option Word
 word_to start None = None
 word_to start (Some end) = Some (word start end (plus end 1))
@@ -83,10 +87,12 @@ enclosed_word bytes place kind = word_to (plus place 1) (enclosed bytes (plus pl
 unfoldable pub destination : List ℕ → ℕ → Option Word
 destination bytes place = if byte_at bytes place == 60 then enclosed_word bytes place Angled else bare_word bytes place
 
+-- what a title's first byte opens
 unfoldable pub enclosure_of : ℕ → Option Enclosure
 enclosure_of b =
     if b == 34 then Some DoubleQuoted else (if b == 39 then Some SingleQuoted else (if b == 40 then Some Parenthesized else None))
 
+-- the title in an enclosure
 abbrev pub title_in : List ℕ → ℕ → Option Enclosure → Option Word
 title_in bytes place None = None
 title_in bytes place (Some kind) = enclosed_word bytes place kind
@@ -99,6 +105,7 @@ title bytes place = title_in bytes place (enclosure_of (byte_at bytes place))
 abbrev pub character_count : List ℕ → ℕ
 character_count text = length (filter (λ b. not (nat_le 128 b && nat_lt b 192)) text)
 
+-- not all is white
 abbrev pub has_ink : List ℕ → Bool
 has_ink text = list_any (λ b. not (is_in White b)) text
 
@@ -106,6 +113,7 @@ has_ink text = list_any (λ b. not (is_in White b)) text
 unfoldable pub is_label_text : List ℕ → Bool
 is_label_text text = nat_le (character_count text) 999 && has_ink text
 
+-- the label before the bracket that closes it
 abbrev pub label_to : List ℕ → ℕ → Option ℕ → Option Word
 label_to bytes start None = None
 label_to bytes start (Some end) =
@@ -125,10 +133,12 @@ line_end bytes place =
     let end = run_end bytes place Blank in
     if byte_at bytes end == 10 then Some (min (plus end 1) (length bytes)) else None
 
+-- a word with the place behind its line
 abbrev pub with_next : Word → Option ℕ → Option (Word × ℕ)
 with_next w None = None
 with_next w (Some next) = Some (w, next)
 
+-- a title with nothing else on its line
 abbrev pub title_ended : List ℕ → Option Word → Option (Word × ℕ)
 title_ended bytes None = None
 title_ended bytes (Some w) = with_next w (line_end bytes w.next)
@@ -143,13 +153,16 @@ title_on_line bytes place =
 unfoldable pub untitled : List ℕ → ℕ → Option (Word × ℕ)
 untitled bytes place = with_next (word place place place) (line_end bytes place)
 
+-- the title that was found, or none
 abbrev pub or_untitled : List ℕ → ℕ → Option (Word × ℕ) → Option (Word × ℕ)
 or_untitled bytes place None = untitled bytes place
 or_untitled bytes place (Some found) = Some found
 
+-- a definition's title, and the place behind the definition
 unfoldable pub titled : List ℕ → ℕ → Option (Word × ℕ)
 titled bytes place = or_untitled bytes place (title_on_line bytes place)
 
+-- a destination that isn't empty, or has brackets
 abbrev pub not_empty : ℕ → Option Word → Option Word
 not_empty start None = None
 not_empty start (Some w) = if w.next == start then None else Some w
@@ -158,6 +171,7 @@ not_empty start (Some w) = if w.next == start then None else Some w
 unfoldable pub defined_destination : List ℕ → ℕ → Option Word
 defined_destination bytes place = let start = run_end bytes place White in not_empty start (destination bytes start)
 
+-- a label with a colon behind it
 abbrev pub before_colon : List ℕ → Option Word → Option Word
 before_colon bytes None = None
 before_colon bytes (Some w) = if byte_at bytes w.next == 58 then Some w else None
@@ -166,14 +180,17 @@ before_colon bytes (Some w) = if byte_at bytes w.next == 58 then Some w else Non
 unfoldable pub defined_label : List ℕ → ℕ → Option Word
 defined_label bytes place = before_colon bytes (label bytes place)
 
+-- a definition of its three words
 abbrev pub definition_with : Word → Word → Option (Word × ℕ) → Option Definition
 definition_with l d None = None
 definition_with l d (Some t) = Some (record { label = l; destination = d; title = t.0; next = t.1 })
 
+-- a definition of a label and a destination
 abbrev pub definition_to : List ℕ → Word → Option Word → Option Definition
 definition_to bytes l None = None
 definition_to bytes l (Some d) = definition_with l d (titled bytes d.next)
 
+-- a definition of a label
 abbrev pub definition_of : List ℕ → Option Word → Option Definition
 definition_of bytes None = None
 definition_of bytes (Some l) = definition_to bytes l (defined_destination bytes (plus l.next 1))
