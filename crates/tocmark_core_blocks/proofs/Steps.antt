@@ -1,0 +1,28 @@
+-- How recursions over lists go on from a place.
+use Rattle.std.proofs.Common.{◌≡◌, ℕ, zero, suc, ◌+◌, ◌-◌, ◌<◌, List, length, drop, map, ap, refl, Bool, false, arith}
+use native.Mathlib.Numerals.{unary_clauses}
+use Rattle.tocmark_core_blocks.specs.Pages.{times}
+use Rattle.std.specs.Bool.{IsTrue, one_answer}
+use Rattle.std.specs.Char.{to_ascii_lowercase}
+use Rattle.std.proofs.lemmas.Slice.Eq.{bytes_eq-Decides}
+use Rattle.std.proofs.lemmas.List.{drop_more}
+use Rattle.std.specs.Prelude.{if◌then◌else◌, true}
+use Rattle.tocmark_core_scan.specs.Basic.{plus, piece}
+use Rattle.tocmark_core_blocks.specs.Html.{same_word, holds_from}
+
+pub holds_more : (line word : List ℕ) (place : ℕ) → place < length line → holds_from line word place (drop place line) ≡ (if same_word (piece line place (plus place (length word))) word then true else holds_from line word (place + 1) (drop (place + 1) line))
+holds_more line word place h = ap (holds_from line word place) (drop_more line place 0 h)
+
+pub same_word_by : (r : Bool) (a b : List ℕ) → ((IsTrue r → map to_ascii_lowercase a ≡ map to_ascii_lowercase b) × (map to_ascii_lowercase a ≡ map to_ascii_lowercase b → IsTrue r)) → r ≡ same_word a b
+unfolding same_word
+same_word_by r a b h = one_answer r _ h (bytes_eq-Decides (map to_ascii_lowercase a) (map to_ascii_lowercase b))
+
+pub times_zero : {S : Type 0} (step : S → S) (n : ℕ) (s : S) → n ≡ 0 → times step n s ≡ s
+unfolding times
+times_zero step zero s e = refl
+times_zero step (suc n) s e = absurd (omega arith)
+
+pub times_more : {S : Type 0} (step : S → S) (n : ℕ) (s : S) → 0 < n → times step n s ≡ times step (n - 1) (step s)
+unfolding times
+times_more step zero s h = absurd (omega arith)
+times_more step (suc n) s h = simp unary_clauses refl

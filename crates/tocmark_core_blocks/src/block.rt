@@ -1,0 +1,541 @@
+//! How a line changes a page.
+
+ghost use Rattle.std.specs.Prelude.{◌≡◌, IfOk, OnOk};
+ghost use Rattle.std.specs.List.{fold};
+ghost use Rattle.tocmark_core_blocks.specs.Pages.{page};
+ghost use Rattle.tocmark_core_blocks.specs.Blocks.{info_of, goes_directly, quote_opened, is_in_list, list_started, item_opened, container_once, containers_opened, code_taken, html_ended, text_taken, text_started, indented_started, heading_started, fence_started, html_started, rule_started, has_text, underlined, underline_taken, started, leaf_started, turn_of, leaf_ended, touched, cells_taken, line_taken, page_of, blocks_view, blocks_of};
+
+use crate::cell::{Cell, Cursor, cell_place, cells, ink_from, moved, trimmed};
+use crate::code::{code_piece, heading_piece, keeps_line, text_piece};
+use crate::container::{
+    Container, ContainerStart, ItemStart, after_quote, container_at, matched, touch,
+};
+use crate::definition::{LinkDefinition, Piece};
+use crate::html::{HtmlKind, html_ends};
+use crate::leaf::{Leaf, LeafStart, Turn, is_paragraph, leaf_at, leaf_turn, rule_at};
+use crate::line::{Line, lines};
+use crate::mark::{Fence, Heading, Tail, tail_of};
+use crate::page::{Block, BlockKind, Page};
+use std::alloc::{AllocError, Global};
+use tocmark_core_scan::basic::{minus, piece, plus, set};
+use tocmark_event::event::HeadingLevel;
+
+/// What a text is made of, but for the inlines of paragraphs and headings.
+#[derive(Debug, Drop)]
+pub struct Blocks {
+    pub blocks: Vec<Block>,
+    pub pieces: Vec<Piece>,
+    pub definitions: Vec<LinkDefinition>,
+}
+
+/// A cursor of a line, and how many of the open containers go on there.
+#[derive(Clone, Copy, Debug)]
+pub struct Place {
+    pub cursor: Cursor,
+    pub depth: usize,
+}
+
+/// The range of a fence's info string.
+#[tactic(auto, unfolding(crate::specs::Blocks::info_of))]
+fn info_of(cells: &[Cell], cursor: Cursor, fence: Fence, line: Line) -> BlockKind
+    ensures { result ≡ info_of cells.now cursor fence line }
+{
+    let from = ink_from(cells, plus(cursor.ink, fence.count));
+    let to = trimmed(cells, from, cells.len(), b' ');
+    BlockKind::Fenced(
+        cell_place(cells, from, line.end),
+        cell_place(cells, to, line.end),
+    )
+}
+
+impl Page {
+    /// Whether the open paragraph stands in the innermost container that goes on.
+    #[tactic(auto, unfolding(crate::specs::Blocks::goes_directly))]
+    fn goes_directly(&self, depth: usize) -> bool
+        ensures { result ≡ goes_directly depth (page self.now) }
+    {
+        is_paragraph(self.leaf) && self.opened.len() <= depth
+    }
+
+    #[tactic(auto, unfolding(crate::specs::Blocks::quote_opened))]
+    fn open_quote(
+        &mut self,
+        alloc: Global,
+        text: &[u8],
+        cells: &[Cell],
+        line: Line,
+        place: Place,
+    ) -> Result<Place, AllocError>
+        ensures { IfOk result (λ next. (page self.new, next) ≡ quote_opened text.now cells.now line place (page self.old)) }
+    {
+        self.close_to(alloc, text, place.depth)?;
+        self.leave_list();
+        let start = cell_place(cells, place.cursor.ink, line.end);
+        self.open(Container::Quote, BlockKind::Quote, start, line)?;
+        Ok(Place {
+            cursor: after_quote(cells, place.cursor),
+            depth: self.opened.len(),
+        })
+    }
+
+    #[tactic(auto, unfolding(crate::specs::Blocks::is_in_list))]
+    fn is_in_list(&self, sort: u8) -> bool
+        ensures { result ≡ is_in_list sort (page self.now) }
+    {
+        match self.opened.get(minus(self.opened.len(), 1)).copied() {
+            None => false,
+            Some(one) => match one.container {
+                Container::Quote => false,
+                Container::List(same) => same == sort,
+                Container::Item(_) => false,
+            },
+        }
+    }
+
+    /// Begins the list of an item, if the innermost container isn't one of its sort.
+    #[tactic(auto, unfolding(crate::specs::Blocks::list_started))]
+    fn start_list(&mut self, item: ItemStart, start: usize, line: Line) -> Result<(), AllocError>
+        ensures { OnOk result (page self.new ≡ list_started item start line (page self.old)) }
+    {
+        if !self.is_in_list(item.sort) {
+            self.leave_list();
+            let kind = BlockKind::List(item.number);
+            self.open(Container::List(item.sort), kind, start, line)?;
+        }
+        Ok(())
+    }
+
+    #[tactic(auto, unfolding(crate::specs::Blocks::item_opened))]
+    fn open_item(
+        &mut self,
+        alloc: Global,
+        text: &[u8],
+        cells: &[Cell],
+        line: Line,
+        place: Place,
+        item: ItemStart,
+    ) -> Result<Place, AllocError>
+        ensures { IfOk result (λ next. (page self.new, next) ≡ item_opened text.now cells.now line place item (page self.old)) }
+    {
+        self.close_to(alloc, text, place.depth)?;
+        let start = cell_place(cells, place.cursor.ink, line.end);
+        self.start_list(item, start, line)?;
+        self.open(Container::Item(item.width), BlockKind::Item, start, line)?;
+        Ok(Place {
+            cursor: moved(cells, place.cursor, item.next),
+            depth: self.opened.len(),
+        })
+    }
+
+    /// Opens the container that begins at a place, and gives the place behind its marker.
+    #[tactic(auto, unfolding(crate::specs::Blocks::container_once))]
+    fn open_once(
+        &mut self,
+        alloc: Global,
+        text: &[u8],
+        cells: &[Cell],
+        line: Line,
+        tail: Tail,
+        place: Place,
+    ) -> Result<Option<Place>, AllocError>
+        ensures { IfOk result (λ next. (page self.new, next) ≡ container_once text.now cells.now line tail place (page self.old)) }
+    {
+        let directly = self.goes_directly(place.depth);
+        match container_at(cells, tail, place.cursor, directly) {
+            None => Ok(None),
+            Some(ContainerStart::Quote) => {
+                let next = self.open_quote(alloc, text, cells, line, place)?;
+                Ok(Some(next))
+            }
+            Some(ContainerStart::Item(item)) => {
+                let next = self.open_item(alloc, text, cells, line, place, item)?;
+                Ok(Some(next))
+            }
+        }
+    }
+
+    /// Opens the containers that begin at a place one after the other.
+    #[tactic(auto, using(tocmark_core_scan::proofs::Repeats::repeated_zero, tocmark_core_scan::proofs::Repeats::repeated_stop, tocmark_core_scan::proofs::Repeats::repeated_more))]
+    fn open_all(
+        &mut self,
+        alloc: Global,
+        text: &[u8],
+        cells: &[Cell],
+        line: Line,
+        tail: Tail,
+        first: Place,
+    ) -> Result<Place, AllocError>
+        ensures { IfOk result (λ last. (page self.new, last) ≡ containers_opened text.now cells.now line tail first (page self.old)) }
+    {
+        let mut place = first;
+        for _fuel in (0..cells.len()).rev() {
+            match self.open_once(alloc, text, cells, line, tail, place)? {
+                None => return Ok(place),
+                Some(next) => place = next,
+            }
+        }
+        Ok(place)
+    }
+
+    /// Closes an open HTML block whose last line this is.
+    #[tactic(auto, unfolding(crate::specs::Blocks::html_ended))]
+    fn end_html(&mut self, rest: &[u8])
+        ensures { page self.new ≡ html_ended rest.now (page self.old) }
+    {
+        if let Leaf::Html(kind) = self.leaf {
+            if html_ends(kind, rest) {
+                self.finish_leaf();
+            }
+        }
+    }
+
+    /// Puts a line of code or HTML into the open leaf.
+    #[tactic(auto, unfolding(crate::specs::Blocks::code_taken))]
+    fn take_code(
+        &mut self,
+        text: &[u8],
+        cells: &[Cell],
+        column: usize,
+        line: Line,
+    ) -> Result<(), AllocError>
+        ensures { OnOk result (page self.new ≡ code_taken text.now cells.now column line (page self.old)) }
+    {
+        let code = code_piece(cells, column, line);
+        let keeps = keeps_line(cells, column, self.leaf);
+        self.take_piece(code, line, keeps)?;
+        self.end_html(piece(text, code.start, code.end));
+        Ok(())
+    }
+
+    /// Where the open paragraph has no line, it begins with this one.
+    #[tactic(auto, unfolding(crate::specs::Blocks::text_started))]
+    fn start_text(&mut self, start: usize)
+        ensures { page self.new ≡ text_started start (page self.old) }
+    {
+        let index = minus(self.blocks.len(), 1);
+        if let Some(block) = self.blocks.get(index).copied() {
+            if self.pieces.len() <= block.first {
+                set(&mut self.blocks, index, Block { start, ..block });
+            }
+        }
+    }
+
+    /// Puts a line into the open paragraph, or begins one.
+    #[tactic(auto, unfolding(crate::specs::Blocks::text_taken))]
+    fn take_text(
+        &mut self,
+        alloc: Global,
+        text: &[u8],
+        cells: &[Cell],
+        line: Line,
+        place: Place,
+    ) -> Result<(), AllocError>
+        ensures { OnOk result (page self.new ≡ text_taken text.now cells.now line place (page self.old)) }
+    {
+        let words = text_piece(cells, place.cursor, line);
+        if !is_paragraph(self.leaf) {
+            self.close_to(alloc, text, place.depth)?;
+            self.open_leaf(Leaf::Paragraph, BlockKind::Paragraph, words.start, line)?;
+        }
+        self.start_text(words.start);
+        self.take_piece(words, line, true)
+    }
+
+    #[tactic(auto, unfolding(crate::specs::Blocks::indented_started))]
+    fn start_indented(
+        &mut self,
+        alloc: Global,
+        text: &[u8],
+        cells: &[Cell],
+        line: Line,
+        place: Place,
+        column: usize,
+    ) -> Result<(), AllocError>
+        ensures { OnOk result (page self.new ≡ indented_started text.now cells.now line place column (page self.old)) }
+    {
+        self.close_to(alloc, text, place.depth)?;
+        let start = cell_place(cells, column, line.end);
+        self.open_leaf(Leaf::Indented, BlockKind::Indented, start, line)?;
+        self.take_code(text, cells, column, line)
+    }
+
+    #[tactic(auto, unfolding(crate::specs::Blocks::heading_started))]
+    fn start_heading(
+        &mut self,
+        alloc: Global,
+        text: &[u8],
+        cells: &[Cell],
+        line: Line,
+        place: Place,
+        heading: Heading,
+    ) -> Result<(), AllocError>
+        ensures { OnOk result (page self.new ≡ heading_started text.now cells.now line place heading (page self.old)) }
+    {
+        self.close_to(alloc, text, place.depth)?;
+        let start = cell_place(cells, place.cursor.ink, line.end);
+        let kind = BlockKind::Heading(heading.level);
+        self.open_leaf(Leaf::Nothing, kind, start, line)?;
+        self.take_piece(heading_piece(cells, heading, line), line, true)?;
+        self.finish_leaf();
+        Ok(())
+    }
+
+    #[tactic(auto, unfolding(crate::specs::Blocks::fence_started))]
+    fn start_fence(
+        &mut self,
+        alloc: Global,
+        text: &[u8],
+        cells: &[Cell],
+        line: Line,
+        place: Place,
+        fence: Fence,
+    ) -> Result<(), AllocError>
+        ensures { OnOk result (page self.new ≡ fence_started text.now cells.now line place fence (page self.old)) }
+    {
+        self.close_to(alloc, text, place.depth)?;
+        let start = cell_place(cells, place.cursor.ink, line.end);
+        let kind = info_of(cells, place.cursor, fence, line);
+        self.open_leaf(Leaf::Fenced(fence), kind, start, line)
+    }
+
+    #[tactic(auto, unfolding(crate::specs::Blocks::html_started))]
+    fn start_html(
+        &mut self,
+        alloc: Global,
+        text: &[u8],
+        cells: &[Cell],
+        line: Line,
+        place: Place,
+        kind: HtmlKind,
+    ) -> Result<(), AllocError>
+        ensures { OnOk result (page self.new ≡ html_started text.now cells.now line place kind (page self.old)) }
+    {
+        self.close_to(alloc, text, place.depth)?;
+        let start = cell_place(cells, place.cursor.column, line.end);
+        self.open_leaf(Leaf::Html(kind), BlockKind::Html, start, line)?;
+        self.take_code(text, cells, place.cursor.column, line)
+    }
+
+    #[tactic(auto, unfolding(crate::specs::Blocks::rule_started))]
+    fn start_rule(
+        &mut self,
+        alloc: Global,
+        text: &[u8],
+        cells: &[Cell],
+        line: Line,
+        place: Place,
+    ) -> Result<(), AllocError>
+        ensures { OnOk result (page self.new ≡ rule_started text.now cells.now line place (page self.old)) }
+    {
+        self.close_to(alloc, text, place.depth)?;
+        let start = cell_place(cells, place.cursor.ink, line.end);
+        self.open_leaf(Leaf::Nothing, BlockKind::Rule, start, line)?;
+        self.finish_leaf();
+        Ok(())
+    }
+
+    /// Whether the open paragraph has a line behind its definitions.
+    #[tactic(auto, unfolding(crate::specs::Blocks::has_text))]
+    fn has_text(&self) -> bool
+        ensures { result ≡ has_text (page self.now) }
+    {
+        match self.blocks.get(minus(self.blocks.len(), 1)).copied() {
+            None => false,
+            Some(block) => block.first < self.pieces.len(),
+        }
+    }
+
+    /// Makes the open paragraph a heading that ends with this line.
+    #[tactic(auto, unfolding(crate::specs::Blocks::underlined))]
+    fn underline(&mut self, level: HeadingLevel, line: Line)
+        ensures { page self.new ≡ underlined level line (page self.old) }
+    {
+        let index = minus(self.blocks.len(), 1);
+        if let Some(block) = self.blocks.get(index).copied() {
+            let kind = BlockKind::Heading(level);
+            set(&mut self.blocks, index, Block { kind, ..block });
+        }
+        self.end = line.end;
+        self.line = line.number;
+        self.finish_leaf();
+    }
+
+    /// Takes a line that would underline a heading: where the paragraph has definitions alone it is a
+    /// thematic break or text.
+    #[tactic(auto, unfolding(crate::specs::Blocks::underline_taken))]
+    fn take_underline(
+        &mut self,
+        alloc: Global,
+        text: &[u8],
+        cells: &[Cell],
+        line: Line,
+        tail: Tail,
+        place: Place,
+        level: HeadingLevel,
+    ) -> Result<(), AllocError>
+        ensures { OnOk result (page self.new ≡ underline_taken text.now cells.now line tail place level (page self.old)) }
+    {
+        self.settle(alloc, text)?;
+        if self.has_text() {
+            self.underline(level, line);
+            return Ok(());
+        }
+        match rule_at(cells, tail, place.cursor.ink) {
+            LeafStart::Rule => self.start_rule(alloc, text, cells, line, place),
+            _ => self.take_text(alloc, text, cells, line, place),
+        }
+    }
+
+    /// Begins the leaf that the rest of a line begins, or puts it into the open paragraph.
+    #[tactic(auto, unfolding(crate::specs::Blocks::started))]
+    fn start(
+        &mut self,
+        alloc: Global,
+        text: &[u8],
+        cells: &[Cell],
+        line: Line,
+        tail: Tail,
+        place: Place,
+        leaf: LeafStart,
+    ) -> Result<(), AllocError>
+        ensures { OnOk result (page self.new ≡ started leaf text.now cells.now line tail place (page self.old)) }
+    {
+        match leaf {
+            LeafStart::Blank => self.close_to(alloc, text, place.depth),
+            LeafStart::Text => self.take_text(alloc, text, cells, line, place),
+            LeafStart::Indented(column) => {
+                self.start_indented(alloc, text, cells, line, place, column)
+            }
+            LeafStart::Heading(heading) => {
+                self.start_heading(alloc, text, cells, line, place, heading)
+            }
+            LeafStart::Fence(fence) => self.start_fence(alloc, text, cells, line, place, fence),
+            LeafStart::Html(kind) => self.start_html(alloc, text, cells, line, place, kind),
+            LeafStart::Underline(level) => {
+                self.take_underline(alloc, text, cells, line, tail, place, level)
+            }
+            LeafStart::Rule => self.start_rule(alloc, text, cells, line, place),
+        }
+    }
+
+    /// Takes the rest of a line in which the open leaf doesn't go on by itself.
+    #[tactic(auto, unfolding(crate::specs::Blocks::leaf_started))]
+    fn start_line(
+        &mut self,
+        alloc: Global,
+        text: &[u8],
+        cells: &[Cell],
+        line: Line,
+        first: Place,
+    ) -> Result<(), AllocError>
+        ensures { OnOk result (page self.new ≡ leaf_started text.now cells.now line first (page self.old)) }
+    {
+        let tail = tail_of(cells);
+        let place = self.open_all(alloc, text, cells, line, tail, first)?;
+        let in_paragraph = is_paragraph(self.leaf);
+        let directly = self.goes_directly(place.depth);
+        let rest = piece(
+            text,
+            cell_place(cells, place.cursor.ink, line.end),
+            line.end,
+        );
+        let leaf = leaf_at(cells, rest, tail, place.cursor, in_paragraph, directly);
+        self.start(alloc, text, cells, line, tail, place, leaf)
+    }
+
+    #[tactic(auto, unfolding(crate::specs::Blocks::turn_of))]
+    fn turn_of(&self, cells: &[Cell], place: Place) -> Turn
+        ensures { result ≡ turn_of cells.now place (page self.now) }
+    {
+        if self.opened.len() <= place.depth {
+            leaf_turn(cells, place.cursor, self.leaf)
+        } else {
+            Turn::Passes
+        }
+    }
+
+    /// Ends the open leaf with this line.
+    #[tactic(auto, unfolding(crate::specs::Blocks::leaf_ended))]
+    fn end_leaf(&mut self, line: Line)
+        ensures { page self.new ≡ leaf_ended line (page self.old) }
+    {
+        self.end = line.end;
+        self.line = line.number;
+        self.finish_leaf();
+    }
+
+    /// The open containers that go on in a line reach to it.
+    #[tactic(auto, unfolding(crate::specs::Blocks::touched))]
+    fn touch_line(&mut self, line: Line, depth: usize)
+        ensures { page self.new ≡ touched line depth (page self.old) }
+    {
+        touch(&mut self.opened, &self.quotes, depth, line.end, line.number);
+    }
+
+    /// Takes the columns of a line.
+    #[tactic(auto, unfolding(crate::specs::Blocks::cells_taken))]
+    fn take_cells(
+        &mut self,
+        alloc: Global,
+        text: &[u8],
+        cells: &[Cell],
+        line: Line,
+    ) -> Result<(), AllocError>
+        ensures { OnOk result (page self.new ≡ cells_taken text.now cells.now line (page self.old)) }
+    {
+        let (depth, cursor) = matched(cells, &self.opened, &self.quotes);
+        let place = Place { cursor, depth };
+        self.touch_line(line, depth);
+        match self.turn_of(cells, place) {
+            Turn::Closes => {
+                self.end_leaf(line);
+                Ok(())
+            }
+            Turn::Takes(column) => self.take_code(text, cells, column, line),
+            Turn::Passes => self.start_line(alloc, text, cells, line, place),
+        }
+    }
+
+    /// Takes a line.
+    #[tactic(auto, unfolding(crate::specs::Blocks::line_taken))]
+    fn take_line(&mut self, alloc: Global, text: &[u8], line: Line) -> Result<(), AllocError>
+        ensures { OnOk result (page self.new ≡ line_taken text.now (page self.old) line) }
+    {
+        let cells = cells(alloc, text, line)?;
+        self.take_cells(alloc, text, &cells, line)
+    }
+
+    fn take_lines(&mut self, alloc: Global, text: &[u8], lines: &[Line]) -> Result<(), AllocError>
+        ensures { OnOk result (page self.new ≡ fold (line_taken text.now) (page self.old) lines.now) }
+    {
+        for line in lines {
+            self.take_line(alloc, text, *line)?;
+        }
+        Ok(())
+    }
+}
+
+#[tactic(auto, unfolding(crate::specs::Blocks::page_of))]
+fn read_page(alloc: Global, text: &[u8]) -> Result<Page, AllocError>
+    ensures { IfOk result (λ found. page found ≡ page_of text.now) }
+{
+    let lines = lines(alloc, text)?;
+    let mut page = Page::new(alloc);
+    page.take_lines(alloc, text, &lines)?;
+    page.close_to(alloc, text, 0)?;
+    Ok(page)
+}
+
+/// The blocks of a text in the order of their starts, their pieces, and the link reference definitions
+/// in the order of the text. The text is UTF-8. Places are bytes. An `Err` says that memory ran out.
+#[tactic(auto, unfolding(crate::specs::Blocks::blocks_of))]
+pub fn read_blocks(alloc: Global, text: &[u8]) -> Result<Blocks, AllocError>
+    ensures { IfOk result (λ found. blocks_view found ≡ blocks_of text.now) }
+{
+    let page = read_page(alloc, text)?;
+    Ok(Blocks {
+        blocks: page.blocks,
+        pieces: page.pieces,
+        definitions: page.definitions,
+    })
+}

@@ -1,0 +1,95 @@
+//! The lines of leaves.
+
+ghost use Rattle.std.specs.Prelude.{◌≡◌};
+ghost use Rattle.tocmark_core_blocks.specs.Codes.{same_place, is_split, code_piece, text_piece, heading_piece, keeps_line};
+
+use crate::cell::{Cell, Cursor, cell_place, ink_from};
+use crate::definition::Piece;
+use crate::leaf::Leaf;
+use crate::line::Line;
+use crate::mark::Heading;
+use tocmark_core_scan::basic::{minus, plus};
+
+/// The number of columns from one on that are of the byte at a place.
+fn same_place(cells: &[Cell], column: usize, at: usize) -> usize
+    ensures { result ≡ same_place cells.now column at }
+{
+    cells
+        .iter()
+        .skip(column)
+        .take_while(|cell| cell.at == at)
+        .count()
+}
+
+/// Whether a column is not the first one of its tab.
+#[tactic(auto, unfolding(crate::specs::Codes::is_split))]
+fn is_split(cells: &[Cell], column: usize) -> bool
+    ensures { result ≡ is_split cells.now column }
+{
+    let inside = 0 < column && column < cells.len();
+    inside && cell_place(cells, minus(column, 1), 0) == cell_place(cells, column, 0)
+}
+
+/// A line of code or HTML from a column on.
+#[tactic(auto, unfolding(crate::specs::Codes::code_piece))]
+pub fn code_piece(cells: &[Cell], column: usize, line: Line) -> Piece
+    ensures { result ≡ code_piece cells.now column line }
+{
+    let at = cell_place(cells, column, line.end);
+    if is_split(cells, column) {
+        Piece {
+            spaces: same_place(cells, column, at),
+            start: plus(at, 1),
+            end: line.end,
+            next: line.next,
+        }
+    } else {
+        Piece {
+            spaces: 0,
+            start: at,
+            end: line.end,
+            next: line.next,
+        }
+    }
+}
+
+/// A line of a paragraph, without the spaces before it.
+#[tactic(auto, unfolding(crate::specs::Codes::text_piece))]
+pub fn text_piece(cells: &[Cell], cursor: Cursor, line: Line) -> Piece
+    ensures { result ≡ text_piece cells.now cursor line }
+{
+    Piece {
+        spaces: 0,
+        start: cell_place(cells, cursor.ink, line.end),
+        end: line.end,
+        next: line.next,
+    }
+}
+
+/// The text of a heading on one line; an empty one has no bytes.
+#[tactic(auto, unfolding(crate::specs::Codes::heading_piece))]
+pub fn heading_piece(cells: &[Cell], heading: Heading, line: Line) -> Piece
+    ensures { result ≡ heading_piece cells.now heading line }
+{
+    let end = cell_place(cells, heading.to, line.end);
+    Piece {
+        spaces: 0,
+        start: cell_place(cells, heading.from, line.end),
+        end,
+        next: end,
+    }
+}
+
+/// Whether a leaf reaches to a line of its own: indented code ends before blank lines.
+#[tactic(auto, unfolding(crate::specs::Codes::keeps_line))]
+pub fn keeps_line(cells: &[Cell], column: usize, leaf: Leaf) -> bool
+    ensures { result ≡ keeps_line cells.now column leaf }
+{
+    match leaf {
+        Leaf::Indented => ink_from(cells, column) < cells.len(),
+        Leaf::Nothing => true,
+        Leaf::Paragraph => true,
+        Leaf::Fenced(_) => true,
+        Leaf::Html(_) => true,
+    }
+}

@@ -1,0 +1,20 @@
+//! The blocks of a Markdown text (CommonMark 0.31.2, sections 4 and 5): a flat list of blocks, each with
+//! its depth and its range in bytes, and for each leaf its lines without the prefixes of its containers.
+#![tactic(auto)]
+
+mod block;
+mod cell;
+mod code;
+mod container;
+mod definition;
+mod html;
+mod leaf;
+mod line;
+mod mark;
+mod page;
+#[cfg(test)]
+mod tests;
+
+pub use block::{Blocks, read_blocks};
+pub use definition::{LinkDefinition, Piece};
+pub use page::{Block, BlockKind};

@@ -1,0 +1,72 @@
+//! The lines of a text.
+
+ghost use Rattle.std.specs.Prelude.{◌≡◌, ◌++◌, length, IfOk, OnOk};
+ghost use Rattle.tocmark_core_blocks.specs.Lines.{ends_here, line_stop, lines_of, last_line};
+
+use std::alloc::{AllocError, Global};
+use tocmark_core_scan::basic::{byte_at, minus, plus};
+
+/// A line: its number from 1 on, its first byte, the place of its line ending, and the place behind
+/// that.
+#[derive(Clone, Copy, Debug, PartialEq, Eq)]
+pub struct Line {
+    pub number: usize,
+    pub start: usize,
+    pub end: usize,
+    pub next: usize,
+}
+
+/// Whether a line ends with the byte at a place: a line feed, or a carriage return with none behind it.
+#[tactic(auto, unfolding(crate::specs::Lines::ends_here))]
+fn ends_here(text: &[u8], byte: u8, at: usize) -> bool
+    ensures { result ≡ ends_here text.now byte at }
+{
+    let alone = byte == b'\r' && byte_at(text, plus(at, 1)) != b'\n';
+    byte == b'\n' || alone || byte == b'\r' && plus(at, 1) >= text.len()
+}
+
+/// Where the line ending begins that ends with the byte at a place, in a line that began at `start`.
+#[tactic(auto, unfolding(crate::specs::Lines::line_stop))]
+fn line_stop(text: &[u8], start: usize, byte: u8, at: usize) -> usize
+    ensures { result ≡ line_stop text.now start byte at }
+{
+    let pair = byte == b'\n' && start < at && byte_at(text, minus(at, 1)) == b'\r';
+    if pair { minus(at, 1) } else { at }
+}
+
+/// The lines of a text. They end with a line feed, a carriage return or both; behind the last line
+/// ending stands a line only if it isn't empty. An `Err` says that memory ran out.
+pub fn lines(alloc: Global, text: &[u8]) -> Result<Vec<Line>, AllocError>
+    ensures { IfOk result (λ v. v.items ≡ lines_of text.now) }
+{
+    let mut lines = Vec::new(alloc);
+    let mut start = 0;
+    for (at, byte) in text.iter().enumerate() {
+        if ends_here(text, *byte, at) {
+            let end = line_stop(text, start, *byte, at);
+            lines.push(Line {
+                number: plus(lines.len(), 1),
+                start,
+                end,
+                next: at + 1,
+            })?;
+            start = at + 1;
+        }
+    }
+    push_last(&mut lines, start, text.len())?;
+    Ok(lines)
+}
+
+fn push_last(lines: &mut Vec<Line>, start: usize, end: usize) -> Result<(), AllocError>
+    ensures { OnOk result (lines.new.items ≡ lines.old.items ++ last_line (length lines.old.items) start end) }
+{
+    if start < end {
+        lines.push(Line {
+            number: plus(lines.len(), 1),
+            start,
+            end,
+            next: end,
+        })?;
+    }
+    Ok(())
+}

@@ -1,0 +1,288 @@
+//! What a line begins with: headings, fences, rules and the markers of lists.
+
+ghost use Rattle.std.specs.Prelude.{◌≡◌};
+ghost use Rattle.tocmark_core_blocks.specs.Marks.{level_of, is_behind, heading_end, heading_at, is_fence_byte, fence_at, closes_fence, tail_step, tail_of, is_rule_byte, is_rule, is_underline_byte, underline_at, digit_count, number_step, number_of, bullet_at, ordered_at, marker_at};
+
+use crate::cell::{Cell, Cursor, cell_byte, count_of, indent_of, ink_from, part, run_of, trimmed};
+use tocmark_core_scan::basic::{minus, plus};
+use tocmark_event::event::HeadingLevel;
+
+/// A heading on one line, with the columns of its text.
+#[derive(Clone, Copy, Debug)]
+pub struct Heading {
+    pub level: HeadingLevel,
+    pub from: usize,
+    pub to: usize,
+}
+
+/// The fence that opens a code block: its byte, how often it stands there, and the spaces before it.
+#[derive(Clone, Copy, Debug)]
+pub struct Fence {
+    pub byte: u8,
+    pub count: usize,
+    pub indent: usize,
+}
+
+/// The last columns of a line in which a single byte and spaces stand, and that byte.
+#[derive(Clone, Copy, Debug)]
+pub struct Tail {
+    pub byte: u8,
+    pub from: usize,
+    pub column: usize,
+}
+
+/// The marker of a list item: its last byte, its number if it has one, and its length.
+#[derive(Clone, Copy, Debug)]
+pub struct Marker {
+    pub sort: u8,
+    pub number: Option<u64>,
+    pub length: usize,
+}
+
+#[tactic(auto, unfolding(crate::specs::Marks::level_of))]
+fn level_of(marks: usize) -> Option<HeadingLevel>
+    ensures { result ≡ level_of marks }
+{
+    match marks {
+        1 => Some(HeadingLevel::H1),
+        2 => Some(HeadingLevel::H2),
+        3 => Some(HeadingLevel::H3),
+        4 => Some(HeadingLevel::H4),
+        5 => Some(HeadingLevel::H5),
+        6 => Some(HeadingLevel::H6),
+        _ => None,
+    }
+}
+
+/// Whether a space or the end of the line stands at a column.
+#[tactic(auto, unfolding(crate::specs::Marks::is_behind))]
+fn is_behind(cells: &[Cell], column: usize) -> bool
+    ensures { result ≡ is_behind cells.now column }
+{
+    cells.len() <= column || cell_byte(cells, column) == b' '
+}
+
+/// The end of a heading's text: spaces at its end don't count, nor do `#` with a space before them.
+#[tactic(auto, unfolding(crate::specs::Marks::heading_end))]
+fn heading_end(cells: &[Cell], from: usize) -> usize
+    ensures { result ≡ heading_end cells.now from }
+{
+    let whole = trimmed(cells, from, cells.len(), b' ');
+    let open = trimmed(cells, from, whole, b'#');
+    let closed = open <= from || cell_byte(cells, minus(open, 1)) == b' ';
+    if closed {
+        trimmed(cells, from, open, b' ')
+    } else {
+        whole
+    }
+}
+
+/// The heading whose marks stand at a column.
+#[tactic(auto, unfolding(crate::specs::Marks::heading_at))]
+pub fn heading_at(cells: &[Cell], column: usize) -> Option<Heading>
+    ensures { result ≡ heading_at cells.now column }
+{
+    let behind = plus(column, run_of(cells, column, b'#'));
+    if !is_behind(cells, behind) {
+        return None;
+    }
+    let level = level_of(minus(behind, column))?;
+    let from = ink_from(cells, behind);
+    Some(Heading {
+        level,
+        from,
+        to: heading_end(cells, from),
+    })
+}
+
+#[tactic(auto, unfolding(crate::specs::Marks::is_fence_byte))]
+fn is_fence_byte(byte: u8) -> bool
+    ensures { result ≡ is_fence_byte byte }
+{
+    byte == b'`' || byte == b'~'
+}
+
+/// The fence at a cursor that opens a code block. Behind backticks stands none on its line.
+#[tactic(auto, unfolding(crate::specs::Marks::fence_at))]
+pub fn fence_at(cells: &[Cell], cursor: Cursor) -> Option<Fence>
+    ensures { result ≡ fence_at cells.now cursor }
+{
+    let byte = cell_byte(cells, cursor.ink);
+    let count = run_of(cells, cursor.ink, byte);
+    let more = count_of(cells, plus(cursor.ink, count), b'`');
+    let fits = is_fence_byte(byte) && 3 <= count && !(byte == b'`' && 0 < more);
+    if fits {
+        Some(Fence {
+            byte,
+            count,
+            indent: indent_of(cursor),
+        })
+    } else {
+        None
+    }
+}
+
+/// Whether the line at a cursor closes the code block of a fence.
+#[tactic(auto, unfolding(crate::specs::Marks::closes_fence))]
+pub fn closes_fence(cells: &[Cell], cursor: Cursor, fence: Fence) -> bool
+    ensures { result ≡ closes_fence cells.now cursor fence }
+{
+    let count = run_of(cells, cursor.ink, fence.byte);
+    let alone = cells.len() <= ink_from(cells, plus(cursor.ink, count));
+    indent_of(cursor) <= 3 && fence.count <= count && alone
+}
+
+#[tactic(auto, unfolding(crate::specs::Marks::tail_step))]
+fn tail_step(tail: Tail, cell: Cell) -> Tail
+    ensures { result ≡ tail_step tail cell }
+{
+    let column = plus(tail.column, 1);
+    if cell.byte == b' ' || cell.byte == tail.byte {
+        Tail {
+            byte: tail.byte,
+            from: tail.from,
+            column,
+        }
+    } else {
+        Tail {
+            byte: cell.byte,
+            from: tail.column,
+            column,
+        }
+    }
+}
+
+/// The tail of a line.
+pub fn tail_of(cells: &[Cell]) -> Tail
+    ensures { result ≡ tail_of cells.now }
+{
+    let mut tail = Tail {
+        byte: b' ',
+        from: 0,
+        column: 0,
+    };
+    for cell in cells {
+        tail = tail_step(tail, *cell);
+    }
+    tail
+}
+
+#[tactic(auto, unfolding(crate::specs::Marks::is_rule_byte))]
+fn is_rule_byte(byte: u8) -> bool
+    ensures { result ≡ is_rule_byte byte }
+{
+    byte == b'*' || byte == b'-' || byte == b'_'
+}
+
+/// Whether the rest of a line with this tail is a thematic break.
+#[tactic(auto, unfolding(crate::specs::Marks::is_rule))]
+pub fn is_rule(cells: &[Cell], tail: Tail, column: usize) -> bool
+    ensures { result ≡ is_rule cells.now tail column }
+{
+    let byte = cell_byte(cells, column);
+    let fits = is_rule_byte(byte) && byte == tail.byte && tail.from <= column;
+    fits && 3 <= count_of(cells, column, byte)
+}
+
+#[tactic(auto, unfolding(crate::specs::Marks::is_underline_byte))]
+fn is_underline_byte(byte: u8) -> bool
+    ensures { result ≡ is_underline_byte byte }
+{
+    byte == b'=' || byte == b'-'
+}
+
+/// The level of the heading whose underline stands at a column.
+#[tactic(auto, unfolding(crate::specs::Marks::underline_at))]
+pub fn underline_at(cells: &[Cell], column: usize) -> Option<HeadingLevel>
+    ensures { result ≡ underline_at cells.now column }
+{
+    let byte = cell_byte(cells, column);
+    let behind = plus(column, run_of(cells, column, byte));
+    let fits = is_underline_byte(byte) && cells.len() <= ink_from(cells, behind);
+    if !fits {
+        return None;
+    }
+    if byte == b'=' {
+        Some(HeadingLevel::H1)
+    } else {
+        Some(HeadingLevel::H2)
+    }
+}
+
+fn digit_count(cells: &[Cell], column: usize) -> usize
+    ensures { result ≡ digit_count cells.now column }
+{
+    cells
+        .iter()
+        .skip(column)
+        .take_while(|cell| cell.byte.is_ascii_digit())
+        .count()
+}
+
+#[tactic(auto, unfolding(crate::specs::Marks::number_step))]
+fn number_step(number: u64, cell: Cell) -> u64
+    ensures { result ≡ number_step number cell }
+{
+    number
+        .saturating_mul(10)
+        .saturating_add(u64::from(cell.byte.saturating_sub(b'0')))
+}
+
+fn number_of(cells: &[Cell]) -> u64
+    ensures { result ≡ number_of cells.now }
+{
+    let mut number = 0;
+    for cell in cells {
+        number = number_step(number, *cell);
+    }
+    number
+}
+
+#[tactic(auto, unfolding(crate::specs::Marks::bullet_at))]
+fn bullet_at(cells: &[Cell], column: usize) -> Option<Marker>
+    ensures { result ≡ bullet_at cells.now column }
+{
+    let byte = cell_byte(cells, column);
+    let bullet = byte == b'-' || byte == b'+' || byte == b'*';
+    if bullet && is_behind(cells, plus(column, 1)) {
+        Some(Marker {
+            sort: byte,
+            number: None,
+            length: 1,
+        })
+    } else {
+        None
+    }
+}
+
+/// One to nine digits, and `.` or `)`.
+#[tactic(auto, unfolding(crate::specs::Marks::ordered_at))]
+fn ordered_at(cells: &[Cell], column: usize) -> Option<Marker>
+    ensures { result ≡ ordered_at cells.now column }
+{
+    let count = digit_count(cells, column);
+    let last = plus(column, count);
+    let sort = cell_byte(cells, last);
+    let ends = sort == b'.' || sort == b')';
+    let fits = 1 <= count && count <= 9 && ends;
+    if fits && is_behind(cells, plus(last, 1)) {
+        Some(Marker {
+            sort,
+            number: Some(number_of(part(cells, column, last))),
+            length: plus(count, 1),
+        })
+    } else {
+        None
+    }
+}
+
+/// The marker of a list item at a column.
+#[tactic(auto, unfolding(crate::specs::Marks::marker_at))]
+pub fn marker_at(cells: &[Cell], column: usize) -> Option<Marker>
+    ensures { result ≡ marker_at cells.now column }
+{
+    match bullet_at(cells, column) {
+        Some(marker) => Some(marker),
+        None => ordered_at(cells, column),
+    }
+}

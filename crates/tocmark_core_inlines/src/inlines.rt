@@ -1,0 +1,78 @@
+//! The inlines of a document's paragraphs and headings, one after the other.
+
+ghost use Rattle.std.specs.Prelude.{◌≡◌, IfOk};
+ghost use Rattle.tocmark_core_scan.specs.Content.{content_view};
+ghost use Rattle.tocmark_core_inlines.specs.Scan.{scan};
+ghost use Rattle.tocmark_core_inlines.specs.Inlines.{inlines_view, scan_start, read_inlines};
+
+use crate::definitions::Definitions;
+use crate::role::{Role, Stretch, Target};
+use crate::scan::Scanner;
+use crate::write::{Node, push_moved, write};
+use std::alloc::{AllocError, Global};
+use tocmark_core_scan::content::Content;
+
+/// The nodes of leaves in the order of the document, with ranges in bytes of its source; the targets of
+/// their links and images; the texts that stand nowhere in the source; and the labels that were looked
+/// up in vain, in order and with repetitions.
+#[derive(Debug, Drop)]
+pub struct Inlines {
+    pub nodes: Vec<Node>,
+    pub targets: Vec<Target>,
+    pub texts: Vec<u8>,
+    pub missed: Vec<Stretch>,
+}
+
+/// A scanner at the front of a text of so many bytes.
+#[tactic(auto, unfolding(crate::specs::Inlines::scan_start))]
+fn scanner(
+    alloc: Global,
+    length: usize,
+    targets: Vec<Target>,
+    texts: Vec<u8>,
+    missed: Vec<Stretch>,
+) -> Result<Scanner, AllocError>
+    ensures { IfOk result (λ s. scan s ≡ scan_start length targets.items texts.items missed.items) }
+{
+    Ok(Scanner {
+        roles: vec![in alloc; Role::Plain; length]?,
+        runs: Vec::new(alloc),
+        brackets: Vec::new(alloc),
+        inactive: 0,
+        place: 0,
+        resume: 0,
+        targets,
+        texts,
+        missed,
+    })
+}
+
+/// Reads the inlines of one more leaf, at a depth. An `Err` says that memory ran out.
+#[tactic(auto, unfolding(crate::specs::Inlines::read_inlines))]
+pub fn read_inlines(
+    alloc: Global,
+    before: Inlines,
+    content: &Content,
+    depth: usize,
+    definitions: &Definitions,
+) -> Result<Inlines, AllocError>
+    ensures { IfOk result (λ v. inlines_view v ≡ read_inlines (content_view content.now) depth definitions.now (inlines_view before)) }
+{
+    let mut nodes = before.nodes;
+    let mut machine = scanner(
+        alloc,
+        content.bytes.len(),
+        before.targets,
+        before.texts,
+        before.missed,
+    )?;
+    machine.read(alloc, &content.bytes, definitions)?;
+    let found = write(alloc, &machine.roles, depth)?;
+    push_moved(&mut nodes, &content.places, &found)?;
+    Ok(Inlines {
+        nodes,
+        targets: machine.targets,
+        texts: machine.texts,
+        missed: machine.missed,
+    })
+}

@@ -1,0 +1,185 @@
+//! The second pass over a leaf's text: from what each byte is to nodes.
+
+ghost use Rattle.std.specs.Prelude.{◌≡◌, ◌++◌, IfOk, OnOk, map};
+ghost use Rattle.tocmark_core_inlines.specs.Write.{writing, pushed, flushed, opened, closed, single, gone_on, shown, role_step, written, moved};
+
+use crate::role::{Leaf, Role, Span};
+use std::alloc::{AllocError, Global};
+use tocmark_core_scan::basic::{minus, plus};
+
+/// What stands at a node.
+#[derive(Clone, Copy, Debug)]
+pub enum Item {
+    /// The bytes of the node's range.
+    Text,
+    /// A container; what lies in it are the nodes behind it that are deeper.
+    Span(Span),
+    Leaf(Leaf),
+}
+
+/// An inline, from its first byte to before its end.
+#[derive(Clone, Copy, Debug)]
+pub struct Node {
+    pub depth: usize,
+    pub item: Item,
+    pub start: usize,
+    pub end: usize,
+}
+
+/// The nodes so far, the depth, and where the open text began.
+#[derive(Drop)]
+pub struct Writer {
+    pub nodes: Vec<Node>,
+    pub depth: usize,
+    pub text: Option<usize>,
+    pub place: usize,
+    pub resume: usize,
+}
+
+impl Writer {
+    #[tactic(auto, unfolding(crate::specs::Write::pushed))]
+    fn push(&mut self, item: Item, start: usize, end: usize) -> Result<(), AllocError>
+        ensures { OnOk result (writing self.new ≡ pushed item start end (writing self.old)) }
+    {
+        self.nodes.push(Node {
+            depth: self.depth,
+            item,
+            start,
+            end,
+        })?;
+        Ok(())
+    }
+
+    /// Ends the open text.
+    #[tactic(auto, unfolding(crate::specs::Write::flushed))]
+    fn flush(&mut self) -> Result<(), AllocError>
+        ensures { OnOk result (writing self.new ≡ flushed (writing self.old)) }
+    {
+        match self.text {
+            Some(start) => {
+                self.push(Item::Text, start, self.place)?;
+                self.text = None;
+                Ok(())
+            }
+            None => Ok(()),
+        }
+    }
+
+    #[tactic(auto, unfolding(crate::specs::Write::opened))]
+    fn open(&mut self, span: Span, end: usize) -> Result<(), AllocError>
+        ensures { OnOk result (writing self.new ≡ opened span end (writing self.old)) }
+    {
+        self.flush()?;
+        self.push(Item::Span(span), self.place, end)?;
+        self.depth = plus(self.depth, 1);
+        Ok(())
+    }
+
+    #[tactic(auto, unfolding(crate::specs::Write::closed))]
+    fn close(&mut self, end: usize) -> Result<(), AllocError>
+        ensures { OnOk result (writing self.new ≡ closed end (writing self.old)) }
+    {
+        self.flush()?;
+        self.depth = minus(self.depth, 1);
+        self.resume = end;
+        Ok(())
+    }
+
+    #[tactic(auto, unfolding(crate::specs::Write::single))]
+    fn put(&mut self, leaf: Leaf, end: usize) -> Result<(), AllocError>
+        ensures { OnOk result (writing self.new ≡ single leaf end (writing self.old)) }
+    {
+        self.flush()?;
+        self.push(Item::Leaf(leaf), self.place, end)?;
+        self.resume = end;
+        Ok(())
+    }
+
+    /// Goes on with the open text, or begins one.
+    fn go_on(&mut self)
+        ensures { writing self.new ≡ gone_on (writing self.old) }
+    {
+        if self.text.is_none() {
+            self.text = Some(self.place);
+        }
+    }
+
+    #[tactic(auto, unfolding(crate::specs::Write::shown))]
+    fn show(&mut self, role: Role) -> Result<(), AllocError>
+        ensures { OnOk result (writing self.new ≡ shown role (writing self.old)) }
+    {
+        match role {
+            Role::Plain => {
+                self.go_on();
+                Ok(())
+            }
+            Role::Fresh => {
+                self.flush()?;
+                self.text = Some(self.place);
+                Ok(())
+            }
+            Role::Hidden => self.flush(),
+            Role::Open(span, end) => self.open(span, end),
+            Role::Close(end) => self.close(end),
+            Role::Single(leaf, end) => self.put(leaf, end),
+        }
+    }
+
+    #[tactic(auto, unfolding(crate::specs::Write::role_step))]
+    fn step(&mut self, role: Role) -> Result<(), AllocError>
+        ensures { OnOk result (writing self.new ≡ role_step (writing self.old) role) }
+    {
+        if self.resume <= self.place {
+            self.show(role)?;
+        }
+        self.place = plus(self.place, 1);
+        Ok(())
+    }
+}
+
+/// The nodes of the roles of a text's bytes, at a depth. An `Err` says that memory ran out.
+#[tactic(auto, unfolding(crate::specs::Write::written))]
+pub fn write(alloc: Global, roles: &[Role], depth: usize) -> Result<Vec<Node>, AllocError>
+    ensures { IfOk result (λ v. v.items ≡ written roles.now depth) }
+{
+    let mut writer = Writer {
+        nodes: Vec::new(alloc),
+        depth,
+        text: None,
+        place: 0,
+        resume: 0,
+    };
+    for role in roles {
+        writer.step(*role)?;
+    }
+    writer.flush()?;
+    Ok(writer.nodes)
+}
+
+/// The node with its range in the source, where each byte of the text stands for a range.
+#[tactic(auto, unfolding(crate::specs::Write::moved))]
+fn moved(places: &[(usize, usize)], node: Node) -> Node
+    ensures { result ≡ moved places.now node }
+{
+    let first = places.get(node.start).copied().unwrap_or((0, 0));
+    let last = places.get(minus(node.end, 1)).copied().unwrap_or((0, 0));
+    Node {
+        start: first.0,
+        end: last.1,
+        ..node
+    }
+}
+
+/// Writes nodes with their ranges in the source behind others. An `Err` says that memory ran out.
+pub fn push_moved(
+    out: &mut Vec<Node>,
+    places: &[(usize, usize)],
+    nodes: &[Node],
+) -> Result<(), AllocError>
+    ensures { OnOk result (out.new.items ≡ out.old.items ++ map (moved places.now) nodes.now) }
+{
+    for node in nodes {
+        out.push(moved(places, *node))?;
+    }
+    Ok(())
+}

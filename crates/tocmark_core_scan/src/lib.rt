@@ -1,0 +1,15 @@
+//! What the blocks and the inlines of a Markdown text are scanned with. Texts are bytes, places are
+//! byte offsets, and each function answers at every argument: past the end of a text stands a line feed.
+#![tactic(auto)]
+
+pub mod autolink;
+pub mod basic;
+pub mod class;
+pub mod content;
+pub mod html;
+pub mod label;
+pub mod reference;
+pub mod side;
+#[cfg(test)]
+mod tests;
+pub mod word;
