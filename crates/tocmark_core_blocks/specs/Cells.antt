@@ -5,6 +5,7 @@ use Rattle.tocmark_core_scan.specs.Basic.{plus}
 use Rattle.tocmark_core_blocks.specs.declared.cell.Cell.{Cell}
 use Rattle.tocmark_core_blocks.specs.declared.cell.Cursor.{Cursor}
 
+-- a column of the byte at a place
 abbrev pub cell : ℕ → ℕ → Cell
 cell byte at = record { byte = byte; at = at }
 
@@ -17,9 +18,11 @@ abbrev pub cells_of : List Cell → ℕ → List ℕ → List Cell
 cells_of cells at [] = cells
 cells_of cells at (b ∷ bs) = cells_of (filled cells b at) (plus at 1) bs
 
+-- the byte of a column; a line feed behind the last one
 abbrev pub cell_byte : List Cell → ℕ → ℕ
 cell_byte cells column = option_map_or (λ (c : Cell). c.byte) (slice_get cells column) 10
 
+-- the place of a column; the end of the line behind the last one
 abbrev pub cell_place : List Cell → ℕ → ℕ → ℕ
 cell_place cells column end = option_map_or (λ (c : Cell). c.at) (slice_get cells column) end
 
@@ -27,6 +30,7 @@ cell_place cells column end = option_map_or (λ (c : Cell). c.at) (slice_get cel
 abbrev pub run_of : List Cell → ℕ → ℕ → ℕ
 run_of cells column b = length (take_while (λ (c : Cell). c.byte == b) (drop column cells))
 
+-- the columns from one on that have this byte
 abbrev pub count_of : List Cell → ℕ → ℕ → ℕ
 count_of cells column b = length (filter (λ (c : Cell). c.byte == b) (drop column cells))
 
@@ -34,9 +38,11 @@ count_of cells column b = length (filter (λ (c : Cell). c.byte == b) (drop colu
 abbrev pub ink_from : List Cell → ℕ → ℕ
 ink_from cells column = plus column (run_of cells column 32)
 
+-- the columns of a range
 abbrev pub part : List Cell → ℕ → ℕ → List Cell
 part cells from to = if nat_le from to && nat_le to (length cells) then slice_range cells from to else []
 
+-- the columns at the end that have this byte
 abbrev pub trailing : List Cell → ℕ → ℕ
 trailing cells b = length (take_while (λ (c : Cell). c.byte == b) (reverse cells))
 
@@ -44,6 +50,7 @@ trailing cells b = length (take_while (λ (c : Cell). c.byte == b) (reverse cell
 unfoldable pub trimmed : List Cell → ℕ → ℕ → ℕ → ℕ
 trimmed cells from to b = to - trailing (part cells from to) b
 
+-- the front of a line
 unfoldable pub first_cursor : List Cell → Cursor
 first_cursor cells = record { column = 0; ink = ink_from cells 0 }
 
@@ -51,8 +58,10 @@ first_cursor cells = record { column = 0; ink = ink_from cells 0 }
 unfoldable pub moved : List Cell → Cursor → ℕ → Cursor
 moved cells cursor column = record { column = column; ink = (if nat_le column cursor.ink then cursor.ink else ink_from cells column) }
 
+-- the spaces at a cursor
 abbrev pub indent_of : Cursor → ℕ
 indent_of cursor = cursor.ink - cursor.column
 
+-- nothing but spaces is left of the line
 abbrev pub is_blank_at : List Cell → Cursor → Bool
 is_blank_at cells cursor = nat_le (length cells) cursor.ink

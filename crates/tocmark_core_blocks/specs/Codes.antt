@@ -10,6 +10,7 @@ use Rattle.tocmark_core_blocks.specs.declared.mark.Heading.{Heading}
 use Rattle.tocmark_core_blocks.specs.declared.leaf.Leaf.{Leaf}
 use Rattle.tocmark_core_blocks.specs.declared.leaf.Leaf.TheVariants as leaf
 
+-- the columns from one on that stand for the byte at a place
 abbrev pub same_place : List Cell → ℕ → ℕ → ℕ
 same_place cells column at = length (take_while (λ (c : Cell). c.at == at) (drop column cells))
 
@@ -18,6 +19,7 @@ unfoldable pub is_split : List Cell → ℕ → Bool
 is_split cells column =
     nat_lt 0 column && nat_lt column (length cells) && (cell_place cells (column - 1) 0 == cell_place cells column 0)
 
+-- a line of a leaf
 abbrev pub piece_of : ℕ → ℕ → ℕ → ℕ → Piece
 piece_of spaces start end next = record { spaces = spaces; start = start; end = end; next = next }
 
@@ -28,9 +30,11 @@ code_piece cells column line =
     if is_split cells column then piece_of (same_place cells column at) (plus at 1) line.end line.next
     else piece_of 0 at line.end line.next
 
+-- a line of a paragraph begins with its first byte that is no space
 unfoldable pub text_piece : List Cell → Cursor → Line → Piece
 text_piece cells cursor line = piece_of 0 (cell_place cells cursor.ink line.end) line.end line.next
 
+-- the text of a heading on one line
 unfoldable pub heading_piece : List Cell → Heading → Line → Piece
 heading_piece cells heading line =
     let end = cell_place cells heading.to line.end in

@@ -16,6 +16,7 @@ use Rattle.tocmark_core_blocks.specs.declared.container.ItemStart.{ItemStart}
 use Rattle.tocmark_core_blocks.specs.declared.container.ContainerStart.{ContainerStart}
 use Rattle.tocmark_core_blocks.specs.declared.container.ContainerStart.TheVariants as start
 
+-- a container that reaches at least to this line
 unfoldable pub raised : Opened → ℕ → ℕ → Opened
 raised o end line = record o { end = max o.end end; line = max o.line line }
 
@@ -36,20 +37,24 @@ item_goes_on cells cursor width had =
     else (if nat_le width (indent_of cursor) then Some (moved cells cursor (plus cursor.column width))
     else (if is_blank_at cells cursor then Some (moved cells cursor (length cells)) else None))
 
+-- whether a container of this kind goes on, and where
 abbrev pub going_on_as : Container → List Cell → Cursor → Bool → Option Cursor
 going_on_as container.Quote cells cursor had =
     if nat_le (indent_of cursor) 3 && (cell_byte cells cursor.ink == 62) then Some (after_quote cells cursor) else None
 going_on_as (container.List sort) cells cursor had = Some cursor
 going_on_as (container.Item width) cells cursor had = item_goes_on cells cursor width had
 
+-- where a line goes on behind what it has of a container
 unfoldable pub going_on : List Cell → Cursor → Opened → Option Cursor
 going_on cells cursor o = going_on_as o.container cells cursor o.had
 
+-- an item in which no block stands
 abbrev pub is_empty_as : Container → Bool → Bool
 is_empty_as container.Quote had = false
 is_empty_as (container.List sort) had = false
 is_empty_as (container.Item width) had = not had
 
+-- a container that is an item in which no block stands
 unfoldable pub is_empty_item : Opened → Bool
 is_empty_item o = is_empty_as o.container o.had
 
@@ -59,6 +64,7 @@ blank_depth opened =
     let last = length opened - 1 in
     if option_map_or is_empty_item (slice_get opened last) false then last else length opened
 
+-- the first quote from a container on
 abbrev pub quote_from : List ℕ → ℕ → Option ℕ
 quote_from quotes count = find (λ q. nat_le count q) quotes
 
@@ -67,6 +73,7 @@ unfoldable pub stopped : List Cell → List Opened → List ℕ → ℕ → Curs
 stopped cells opened quotes count cursor =
     if nat_le (length cells) cursor.column then unwrap_or (quote_from quotes count) (blank_depth opened) else count
 
+-- a container goes on only if something is left of the line
 unfoldable pub passed : List Cell → Cursor → Opened → Option Cursor
 passed cells cursor o = if nat_le (length cells) cursor.column then None else going_on cells cursor o
 
@@ -77,6 +84,7 @@ matched_from cells opened quotes count cursor (o ∷ os) =
     option_map_or (λ next. matched_from cells opened quotes (plus count 1) next os) (passed cells cursor o)
     (stopped cells opened quotes count cursor, cursor)
 
+-- the containers that go on, from the front of the line
 abbrev pub matched : List Cell → List Opened → List ℕ → ℕ × Cursor
 matched cells opened quotes = matched_from cells opened quotes 0 (first_cursor cells) opened
 
@@ -86,9 +94,11 @@ touched_from count end line [] opened = opened
 touched_from count end line (q ∷ qs) opened =
     if nat_le count q then opened else touched_from count end line qs (raised_at opened q end line)
 
+-- one column lies behind the marker of an item that is empty or begins with code
 unfoldable pub item_gap : Bool → ℕ → ℕ
 item_gap empty spaces = if empty || nat_le 5 spaces then 1 else spaces
 
+-- a bullet, or the number 1
 abbrev pub is_first : Option ℕ → Bool
 is_first None = true
 is_first (Some n) = n == 1
@@ -97,6 +107,7 @@ is_first (Some n) = n == 1
 unfoldable pub may_interrupt : Bool → Marker → Bool
 may_interrupt empty marker = is_first marker.number && not empty
 
+-- the item that a marker begins
 abbrev pub item_from : List Cell → Cursor → Bool → Marker → Option ItemStart
 item_from cells cursor in_paragraph marker =
     let behind = plus cursor.ink marker.length in
@@ -111,9 +122,11 @@ item_from cells cursor in_paragraph marker =
       next = min (plus behind gap) (length cells);
     })
 
+-- the item that begins at a cursor
 unfoldable pub item_at : List Cell → Cursor → Bool → Option ItemStart
 item_at cells cursor in_paragraph = option_and_then (item_from cells cursor in_paragraph) (marker_at cells cursor.ink)
 
+-- the container that begins at a cursor
 unfoldable pub container_at : List Cell → Tail → Cursor → Bool → Option ContainerStart
 container_at cells tail cursor in_paragraph =
     if is_blank_at cells cursor || nat_le 4 (indent_of cursor) then None

@@ -15,9 +15,11 @@ pub record DefinitionView : Type 0 where
   pub destination : List ℕ
   pub title : List ℕ
 
+-- the texts of a definition
 abbrev pub definition_view : LinkDefinition → DefinitionView
 definition_view d = record { label = d.label.items; destination = d.destination.items; title = d.title.items }
 
+-- the texts of a definition that stands in this content
 abbrev pub found_view : List ℕ → Definition → DefinitionView
 found_view content d = record {
   label = piece content d.label.start d.label.end;
@@ -25,6 +27,7 @@ found_view content d = record {
   title = piece content d.title.start d.title.end;
 }
 
+-- the first line begins with a bracket
 unfoldable pub begins_definition : List ℕ → List Piece → Bool
 begins_definition text [] = false
 begins_definition text (l ∷ ls) = byte_at text l.start == 91
@@ -33,6 +36,7 @@ begins_definition text (l ∷ ls) = byte_at text l.start == 91
 unfoldable pub replaced : ℕ → List ℕ
 replaced b = if b == 0 then 0xef ∷ 0xbf ∷ 0xbd ∷ [] else b ∷ []
 
+-- a line and a line feed
 abbrev pub joined_line : List ℕ → Piece → List ℕ
 joined_line text l = flat_map replaced (piece text l.start l.end) ++ 10 ∷ []
 
@@ -45,9 +49,11 @@ unfoldable pub define_once : List ℕ → ℕ → List DefinitionView → List D
 define_once content place definitions =
     option_map_or (λ (d : Definition). (definitions ++ found_view content d ∷ [], Some d.next)) (definition_at content place) (definitions, None)
 
+-- the line feeds before a place
 abbrev pub line_count : List ℕ → ℕ → ℕ
 line_count content place = length (filter (λ b. b == 10) (take place content))
 
+-- definitions, and the number of their lines
 abbrev pub counted : List ℕ → List DefinitionView × ℕ → List DefinitionView × ℕ
 counted content found = (found.0, line_count content (found.1))
 

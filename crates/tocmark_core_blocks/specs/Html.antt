@@ -14,9 +14,11 @@ use Rattle.tocmark_core_blocks.specs.declared.html.TheConstants.{RAW_NAMES, RAW_
 unfoldable pub same_word : List ℕ → List ℕ → Bool
 same_word a b = bytes_eq (map to_ascii_lowercase a) (map to_ascii_lowercase b)
 
+-- a name of the first kind of HTML blocks
 unfoldable pub is_raw_name : List ℕ → Bool
 is_raw_name name = list_any (λ w. same_word name w.now) RAW_NAMES
 
+-- a name of the sixth kind of HTML blocks
 unfoldable pub is_block_name : List ℕ → Bool
 is_block_name name = list_any (λ w. same_word name w.now) BLOCK_NAMES
 
@@ -26,16 +28,19 @@ ends_name line place =
     let b = byte_at line place in
     nat_le (length line) place || (b == 32) || (b == 9) || (b == 62)
 
+-- the line begins as the first kind does
 unfoldable pub is_raw : List ℕ → Bool
 is_raw line =
     let end = run_end line 1 TagName in
     is_raw_name (piece line 1 end) && ends_name line end
 
+-- a tag of the sixth kind whose name stands at a place
 unfoldable pub block_tag : List ℕ → ℕ → Bool
 block_tag line place =
     let end = run_end line place TagName in
     (ends_name line end || starts_at line end (codes "/>")) && is_block_name (piece line place end)
 
+-- the line begins as the sixth kind does
 unfoldable pub is_block_tag : List ℕ → Bool
 is_block_tag line = if byte_at line 1 == 47 then block_tag line 2 else block_tag line 1
 
@@ -45,10 +50,12 @@ tag_end line =
     if byte_at line 1 == 47 then closing_tag line 0
     else (if is_raw_name (piece line 1 (run_end line 1 TagName)) then None else open_tag line 0)
 
+-- nothing but spaces and tabs stands behind the tag
 abbrev pub ends_blank : List ℕ → Option ℕ → Bool
 ends_blank line None = false
 ends_blank line (Some end) = nat_le (length line) (run_end line end Blank)
 
+-- the line begins as the seventh kind does
 unfoldable pub is_tag_line : List ℕ → Bool
 is_tag_line line = ends_blank line (tag_end line)
 
@@ -70,9 +77,11 @@ holds_from line word place [] = false
 holds_from line word place (b ∷ bs) =
     if same_word (piece line place (plus place (length word))) word then true else holds_from line word (place + 1) bs
 
+-- a word stands in the line
 abbrev pub holds : List ℕ → List ℕ → Bool
 holds line word = holds_from line word 0 line
 
+-- an end of the first kind stands in the line
 unfoldable pub holds_raw_end : List ℕ → Bool
 holds_raw_end line = list_any (λ w. holds line w.now) RAW_ENDS
 

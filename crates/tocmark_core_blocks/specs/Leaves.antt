@@ -18,6 +18,7 @@ use Rattle.tocmark_core_blocks.specs.declared.leaf.Turn.TheVariants as turn
 use Rattle.tocmark_core_blocks.specs.declared.leaf.LeafStart.{LeafStart}
 use Rattle.tocmark_core_blocks.specs.declared.leaf.LeafStart.TheVariants as start
 
+-- the open leaf is a paragraph
 unfoldable pub is_paragraph : Leaf → Bool
 is_paragraph leaf.Paragraph = true
 is_paragraph leaf.Nothing = false
@@ -53,12 +54,15 @@ abbrev pub interrupting : Bool → HtmlKind → Option HtmlKind
 interrupting in_paragraph kind.Alone = if in_paragraph then None else Some kind.Alone
 interrupting in_paragraph k = Some k
 
+-- the HTML block that begins here
 unfoldable pub html_at : List ℕ → Bool → Option HtmlKind
 html_at rest in_paragraph = option_and_then (interrupting in_paragraph) (html_kind rest)
 
+-- only a paragraph in the innermost container can be underlined
 unfoldable pub underline_in : List Cell → ℕ → Bool → Option HeadingLevel
 underline_in cells column directly = if directly then underline_at cells column else None
 
+-- a thematic break or text
 unfoldable pub rule_at : List Cell → Tail → ℕ → LeafStart
 rule_at cells tail column = if is_rule cells tail column then start.Rule else start.Text
 
@@ -71,6 +75,7 @@ mark_at cells rest tail cursor in_paragraph directly =
     (unwrap_or (option_map (λ l. start.Underline l) (underline_in cells cursor.ink directly))
     (rule_at cells tail cursor.ink))))
 
+-- what the rest of a line begins
 unfoldable pub leaf_at : List Cell → List ℕ → Tail → Cursor → Bool → Bool → LeafStart
 leaf_at cells rest tail cursor in_paragraph directly =
     if is_blank_at cells cursor then start.Blank

@@ -12,6 +12,7 @@ ends_here text b at =
 unfoldable pub line_stop : List ℕ → ℕ → ℕ → ℕ → ℕ
 line_stop text start b at = if (b == 10) && nat_lt start at && (byte_at text (at - 1) == 13) then at - 1 else at
 
+-- a line with so many lines before it
 abbrev pub line : ℕ → ℕ → ℕ → ℕ → Line
 line before start end next = record { number = plus before 1; start = start; end = end; next = next }
 
@@ -27,5 +28,6 @@ lines_from text before start at (b ∷ bs) =
     then line before start (line_stop text start b at) (at + 1) ∷ lines_from text (before + 1) (at + 1) (at + 1) bs
     else lines_from text before start (at + 1) bs
 
+-- the lines of a text
 abbrev pub lines_of : List ℕ → List Line
 lines_of text = lines_from text 0 0 0 text

@@ -14,6 +14,7 @@ use Rattle.tocmark_core_blocks.specs.declared.mark.Fence.{Fence}
 use Rattle.tocmark_core_blocks.specs.declared.mark.Tail.{Tail}
 use Rattle.tocmark_core_blocks.specs.declared.mark.Marker.{Marker}
 
+-- the level of a heading with so many marks
 unfoldable pub level_of : ℕ → Option HeadingLevel
 level_of n =
     if n == 1 then Some level.H1
@@ -34,6 +35,7 @@ heading_end cells from =
     let open_end = trimmed cells from whole 35 in
     if nat_le open_end from || (cell_byte cells (open_end - 1) == 32) then trimmed cells from open_end 32 else whole
 
+-- a heading whose text begins at a column
 abbrev pub heading_from : List Cell → ℕ → HeadingLevel → Heading
 heading_from cells from l = record { level = l; from = from; to = heading_end cells from }
 
@@ -44,6 +46,7 @@ heading_at cells column =
     if not (is_behind cells behind) then None
     else option_map (heading_from cells (ink_from cells behind)) (level_of (behind - column))
 
+-- a backtick or a tilde
 unfoldable pub is_fence_byte : ℕ → Bool
 is_fence_byte b = (b == 96) || (b == 126)
 
@@ -70,9 +73,11 @@ tail_step tail cell =
     then record { byte = tail.byte; from = tail.from; column = plus tail.column 1 }
     else record { byte = cell.byte; from = tail.column; column = plus tail.column 1 }
 
+-- the columns at the end of a line that have one byte and spaces
 abbrev pub tail_of : List Cell → Tail
 tail_of cells = fold tail_step (record { byte = 32; from = 0; column = 0 }) cells
 
+-- `*`, `-` or `_`
 unfoldable pub is_rule_byte : ℕ → Bool
 is_rule_byte b = (b == 42) || (b == 45) || (b == 95)
 
@@ -82,6 +87,7 @@ is_rule cells tail column =
     let b = cell_byte cells column in
     is_rule_byte b && (b == tail.byte) && nat_le tail.from column && nat_le 3 (count_of cells column b)
 
+-- `=` or `-`
 unfoldable pub is_underline_byte : ℕ → Bool
 is_underline_byte b = (b == 61) || (b == 45)
 
@@ -93,12 +99,15 @@ underline_at cells column =
     if not (is_underline_byte b && nat_le (length cells) (ink_from cells behind)) then None
     else (if b == 61 then Some level.H1 else Some level.H2)
 
+-- the digits from a column on
 abbrev pub digit_count : List Cell → ℕ → ℕ
 digit_count cells column = length (take_while (λ (c : Cell). is_ascii_digit c.byte) (drop column cells))
 
+-- one more digit; a number stops at the greatest of 64 bits
 unfoldable pub number_step : ℕ → Cell → ℕ
 number_step n c = min (min (n * 10) (2 ^ 64 - 1) + (c.byte - 48)) (2 ^ 64 - 1)
 
+-- the number that digits write
 abbrev pub number_of : List Cell → ℕ
 number_of cells = fold number_step 0 cells
 
@@ -120,5 +129,6 @@ ordered_at cells column =
     then Some (record { sort = sort; number = Some (number_of (part cells column last)); length = plus count 1 })
     else None
 
+-- the marker of an item at a column
 unfoldable pub marker_at : List Cell → ℕ → Option Marker
 marker_at cells column = option_or (bullet_at cells column) (ordered_at cells column)

@@ -26,6 +26,7 @@ pub record State : Type 0 where
   pub line : ℕ
   pub kept : ℕ
 
+-- a page as plain values
 abbrev pub page : Page → State
 page p = record {
   blocks = p.blocks.items;
@@ -39,6 +40,7 @@ page p = record {
   kept = p.kept;
 }
 
+-- nothing is open and nothing was read
 abbrev pub first_page : State
 first_page = record { blocks = []; pieces = []; definitions = []; opened = []; quotes = []; leaf = leaf.Nothing; end = 0; line = 0; kept = 0 }
 
@@ -46,9 +48,11 @@ first_page = record { blocks = []; pieces = []; definitions = []; opened = []; q
 abbrev pub innermost : List Opened → Option Opened
 innermost opened = slice_get opened (length opened - 1)
 
+-- a block has this end
 unfoldable pub ended : List Block → ℕ → ℕ → List Block
 ended blocks index end = option_map_or (λ (b : Block). slice_set blocks index (record b { end = end })) (slice_get blocks index) blocks
 
+-- a leaf has this end, and pieces up to this one
 unfoldable pub finished : List Block → ℕ → ℕ → ℕ → List Block
 finished blocks index end last =
     option_map_or (λ (b : Block). slice_set blocks index (record b { end = end; last = last })) (slice_get blocks index) blocks
@@ -69,6 +73,7 @@ shortened b pieces count =
     let first = plus b.first count in
     record b { first = first; start = option_map_or (λ (p : Piece). p.start) (slice_get pieces first) b.start }
 
+-- the definitions at the front of a paragraph are taken from it
 abbrev pub settled_as : List ℕ → State → Block → State
 settled_as text s b =
     let found = definitions_from text (drop b.first s.pieces) s.definitions in
@@ -78,6 +83,7 @@ settled_as text s b =
 unfoldable pub settled : List ℕ → State → State
 settled text s = option_map_or (settled_as text s) (slice_get s.blocks (length s.blocks - 1)) s
 
+-- a paragraph that ends gives its definitions
 abbrev pub leaf_closed_as : Leaf → List ℕ → State → State
 leaf_closed_as leaf.Nothing text s = s
 leaf_closed_as leaf.Paragraph text s = leaf_finished (settled text s)
@@ -85,19 +91,23 @@ leaf_closed_as leaf.Indented text s = leaf_finished s
 leaf_closed_as (leaf.Fenced f) text s = leaf_finished s
 leaf_closed_as (leaf.Html k) text s = leaf_finished s
 
+-- the open leaf ends, if there is one
 unfoldable pub leaf_closed : List ℕ → State → State
 leaf_closed text s = leaf_closed_as s.leaf text s
 
+-- a container that is a quote
 unfoldable pub is_quote : Container → Bool
 is_quote container.Quote = true
 is_quote (container.List sort) = false
 is_quote (container.Item width) = false
 
+-- a container that is a list
 unfoldable pub is_list : Container → Bool
 is_list container.Quote = false
 is_list (container.List sort) = true
 is_list (container.Item width) = false
 
+-- a quote that ended is no longer among the open ones
 abbrev pub quote_left : Container → State → State
 quote_left c s = if is_quote c then record s { quotes = take (length s.quotes - 1) s.quotes } else s
 
@@ -124,6 +134,7 @@ closed_to text depth s =
 unfoldable pub list_left : State → State
 list_left s = option_map_or (λ (o : Opened). if is_list o.container then one_closed s else s) (innermost s.opened) s
 
+-- the list that a container is, or whose item it is
 abbrev pub list_at : Container → Opened → List Opened → Option ℕ
 list_at container.Quote o opened = None
 list_at (container.List sort) o opened = Some o.block
@@ -137,12 +148,15 @@ list_of opened = option_and_then (λ (o : Opened). list_at o.container o opened)
 unfoldable pub is_apart : List Opened → ℕ → Bool
 is_apart opened number = option_map_or (λ (o : Opened). o.had && nat_lt (plus o.line 1) number) (innermost opened) false
 
+-- a block is a loose list
 abbrev pub made_loose : List Block → ℕ → List Block
 made_loose blocks index = option_map_or (λ (b : Block). slice_set blocks index (record b { loose = true })) (slice_get blocks index) blocks
 
+-- a list is loose if a block in it stands apart (CommonMark 5.3)
 unfoldable pub loosened : Option ℕ → Bool → List Block → List Block
 loosened list apart blocks = if apart then option_map_or (made_loose blocks) list blocks else blocks
 
+-- a block stands in the innermost container
 unfoldable pub had_marked : List Opened → List Opened
 had_marked opened = option_map_or (λ (o : Opened). slice_set opened (length opened - 1) (record o { had = true })) (innermost opened) opened
 
@@ -162,6 +176,7 @@ begun kind start number s = record s {
   opened = had_marked s.opened;
 }
 
+-- a quote that began is among the open ones
 abbrev pub quote_entered : Container → State → State
 quote_entered c s = if is_quote c then record s { quotes = s.quotes ++ (length s.opened - 1) ∷ [] } else s
 
@@ -179,6 +194,7 @@ leaf_opened l kind start line s =
     let t = begun kind start line.number (list_left s) in
     record t { leaf = l; end = line.end; line = line.number; kept = length t.pieces }
 
+-- a line that has no byte and no space is no piece
 abbrev pub piece_pushed : Piece → State → State
 piece_pushed p s = if nat_lt 0 p.spaces || nat_lt p.start p.next then record s { pieces = s.pieces ++ p ∷ [] } else s
 

@@ -53,12 +53,16 @@ defined_as key label destination title s =
     }
 
 -- one more definition: the label collapsed, destination and title without escapes and references
+unfoldable pub defined_with : List ℕ → List ℕ → List ℕ → State → State
+defined_with label destination title s =
+    defined_as (key_of label) (collapsed label) (unescaped destination) (unescaped title) s
+
+-- one more definition, as it was found in a text
 unfoldable pub defined : List ℕ → Definition → State → State
 defined bytes found s =
-    let label = piece bytes found.label.start found.label.end in
-    defined_as (key_of label) (collapsed label)
-    (unescaped (piece bytes found.destination.start found.destination.end))
-    (unescaped (piece bytes found.title.start found.title.end)) s
+    defined_with (piece bytes found.label.start found.label.end)
+    (piece bytes found.destination.start found.destination.end)
+    (piece bytes found.title.start found.title.end) s
 
 -- the key of a label among the texts
 abbrev pub label_key : List ℕ → Stretch → List ℕ

@@ -1,9 +1,9 @@
 -- The inlines of a document's leaves, one after the other.
-use Rattle.std.specs.Prelude.{ℕ, List, [], ◌++◌, length, map, replicate}
+use Rattle.std.specs.Prelude.{ℕ, List, [], ◌++◌, length, map, replicate, Option}
 use Rattle.tocmark_core_scan.specs.Content as content
 use Rattle.tocmark_core_inlines.specs.Scan as scan
 use Rattle.tocmark_core_inlines.specs.Write.{written, moved}
-use Rattle.tocmark_core_inlines.specs.declared.definitions.Definitions.{Definitions}
+use Rattle.tocmark_core_inlines.specs.declared.definitions.Entry.{Entry}
 use Rattle.tocmark_core_inlines.specs.declared.inlines.Inlines.{Inlines}
 use Rattle.tocmark_core_inlines.specs.declared.role.Role.TheVariants.{Plain}
 use Rattle.tocmark_core_inlines.specs.declared.role.Stretch.{Stretch}
@@ -45,6 +45,6 @@ inlines_from leaf depth after s = record {
 }
 
 -- one more leaf: what each byte is, nodes, their ranges in the source
-unfoldable pub read_inlines : content.State → ℕ → Definitions → State → State
+unfoldable pub read_inlines : content.State → ℕ → (List ℕ → Option Entry) → State → State
 read_inlines leaf depth definitions s =
     inlines_from leaf depth (scan.scanned leaf.bytes definitions (scan_start (length leaf.bytes) s.targets s.texts s.missed)) s

@@ -16,8 +16,6 @@ use Rattle.tocmark_core_inlines.specs.Tick.{last_ticks, tick_end, push_shown, st
 use Rattle.tocmark_core_inlines.specs.Run.{run_at}
 use Rattle.tocmark_core_inlines.specs.Emphasis.{emphasized}
 use Rattle.tocmark_core_inlines.specs.Link.{inline_target, label_asked}
-use Rattle.tocmark_core_inlines.specs.Definitions.{entry_of}
-use Rattle.tocmark_core_inlines.specs.declared.definitions.Definitions.{Definitions}
 use Rattle.tocmark_core_inlines.specs.declared.definitions.Entry.{Entry}
 use Rattle.tocmark_core_inlines.specs.declared.link.Bracket.{Bracket}
 use Rattle.tocmark_core_inlines.specs.declared.link.InlineTarget.{InlineTarget}
@@ -267,27 +265,27 @@ looked_up_as label b asked s None = missing label s
 looked_up_as label b asked s (Some e) = let p = kept label s in linked b (label_target asked e (p.1)) asked.end (p.0)
 
 -- the text of a bracket leads to what a label is defined as
-unfoldable pub looked_up : List ℕ → Definitions → Bracket → Asked → State → State
+unfoldable pub looked_up : List ℕ → (List ℕ → Option Entry) → Bracket → Asked → State → State
 looked_up bytes definitions b asked s =
     let label = piece bytes asked.label.start asked.label.end in
-    looked_up_as label b asked s (entry_of definitions (key_of label))
+    looked_up_as label b asked s (definitions (key_of label))
 
 -- the label that is to be looked up, if there is one
-abbrev pub closed_asked : List ℕ → Definitions → Bracket → State → Option Asked → State
+abbrev pub closed_asked : List ℕ → (List ℕ → Option Entry) → Bracket → State → Option Asked → State
 closed_asked bytes definitions b s None = s
 closed_asked bytes definitions b s (Some asked) = looked_up bytes definitions b asked s
 
 -- a bracket without parentheses behind it is closed
-unfoldable pub closed_by_label : List ℕ → Definitions → Bracket → State → State
+unfoldable pub closed_by_label : List ℕ → (List ℕ → Option Entry) → Bracket → State → State
 closed_by_label bytes definitions b s = closed_asked bytes definitions b s (label_asked bytes b s.place)
 
 -- parentheses, or else a label
-abbrev pub closed_found : List ℕ → Definitions → Bracket → State → Option InlineTarget → State
+abbrev pub closed_found : List ℕ → (List ℕ → Option Entry) → Bracket → State → Option InlineTarget → State
 closed_found bytes definitions b s None = closed_by_label bytes definitions b s
 closed_found bytes definitions b s (Some found) = closed_inline bytes b found s
 
 -- a bracket that can begin a link or an image is closed: parentheses first, then a label
-unfoldable pub closed_active : List ℕ → Definitions → Bracket → State → State
+unfoldable pub closed_active : List ℕ → (List ℕ → Option Entry) → Bracket → State → State
 closed_active bytes definitions b s = closed_found bytes definitions b s (inline_target bytes (plus s.place 1))
 
 -- the innermost bracket is taken away; whether it can begin a link or an image
@@ -297,16 +295,16 @@ popped b s =
     (record s { brackets = take height s.brackets; inactive = min s.inactive height }, b.image || nat_le s.inactive height)
 
 -- a bracket that can begin a link or an image, or a text
-abbrev pub closed_popped : List ℕ → Definitions → Bracket → State × Bool → State
+abbrev pub closed_popped : List ℕ → (List ℕ → Option Entry) → Bracket → State × Bool → State
 closed_popped bytes definitions b (s, active) = if active then closed_active bytes definitions b s else s
 
 -- the innermost bracket, if there is one, is closed
-abbrev pub closed_last : List ℕ → Definitions → State → Option Bracket → State
+abbrev pub closed_last : List ℕ → (List ℕ → Option Entry) → State → Option Bracket → State
 closed_last bytes definitions s None = s
 closed_last bytes definitions s (Some b) = closed_popped bytes definitions b (popped b s)
 
 -- a closing bracket (CommonMark 6.3)
-unfoldable pub closed : List ℕ → Definitions → State → State
+unfoldable pub closed : List ℕ → (List ℕ → Option Entry) → State → State
 closed bytes definitions s = closed_last bytes definitions s (slice_get s.brackets (length s.brackets - 1))
 
 -- a byte that is no bracket
@@ -319,7 +317,7 @@ looked_mark bytes ticks b s =
     else (if (b == 42) || (b == 95) then run_taken bytes b s else s))))
 
 -- the byte at the place
-unfoldable pub looked : List ℕ → Known → Definitions → ℕ → State → State
+unfoldable pub looked : List ℕ → Known → (List ℕ → Option Entry) → ℕ → State → State
 looked bytes ahead definitions b s =
     if b == 91 then opened false 1 s
     else (if b == 33 then imaged bytes s
@@ -332,14 +330,14 @@ abbrev pub next_place : State → State
 next_place s = record s { place = plus s.place 1 }
 
 -- one byte further
-unfoldable pub scan_step : List ℕ → Known → Definitions → State → ℕ → State
+unfoldable pub scan_step : List ℕ → Known → (List ℕ → Option Entry) → State → ℕ → State
 scan_step bytes ahead definitions s b =
     next_place (if nat_le s.resume s.place then looked bytes ahead definitions b s else s)
 
 -- all bytes are read
-abbrev pub ran : List ℕ → Known → Definitions → State → State
+abbrev pub ran : List ℕ → Known → (List ℕ → Option Entry) → State → State
 ran bytes ahead definitions s = fold (scan_step bytes ahead definitions) s bytes
 
 -- all bytes of a text
-unfoldable pub scanned : List ℕ → Definitions → State → State
+unfoldable pub scanned : List ℕ → (List ℕ → Option Entry) → State → State
 scanned bytes definitions s = settled 0 (ran bytes (record { ends = last_ends bytes; ticks = last_ticks bytes }) definitions s)

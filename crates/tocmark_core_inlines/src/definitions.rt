@@ -1,7 +1,7 @@
 //! The link reference definitions of a document, and lists of labels.
 
 ghost use Rattle.std.specs.Prelude.{◌≡◌, IfOk, OnOk, map, string_bytes};
-ghost use Rattle.tocmark_core_inlines.specs.Definitions.{entry_of, label_key, collected_view, collected_none, kept, defined, label_at, distinct_labels};
+ghost use Rattle.tocmark_core_inlines.specs.Definitions.{entry_of, label_key, collected_view, collected_none, kept, defined_with, defined, label_at, distinct_labels};
 
 use crate::role::Stretch;
 use std::alloc::{AllocError, Global};
@@ -70,14 +70,18 @@ impl Collected {
         }
     }
 
-    /// Adds the definition that was found in a text. An `Err` says that memory ran out.
-    #[tactic(auto, unfolding(crate::specs::Definitions::defined))]
-    pub fn add(&mut self, alloc: Global, bytes: &[u8], found: Definition) -> Result<(), AllocError>
-        ensures { OnOk result (collected_view self.new ≡ defined bytes.now found (collected_view self.old)) }
+    /// Adds a definition as it is written: a label, a destination and a title. An `Err` says that memory
+    /// ran out.
+    #[tactic(auto, unfolding(crate::specs::Definitions::defined_with))]
+    pub fn define(
+        &mut self,
+        alloc: Global,
+        label: &[u8],
+        destination: &[u8],
+        title: &[u8],
+    ) -> Result<(), AllocError>
+        ensures { OnOk result (collected_view self.new ≡ defined_with label.now destination.now title.now (collected_view self.old)) }
     {
-        let label = piece(bytes, found.label.start, found.label.end);
-        let destination = piece(bytes, found.destination.start, found.destination.end);
-        let title = piece(bytes, found.title.start, found.title.end);
         self.keys.push(key_of(alloc, label)?)?;
         let label = collapsed(alloc, label)?;
         let label = keep(&mut self.texts, &label)?;
@@ -88,6 +92,17 @@ impl Collected {
         self.labels.push(label)?;
         self.entries.push(Entry { destination, title })?;
         Ok(())
+    }
+
+    /// Adds the definition that was found in a text. An `Err` says that memory ran out.
+    #[tactic(auto, unfolding(crate::specs::Definitions::defined))]
+    pub fn add(&mut self, alloc: Global, bytes: &[u8], found: Definition) -> Result<(), AllocError>
+        ensures { OnOk result (collected_view self.new ≡ defined bytes.now found (collected_view self.old)) }
+    {
+        let label = piece(bytes, found.label.start, found.label.end);
+        let destination = piece(bytes, found.destination.start, found.destination.end);
+        let title = piece(bytes, found.title.start, found.title.end);
+        self.define(alloc, label, destination, title)
     }
 }
 

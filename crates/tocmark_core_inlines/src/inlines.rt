@@ -2,6 +2,7 @@
 
 ghost use Rattle.std.specs.Prelude.{◌≡◌, IfOk};
 ghost use Rattle.tocmark_core_scan.specs.Content.{content_view};
+ghost use Rattle.tocmark_core_inlines.specs.Definitions.{entry_of};
 ghost use Rattle.tocmark_core_inlines.specs.Scan.{scan};
 ghost use Rattle.tocmark_core_inlines.specs.Inlines.{inlines_view, scan_start, read_inlines};
 
@@ -56,7 +57,7 @@ pub fn read_inlines(
     depth: usize,
     definitions: &Definitions,
 ) -> Result<Inlines, AllocError>
-    ensures { IfOk result (λ v. inlines_view v ≡ read_inlines (content_view content.now) depth definitions.now (inlines_view before)) }
+    ensures { IfOk result (λ v. inlines_view v ≡ read_inlines (content_view content.now) depth (entry_of definitions.now) (inlines_view before)) }
 {
     let mut nodes = before.nodes;
     let mut machine = scanner(

@@ -2,6 +2,7 @@
 
 ghost use Rattle.std.specs.Prelude.{◌≡◌, IfOk, OnOk, length, drop};
 ghost use Rattle.tocmark_core_scan.specs.Repeat.{iterated};
+ghost use Rattle.tocmark_core_inlines.specs.Definitions.{entry_of};
 ghost use Rattle.tocmark_core_inlines.specs.Scan.{before_space, scan, ahead_view, stretch, kept, kept_code, kept_resolved, targeted, put_leaf, escaped, referred, code_put, coded, run_taken, marked, opened, imaged, addressed, html_put, tagged, mailed, angled, line_ended, spanned, settled, linked, closed_inline, missing, looked_up, closed_by_label, closed_active, popped, closed, looked_mark, looked, scan_step, ran, scanned};
 
 use crate::definitions::Definitions;
@@ -439,7 +440,7 @@ impl Scanner {
         bracket: Bracket,
         asked: Asked,
     ) -> Result<(), AllocError>
-        ensures { OnOk result (scan self.new ≡ looked_up bytes.now definitions.now bracket asked (scan self.old)) }
+        ensures { OnOk result (scan self.new ≡ looked_up bytes.now (entry_of definitions.now) bracket asked (scan self.old)) }
     {
         let label = piece(bytes, asked.label.start, asked.label.end);
         let key = key_of(alloc, label)?;
@@ -467,7 +468,7 @@ impl Scanner {
         definitions: &Definitions,
         bracket: Bracket,
     ) -> Result<(), AllocError>
-        ensures { OnOk result (scan self.new ≡ closed_by_label bytes.now definitions.now bracket (scan self.old)) }
+        ensures { OnOk result (scan self.new ≡ closed_by_label bytes.now (entry_of definitions.now) bracket (scan self.old)) }
     {
         match label_asked(bytes, bracket, self.place) {
             Some(asked) => self.look_up(alloc, bytes, definitions, bracket, asked),
@@ -484,7 +485,7 @@ impl Scanner {
         definitions: &Definitions,
         bracket: Bracket,
     ) -> Result<(), AllocError>
-        ensures { OnOk result (scan self.new ≡ closed_active bytes.now definitions.now bracket (scan self.old)) }
+        ensures { OnOk result (scan self.new ≡ closed_active bytes.now (entry_of definitions.now) bracket (scan self.old)) }
     {
         match inline_target(bytes, plus(self.place, 1)) {
             Some(found) => self.close_inline(alloc, bytes, bracket, found),
@@ -512,7 +513,7 @@ impl Scanner {
         bytes: &[u8],
         definitions: &Definitions,
     ) -> Result<(), AllocError>
-        ensures { OnOk result (scan self.new ≡ closed bytes.now definitions.now (scan self.old)) }
+        ensures { OnOk result (scan self.new ≡ closed bytes.now (entry_of definitions.now) (scan self.old)) }
     {
         match self.brackets.last().copied() {
             Some(bracket) => {
@@ -559,7 +560,7 @@ impl Scanner {
         definitions: &Definitions,
         byte: u8,
     ) -> Result<(), AllocError>
-        ensures { OnOk result (scan self.new ≡ looked bytes.now (ahead_view ahead.now) definitions.now byte (scan self.old)) }
+        ensures { OnOk result (scan self.new ≡ looked bytes.now (ahead_view ahead.now) (entry_of definitions.now) byte (scan self.old)) }
     {
         if byte == b'[' {
             self.open(false, 1)
@@ -584,7 +585,7 @@ impl Scanner {
         definitions: &Definitions,
         byte: u8,
     ) -> Result<(), AllocError>
-        ensures { OnOk result (scan self.new ≡ scan_step bytes.now (ahead_view ahead.now) definitions.now (scan self.old) byte) }
+        ensures { OnOk result (scan self.new ≡ scan_step bytes.now (ahead_view ahead.now) (entry_of definitions.now) (scan self.old) byte) }
     {
         if self.resume <= self.place {
             self.look(alloc, bytes, ahead, definitions, byte)?;
@@ -601,7 +602,7 @@ impl Scanner {
         ahead: &Ahead,
         definitions: &Definitions,
     ) -> Result<(), AllocError>
-        ensures { OnOk result (scan self.new ≡ ran bytes.now (ahead_view ahead.now) definitions.now (scan self.old)) }
+        ensures { OnOk result (scan self.new ≡ ran bytes.now (ahead_view ahead.now) (entry_of definitions.now) (scan self.old)) }
     {
         for byte in bytes {
             self.step(alloc, bytes, ahead, definitions, *byte)?;
@@ -617,7 +618,7 @@ impl Scanner {
         bytes: &[u8],
         definitions: &Definitions,
     ) -> Result<(), AllocError>
-        ensures { OnOk result (scan self.new ≡ scanned bytes.now definitions.now (scan self.old)) }
+        ensures { OnOk result (scan self.new ≡ scanned bytes.now (entry_of definitions.now) (scan self.old)) }
     {
         let ahead = Ahead {
             ends: last_ends(bytes),

@@ -1,1 +1,2 @@
 pub mod EmitLaws
+pub mod Finding

@@ -1,6 +1,8 @@
 -- The events of a list of nodes.
-use Rattle.std.specs.Prelude.{ℕ, List, [], ◌∷◌, ◌++◌, map, reverse, take, drop, string_bytes}
-use Rattle.std.specs.List.{fold, slice_range}
+use Rattle.std.specs.Prelude.{ℕ, false, List, [], ◌∷◌, ◌++◌, map, reverse, take, drop, string_bytes}
+use Rattle.std.specs.List.{fold}
+use Rattle.tocmark_core_scan.specs.Basic.{piece}
+use Rattle.tocmark_core_reader.specs.Words.{cleaned}
 use Rattle.tocmark_event.specs.Text.{text_of}
 use Rattle.tocmark_event.specs.View.{EventView, Start, End, Leaf, TagView, LeafView, Text, Code, Html, InlineHtml, SoftBreak, HardBreak, Rule, tag_view, event_view, end_of}
 use Rattle.tocmark_event.specs.declared.event.EventOf.{EventOf}
@@ -36,6 +38,7 @@ item_view item.SoftBreak = Given SoftBreak
 item_view item.HardBreak = Given HardBreak
 item_view item.Rule = Given Rule
 
+-- a node as plain values
 abbrev pub node_view : Node → NodeView
 node_view n = record { depth = n.depth; item = item_view n.item; start = n.start; end = n.end }
 
@@ -48,6 +51,7 @@ pub record Writing : Type 0 where
   pub events : List (EventView × (ℕ × ℕ))
   pub stack : List Open
 
+-- the End of a container, with the range of its Start
 abbrev pub end_event : Open → EventView × (ℕ × ℕ)
 end_event o = (End o.end, o.range)
 
@@ -63,13 +67,17 @@ closed depth w = record { events = w.events ++ closings depth w.stack; stack = t
 abbrev pub with_leaf : LeafView → ℕ × ℕ → Writing → Writing
 with_leaf leaf range w = record { events = w.events ++ (Leaf leaf, range) ∷ []; stack = w.stack }
 
+-- the text of a range of the source
+abbrev pub source_text : List ℕ → ℕ × ℕ → List ℕ
+source_text text range = cleaned (piece text (range.0) (range.1)) false
+
 -- one more item, with this range
 abbrev pub put : List ℕ → ItemView → ℕ × ℕ → Writing → Writing
 put text (Container tag) range w = record {
   events = w.events ++ (Start tag, range) ∷ [];
   stack = w.stack ++ record { end = end_of tag; range = range } ∷ [];
 }
-put text Source range w = with_leaf (Text (slice_range text (range.0) (range.1))) range w
+put text Source range w = with_leaf (Text (source_text text range)) range w
 put text (Given leaf) range w = with_leaf leaf range w
 
 -- a node ends the containers that it doesn't lie in, and is put behind them

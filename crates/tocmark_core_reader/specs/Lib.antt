@@ -1,5 +1,6 @@
 pub mod Range
 pub mod Emitted
-pub mod Lines
-pub mod Blocks
+pub mod Words
+pub mod Inlines
+pub mod Pages
 pub mod Reading

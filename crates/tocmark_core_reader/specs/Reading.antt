@@ -1,10 +1,56 @@
 -- The reading of a text.
-use Rattle.std.specs.Prelude.{ℕ, List, [], None}
+use Rattle.std.specs.Prelude.{ℕ, List, [], Option, map, string_bytes}
+use Rattle.std.specs.List.{fold}
 use Rattle.tocmark_event.specs.Reading.{ReadingView}
-use Rattle.tocmark_core_reader.specs.Lines.{lines_of}
-use Rattle.tocmark_core_reader.specs.Blocks.{nodes_from}
-use Rattle.tocmark_core_reader.specs.Emitted.{emitted}
+use Rattle.tocmark_core_scan.specs.Label.{first_place}
+use Rattle.tocmark_core_blocks.specs.Blocks.{blocks_of}
+use Rattle.tocmark_core_blocks.specs.Definitions.{DefinitionView}
+use Rattle.tocmark_core_inlines.specs.Definitions as defs
+use Rattle.tocmark_core_inlines.specs.declared.definitions.Entry.{Entry}
+use Rattle.tocmark_core_reader.specs.Emitted.{NodeView, node_view, emitted}
+use Rattle.tocmark_core_reader.specs.Pages.{assembled}
+use Rattle.tocmark_core_reader.specs.declared.reader.Found.{Found}
 
--- the events of the text's headings and paragraphs, and no labels
+-- one more definition
+unfoldable pub define_step : defs.State → DefinitionView → defs.State
+define_step s d = defs.defined_with d.label d.destination d.title s
+
+-- all definitions, in order
+abbrev pub collected : List DefinitionView → defs.State
+collected all = fold define_step defs.collected_none all
+
+-- of two definitions of a label the first counts
+abbrev pub first_entry : List (List ℕ) → List Entry → List ℕ → Option Entry
+first_entry keys entries q = defs.entry_at entries (first_place 0 keys q)
+
+-- the nodes of a text, and its labels
+pub record FoundView : Type 0 where
+  pub nodes : List NodeView
+  pub defined : List (List ℕ)
+  pub unresolved : List (List ℕ)
+
+-- nodes and labels as plain values
+abbrev pub found_view : Found → FoundView
+found_view f = record {
+  nodes = map node_view f.nodes.items;
+  defined = map string_bytes f.defined.items;
+  unresolved = map string_bytes f.unresolved.items;
+}
+
+-- blocks, then definitions, then inlines
+unfoldable pub found_in : List ℕ → FoundView
+found_in text =
+    let blocks = blocks_of text in
+    let c = collected blocks.definitions in
+    let page = assembled text (first_entry c.keys c.entries) blocks.blocks blocks.pieces c.texts in
+    record {
+      nodes = page.nodes;
+      defined = defs.distinct_labels c.texts c.labels;
+      unresolved = defs.distinct_labels page.inlines.texts page.inlines.missed;
+    }
+
+-- the events of the nodes, and the labels
 unfoldable pub core_reading : List ℕ → ReadingView
-core_reading text = record { events = emitted text (nodes_from text None (lines_of text)); defined = []; unresolved = [] }
+core_reading text =
+    let found = found_in text in
+    record { events = emitted text found.nodes; defined = found.defined; unresolved = found.unresolved }

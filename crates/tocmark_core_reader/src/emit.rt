@@ -1,14 +1,15 @@
 //! From nodes to events.
 
 ghost use Rattle.std.specs.Prelude.{◌≡◌, ◌++◌, map, take, IfOk, OnOk};
-ghost use Rattle.std.specs.List.{slice_range};
 ghost use Rattle.tocmark_event.specs.Text.{text_of};
 ghost use Rattle.tocmark_event.specs.View.{event_view, LeafView, Leaf, Text};
 ghost use Rattle.tocmark_event.specs.Forest.{IsBalanced};
 ghost use Rattle.tocmark_core_reader.specs.Range.{is_cut, snapped, IsGoodRange, HasGoodRanges};
-ghost use Rattle.tocmark_core_reader.specs.Emitted.{item_view, node_view, shown, closings, put, step, emitted, Writing};
+ghost use Rattle.tocmark_core_reader.specs.Emitted.{item_view, node_view, shown, closings, source_text, put, step, emitted, Writing};
 
+use crate::words::cleaned;
 use std::alloc::{AllocError, Global};
+use tocmark_core_scan::basic::piece;
 use tocmark_event::event::{CowStr, Event, OwnedTag, TagEnd};
 
 /// What stands at a node.
@@ -16,7 +17,7 @@ use tocmark_event::event::{CowStr, Event, OwnedTag, TagEnd};
 pub enum Item {
     /// A container; what lies in it are the nodes behind it that are deeper.
     Container(OwnedTag),
-    /// A text: the bytes of the node's range, as they are.
+    /// A text: the bytes of the node's range, but U+FFFD for U+0000.
     Source,
     /// A text that differs from its source.
     Text(String),
@@ -88,6 +89,17 @@ fn owned(alloc: Global, text: &str) -> Result<CowStr<'static>, AllocError>
     Ok(CowStr::Owned(String::from_str(alloc, text)?))
 }
 
+fn source_text(
+    alloc: Global,
+    text: &str,
+    range: (usize, usize),
+) -> Result<CowStr<'static>, AllocError>
+    ensures { IfOk result (λ copy. text_of copy ≡ source_text text.now range) }
+{
+    let words = cleaned(alloc, piece(text.as_bytes(), range.0, range.1), false)?;
+    Ok(CowStr::Owned(words))
+}
+
 /// Puts one item behind the events so far.
 fn put(
     alloc: Global,
@@ -97,7 +109,6 @@ fn put(
     item: &Item,
     range: (usize, usize),
 ) -> Result<(), AllocError>
-    requires { IsGoodRange text.now range }
     ensures { OnOk result (let after = put text.now (item_view item.now) range (record { events = map shown out.old.items; stack = stack.old.items }) in (map shown out.new.items ≡ after.events) × (stack.new.items ≡ after.stack)) }
 {
     match item {
@@ -108,7 +119,7 @@ fn put(
                 range,
             })?;
         }
-        Item::Source => out.push((Event::Text(owned(alloc, &text[range.0..range.1])?), range))?,
+        Item::Source => out.push((Event::Text(source_text(alloc, text, range)?), range))?,
         Item::Text(words) => out.push((Event::Text(owned(alloc, words.as_str())?), range))?,
         Item::Code(words) => out.push((Event::Code(owned(alloc, words.as_str())?), range))?,
         Item::Html(words) => out.push((Event::Html(owned(alloc, words.as_str())?), range))?,

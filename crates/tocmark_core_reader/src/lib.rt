@@ -1,9 +1,12 @@
-//! A reader of Markdown headings and paragraphs, each character of them literal.
+//! A reader of CommonMark 0.31.2.
 #![tactic(auto)]
 
-mod block;
 mod emit;
-mod line;
+mod inline;
+mod page;
 mod reader;
+#[cfg(test)]
+mod tests;
+mod words;
 
 pub use reader::CoreReader;

@@ -1,21 +1,92 @@
 //! The reader.
 
-ghost use Rattle.std.specs.Prelude.{◌≡◌, map, IfOk};
+ghost use Rattle.std.specs.Prelude.{◌≡◌, map, string_bytes, IfOk, OnOk};
+ghost use Rattle.tocmark_core_blocks.specs.Definitions.{definition_view};
+ghost use Rattle.tocmark_core_inlines.specs.Definitions.{collected_view, entry_of};
+ghost use Rattle.tocmark_core_reader.specs.Reading.{define_step, collected, first_entry, found_view, found_in};
 
-use crate::block::nodes;
-use crate::emit::emit;
-use crate::line::lines;
+use crate::emit::{Node, emit};
+use crate::page::assemble;
 use std::alloc::{AllocError, Global};
+use tocmark_core_blocks::{LinkDefinition, read_blocks};
+use tocmark_core_inlines::definitions::{Collected, Definitions, Entry, distinct_labels};
+use tocmark_core_scan::label::first_places;
 use tocmark_event::event::ParserOptions;
 use tocmark_event::reader::{Reader, Reading};
 
-/// Reads headings and paragraphs, under all flags alike.
-///
-/// Lines end at a line feed. Empty lines and lines of spaces are blank. One to six `#`, a space and a
-/// text are a heading with that text. Each longest stretch of other lines is a paragraph, with a soft
-/// break between two lines. Every character of a text is literal, and no label is defined or looked up.
+/// Reads CommonMark 0.31.2, under all flags alike.
 #[derive(Clone, Copy, Debug)]
 pub struct CoreReader;
+
+#[tactic(auto, unfolding(crate::specs::Reading::define_step))]
+fn define(
+    alloc: Global,
+    collected: &mut Collected,
+    found: &LinkDefinition,
+) -> Result<(), AllocError>
+    ensures { OnOk result (collected_view collected.new ≡ define_step (collected_view collected.old) (definition_view found.now)) }
+{
+    collected.define(alloc, &found.label, &found.destination, &found.title)
+}
+
+fn collect(alloc: Global, all: &[LinkDefinition]) -> Result<Collected, AllocError>
+    ensures { IfOk result (λ c. collected_view c ≡ collected (map definition_view all.now)) }
+{
+    let mut collected = Collected::new(alloc);
+    for found in all {
+        define(alloc, &mut collected, found)?;
+    }
+    Ok(collected)
+}
+
+#[tactic(auto, using(crate::proofs::Finding::entry_of_first))]
+fn definitions(
+    alloc: Global,
+    keys: &[String],
+    entries: Vec<Entry>,
+) -> Result<Definitions, AllocError>
+    ensures { IfOk result (λ d. entry_of d ≡ first_entry (map string_bytes keys.now) entries.items) }
+{
+    let places = first_places(alloc, keys)?;
+    Ok(Definitions { places, entries })
+}
+
+/// The nodes of a text, and its labels.
+#[derive(Drop)]
+struct Found {
+    nodes: Vec<Node>,
+    defined: Vec<String>,
+    unresolved: Vec<String>,
+}
+
+#[tactic(auto, unfolding(crate::specs::Reading::found_in))]
+fn find(alloc: Global, text: &[u8]) -> Result<Found, AllocError>
+    ensures { IfOk result (λ f. found_view f ≡ found_in text.now) }
+{
+    let blocks = read_blocks(alloc, text)?;
+    let Collected {
+        keys,
+        labels,
+        entries,
+        texts,
+    } = collect(alloc, &blocks.definitions)?;
+    let defined = distinct_labels(alloc, &texts, &labels)?;
+    let definitions = definitions(alloc, &keys, entries)?;
+    let page = assemble(
+        alloc,
+        text,
+        &definitions,
+        &blocks.blocks,
+        &blocks.pieces,
+        texts,
+    )?;
+    let unresolved = distinct_labels(alloc, &page.inlines.texts, &page.inlines.missed)?;
+    Ok(Found {
+        nodes: page.nodes,
+        defined,
+        unresolved,
+    })
+}
 
 impl Reader for CoreReader {
     ghost use Rattle.tocmark_event.specs.Forest.{IsBalanced};
@@ -34,92 +105,11 @@ impl Reader for CoreReader {
         ensures balanced { IfOk result (λ found. IsBalanced (map (λ e. event_view text_of e.0) found.events.items)) }
         ensures ranges { IfOk result (λ found. HasGoodRanges text.now found.events.items) }
     {
-        let lines = lines(alloc, text.as_bytes())?;
-        let nodes = nodes(alloc, text.as_bytes(), &lines)?;
+        let found = find(alloc, text.as_bytes())?;
         Ok(Reading {
-            events: emit(alloc, text, &nodes)?,
-            defined: Vec::new(alloc),
-            unresolved: Vec::new(alloc),
+            events: emit(alloc, text, &found.nodes)?,
+            defined: found.defined,
+            unresolved: found.unresolved,
         })
-    }
-}
-
-#[cfg(test)]
-mod tests {
-    use super::*;
-    use std::fmt::Write;
-    use std::test::Fail;
-
-    const READINGS: [(&str, &str); 9] = [
-        (
-            "# Hello\n\nWorld!",
-            "Start(Heading { level: H1, id: None, classes: [], attrs: [] }) 0..7\n\
-             Text(\"Hello\") 2..7\n\
-             End(Heading(H1)) 0..7\n\
-             Start(Paragraph) 9..15\n\
-             Text(\"World!\") 9..15\n\
-             End(Paragraph) 9..15\n",
-        ),
-        (
-            "a\nb\n",
-            "Start(Paragraph) 0..3\n\
-             Text(\"a\") 0..1\n\
-             SoftBreak 1..2\n\
-             Text(\"b\") 2..3\n\
-             End(Paragraph) 0..3\n",
-        ),
-        (
-            "#",
-            "Start(Paragraph) 0..1\nText(\"#\") 0..1\nEnd(Paragraph) 0..1\n",
-        ),
-        (
-            "# ",
-            "Start(Paragraph) 0..2\nText(\"# \") 0..2\nEnd(Paragraph) 0..2\n",
-        ),
-        (
-            "###### a",
-            "Start(Heading { level: H6, id: None, classes: [], attrs: [] }) 0..8\n\
-             Text(\"a\") 7..8\n\
-             End(Heading(H6)) 0..8\n",
-        ),
-        (
-            "####### a",
-            "Start(Paragraph) 0..9\nText(\"####### a\") 0..9\nEnd(Paragraph) 0..9\n",
-        ),
-        ("  \n \n", ""),
-        ("", ""),
-        (
-            "é\n# ü",
-            "Start(Paragraph) 0..2\n\
-             Text(\"é\") 0..2\n\
-             End(Paragraph) 0..2\n\
-             Start(Heading { level: H1, id: None, classes: [], attrs: [] }) 3..7\n\
-             Text(\"ü\") 5..7\n\
-             End(Heading(H1)) 3..7\n",
-        ),
-    ];
-
-    /// Each event on a line with its range.
-    fn shown(alloc: Global, reading: &Reading) -> Result<String, Fail> {
-        let mut text = String::new(alloc);
-        for (event, (start, end)) in &reading.events {
-            writeln!(text, "{event:?} {start}..{end}")?;
-        }
-        Ok(text)
-    }
-
-    #[test]
-    fn headings_and_paragraphs(rt: HostRuntime) -> Result<(), Fail> {
-        for (text, expected) in READINGS {
-            let reading = CoreReader.read(rt.alloc(), text, ParserOptions(u32::MAX))?;
-            assert_eq!(rt;
-                shown(rt.alloc(), &reading)?.as_str(),
-                expected,
-                "in {text:?}"
-            );
-            assert_eq!(rt; reading.defined.len(), 0);
-            assert_eq!(rt; reading.unresolved.len(), 0);
-        }
-        Ok(())
     }
 }

@@ -1,0 +1,82 @@
+//! Texts of events that are not spelled in the source as they are.
+
+ghost use Rattle.std.specs.Prelude.{◌≡◌, ◌++◌, string_bytes, IfOk, OnOk};
+ghost use Rattle.std.specs.List.{flat_map};
+ghost use Rattle.tocmark_core_scan.specs.Reference.{unescaped};
+ghost use Rattle.tocmark_core_blocks.specs.Definitions.{replaced};
+ghost use Rattle.tocmark_core_inlines.specs.Definitions.{stretch_text};
+ghost use Rattle.tocmark_core_reader.specs.Words.{feed_if, cleaned, info_text, spaces_text};
+
+use std::alloc::{AllocError, Global};
+use tocmark_core_inlines::role::Stretch;
+use tocmark_core_scan::basic::piece;
+use tocmark_core_scan::reference::unescaped;
+
+#[tactic(auto, unfolding(tocmark_core_blocks::specs::Definitions::replaced))]
+fn push_byte(out: &mut Vec<u8>, byte: u8) -> Result<(), AllocError>
+    ensures { OnOk result (out.new.items ≡ out.old.items ++ replaced byte) }
+{
+    if byte == 0 {
+        out.push(0xef)?;
+        out.push(0xbf)?;
+        out.push(0xbd)?;
+    } else {
+        out.push(byte)?;
+    }
+    Ok(())
+}
+
+fn replaced_bytes(alloc: Global, bytes: &[u8]) -> Result<Vec<u8>, AllocError>
+    ensures { IfOk result (λ v. v.items ≡ flat_map replaced bytes.now) }
+{
+    let mut out = Vec::new(alloc);
+    for byte in bytes {
+        push_byte(&mut out, *byte)?;
+    }
+    Ok(out)
+}
+
+fn push_feed(out: &mut Vec<u8>, feed: bool) -> Result<(), AllocError>
+    ensures { OnOk result (out.new.items ≡ out.old.items ++ feed_if feed) }
+{
+    if feed {
+        out.push(b'\n')?;
+    }
+    Ok(())
+}
+
+/// A text with U+FFFD for U+0000, and a line feed behind it if it is a line that ends.
+#[tactic(auto, unfolding(crate::specs::Words::cleaned))]
+pub fn cleaned(alloc: Global, bytes: &[u8], feed: bool) -> Result<String, AllocError>
+    ensures { IfOk result (λ t. string_bytes t ≡ cleaned bytes.now feed) }
+{
+    let mut out = replaced_bytes(alloc, bytes)?;
+    push_feed(&mut out, feed)?;
+    String::from_utf8_lossy(alloc, &out)
+}
+
+/// An info string: without escapes and references.
+#[tactic(auto, unfolding(crate::specs::Words::info_text))]
+pub fn info_text(alloc: Global, bytes: &[u8]) -> Result<String, AllocError>
+    ensures { IfOk result (λ t. string_bytes t ≡ info_text bytes.now) }
+{
+    let bytes = replaced_bytes(alloc, bytes)?;
+    let bytes = unescaped(alloc, &bytes)?;
+    String::from_utf8_lossy(alloc, &bytes)
+}
+
+/// So many spaces.
+#[tactic(auto, unfolding(crate::specs::Words::spaces_text))]
+pub fn spaces_text(alloc: Global, count: usize) -> Result<String, AllocError>
+    ensures { IfOk result (λ t. string_bytes t ≡ spaces_text count) }
+{
+    let bytes = vec![in alloc; b' '; count]?;
+    String::from_utf8_lossy(alloc, &bytes)
+}
+
+/// A stretch of texts.
+pub fn stretch_text(alloc: Global, texts: &[u8], stretch: Stretch) -> Result<String, AllocError>
+    ensures { IfOk result (λ t. string_bytes t ≡ stretch_text texts.now stretch) }
+{
+    String::from_utf8_lossy(alloc, piece(texts, stretch.start, stretch.end))
+}
