@@ -210,5 +210,5 @@ abbrev pub escape : Place → List ℕ → List ℕ
 escape p cs = escape_after p [] cs
 
 -- how a stretch is written, in bytes
-abbrev pub escaped : Place → List ℕ → List ℕ
+unfoldable pub escaped : Place → List ℕ → List ℕ
 escaped p text = encode_utf8_all (escape p (chars text))
