@@ -3,7 +3,7 @@ use Rattle.std.specs.Prelude.{[], ◌∷◌, List, codes, false, None}
 use Rattle.tocmark_event.specs.Forest.{empty, node}
 use Rattle.tocmark_event.specs.Options.{default_options}
 use Rattle.tocmark_event.specs.View.{Fenced, Paragraph, CodeBlock, ListOf, Item, Link, Image, Text, Start, End, Leaf}
-use Rattle.tocmark_examples.specs.Script.{wrote, text, text_from, one, setting, reading_of, Row}
+use Rattle.tocmark_examples.specs.Script.{wrote, text, text_from, setting, reading_of, Row}
 use Rattle.tocmark_event.specs.declared.event.LinkType.TheVariants as link
 use Rattle.tocmark_event.specs.declared.event.TagEnd.TheVariants as end
 

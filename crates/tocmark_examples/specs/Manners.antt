@@ -1,16 +1,15 @@
 -- Paragraphs in single manners, as they are spelled.
 use Rattle.std.specs.Prelude.{◌≡◌, ℕ, List, [], ◌∷◌, codes, true, false, Option, Some, None}
-use Rattle.tocmark_event.specs.Forest.{empty, leaf, node}
+use Rattle.tocmark_event.specs.Forest.{empty, node}
 use Rattle.tocmark_event.specs.Options.{default_options}
 use Rattle.tocmark_event.specs.Reading.{ReadingView}
-use Rattle.tocmark_event.specs.View.{Paragraph, Emphasis, Strong, Text, Start, End, Leaf}
-use Rattle.tocmark_event.specs.declared.event.TagEnd.TheVariants as end
+use Rattle.tocmark_event.specs.View.{Paragraph, Emphasis, Strong}
 use Rattle.tocmark_spelling.specs.Body.{Trees}
 use Rattle.tocmark_spelling.specs.Page.{Page}
 use Rattle.tocmark_spelling.specs.Plan.{Preferred, Runs, Uniform, Shared, RuleThree, Escaped, Literal, Entities, LiteralEntities, Manner}
 use Rattle.tocmark_render.specs.Choice.{spelled}
 use Rattle.tocmark_render.specs.Document.{first_document}
-use Rattle.tocmark_examples.specs.Script.{text, setting, reading_of}
+use Rattle.tocmark_examples.specs.Script.{text, setting}
 
 -- an example: a table of readings, a manner, trees, and the text that they are spelled as
 pub record Spelt : Type 0 where
