@@ -1,6 +1,8 @@
 -- Destinations and titles of links (CommonMark, sections 6.3 and 4.7).
-use Rattle.std.specs.Prelude.{ℕ, ◌+◌, ◌-◌, Bool, true, false, not, ◌&&◌, ◌||◌, ◌==◌, nat_lt, nat_le, if◌then◌else◌, List, [], ◌∷◌, ◌++◌, codes, flat_map}
+use Rattle.std.specs.Prelude.{ℕ, ◌+◌, ◌-◌, Bool, true, false, not, ◌&&◌, ◌||◌, ◌==◌, nat_lt, nat_le, if◌then◌else◌, List, [], ◌∷◌, ◌++◌, codes, length, flat_map}
 use Rattle.std.specs.List.{list_any}
+use Rattle.tocmark_event.specs.declared.event.LinkType.{LinkType}
+use Rattle.tocmark_event.specs.declared.event.LinkType.TheVariants.{Shortcut}
 use Rattle.tocmark_spelling.specs.Characters.{line_feed, carriage_return, space, quotation_mark, ampersand, opening_parenthesis, closing_parenthesis, less_than, greater_than, backslash}
 
 abbrev pub destination_character : ℕ → List ℕ
@@ -29,8 +31,8 @@ is_unbalanced open_ones (c ∷ cs) =
 
 -- whether a destination stands in `<` and `>`; the empty one does in a definition
 abbrev pub needs_brackets : Bool → List ℕ → Bool
-needs_brackets in_definition [] = in_definition
-needs_brackets in_definition (c ∷ cs) = list_any ends_destination (c ∷ cs) || is_unbalanced 0 (c ∷ cs)
+needs_brackets in_definition text =
+    (in_definition && length text == 0) || list_any ends_destination text || is_unbalanced 0 text
 
 -- a destination, in a definition or not
 abbrev pub destination : Bool → List ℕ → List ℕ
@@ -49,8 +51,7 @@ title_text text = flat_map title_character text
 
 -- a space and the title in quotes; nothing for the empty one
 abbrev pub title : List ℕ → List ℕ
-title [] = []
-title (c ∷ cs) = codes " \"" ++ title_text (c ∷ cs) ++ codes "\""
+title text = if length text == 0 then [] else codes " \"" ++ title_text text ++ codes "\""
 
 -- what closes an inline link with this destination and title
 abbrev pub inline_closing : List ℕ → List ℕ → List ℕ
@@ -59,3 +60,8 @@ inline_closing dest title_of = codes "](" ++ destination false dest ++ title tit
 -- what stands behind the label of a link's definition
 abbrev pub definition_closing : List ℕ → List ℕ → List ℕ
 definition_closing dest title_of = codes "]: " ++ destination true dest ++ title title_of
+
+-- what closes a link of this type behind its text or label; a `Shortcut` is closed as a definition
+abbrev pub link_closing : LinkType → List ℕ → List ℕ → List ℕ
+link_closing Shortcut dest title_of = definition_closing dest title_of
+link_closing k dest title_of = inline_closing dest title_of

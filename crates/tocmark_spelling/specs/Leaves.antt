@@ -1,6 +1,6 @@
 -- The texts of inline leaves, in bytes, and how a code span is read.
-use Rattle.std.specs.Prelude.{ℕ, ◌+◌, ◌-◌, Bool, true, false, not, ◌&&◌, ◌||◌, ◌==◌, nat_le, max, if◌then◌else◌, Option, Some, None, List, [], ◌∷◌, ◌++◌, codes, length, take, drop, replicate, flat_map}
-use Rattle.std.specs.List.{list_all, prefix_len}
+use Rattle.std.specs.Prelude.{ℕ, zero, suc, ◌+◌, ◌-◌, Bool, true, false, not, ◌&&◌, ◌||◌, ◌==◌, nat_le, nat_eq, max, if◌then◌else◌, Option, Some, None, List, [], ◌∷◌, ◌++◌, codes, length, take, drop, replicate, flat_map, slice_get, slice_index}
+use Rattle.std.specs.List.{list_all, prefix_len, starts_with}
 use Rattle.tocmark_spelling.specs.Characters.{space, backslash, backtick, vertical_bar}
 
 -- how often a text begins with a character
@@ -21,9 +21,12 @@ last_is c [] = false
 last_is c (d ∷ []) = d == c
 last_is c (d ∷ e ∷ es) = last_is c (e ∷ es)
 
+abbrev pub cell_character : ℕ → List ℕ
+cell_character c = if c == vertical_bar then backslash ∷ vertical_bar ∷ [] else c ∷ []
+
 -- in a table a vertical bar has a backslash before it
 abbrev pub in_cell : Bool → List ℕ → List ℕ
-in_cell true text = flat_map (λ c. if c == vertical_bar then backslash ∷ vertical_bar ∷ [] else c ∷ []) text
+in_cell true text = flat_map cell_character text
 in_cell false text = text
 
 abbrev pub is_blank : List ℕ → Bool
@@ -33,14 +36,19 @@ is_blank text = list_all (λ c. c == space) text
 abbrev pub needs_spaces : List ℕ → Bool
 needs_spaces text = first_is backtick text || last_is backtick text || (first_is space text && last_is space text)
 
-abbrev pub with_spaces : List ℕ → List ℕ
-with_spaces text = if needs_spaces text then codes " " ++ text ++ codes " " else text
+-- the space that is added at each end
+abbrev pub padding : List ℕ → List ℕ
+padding text = if needs_spaces text then codes " " else []
+
+-- the backticks round a text: one more than the longest run in it
+abbrev pub ticks : List ℕ → List ℕ
+ticks text = replicate (longest_run backtick text + 1) backtick
 
 -- spaces alone stand between single backticks, anything else between runs one longer than the longest inside
 abbrev pub span : List ℕ → List ℕ
 span text =
-    if is_blank text then codes "`" ++ text ++ codes "`"
-    else replicate (longest_run backtick text + 1) backtick ++ with_spaces text ++ replicate (longest_run backtick text + 1) backtick
+    if is_blank text then codes "`" ++ (text ++ codes "`")
+    else ticks text ++ (padding text ++ (text ++ (padding text ++ ticks text)))
 
 -- a code span, in a table or not (CommonMark, section 6.1)
 abbrev pub code_span : Bool → List ℕ → List ℕ
@@ -75,7 +83,7 @@ unspan text =
 
 -- mathematics between these delimiters, in a table or not
 abbrev pub math_text : List ℕ → Bool → List ℕ → List ℕ
-math_text delimiter in_table text = delimiter ++ in_cell in_table text ++ delimiter
+math_text delimiter in_table text = delimiter ++ (in_cell in_table text ++ delimiter)
 
 abbrev pub inline_math : Bool → List ℕ → List ℕ
 inline_math in_table text = math_text (codes "$") in_table text

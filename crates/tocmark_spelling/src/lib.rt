@@ -2,4 +2,5 @@
 #![tactic(auto)]
 
 pub mod escape;
+pub mod text_modifications;
 pub mod spelling;

@@ -1,0 +1,35 @@
+-- The document so far, as plain values.
+use Rattle.std.specs.Prelude.{ℕ, Bool, true, false, if◌then◌else◌, List, [], ◌∷◌, ◌++◌, bytes_eq, chars, encode_utf8_all}
+use Rattle.std.specs.List.{list_any}
+use Rattle.caseless.specs.Caseless.{default_case_fold}
+use Rattle.tocmark_spelling.specs.Page.{Trail, first_trail, Reference, Path, Page, Sheet}
+
+-- the trail, how many line feeds end what was written, the references so far, the folded labels that are defined by
+-- earlier units and those that a reader takes literally, and whether a unit was flushed
+pub record DocumentView : Type 0 where
+  pub trail : Trail
+  pub feeds : ℕ
+  pub references : List Reference
+  pub known : List (List ℕ)
+  pub literal : List (List ℕ)
+  pub flushed : Bool
+
+-- nothing is written
+abbrev pub first_document : DocumentView
+first_document = record { trail = first_trail; feeds = 0; references = []; known = []; literal = []; flushed = false }
+
+-- a label as labels are compared (CommonMark, section 4.7): the whole text in Unicode's default case folding
+abbrev pub folded : List ℕ → List ℕ
+folded label = encode_utf8_all (default_case_fold (chars label))
+
+-- whether a label is among folded labels
+abbrev pub is_among : List (List ℕ) → List ℕ → Bool
+is_among labels label = list_any (λ l. bytes_eq l (folded label)) labels
+
+abbrev pub with_label : List (List ℕ) → List ℕ → List (List ℕ)
+with_label labels l = if is_among labels l then labels else labels ++ folded l ∷ []
+
+-- folded labels, and then those of a list that were not among them
+abbrev pub with_labels : List (List ℕ) → List (List ℕ) → List (List ℕ)
+with_labels labels [] = labels
+with_labels labels (l ∷ ls) = with_labels (with_label labels l) ls

@@ -1,0 +1,59 @@
+-- When a spelling is read back as its unit.
+use Rattle.std.specs.Prelude.{◌≡◌, ℕ, ◌-◌, Bool, true, false, not, ◌&&◌, ◌||◌, if◌then◌else◌, Option, Some, None, List, [], ◌∷◌, ◌++◌, bit_and, bytes_eq, codes}
+use Rattle.std.specs.List.{list_any}
+use Rattle.tocmark_event.specs.View.{Paragraph, LeafView, Html, Rule, EventView, Start, End, Leaf}
+use Rattle.tocmark_event.specs.Merged.{merged}
+use Rattle.tocmark_event.specs.Reading.{ReadingView}
+use Rattle.tocmark_event.specs.declared.event.flags.ParserOptions.{ParserOptions}
+use Rattle.tocmark_event.specs.declared.event.TagEnd.TheVariants as end
+use Rattle.tocmark_spelling.specs.Plan.{Setting}
+use Rattle.tocmark_spelling.specs.Kinds.{is_inline_tag, is_inline_end}
+use Rattle.tocmark_spelling.specs.SameEvents.{same_events}
+use Rattle.tocmark_spelling.specs.ById.{events_of, merged_trees}
+use Rattle.tocmark_spelling.specs.Body.{Trees}
+use Rattle.tocmark_render.specs.Document.{DocumentView, folded, is_among}
+
+-- the flags under which a unit is read: metadata stands only at a document's beginning
+abbrev pub flags_at : Setting → DocumentView → ParserOptions
+flags_at s d = if d.flushed then record { 0 = bit_and s.flags.0 (4294967295 - 0x180) } else s.flags
+
+-- what is read: the definitions and a blank line before the text
+abbrev pub whole_text : List ℕ → List ℕ → List ℕ
+whole_text [] text = text
+whole_text (b ∷ defs) text = (b ∷ defs) ++ codes "\n\n" ++ text
+
+abbrev pub stands_alone : EventView → Bool
+stands_alone (Start t) = not (is_inline_tag t)
+stands_alone (End k) = not (is_inline_end k)
+stands_alone (Leaf Rule) = true
+stands_alone (Leaf (Html t)) = true
+stands_alone (Leaf l) = false
+
+abbrev pub in_paragraph : List EventView → List EventView
+in_paragraph [] = []
+in_paragraph (e ∷ es) =
+    if list_any stands_alone (e ∷ es) then e ∷ es else Start Paragraph ∷ (e ∷ es) ++ End end.Paragraph ∷ []
+
+-- the events that must be read: the unit's, merged, and inline ones in a Paragraph
+abbrev pub expected : Trees → List EventView
+expected f = in_paragraph (merged_trees f)
+
+abbrev pub is_label : Option (List ℕ) → List ℕ → Bool
+is_label None label = false
+is_label (Some reserved) label = bytes_eq (folded reserved) (folded label)
+
+-- the labels that a unit may not leave open: those of earlier units, and the reserved one
+abbrev pub is_taken : Setting → DocumentView → List ℕ → Bool
+is_taken s d label = is_among d.known label || is_label s.label label
+
+abbrev pub is_read_back : Setting → DocumentView → Trees → ReadingView → Bool
+is_read_back s d f r = same_events (merged (events_of r)) (expected f) && not (list_any (is_taken s d) r.unresolved)
+
+-- a text with these definitions is read back as the unit: its events are the unit's, and none of its labels that stay
+-- open is one that an earlier unit defines
+unfoldable pub reads_back : Setting → DocumentView → Trees → List ℕ → List ℕ → Bool
+reads_back s d f defs text = is_read_back s d f (s.reading (whole_text defs text) (flags_at s d))
+
+-- the same as a fact
+abbrev pub ReadsBack : Setting → DocumentView → Trees → List ℕ → List ℕ → Type 0
+ReadsBack s d f defs text = reads_back s d f defs text ≡ true
