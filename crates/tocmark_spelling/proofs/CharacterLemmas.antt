@@ -64,19 +64,22 @@ destination_rule = record {
       either IsFixed (c == 38) _ _ (text_fixed (codes "&amp;") (search rules))
       (either IsFixed (c == 10) _ _ (text_fixed (codes "&#10;") (search rules))
       (either IsFixed (c == 13) _ _ (text_fixed (codes "&#13;") (search rules))
-      (either IsFixed (c == 92 || c == 60 || c == 62) _ _ (two_fixed 92 c (lit< tt) low) (one_fixed c low)))) }
+      (either IsFixed (c == 92 || c == 60 || c == 62) _ _ (two_fixed 92 c (lit< tt) low) (one_fixed c low))));
+}
 
 pub title_rule : IsAsciiRule title_character
 title_rule = record {
   kept = λ c past. grind (arith, nat_tests);
   ascii = λ c low.
       either IsFixed (c == 38) _ _ (text_fixed (codes "&amp;") (search rules))
-      (either IsFixed (c == 34 || c == 92) _ _ (two_fixed 92 c (lit< tt) low) (one_fixed c low)) }
+      (either IsFixed (c == 34 || c == 92) _ _ (two_fixed 92 c (lit< tt) low) (one_fixed c low));
+}
 
 pub cell_rule : IsAsciiRule cell_character
 cell_rule = record {
   kept = λ c past. grind (arith, nat_tests);
-  ascii = λ c low. either IsFixed (c == 124) _ _ (two_fixed 92 124 (lit< tt) (lit< tt)) (one_fixed c low) }
+  ascii = λ c low. either IsFixed (c == 124) _ _ (two_fixed 92 124 (lit< tt) (lit< tt)) (one_fixed c low);
+}
 
 -- a turn of a loop that writes a text by the rule
 pub written_more : (f : ℕ → List ℕ) → IsAsciiRule f → (bs rest old new whole : List ℕ) (c : ℕ) → bs ≡ encode_utf8 c ++ rest

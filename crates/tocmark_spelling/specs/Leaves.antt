@@ -1,6 +1,6 @@
 -- The texts of inline leaves, in bytes, and how a code span is read.
-use Rattle.std.specs.Prelude.{ℕ, zero, suc, ◌+◌, ◌-◌, Bool, true, false, not, ◌&&◌, ◌||◌, ◌==◌, nat_le, nat_eq, max, if◌then◌else◌, Option, Some, None, List, [], ◌∷◌, ◌++◌, codes, length, take, drop, replicate, flat_map, slice_get, slice_index}
-use Rattle.std.specs.List.{list_all, prefix_len, starts_with}
+use Rattle.std.specs.Prelude.{ℕ, ◌+◌, ◌-◌, Bool, true, false, not, ◌&&◌, ◌||◌, ◌==◌, nat_le, max, if◌then◌else◌, Option, Some, None, List, [], ◌∷◌, ◌++◌, codes, length, take, drop, replicate, flat_map}
+use Rattle.std.specs.List.{list_all, prefix_len}
 use Rattle.tocmark_spelling.specs.Characters.{space, backslash, backtick, vertical_bar}
 
 -- how often a text begins with a character

@@ -21,6 +21,7 @@ pub mod Opening
 pub mod Closing
 pub mod Stretch
 pub mod Spelling
+pub mod Machine
 pub mod Buffered
 pub mod Draft
 pub mod DraftOf

@@ -2,5 +2,6 @@
 #![tactic(auto)]
 
 pub mod escape;
-pub mod text_modifications;
+pub mod machine_laws;
 pub mod spelling;
+pub mod text_modifications;

@@ -27,10 +27,7 @@ impl fmt::Display for EscapeDestination<'_> {
     }
 }
 
-fn write_destination_character<W: fmt::Write>(
-    f: &mut fmt::Formatter<W>,
-    c: char,
-) -> fmt::Result
+fn write_destination_character<W: fmt::Write>(f: &mut fmt::Formatter<W>, c: char) -> fmt::Result
     ensures { WritesOnOk W.write_str_gives f.old result (encode_utf8_all (destination_character c)) f.new }
 {
     match c {
@@ -57,10 +54,7 @@ impl fmt::Display for EscapeLinkTitle<'_> {
     }
 }
 
-fn write_title_character<W: fmt::Write>(
-    f: &mut fmt::Formatter<W>,
-    c: char,
-) -> fmt::Result
+fn write_title_character<W: fmt::Write>(f: &mut fmt::Formatter<W>, c: char) -> fmt::Result
     ensures { WritesOnOk W.write_str_gives f.old result (encode_utf8_all (title_character c)) f.new }
 {
     match c {
@@ -97,7 +91,10 @@ fn is_unbalanced(destination: &str) -> bool
 fn holds_end(destination: &str) -> bool
     ensures { result ≡ list_any ends_destination destination.now }
 {
-    destination.as_bytes().iter().any(|byte| ends_destination(*byte))
+    destination
+        .as_bytes()
+        .iter()
+        .any(|byte| ends_destination(*byte))
 }
 
 /// Whether a destination, in a definition or not, is written in brackets.
@@ -158,11 +155,17 @@ pub fn close_link<F: fmt::Write>(
     let title = Title(title);
     match link_type {
         LinkType::Shortcut => {
-            let destination = Destination { text: uri, in_definition: true };
+            let destination = Destination {
+                text: uri,
+                in_definition: true,
+            };
             write!(f, "]: {destination}{title}")
         }
         _ => {
-            let destination = Destination { text: uri, in_definition: false };
+            let destination = Destination {
+                text: uri,
+                in_definition: false,
+            };
             write!(f, "]({destination}{title})")
         }
     }
@@ -305,12 +308,7 @@ mod tests {
     use super::*;
     use std::test::Fail;
 
-    fn closed(
-        alloc: Global,
-        uri: &str,
-        title: &str,
-        link_type: LinkType,
-    ) -> Result<String, Fail> {
+    fn closed(alloc: Global, uri: &str, title: &str, link_type: LinkType) -> Result<String, Fail> {
         let mut text = String::new(alloc);
         close_link(uri, title, &mut text, link_type)?;
         Ok(text)

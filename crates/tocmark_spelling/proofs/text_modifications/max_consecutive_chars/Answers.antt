@@ -12,19 +12,21 @@ loop-c-init c =
       is_text = search rules;
       bounded = omega (arith, ap length rest);
       seen = omega arith;
-      same = all_to_read c.args.search _ _ rest }
+      same = all_to_read c.args.search _ _ rest;
+    }
 
 pub loop-c-preserved-then-c-search : goal.loop-c-preserved-then-c-search
 loop-c-preserved-then-c-search c =
     let held = c.loop-c.invariant in
     let parts = c.in-Some.ensures.steps.0 in
     let more = run_goes_on_in c.loop-c.longest c.loop-c.current c.args.search c.in-Some.c _ _ _ _ held.is_text parts c.if-c-search.true
-        c.max-longest.ensures held.same in
+    c.max-longest.ensures held.same in
     record {
       is_text = IsUtf8-past_char _ _ c.in-Some.c held.is_text parts;
       bounded = omega (arith, length-character _ _ c.in-Some.c parts, held.bounded);
       seen = more.0;
-      same = more.1 }
+      same = more.1;
+    }
 
 pub loop-c-preserved : goal.loop-c-preserved
 loop-c-preserved c =
@@ -34,7 +36,8 @@ loop-c-preserved c =
       is_text = IsUtf8-past_char _ _ c.in-Some.c held.is_text parts;
       bounded = omega (arith, length-character _ _ c.in-Some.c parts, held.bounded);
       seen = omega arith;
-      same = run_ends_in c.loop-c.longest c.loop-c.current c.args.search c.in-Some.c _ _ _ held.is_text parts c.if-c-search.false held.seen held.same }
+      same = run_ends_in c.loop-c.longest c.loop-c.current c.args.search c.in-Some.c _ _ _ held.is_text parts c.if-c-search.false held.seen held.same;
+    }
 
 pub returns : goal.returns
 returns c = all_read c.loop-c.longest c.loop-c.current c.args.search _ _ c.in-None.ensures.steps.0.0 c.loop-c.invariant.seen c.loop-c.invariant.same

@@ -9,4 +9,5 @@ invariant-loop-c l = record {
   bounded : l.current + length (chars_rest l.c-iterator) ≤ length l.fn.text;
   seen : l.current ≤ l.longest;
   same : max l.longest (max (l.current + run_length l.search (chars (chars_rest l.c-iterator))) (longest_run l.search (chars (chars_rest l.c-iterator))))
-      ≡ longest_run l.search (chars l.fn.text) }
+      ≡ longest_run l.search (chars l.fn.text);
+}

@@ -11,5 +11,5 @@ overflow_add-ticks c =
 pub returns : goal.returns
 returns c =
     let pieces = span_pieces c.args.text.now c.padding-padding.result.now c.max_consecutive_chars-longest.result c.utf8.text
-        (sym c.is_blank.ensures ∙ c.if-is_blank.false) c.max_consecutive_chars-longest.ensures c.padding-padding.ensures in
+    (sym c.is_blank.ensures ∙ c.if-is_blank.false) c.max_consecutive_chars-longest.ensures c.padding-padding.ensures in
     IfOk-weaker c.format-2.result _ _ (λ s h. h ∙ pieces) c.format-2.ensures.ok
