@@ -1,11 +1,11 @@
 -- A rule for characters that changes ASCII alone is one for the bytes of a text.
-use Rattle.std.proofs.Common.{◌≡◌, ℕ, zero, suc, ◌+◌, ◌<◌, ◌≤◌, Bool, true, false, cond, codes, List, [], ◌∷◌, ◌++◌, length, get_or, chars, encode_utf8, encode_utf8_all, append-nil, append_assoc, IsUtf8, refl, sym, ap, ◌∙◌, inl, inr, lit<, arith, rules}
+use Rattle.std.proofs.Common.{◌≡◌, ℕ, suc, ◌<◌, ◌≤◌, Bool, true, false, cond, codes, List, [], ◌∷◌, ◌++◌, length, get_or, encode_utf8, encode_utf8_all, append-nil, append_assoc, refl, sym, ap, ◌∙◌, inl, inr, lit<, arith, rules}
 use Rattle.std.specs.Prelude.{◌==◌, ◌||◌}
 use Rattle.std.specs.Str.{IsAscii}
 use Rattle.std.proofs.lemmas.Bool.Decides.{nat_tests}
-use Rattle.std.specs.List.{flat_map, All}
+use Rattle.std.specs.List.{flat_map}
 use Rattle.std.proofs.lemmas.Bool.{cases_lt}
-use Rattle.std.proofs.lemmas.Str.{chars-nil, chars_past_char, encode_ascii, encodes-IsAscii, inside_one}
+use Rattle.std.proofs.lemmas.Str.{encode_ascii, encodes-IsAscii, inside_one}
 use Rattle.std.proofs.lemmas.List.Concat.{flat_map-append}
 use Rattle.tocmark_spelling.specs.Destination.{destination_character, title_character}
 use Rattle.tocmark_spelling.specs.Leaves.{cell_character}

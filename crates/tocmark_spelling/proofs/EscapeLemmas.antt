@@ -1,5 +1,5 @@
 -- The written characters of a stretch in bytes, and the stretch by what its loop carries.
-use Rattle.std.proofs.Common.{◌≡◌, ℕ, ◌<◌, ◌^◌, Bool, true, false, ◌&&◌, cond, Option, Some, None, MatchOption, List, [], ◌∷◌, ◌++◌, length, chars, encode_utf8, encode_utf8_all, codes, decimal, append-nil, append_assoc, IsUtf8, refl, sym, ap, ◌∙◌, lit<, arith, rules, subst, ◌==◌}
+use Rattle.std.proofs.Common.{◌≡◌, ℕ, ◌<◌, ◌^◌, Bool, true, false, ◌&&◌, cond, Option, Some, None, MatchOption, List, [], ◌∷◌, ◌++◌, length, chars, encode_utf8, encode_utf8_all, codes, decimal, append-nil, append_assoc, IsUtf8, refl, ap, ◌∙◌, lit<, arith, rules, subst, ◌==◌}
 use Rattle.std.specs.Prelude.{slice_get, not, is_some, is_none}
 use Rattle.std.specs.Char.{is_ascii_digit}
 use Rattle.std.specs.List.{list_all}
@@ -9,7 +9,7 @@ use Rattle.std.specs.declared.str.Chars.{Chars}
 use Rattle.std.proofs.lemmas.Str.{encodes-append, encodes-IsAscii, chars_past_char, chars-nil, IsAscii-append}
 use Rattle.std.proofs.lemmas.Str.Ascii.{IsAscii-cons, IsAscii-nil}
 use Rattle.std.proofs.lemmas.Fmt.{IsAscii-decimal}
-use Rattle.tocmark_spelling.specs.Escape.{Place, coded, reference, is_first, is_literal, is_encoded, written, spot, spot_from, escape_after, escape}
+use Rattle.tocmark_spelling.specs.Escape.{Place, coded, reference, is_first, is_literal, is_encoded, written, spot, spot_from, escape_after}
 use Rattle.tocmark_spelling.specs.declared.escape.Spot.{Spot}
 
 pub encoded_one : (c : ℕ) → encode_utf8_all (c ∷ []) ≡ encode_utf8 c

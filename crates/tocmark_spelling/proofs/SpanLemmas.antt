@@ -1,5 +1,5 @@
 -- Runs of characters, and code spans.
-use Rattle.std.proofs.Common.{◌≡◌, ℕ, zero, suc, ◌+◌, ◌-◌, ◌<◌, ◌≤◌, Bool, true, false, cond, max, Option, Some, List, [], ◌∷◌, ◌++◌, length, get_or, replicate, IsUtf8, chars, encode_utf8, encode_utf8_all, refl, sym, ap, ◌∙◌, length-append, eq-eqb, ne_eqb, lit<, arith, rules, inl, inr, append-nil, append_assoc, add-one}
+use Rattle.std.proofs.Common.{◌≡◌, ℕ, zero, suc, ◌+◌, ◌-◌, ◌<◌, ◌≤◌, false, max, Some, List, [], ◌∷◌, ◌++◌, length, get_or, replicate, IsUtf8, chars, encode_utf8, encode_utf8_all, refl, sym, ap, ◌∙◌, length-append, eq-eqb, ne_eqb, lit<, arith, inl, inr, append-nil, append_assoc, add-one}
 use Rattle.std.specs.Ordering.{ord_max, nat_cmp}
 use Rattle.std.proofs.lemmas.Bool.Decides.{nat_tests}
 use Rattle.std.proofs.lemmas.Str.{chars_past_char}
@@ -7,7 +7,7 @@ use Rattle.tocmark_spelling.proofs.EscapeLemmas.{chars_of_empty}
 use native.Mathlib.Numerals.{unary_clauses}
 use Rattle.std.specs.List.{repeat}
 use Rattle.std.proofs.lemmas.List.Sums.{prefix_len-le-length}
-use Rattle.std.proofs.lemmas.Bool.{cases_lt, cases_eq}
+use Rattle.std.proofs.lemmas.Bool.{cases_lt}
 use Rattle.std.proofs.lemmas.Str.{encode_ascii, encodes-chars, length-le-encodes}
 use Rattle.tocmark_spelling.proofs.CharacterLemmas.{bytes_past_ascii}
 use Rattle.std.proofs.lemmas.Str.{length-encode, len_utf8_bounds}
@@ -94,9 +94,12 @@ pub repeat-ascii : (n c : ℕ) → c < 128 → repeat n (encode_utf8 c) ≡ repl
 repeat-ascii zero c low = refl
 repeat-ascii (suc n) c low = rw (repeat-ascii n c low, encode_ascii c low) refl
 
+repeat-suc : (n : ℕ) (bs : List ℕ) → repeat (suc n) bs ≡ repeat n bs ++ bs
+repeat-suc zero bs = append-nil bs
+repeat-suc (suc n) bs = ap (λ x. bs ++ x) (repeat-suc n bs) ∙ sym (append_assoc bs (repeat n bs) bs)
+
 pub repeat-more : (n : ℕ) (bs : List ℕ) → repeat (n + 1) bs ≡ repeat n bs ++ bs
-repeat-more zero bs = append-nil bs
-repeat-more (suc n) bs = rw (add-one n) (ap (λ x. bs ++ x) (rw (← add-one n) (repeat-more n bs)) ∙ sym (append_assoc bs (repeat n bs) bs))
+repeat-more n bs = ap (λ k. repeat k bs) (add-one n) ∙ repeat-suc n bs
 
 ord_max-is : (a b : ℕ) → ord_max nat_cmp a b ≡ max a b
 ord_max-is a b = grind (arith, nat_tests)

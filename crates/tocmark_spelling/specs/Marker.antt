@@ -1,16 +1,16 @@
 -- The markers of Emphasis and Strong (CommonMark, section 6.2).
-use Rattle.std.specs.Prelude.{ℕ, ◌+◌, ◌%◌, Bool, true, false, not, ◌&&◌, ◌||◌, ◌==◌, if◌then◌else◌, Option, Some, None, List, [], length, replicate, slice_index, bytes_eq, codes, encode_utf8}
+use Rattle.std.specs.Prelude.{ℕ, ◌+◌, ◌%◌, Bool, true, false, not, ◌&&◌, ◌||◌, ◌==◌, if◌then◌else◌, Option, Some, None, is_some, List, [], ◌∷◌, ◌++◌, length, replicate, slice_index, bytes_eq, codes, encode_utf8}
 use Rattle.tocmark_event.specs.Ends.{same_end}
-use Rattle.tocmark_event.specs.View.{TagView, Strong, EventView, End, end_of}
+use Rattle.tocmark_event.specs.View.{TagView, Emphasis, Strong, EventView, Start, End, Leaf, end_of}
 use Rattle.tocmark_event.specs.declared.event.TagEnd.{TagEnd}
 use Rattle.tocmark_spelling.specs.Characters.{underscore}
 use Rattle.tocmark_spelling.specs.Words.{last_character, last_byte, asterisk}
-use Rattle.tocmark_spelling.specs.Plan.{Layout, Preferred, Runs, Uniform, Shared, RuleThree, TextSpelling, LiteralEntities, Markers, Setting, Manner}
+use Rattle.tocmark_spelling.specs.Plan.{Layout, Preferred, Runs, Uniform, Shared, RuleThree, TextSpelling, Escaped, Literal, Entities, LiteralEntities, Markers, Setting, Manner}
 use Rattle.tocmark_spelling.specs.Kinds.{is_emphasis, is_emphasis_or_strong}
 use Rattle.tocmark_spelling.specs.Edges.{is_boundary, is_punctuation, edge_after}
 use Rattle.tocmark_spelling.specs.Runs.{tag_width, end_width, is_marker, run_around, last_run}
 use Rattle.tocmark_spelling.specs.Look.{Look}
-use Rattle.tocmark_spelling.specs.Page.{Content, Delimited, Level, Path, Page}
+use Rattle.tocmark_spelling.specs.Page.{Content, Plain, Underlined, Fence, HtmlEnds, Listed, Defined, Headers, Width, Delimited, Named, Level, Path, Page}
 use Rattle.tocmark_spelling.specs.Places.{nearest}
 
 -- the other marker

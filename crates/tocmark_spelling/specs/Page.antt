@@ -1,5 +1,5 @@
 -- The text so far, the open containers, and what a finished container leaves to its right neighbour.
-use Rattle.std.specs.Prelude.{ℕ, ◌+◌, ◌-◌, Bool, false, Option, Some, None, List, [], ◌∷◌, ◌++◌, nat_lt, max, replicate, if◌then◌else◌, ◌==◌}
+use Rattle.std.specs.Prelude.{ℕ, ◌+◌, ◌-◌, Bool, true, false, ◌&&◌, ◌||◌, Option, Some, None, List, [], ◌∷◌, ◌++◌, length, nat_lt, max, replicate, if◌then◌else◌, ◌==◌, codes}
 use Rattle.tocmark_event.specs.View.{TagView, SourcedEvent, EventView, unsourced}
 use Rattle.tocmark_event.specs.declared.event.TagEnd.{TagEnd}
 

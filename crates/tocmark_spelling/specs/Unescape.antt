@@ -1,6 +1,6 @@
 -- How Markdown reads backslash escapes and character references (CommonMark, sections 2.4 and 2.5), of the named
 -- ones only four.
-use Rattle.std.specs.Prelude.{ℕ, zero, suc, ◌+◌, Bool, not, ◌&&◌, ◌||◌, ◌==◌, nat_le, nat_eq, if◌then◌else◌, Option, Some, None, unwrap_or, List, [], ◌∷◌, codes, length, drop, take_while}
+use Rattle.std.specs.Prelude.{ℕ, zero, suc, ◌+◌, not, ◌&&◌, ◌||◌, ◌==◌, nat_le, nat_eq, if◌then◌else◌, Option, Some, None, unwrap_or, List, [], ◌∷◌, codes, length, drop, take_while}
 use Rattle.std.specs.Char.{is_digit}
 use Rattle.std.specs.List.{starts_with}
 use Rattle.std.specs.Str.Parse.{digits_value}

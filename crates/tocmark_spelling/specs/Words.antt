@@ -1,5 +1,5 @@
 -- Words on texts, which are lists of bytes.
-use Rattle.std.specs.Prelude.{ℕ, Bool, ◌||◌, Option, List, [], ◌∷◌, chars, nat_eq, reverse, slice_get, slice_index}
+use Rattle.std.specs.Prelude.{ℕ, Bool, true, false, ◌||◌, Option, List, [], ◌∷◌, chars, nat_eq, reverse, slice_get, slice_index}
 use Rattle.std.specs.List.{starts_with}
 
 -- the first and the last character

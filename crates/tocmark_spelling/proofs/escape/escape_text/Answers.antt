@@ -1,4 +1,4 @@
-use Rattle.std.proofs.Common.{◌≡◌, ◌∙◌, [], sym, ap, chars, encode_utf8_all, append-nil, rules}
+use Rattle.std.proofs.Common.{◌∙◌, [], sym, ap, chars, encode_utf8_all, append-nil, rules}
 use Rattle.std.proofs.lemmas.Str.{IsUtf8-past_char}
 use Rattle.tocmark_spelling.specs.Escape.{place_of}
 use Rattle.tocmark_spelling.proofs.EscapeLemmas.{escape_on-is, escape_on-more, chars_of_empty}

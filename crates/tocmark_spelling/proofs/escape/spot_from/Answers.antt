@@ -1,5 +1,4 @@
-use Rattle.std.proofs.Common.{◌≡◌, ◌∙◌, sym, refl, chars, chars}
-use Rattle.std.specs.Prelude.{is_some}
+use Rattle.std.proofs.Common.{◌∙◌, sym, refl, chars, chars}
 use Rattle.tocmark_spelling.proofs.EscapeLemmas.{two_characters, ended_at, spot_from_parts}
 use Rattle.tocmark_spelling.proofs.escape.spot_from.Goals as goal
 

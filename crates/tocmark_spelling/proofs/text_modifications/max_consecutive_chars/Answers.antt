@@ -1,7 +1,6 @@
-use Rattle.std.proofs.Common.{◌∙◌, ap, length, chars, rules, arith}
+use Rattle.std.proofs.Common.{◌∙◌, ap, length, rules, arith}
 use Rattle.std.specs.Str.Iter.{chars_rest}
 use Rattle.std.proofs.lemmas.Str.{IsUtf8-past_char}
-use Rattle.tocmark_spelling.specs.Leaves.{longest_run}
 use Rattle.tocmark_spelling.proofs.SpanLemmas.{run_goes_on_in, run_ends_in, all_read, all_to_read, length-character}
 use Rattle.tocmark_spelling.proofs.text_modifications.max_consecutive_chars.Goals as goal
 

@@ -1,4 +1,4 @@
-use Rattle.std.proofs.Common.{◌≡◌, ◌∙◌, sym, length, chars, ap, arith}
+use Rattle.std.proofs.Common.{◌∙◌, sym, arith}
 use Rattle.std.proofs.lemmas.Result.{IfOk-weaker}
 use Rattle.tocmark_spelling.proofs.SpanLemmas.{longest_run-chars-le, span_pieces}
 use Rattle.tocmark_spelling.proofs.text_modifications.span.Goals as goal

@@ -1,4 +1,4 @@
-use Rattle.std.proofs.Common.{◌≡◌, ℕ, List, [], ◌++◌, refl, rules, encode_utf8_all}
+use Rattle.std.proofs.Common.{[], ◌++◌, refl, rules, encode_utf8_all}
 use Rattle.std.proofs.Output.{has_written_append, has_written_of_eq}
 use Rattle.std.specs.Str.Iter.{chars_rest}
 use Rattle.tocmark_spelling.specs.Destination.{destination_character}

@@ -1,4 +1,4 @@
-use Rattle.std.proofs.Common.{◌≡◌, ℕ, ◌+◌, List, Option, None, Some, Result, Ok, IfSome, IsOk, refl, sym}
+use Rattle.std.proofs.Common.{ℕ, ◌+◌, List, Option, None, Some, Result, Ok, IfSome, IsOk, refl, sym}
 use Rattle.std.specs.List.{repeat}
 use Rattle.std.specs.Fmt.{HasWritten, DisplaysOnOk}
 use Rattle.std.specs.declared.fmt.Formatter.{Formatter}
