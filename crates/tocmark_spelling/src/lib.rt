@@ -3,5 +3,6 @@
 
 pub mod escape;
 pub mod machine_laws;
+pub mod output;
 pub mod spelling;
 pub mod text_modifications;
