@@ -22,6 +22,7 @@ pub mod Closing
 pub mod Stretch
 pub mod Spelling
 pub mod Machine
+pub mod TrailOf
 pub mod WriterOf
 pub mod Buffered
 pub mod Draft

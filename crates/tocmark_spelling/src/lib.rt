@@ -2,7 +2,9 @@
 #![tactic(auto)]
 
 pub mod escape;
+pub mod kinds;
 pub mod machine_laws;
 pub mod output;
 pub mod spelling;
 pub mod text_modifications;
+pub mod trail;
