@@ -1,5 +1,5 @@
 -- What the fields of a trail mean.
-use Rattle.std.specs.Prelude.{Option, string_bytes}
+use Rattle.std.specs.Prelude.{Option, None, string_bytes}
 use Rattle.std.specs.Option.{option_map}
 use Rattle.tocmark_spelling.specs.Page as page
 use Rattle.tocmark_spelling.specs.Page.{ParagraphTail, EmptyTail, BlockTail, Other, Inline, ItemStart, ItemEnd, ListEnd, DefinitionEnd, BlockEnd}
@@ -36,3 +36,6 @@ trail_view t = record {
   raw_end = t.raw_end;
   open_html = t.open_html;
 }
+
+abbrev pub forgotten_line : page.Trail → page.Trail
+forgotten_line t = record t { quote_line = None }

@@ -1,7 +1,9 @@
 -- What the fields of a unit's writer mean.
-use Rattle.std.specs.Prelude.{◌≡◌, ℕ, Bool, false, List, [], ◌∷◌, string_bytes, ◌==◌, Option, Some, None, Result, Ok, Err, map, reverse}
+use Rattle.std.specs.Prelude.{◌≡◌, ℕ, Bool, false, List, [], ◌∷◌, string_bytes, ◌==◌, Option, Some, None, Result, Ok, Err, map, reverse, ◌++◌}
 use Rattle.std.specs.Option.{option_map}
-use Rattle.tocmark_event.specs.View.{tag_view}
+use Rattle.tocmark_event.specs.View.{tag_view, EventView}
+use Rattle.tocmark_spelling.specs.Marker.{ends_delimiter}
+use Rattle.tocmark_spelling.specs.Stretch.{both}
 use Rattle.tocmark_event.specs.declared.options.Error.{Error}
 use Rattle.tocmark_event.specs.declared.options.Error.TheVariants as error
 use Rattle.tocmark_spelling.specs.Page as page
@@ -51,6 +53,21 @@ reference_view r = record { label = string_bytes r.label; destination = string_b
 
 abbrev pub held_view : Held → page.Held
 held_view h = record { text = string_bytes h.text; source = option_map string_bytes h.source; after_close = h.after_close }
+
+-- a stretch, longer by a text
+abbrev pub longer : page.Held → List ℕ → Option (List ℕ) → page.Held
+longer h text source = record { text = h.text ++ text; source = both h.source source; after_close = h.after_close }
+
+-- a stretch that begins behind this event
+abbrev pub begun : List ℕ → Option (List ℕ) → Option EventView → page.Held
+begun text source previous = record { text = text; source = source; after_close = ends_delimiter previous }
+
+abbrev pub held_after : Option page.Held → List ℕ → Option (List ℕ) → Option EventView → page.Held
+held_after None text source previous = begun text source previous
+held_after (Some h) text source previous = longer h text source
+
+abbrev pub unheld : Page → Page
+unheld p = record p { held = None }
 
 abbrev pub levels_of : Writer → Path
 levels_of w = path_of w.frames.items

@@ -1,6 +1,5 @@
 //! Open containers, and what is kept of them.
 
-
 use tocmark_event::event::TagOf;
 
 /// What the opening of a list chose.

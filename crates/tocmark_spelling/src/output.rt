@@ -5,6 +5,7 @@ ghost use Rattle.tocmark_spelling.specs.Page.{laid, filled, put_byte, lead};
 ghost use Rattle.tocmark_spelling.specs.WriterOf.{sheet_of, HasNoFeed};
 
 use std::alloc::{AllocError, Global};
+use std::mem;
 
 /// What is written of a unit. A line's prefix is written with the line's first byte, a line feed too.
 #[derive(Debug, Drop)]
@@ -84,6 +85,17 @@ impl Output {
         self.write_part(rest)
     }
 
+    /// A text that is its own prefix.
+    pub fn write_alone(&mut self, alloc: Global, text: &str) -> Result<(), AllocError>
+        ensures written { OnOk result (sheet_of self.new ≡ laid [] text.now (sheet_of self.old)) }
+        ensures prefix { OnOk result (string_bytes self.new.prefix ≡ string_bytes self.old.prefix) }
+    {
+        let prefix = mem::replace(&mut self.prefix, String::new(alloc));
+        self.write(text)?;
+        self.prefix = prefix;
+        Ok(())
+    }
+
     /// Line feeds until so many stand. Room for all of them is made before the first is written.
     pub fn fill(&mut self, lines: usize) -> Result<(), AllocError>
         ensures written { OnOk result (sheet_of self.new ≡ filled (string_bytes self.old.prefix) lines (sheet_of self.old)) }
@@ -91,7 +103,8 @@ impl Output {
     {
         let count = lines.saturating_sub(self.newlines);
         let width = self.prefix.len().checked_add(1).ok_or(AllocError)?;
-        self.text.reserve(count.checked_mul(width).ok_or(AllocError)?)?;
+        self.text
+            .reserve(count.checked_mul(width).ok_or(AllocError)?)?;
         for _line in 0..count {
             self.write_feed()?;
         }

@@ -4,12 +4,13 @@ ghost use Rattle.std.specs.Prelude.{◌≡◌, string_bytes, max, ◌&&◌, not,
 ghost use Rattle.tocmark_event.specs.View.{event_view};
 ghost use Rattle.tocmark_spelling.specs.Page.{first_trail, raised};
 ghost use Rattle.tocmark_spelling.specs.Kinds.{starts, is_list};
-ghost use Rattle.tocmark_spelling.specs.Gap.{is_inline, is_item_opening, is_item_end, is_definition_end, resumed, raised_for_title, raised_for_block, least, least_after, could_join, joins_list, raised_after_list, after_html};
-ghost use Rattle.tocmark_spelling.specs.TrailOf.{tail_view, last_view, trail_view};
+ghost use Rattle.tocmark_spelling.specs.Gap.{is_inline, is_item_opening, is_item_end, is_definition_end, resumed, raised_for_title, raised_for_block, least, least_after, could_join, joins_list, raised_after_list, after_html, quote_line_for};
+ghost use Rattle.std.specs.Option.{option_map};
+ghost use Rattle.tocmark_spelling.specs.TrailOf.{tail_view, last_view, trail_view, forgotten_line};
 
 use crate::kinds::{
-    begins_block, could_continue, starts_definition_list, starts_indented_code, starts_list,
-    starts_paragraph, starts_quote, starts_table, starts_title,
+    begins_block, could_continue, starts_definition_list, starts_indented_code, starts_item,
+    starts_list, starts_paragraph, starts_quote, starts_table, starts_title,
 };
 use tocmark_event::event::{OwnedEvent, TagEnd};
 
@@ -105,11 +106,7 @@ impl Last {
 fn two_if(needed: bool) -> usize
     ensures { result ≡ (if needed then 2 else 0) }
 {
-    if needed {
-        2
-    } else {
-        0
-    }
+    if needed { 2 } else { 0 }
 }
 
 fn least_after(end: TagEnd, event: &OwnedEvent) -> usize
@@ -224,6 +221,19 @@ impl Trail {
         ensures { trail_view self.new ≡ (if between_items then raised 2 (trail_view self.old) else trail_view self.old) }
     {
         self.raise_if(between_items, 2);
+    }
+
+    /// The line with which a quote goes on, if it has to before the event; it is forgotten.
+    pub fn take_quote_line(&mut self, event: &OwnedEvent) -> Option<String>
+        ensures line { option_map string_bytes result ≡ quote_line_for (event_view string_bytes event.now) (trail_view self.old) }
+        ensures forgotten { trail_view self.new ≡ forgotten_line (trail_view self.old) }
+    {
+        let line = self.quote_line.take();
+        if self.last.least(event) == 0 && !starts_item(event) {
+            line
+        } else {
+            None
+        }
     }
 
     /// Open HTML goes on until a line ends it, so that no blank line is written.

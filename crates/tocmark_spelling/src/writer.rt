@@ -60,7 +60,12 @@ impl<'a> Writer<'a> {
     }
 
     /// Opens a container here.
-    pub fn push(&mut self, tag: &'a TagOf<String>, prefix: String, content: Content) -> Result<(), AllocError>
+    pub fn push(
+        &mut self,
+        tag: &'a TagOf<String>,
+        prefix: String,
+        content: Content,
+    ) -> Result<(), AllocError>
         ensures { OnOk result (Stands self.new (record { tag = tag_view string_bytes tag.entry.now; prefix = string_bytes prefix; start = length (string_bytes self.old.output.text); content = content_view content } ∷ levels_of self.old) (page_of self.old)) }
     {
         let start = self.output.text.len();
