@@ -21,6 +21,12 @@ pub mod Opening
 pub mod Closing
 pub mod Stretch
 pub mod Spelling
+pub mod Machine
+pub mod TrailOf
+pub mod Spelled
+pub mod PlanOf
+pub mod WriterOf
+pub mod Scans
 pub mod Buffered
 pub mod Draft
 pub mod DraftOf

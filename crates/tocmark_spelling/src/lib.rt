@@ -1,8 +1,20 @@
 //! How events are written as Markdown.
 #![tactic(auto)]
 
+pub mod closing;
+pub mod ends;
 pub mod escape;
+pub mod frame;
+pub mod gap;
+pub mod kinds;
 pub mod laws;
+pub mod machine_laws;
 pub mod misplaced;
+pub mod opening;
+pub mod output;
+pub mod plan;
 pub mod spelling;
+pub mod stretch;
 pub mod text_modifications;
+pub mod trail;
+pub mod writer;

@@ -1,0 +1,29 @@
+-- Which tags and leaves the writer writes so far.
+use Rattle.std.specs.Prelude.{Bool, true, false, ◌&&◌, ◌==◌, None, List, [], ◌∷◌, length}
+use Rattle.tocmark_event.specs.View.{TagView, Paragraph, Heading, LeafView, Text, SoftBreak, SourcedEvent, Start, End, Leaf}
+use Rattle.tocmark_spelling.specs.Page.{Path}
+
+-- paragraphs, and headings without id, classes and attributes
+abbrev pub is_spelled_tag : TagView → Bool
+is_spelled_tag Paragraph = true
+is_spelled_tag (Heading level None classes attrs) = (length classes == 0) && (length attrs == 0)
+is_spelled_tag t = false
+
+abbrev pub is_spelled_leaf : LeafView → Bool
+is_spelled_leaf (Text t) = true
+is_spelled_leaf SoftBreak = true
+is_spelled_leaf l = false
+
+abbrev pub is_spelled : SourcedEvent → Bool
+is_spelled (Start t) = is_spelled_tag t
+is_spelled (End k) = true
+is_spelled (Leaf l) = is_spelled_leaf l.leaf
+
+abbrev pub are_spelled : List SourcedEvent → Bool
+are_spelled [] = true
+are_spelled (e ∷ es) = is_spelled e && are_spelled es
+
+-- the open containers are among them
+abbrev pub is_spelled_path : Path → Bool
+is_spelled_path [] = true
+is_spelled_path (l ∷ path) = is_spelled_tag l.tag && is_spelled_path path
