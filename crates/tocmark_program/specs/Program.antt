@@ -1,6 +1,15 @@
 -- What the program is asked, and what it answers.
-use Rattle.std.specs.Prelude.{◌≡◌, ℕ, List, [], ◌∷◌, Bool, true, false, String}
+use Rattle.std.specs.Prelude.{◌≡◌, ℕ, List, [], ◌∷◌, map, Bool, true, false, Ok, String}
 use Rattle.std.specs.Global.{Global}
+use Rattle.std.specs.Io.KnownBytes.{Appends}
+use Rattle.std.specs.List.{concat}
+use Rattle.std.specs.Str.{IsUtf8}
+use Rattle.std.specs.Prelude.{Option}
+use Rattle.tocmark_event.specs.Options.{default_options}
+use Rattle.tocmark_core_reader.specs.Reading.{core_reading}
+use Rattle.tocmark.specs.Ranges.{Pair, unranged}
+use Rattle.tocmark.specs.StateView.{rendering}
+use Rattle.tocmark.specs.Walk.{Walk, Done, done, nothing_yet, script}
 use Rattle.tocmark_program.specs.declared.fault.Fault.{Fault}
 use Rattle.tocmark_program.specs.declared.fault.Fault.TheVariants.{Usage, Read, NotUtf8, Markdown, Write}
 
@@ -24,3 +33,23 @@ IsWriteFault Usage = ⊥
 IsWriteFault Read = ⊥
 IsWriteFault NotUtf8 = ⊥
 IsWriteFault (Markdown e) = ⊥
+
+-- the events that the core reader finds in a text, without their ranges
+abbrev pub events_in : List ℕ → List Pair
+events_in text = map (λ e. unranged e.0) (core_reading text).events
+
+-- what these events come to, by the default options and without flags
+abbrev pub rewriting : List ℕ → Walk Done
+rewriting text = script (rendering default_options (λ t flags. core_reading t)) [] (nothing_yet (record { 0 = 0 })) (events_in text)
+
+-- the text, read and written back, is this one
+pub record IsRewritten (text output : List ℕ) : Type 0 where
+  pub ends_well : (rewriting text).outcome ≡ Ok done
+  pub joined : output ≡ concat (rewriting text).texts
+
+-- the input is text, and was read and written back behind what the output held
+pub record Wrote (input : List ℕ) (old new : Option (List ℕ)) : Type 0 where
+  pub output : List ℕ
+  pub is_text : IsUtf8 input
+  pub rewritten : IsRewritten input output
+  pub appended : Appends old new output

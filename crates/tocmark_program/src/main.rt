@@ -3,10 +3,10 @@
 
 mod fault;
 
-ghost use Rattle.std.specs.Prelude.{◌≡◌, ◌≢◌, ◌≤◌, ℕ, List, true, false, IfErr, IfSome, OnOk, string_bytes};
+ghost use Rattle.std.specs.Prelude.{◌≡◌, ◌≤◌, ℕ, List, true, false, IfErr, IfOk, IfSome, OnOk, string_bytes};
 ghost use Rattle.std.specs.Str.{IsUtf8};
 ghost use Rattle.std.specs.Io.KnownBytes.{Appends};
-ghost use Rattle.tocmark_program.specs.Program.{is_right, status_of, IsWriteFault};
+ghost use Rattle.tocmark_program.specs.Program.{is_right, status_of, IsWriteFault, IsRewritten, Wrote};
 
 use fault::Fault;
 use std::alloc::Global;
@@ -26,9 +26,12 @@ impl<'a> Iterator for Events<'a> {
     type Item = &'a Event<'a>;
 
     ghost use Rattle.std.specs.Slice.Iter.{iter_rest};
-    ghost use Rattle.std.specs.Iterator.{item_count};
+    ghost use Rattle.std.specs.Iterator.{item_count, YieldsFirstBy};
+    ghost use Rattle.tocmark_program.specs.Events.{lent_pair, pairs_left};
 
-    ghost remaining = { item_count (λ s. iter_rest s.0) };
+    ghost next_gives = { YieldsFirstBy lent_pair (λ s. pairs_left (iter_rest s.0)) };
+
+    ghost remaining = { item_count (λ s. pairs_left (iter_rest s.0)) };
 
     fn next(&mut self) -> Option<&'a Event<'a>> {
         match self.0.next() {
@@ -46,7 +49,9 @@ fn are_right(words: &[String]) -> bool
 }
 
 /// The text, read and written back.
-fn rewritten(alloc: Global, text: &str) -> Result<String, Error> {
+fn rewritten(alloc: Global, text: &str) -> Result<String, Error>
+    ensures { IfOk result (λ output. IsRewritten text.now (string_bytes output)) }
+{
     let flags = ParserOptions(0);
     let reading = CoreReader.read(alloc, text, flags)?;
     let mut output = String::new(alloc);
@@ -63,8 +68,9 @@ fn rewritten(alloc: Global, text: &str) -> Result<String, Error> {
 
 /// The input, read and written back. Nothing of it is written yet.
 fn converted<I: Read>(alloc: Global, input: &mut I) -> Result<String, Fault>
-    ensures unwritten { IfErr result (λ fault. ¬ (IsWriteFault fault)) }
+    ensures fault { IfErr result (λ fault. (status_of fault ≡ 1) × ¬ (IsWriteFault fault)) }
     ensures text { IfSome (I.remaining input.old) (λ bytes. OnOk result (IsUtf8 bytes)) }
+    ensures rewritten { IfSome (I.remaining input.old) (λ bytes. IfOk result (λ output. IsRewritten bytes (string_bytes output))) }
 {
     let mut bytes = Vec::new(alloc);
     if input.read_to_end(&mut bytes).is_err() {
@@ -81,7 +87,7 @@ fn converted<I: Read>(alloc: Global, input: &mut I) -> Result<String, Fault>
 
 fn write_out<O: Write>(output: &mut O, text: &str) -> Result<(), Fault>
     ensures done { OnOk result (Appends (O.contents output.old) (O.contents output.new) text.now) }
-    ensures fault { IfErr result IsWriteFault }
+    ensures fault { IfErr result (λ fault. (status_of fault ≡ 1) × IsWriteFault fault) }
 {
     if output.write_all(text.as_bytes()).is_err() || output.flush().is_err() {
         return Err(Fault::Write);
@@ -97,10 +103,10 @@ fn answer<I: Read, O: Write>(
     output: &mut O,
 ) -> Result<(), Fault>
     ensures usage { is_right words.now ≡ false → (result ≡ Err Fault.Usage) × (input.new ≡ input.old) × (output.new ≡ output.old) }
-    ensures right { is_right words.now ≡ true → result ≢ Err Fault.Usage }
+    ensures right { is_right words.now ≡ true → IfErr result (λ fault. status_of fault ≡ 1) }
     ensures unwritten { IfErr result (λ fault. ¬ (IsWriteFault fault) → output.new ≡ output.old) }
     ensures done { OnOk result ((text : List ℕ) × Appends (O.contents output.old) (O.contents output.new) text) }
-    ensures text { IfSome (I.remaining input.old) (λ bytes. OnOk result (IsUtf8 bytes)) }
+    ensures wrote { IfSome (I.remaining input.old) (λ bytes. OnOk result (Wrote bytes (O.contents output.old) (O.contents output.new))) }
 {
     if !are_right(words) {
         return Err(Fault::Usage);
@@ -126,7 +132,7 @@ pub fn run<I: Read, O: Write, F: Write>(
     ensures usage { is_right words.now ≡ false → (result ≡ 2) × (input.new ≡ input.old) × (output.new ≡ output.old) }
     ensures right { is_right words.now ≡ true → result ≤ 1 }
     ensures done { result ≡ 0 → (text : List ℕ) × Appends (O.contents output.old) (O.contents output.new) text }
-    ensures text { IfSome (I.remaining input.old) (λ bytes. result ≡ 0 → IsUtf8 bytes) }
+    ensures wrote { IfSome (I.remaining input.old) (λ bytes. result ≡ 0 → Wrote bytes (O.contents output.old) (O.contents output.new)) }
 {
     match answer(alloc, words, input, output) {
         Ok(()) => 0,

@@ -1,87 +1,52 @@
 //! Runs of the program.
 
 use crate::run;
-use std::alloc::{AllocError, Global};
+use std::alloc::AllocError;
 use std::io::{self, ErrorKind, Read, Write};
 use std::process::Abort;
 use std::test::Fail;
 
-/// One run, and what is expected of it.
-struct Row<'a> {
-    words: &'a [&'a str],
-    input: &'a [u8],
-    status: u8,
-    output: &'a [u8],
-    faults: &'a [u8],
-}
-
-fn owned(alloc: Global, words: &[&str]) -> Result<Vec<String>, AllocError> {
-    let mut all = Vec::new(alloc);
-    for word in words {
-        all.push(String::from_str(alloc, *word)?)?;
-    }
-    Ok(all)
-}
-
-fn runs_as(rt: &(impl Abort + AllocGlobal), row: &Row<'_>) -> Result<(), Fail> {
+/// One run with at most one argument.
+fn runs_as(
+    rt: &(impl Abort + AllocGlobal),
+    word: Option<&str>,
+    text: &[u8],
+    expected: (u8, &[u8], &[u8]),
+) -> Result<(), Fail> {
     let alloc = rt.alloc();
-    let words = owned(alloc, row.words)?;
+    let (expected_status, expected_output, expected_faults) = expected;
+    let mut words: Vec<String> = Vec::new(alloc);
+    if let Some(word) = word {
+        words
+            .push(String::from_str(alloc, word)?)
+            .map_err(AllocError::from)?;
+    }
     let mut output: Vec<u8> = Vec::new(alloc);
     let mut faults: Vec<u8> = Vec::new(alloc);
-    let mut input = row.input;
+    let mut input = text;
     let status = run(alloc, &words, &mut input, &mut output, &mut faults);
-    assert_eq!(rt; status, row.status);
-    assert_eq!(rt; output.as_slice(), row.output);
-    assert_eq!(rt; faults.as_slice(), row.faults);
+    assert_eq!(rt; status, expected_status);
+    assert_eq!(rt; output.as_slice(), expected_output);
+    assert_eq!(rt; faults.as_slice(), expected_faults);
     Ok(())
 }
 
 #[test]
 fn runs(rt: HostRuntime) -> Result<(), Fail> {
-    let rows = [
-        Row {
-            words: &[],
-            input: b"# Hello\n\nWorld!",
-            status: 0,
-            output: b"# Hello\n\nWorld!",
-            faults: b"",
-        },
-        Row {
-            words: &[],
-            input: b"",
-            status: 0,
-            output: b"",
-            faults: b"",
-        },
-        Row {
-            words: &["--bad"],
-            input: b"x",
-            status: 2,
-            output: b"",
-            faults: b"usage: tocmark [--source]\n",
-        },
-        Row {
-            words: &["--source"],
-            input: b"x",
-            status: 2,
-            output: b"",
-            faults: b"usage: tocmark [--source]\n",
-        },
-        Row {
-            words: &[],
-            input: b"a\xff",
-            status: 1,
-            output: b"",
-            faults: b"tocmark: standard input is not UTF-8\n",
-        },
-    ];
-    for row in &rows {
-        runs_as(&rt, row)?;
-    }
+    let hello = b"# Hello\n\nWorld!".as_slice();
+    let nothing = b"".as_slice();
+    let usage = b"usage: tocmark [--source]\n".as_slice();
+    let not_text = b"tocmark: standard input is not UTF-8\n".as_slice();
+    runs_as(&rt, None, hello, (0, hello, nothing))?;
+    runs_as(&rt, None, nothing, (0, nothing, nothing))?;
+    runs_as(&rt, Some("--bad"), b"x".as_slice(), (2, nothing, usage))?;
+    runs_as(&rt, Some("--source"), b"x".as_slice(), (2, nothing, usage))?;
+    runs_as(&rt, None, b"a\xff".as_slice(), (1, nothing, not_text))?;
     Ok(())
 }
 
 /// Neither reads nor writes.
+#[derive(Drop)]
 struct Broken;
 
 impl Read for Broken {
@@ -109,12 +74,18 @@ fn broken_streams(rt: HostRuntime) -> Result<(), Fail> {
     let status = run(alloc, &words, &mut Broken, &mut output, &mut faults);
     assert_eq!(rt; status, 1);
     assert_eq!(rt; output.len(), 0);
-    assert_eq!(rt; faults.as_slice(), b"tocmark: cannot read standard input\n".as_slice());
+    assert_eq!(rt;
+        faults.as_slice(),
+        b"tocmark: cannot read standard input\n".as_slice()
+    );
     faults.clear();
     let mut input = b"x".as_slice();
     let status = run(alloc, &words, &mut input, &mut Broken, &mut faults);
     assert_eq!(rt; status, 1);
-    assert_eq!(rt; faults.as_slice(), b"tocmark: cannot write standard output\n".as_slice());
+    assert_eq!(rt;
+        faults.as_slice(),
+        b"tocmark: cannot write standard output\n".as_slice()
+    );
     let mut input = b"x".as_slice();
     let status = run(alloc, &words, &mut input, &mut output, &mut Broken);
     assert_eq!(rt; status, 0);

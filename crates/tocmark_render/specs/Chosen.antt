@@ -1,13 +1,10 @@
 -- What a unit comes to.
 use Rattle.std.specs.Prelude.{◌≡◌, ℕ, List, [], Bool, false, Option, Some, None, Result, Ok, Err, string_bytes, String}
-use Rattle.std.specs.Borrow.{Bor}
 use Rattle.std.specs.Global.{Global}
-use Rattle.tocmark_event.specs.Text.{text_of}
 use Rattle.tocmark_event.specs.Options.{OptionsView}
 use Rattle.tocmark_event.specs.Reading.{ReadingView}
 use Rattle.tocmark_event.specs.View.{EventView, SourcedEvent, event_view}
 use Rattle.tocmark_event.specs.declared.event.EventOf.{EventOf}
-use Rattle.tocmark_event.specs.declared.event.text.CowStr.{CowStr}
 use Rattle.tocmark_event.specs.declared.event.flags.ParserOptions.{ParserOptions}
 use Rattle.tocmark_event.specs.declared.options.Error.{Error}
 use Rattle.tocmark_event.specs.declared.options.Error.TheVariants as error
@@ -35,11 +32,7 @@ document_flags d = d.flags
 abbrev pub new_document : DocumentView
 new_document = record { draft = nothing_drafted }
 
--- the event that follows a unit, if there is one
-abbrev pub lent_view : Option (Bor (EventOf CowStr)) → Option EventView
-lent_view None = None
-lent_view (Some e) = Some (event_view text_of e.now)
-
+-- an event that is kept
 abbrev pub kept_view : Option (EventOf (String Global)) → Option EventView
 kept_view None = None
 kept_view (Some e) = Some (event_view string_bytes e)

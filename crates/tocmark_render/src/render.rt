@@ -2,8 +2,8 @@
 
 ghost use Rattle.std.specs.Prelude.{◌≡◌, [], map, string_bytes, IfOk};
 ghost use Rattle.tocmark_event.specs.Options.{options_view};
-ghost use Rattle.tocmark_spelling.specs.Buffered.{buffered_view, next_view};
-ghost use Rattle.tocmark_render.specs.Chosen.{Spells, Gives, chosen, definitions, needs_placeholder, lent_view, kept_view, document_view, document_flags, new_document};
+ghost use Rattle.tocmark_spelling.specs.Buffered.{buffered_view, following_view, next_view};
+ghost use Rattle.tocmark_render.specs.Chosen.{Spells, Gives, chosen, definitions, needs_placeholder, kept_view, document_view, document_flags, new_document};
 
 use std::alloc::{AllocError, Global};
 use tocmark_event::event::{Event, OwnedEvent, ParserOptions};
@@ -29,7 +29,7 @@ pub fn needs_list_placeholder(_unit: &[BufferedEvent]) -> bool
 }
 
 fn kept_event(alloc: Global, event: Option<&Event<'_>>) -> Result<Option<OwnedEvent>, AllocError>
-    ensures { IfOk result (λ kept. kept_view kept ≡ lent_view event.entry) }
+    ensures { IfOk result (λ kept. kept_view kept ≡ next_view event.entry) }
 {
     match event {
         None => Ok(None),
@@ -38,7 +38,7 @@ fn kept_event(alloc: Global, event: Option<&Event<'_>>) -> Result<Option<OwnedEv
 }
 
 fn lent_event(event: &Option<OwnedEvent>) -> Option<&OwnedEvent>
-    ensures { next_view result ≡ kept_view event.now }
+    ensures { following_view result ≡ kept_view event.now }
 {
     match event {
         None => None,
@@ -72,7 +72,7 @@ impl Document {
         next: Option<&Event<'_>>,
         options: &Options<'_>,
     ) -> Result<String, Error>
-        ensures chosen { Spells (document_view self.new) result (chosen (record { options = options_view options.now; flags = document_flags self.old; reading = R.reading _reader.now }) (document_view self.old) (map buffered_view unit.now) (lent_view next.entry)) }
+        ensures chosen { Spells (document_view self.new) result (chosen (record { options = options_view options.now; flags = document_flags self.old; reading = R.reading _reader.now }) (document_view self.old) (map buffered_view unit.now) (next_view next.entry)) }
         ensures flags { document_flags self.new ≡ document_flags self.old }
     {
         let next = kept_event(alloc, next)?;

@@ -1,9 +1,11 @@
 -- Events that wait for their unit, as plain values.
-use Rattle.std.specs.Prelude.{ℕ, List, Option, string_bytes, String}
+use Rattle.std.specs.Prelude.{ℕ, List, Option, Some, None, string_bytes, String}
 use Rattle.std.specs.Option.{option_map}
 use Rattle.std.specs.Borrow.{Bor}
 use Rattle.tocmark_event.specs.View.{EventView, Start, End, Leaf, SourcedEvent, event_view}
+use Rattle.tocmark_event.specs.Text.{text_of}
 use Rattle.tocmark_event.specs.declared.event.EventOf.{EventOf}
+use Rattle.tocmark_event.specs.declared.event.text.CowStr.{CowStr}
 use Rattle.std.specs.Global.{Global}
 use Rattle.tocmark_spelling.specs.declared.spelling.BufferedEvent.{BufferedEvent}
 
@@ -20,5 +22,10 @@ abbrev pub buffered_view : BufferedEvent → SourcedEvent
 buffered_view b = sourced (event_of b) (option_map string_bytes b.source)
 
 -- the event that follows, if there is one
-abbrev pub next_view : Option (Bor (EventOf (String Global))) → Option EventView
-next_view next = option_map (λ e. event_view string_bytes e.now) next
+abbrev pub following_view : Option (Bor (EventOf (String Global))) → Option EventView
+following_view next = option_map (λ e. event_view string_bytes e.now) next
+
+-- the same of an event that a caller lends
+abbrev pub next_view : Option (Bor (EventOf CowStr)) → Option EventView
+next_view None = None
+next_view (Some e) = Some (event_view text_of e.now)

@@ -1,11 +1,12 @@
 -- How Markdown reads backslash escapes and character references (CommonMark, sections 2.4 and 2.5), of the named
 -- ones only four.
-use Rattle.std.specs.Prelude.{ℕ, zero, suc, ◌+◌, not, ◌&&◌, ◌||◌, ◌==◌, nat_le, nat_eq, if◌then◌else◌, Option, Some, None, unwrap_or, List, [], ◌∷◌, codes, length, drop, take_while}
-use Rattle.std.specs.Char.{is_digit}
+use Rattle.std.specs.Prelude.{ℕ, zero, suc, ◌+◌, not, ◌&&◌, ◌||◌, ◌==◌, nat_le, nat_eq, if◌then◌else◌, ◌≡◌, ◌≢◌, IsTrue, All, Option, Some, None, unwrap_or, List, [], ◌∷◌, codes, length, drop, take_while}
+use Rattle.std.specs.Char.{is_digit, char_set_contains, IsScalar}
 use Rattle.std.specs.List.{starts_with}
 use Rattle.std.specs.Str.Parse.{digits_value}
 use lib.Utf8.{scalar}
 use Rattle.tocmark_spelling.specs.Characters.{is_ascii_punctuation, ampersand, backslash, replacement}
+use Rattle.tocmark_spelling.specs.Escape.{Place, escape}
 
 -- a character that was read, and how many characters spell it after the first one
 pub record Spelled : Type 0 where
@@ -63,3 +64,12 @@ unescape_after (suc n) (c ∷ cs) = unescape_after n cs
 -- the characters that a text is read as
 abbrev pub unescape : List ℕ → List ℕ
 unescape text = unescape_after 0 text
+
+-- a character that can be read back: any but NUL
+abbrev pub IsReadable : ℕ → Type 0
+IsReadable c = IsScalar c × (c ≢ 0)
+
+-- with the marker `*` or `_` for emphasis each stretch is read back
+abbrev pub EscapesReadBack : Type 0
+EscapesReadBack = (p : Place) (text : List ℕ) → IsTrue (char_set_contains (codes "*_") p.token) → All IsReadable text
+    → unescape (escape p text) ≡ text

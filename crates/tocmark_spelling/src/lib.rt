@@ -2,6 +2,7 @@
 #![tactic(auto)]
 
 pub mod escape;
+pub mod laws;
 pub mod machine_laws;
 pub mod spelling;
 pub mod text_modifications;

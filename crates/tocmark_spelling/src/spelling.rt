@@ -3,7 +3,7 @@
 ghost use Rattle.std.specs.Prelude.{◌≡◌, ◌<◌, ◌+◌, ◌++◌, ◌∷◌, [], map, drop, max, replicate, string_bytes, length, OnOk, is_none, ◌==◌, ◌&&◌, Some};
 ghost use Rattle.tocmark_event.specs.View.{event_view};
 ghost use Rattle.tocmark_event.specs.Options.{options_view};
-ghost use Rattle.tocmark_spelling.specs.Buffered.{buffered_view, next_view};
+ghost use Rattle.tocmark_spelling.specs.Buffered.{buffered_view, following_view};
 ghost use Rattle.tocmark_spelling.specs.Draft.{filled, gap_owed, with_gap, with_open, level_of, with_marker, is_in_heading, ends_opening, is_at_front, is_bare, is_text, opened_paragraph, opened_heading, closed, place_of, with_text, shown, texted, broken, soft_break, started_heading, goes_on, following, step, run};
 ghost use Rattle.tocmark_spelling.specs.Escape.{place_of as escape_place};
 ghost use Rattle.tocmark_spelling.specs.DraftOf.{draft_of, between, nothing_drafted, Steps, Writes};
@@ -98,7 +98,7 @@ fn goes_on(rest: &[BufferedEvent]) -> bool
 
 /// The first event of the rest of a unit, or else the one after the unit.
 fn following<'a>(rest: &'a [BufferedEvent], next: Option<&'a OwnedEvent>) -> Option<&'a OwnedEvent>
-    ensures { next_view result ≡ following (map buffered_view rest.now) (next_view next.entry) }
+    ensures { following_view result ≡ following (map buffered_view rest.now) (following_view next.entry) }
 {
     match rest {
         [] => next,
@@ -236,7 +236,7 @@ impl Renderer {
         flags: ParserOptions,
         next: Option<&'a OwnedEvent>,
     ) -> EscapePlace<'a>
-        ensures { escape_place result ≡ place_of (options_view options.now) flags (next_view next.entry) (draft_of self.now) }
+        ensures { escape_place result ≡ place_of (options_view options.now) flags (following_view next.entry) (draft_of self.now) }
     {
         EscapePlace {
             flags,
@@ -270,7 +270,7 @@ impl Renderer {
         flags: ParserOptions,
         next: Option<&OwnedEvent>,
     ) -> Result<(), AllocError>
-        ensures { OnOk result (draft_of self.new ≡ shown (options_view options.now) flags (next_view next.entry) (draft_of self.old)) }
+        ensures { OnOk result (draft_of self.new ≡ shown (options_view options.now) flags (following_view next.entry) (draft_of self.old)) }
     {
         self.write_gap(self.owed)?;
         let escaped = escape_text(alloc, self.held.as_str(), &self.place(options, flags, next))?;
@@ -288,7 +288,7 @@ impl Renderer {
         more: bool,
         next: Option<&OwnedEvent>,
     ) -> Result<(), AllocError>
-        ensures { OnOk result (draft_of self.new ≡ texted (options_view options.now) flags text.now more (next_view next.entry) (draft_of self.old)) }
+        ensures { OnOk result (draft_of self.new ≡ texted (options_view options.now) flags text.now more (following_view next.entry) (draft_of self.old)) }
     {
         self.held.push_str(text)?;
         if more {
@@ -340,7 +340,7 @@ impl Renderer {
         more: bool,
         next: Option<&OwnedEvent>,
     ) -> Result<(), Error>
-        ensures { Steps result (draft_of self.new) (step (options_view options.now) flags (event_view string_bytes event.now) more (next_view next.entry) (draft_of self.old)) }
+        ensures { Steps result (draft_of self.new) (step (options_view options.now) flags (event_view string_bytes event.now) more (following_view next.entry) (draft_of self.old)) }
     {
         match event {
             EventOf::Start(TagOf::Paragraph) => {
@@ -384,7 +384,7 @@ impl Renderer {
         options: &Options<'_>,
         flags: ParserOptions,
     ) -> Result<String, Error>
-        ensures { Writes result (draft_of self.new) (run (options_view options.now) flags (next_view next.entry) (map buffered_view events.now) (between (draft_of self.old))) }
+        ensures { Writes result (draft_of self.new) (run (options_view options.now) flags (following_view next.entry) (map buffered_view events.now) (between (draft_of self.old))) }
     {
         self.text.clear();
         for (i, buffered) in events.iter().enumerate() {

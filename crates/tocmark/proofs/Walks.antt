@@ -1,0 +1,231 @@
+-- Laws of `go_on`, of what a call did with a writer, and of the steps of a walk.
+use Rattle.std.proofs.Common.{◌≡◌, ℕ, List, [], ◌∷◌, ◌++◌, Result, Ok, Err, Option, Some, None, true, false, refl, ap, sym, ◌∙◌, append_assoc, arith, length, ◌==◌, sum_by, ◌+◌, reverse}
+use Rattle.std.proofs.lemmas.List.{append-nil, length-reverse}
+use Rattle.std.proofs.lemmas.List.Sums.{sum_by-append}
+use Rattle.std.proofs.lemmas.Bool.Decides.{nat_tests}
+use Rattle.std.specs.List.{FoldsTo}
+use Rattle.tocmark_event.specs.View.{EventView, Start, End, Leaf, SourcedEvent, unsourced}
+use Rattle.tocmark_event.specs.declared.event.TagEnd.{TagEnd}
+use Rattle.tocmark_event.specs.declared.options.Error.{Error}
+use Rattle.tocmark_event.specs.declared.options.Error.TheVariants as error
+use Rattle.tocmark_spelling.specs.Buffered.{sourced}
+use Rattle.tocmark_event.specs.declared.event.flags.ParserOptions.{ParserOptions}
+use Rattle.tocmark_render.specs.Chosen.{DocumentView, Refuses, Gives}
+use Rattle.tocmark.specs.StateView.{keeping}
+use Rattle.tocmark.specs.Ranges.{Pair, unranged}
+use Rattle.tocmark.specs.Walk.{Done, done, Kept, Rendering, Standing, Walk, go_on, stay, refuse, handed_text, hand_walk, nested, with_event, joins, flush_of, flushed, is_due, flushed_before, advance, step, walk, flushed_rest, ended_at, ended}
+use Rattle.tocmark.specs.Writes.{Makes, RefusesAt}
+
+ok_err : {A : Type 0} (s : A) (e : Error) → Ok s ≡ Err e → ⊥
+ok_err s e h = cc
+
+err_same : {A S : Type 0} (x e : Error) (a : Result A Error) (b : Result S Error) → a ≡ Err x → a ≡ Err e → b ≡ Err x → b ≡ Err e
+err_same x e a b h k l = cc
+
+pub handed_text-nonempty : (t : List ℕ) → (length t == 0) ≡ false → handed_text t ≡ t ∷ []
+handed_text-nonempty [] h = cc
+handed_text-nonempty (b ∷ bs) h = refl
+
+pub sum_by-handed_text : (t : List ℕ) → sum_by length (handed_text t) ≡ length t
+sum_by-handed_text [] = refl
+sum_by-handed_text (b ∷ bs) = omega arith
+
+pub FoldsTo-append : {P A : Type 0} (R : P → A → P → Type 0) (p : P) (xs ys : List A) (q r : P) → FoldsTo R p xs q → FoldsTo R q ys r → FoldsTo R p (xs ++ ys) r
+FoldsTo-append R p [] ys q r e h = rw e h
+FoldsTo-append R p (x ∷ xs) ys q r (j, s, t) h = (j, s, FoldsTo-append R j xs ys q r t h)
+
+-- what a call makes after another one that succeeded
+pub Makes-then : {W X A S : Type 0} (gives refuses : W → List ℕ → W → Type 0) (w v u : W) (r : Result X Error) (t : S) (s : A) (ts : List (List ℕ)) (f : A → Walk S) → FoldsTo gives w ts v → Makes gives refuses v u r t (f s) → Makes gives refuses w u r t (go_on ts (Ok s) f)
+Makes-then gives refuses w v u (Ok x) t s ts f h m = (m.0, FoldsTo-append gives w ts (f s).texts v u h m.1)
+Makes-then gives refuses w v u (Err (error.FormatFailed e)) t s ts f h (front, at, rest, is, mid, folds, last) = (ts ++ front, at, rest, ap (λ xs. ts ++ xs) is ∙ sym (append_assoc ts front (at ∷ rest)), mid, FoldsTo-append gives w ts front v mid h folds, last)
+Makes-then gives refuses w v u (Err error.OutOfMemory) t s ts f h (front, rest, is, folds) = (ts ++ front, rest, ap (λ xs. ts ++ xs) is ∙ sym (append_assoc ts front rest), FoldsTo-append gives w ts front v u h folds)
+Makes-then gives refuses w v u (Err e) t s ts f h m = (m.0, FoldsTo-append gives w ts (f s).texts v u h m.1)
+
+-- what a call that was refused makes of a longer walk
+pub RefusesAt-longer : {W A S : Type 0} (gives refuses : W → List ℕ → W → Type 0) (w u : W) (e : Error) (ts : List (List ℕ)) (o : Result A Error) (f : A → Walk S) → RefusesAt gives refuses w u e (record { texts = ts; outcome = o }) → RefusesAt gives refuses w u e (go_on ts o f)
+RefusesAt-longer gives refuses w u (error.FormatFailed e) ts (Err x) f m = m
+RefusesAt-longer gives refuses w u (error.FormatFailed e) ts (Ok s) f (front, at, rest, is, mid, folds, last) = (front, at, rest ++ (f s).texts, ap (λ xs. xs ++ (f s).texts) is ∙ append_assoc front (at ∷ rest) (f s).texts, mid, folds, last)
+RefusesAt-longer gives refuses w u error.OutOfMemory ts (Err x) f m = m
+RefusesAt-longer gives refuses w u error.OutOfMemory ts (Ok s) f (front, rest, is, folds) = (front, rest ++ (f s).texts, ap (λ xs. xs ++ (f s).texts) is ∙ append_assoc front rest (f s).texts, folds)
+RefusesAt-longer gives refuses w u e ts (Err x) f m = (err_same x e (Err x) (Err x) refl m.0 refl, m.1)
+RefusesAt-longer gives refuses w u e ts (Ok s) f m = absurd (ok_err s e m.0)
+
+-- a walk that hands one text, which leaves another standing
+pub Makes-at : {W X S : Type 0} (gives refuses : W → List ℕ → W → Type 0) (w v : W) (r : Result X Error) (t : List ℕ) (s : S) → Makes gives refuses w v r done (hand_walk t done) → Makes gives refuses w v r s (hand_walk t s)
+Makes-at gives refuses w v (Ok x) t s m = (refl, m.1)
+Makes-at gives refuses w v (Err (error.FormatFailed f)) t s m = m
+Makes-at gives refuses w v (Err error.OutOfMemory) t s m = m
+Makes-at gives refuses w v (Err e) t s m = absurd (ok_err done e m.0)
+
+-- an error of a part is one of the whole
+pub Refuses-from : {X Y : Type 0} (e : Error) (a : Result X Error) (b : Result Y Error) → ((x : Error) → a ≡ Err x → b ≡ Err x) → Refuses e a → Refuses e b
+Refuses-from (error.FormatFailed f) a b k h = h
+Refuses-from error.OutOfMemory a b k h = tt
+Refuses-from e a b k h = k e h
+
+-- an error of a call that handed nothing
+pub RefusesAt-quiet : {W S : Type 0} (gives refuses : W → List ℕ → W → Type 0) (w : W) (e : Error) (walk : Walk S) → walk.texts ≡ [] → Refuses e walk.outcome → RefusesAt gives refuses w w e walk
+RefusesAt-quiet gives refuses w (error.FormatFailed e) walk n h = absurd h
+RefusesAt-quiet gives refuses w error.OutOfMemory walk n h = ([], walk.texts, refl, refl)
+RefusesAt-quiet gives refuses w e walk n h = (h, rw n refl)
+
+pub joins_ok : (e : SourcedEvent) (s : Standing) (os : List TagEnd) → nested s.open_tags (unsourced e) ≡ Ok os → joins e s ≡ stay (record s { pending = s.pending ++ e ∷ []; open_tags = os })
+unfolding joins
+joins_ok e s os h = rw h refl
+
+pub joins_err : (e : SourcedEvent) (s : Standing) (x : Error) → nested s.open_tags (unsourced e) ≡ Err x → joins e s ≡ refuse x
+unfolding joins
+joins_err e s x h = rw h refl
+
+pub unsourced_sourced : (e : EventView) (s : Option (List ℕ)) → unsourced (sourced e s) ≡ e
+unsourced_sourced (Start t) s = refl
+unsourced_sourced (End k) s = refl
+unsourced_sourced (Leaf l) s = refl
+
+-- an event joins what is pending, copied
+pub joins_copied : (e e' : EventView) (t t' : Option (List ℕ)) (s : Standing) (os : List TagEnd) → e' ≡ e → t' ≡ t → nested s.open_tags e ≡ Ok os → (joins (sourced e t) s).outcome ≡ Ok (record s { pending = s.pending ++ sourced e' t' ∷ []; open_tags = os })
+joins_copied e e' t t' s os h k n = rw (h, k) (ap (λ (w : Walk Standing). w.outcome) (joins_ok (sourced e t) s os (rw (unsourced_sourced e t) n)))
+
+-- an event that can't join is refused
+pub joins_refused : (e : EventView) (t : Option (List ℕ)) (s : Standing) (x : Error) → Refuses x (nested s.open_tags e) → Refuses x (joins (sourced e t) s).outcome
+joins_refused e t s x h = Refuses-from x (nested s.open_tags e) (joins (sourced e t) s).outcome (λ y k. ap (λ (w : Walk Standing). w.outcome) (joins_err (sourced e t) s y (rw (unsourced_sourced e t) k))) h
+
+pub joins_texts : (e : SourcedEvent) (s : Standing) → (joins e s).texts ≡ []
+unfolding joins
+joins_texts e s = go (nested s.open_tags (unsourced e))
+  where
+    go : (r : Result (List TagEnd) Error) → (with_event s e r).texts ≡ []
+    go (Ok os) = refl
+    go (Err x) = refl
+
+pub flushed_is : (how : Rendering) (next : Option EventView) (s : Standing) → flushed how next s ≡ flush_of s (how.choice s.document s.pending next)
+unfolding flushed
+flushed_is how next s = refl
+
+pub flushed_ok : (how : Rendering) (next : Option EventView) (s : Standing) (x : List ℕ × Kept) → how.choice s.document s.pending next ≡ Ok x → flushed how next s ≡ hand_walk x.0 (record s { pending = []; document = x.1 })
+unfolding flushed
+flushed_ok how next s x h = rw h refl
+
+pub flushed_err : (how : Rendering) (next : Option EventView) (s : Standing) (x : Error) → how.choice s.document s.pending next ≡ Err x → flushed how next s ≡ refuse x
+unfolding flushed
+flushed_err how next s x h = rw h refl
+
+pub flushed_refused : {W : Type 0} (gives refuses : W → List ℕ → W → Type 0) (w : W) (how : Rendering) (next : Option EventView) (s : Standing) (e : Error) → Refuses e (how.choice s.document s.pending next) → RefusesAt gives refuses w w e (flushed how next s)
+flushed_refused gives refuses w how next s (error.FormatFailed f) h = absurd h
+flushed_refused gives refuses w how next s error.OutOfMemory h = ([], (flushed how next s).texts, refl, refl)
+flushed_refused gives refuses w how next s e h = rw (flushed_err how next s e h) (refl, refl)
+
+pub before_not_due : (how : Rendering) (e : EventView) (s : Standing) → is_due s ≡ false → flushed_before how e s ≡ stay s
+unfolding flushed_before
+before_not_due how e s h = rw h refl
+
+pub before_waiting : (how : Rendering) (e : EventView) (s : Standing) → is_due s ≡ true → how.waits s.pending ≡ true → flushed_before how e s ≡ stay (record s { is_deferred = true })
+unfolding flushed_before
+before_waiting how e s h k = rw (h, k) refl
+
+pub before_due : (how : Rendering) (e : EventView) (s : Standing) → is_due s ≡ true → how.waits s.pending ≡ false → flushed_before how e s ≡ flushed how (Some e) s
+unfolding flushed_before
+before_due how e s h k = rw (h, k) refl
+
+pub advance_is : (how : Rendering) (e : SourcedEvent) (s : Standing) → advance how e s ≡ go_on (flushed_before how (unsourced e) s).texts (flushed_before how (unsourced e) s).outcome (λ t. joins e t)
+unfolding advance
+advance_is how e s = refl
+
+pub advance_sourced : (how : Rendering) (e : EventView) (source : Option (List ℕ)) (s : Standing) → advance how (sourced e source) s ≡ go_on (flushed_before how e s).texts (flushed_before how e s).outcome (λ t. joins (sourced e source) t)
+advance_sourced how e source s = advance_is how (sourced e source) s ∙ ap (λ u. go_on (flushed_before how u s).texts (flushed_before how u s).outcome (λ t. joins (sourced e source) t)) (unsourced_sourced e source)
+
+-- a step whose flush succeeded
+pub advance_after : (how : Rendering) (e : EventView) (source : Option (List ℕ)) (s t : Standing) → (flushed_before how e s).outcome ≡ Ok t → advance how (sourced e source) s ≡ go_on (flushed_before how e s).texts (Ok t) (λ u. joins (sourced e source) u)
+advance_after how e source s t h = advance_sourced how e source s ∙ ap (λ o. go_on (flushed_before how e s).texts o (λ u. joins (sourced e source) u)) h
+
+pub advance_texts : (how : Rendering) (e : EventView) (source : Option (List ℕ)) (s t : Standing) → (flushed_before how e s).outcome ≡ Ok t → (advance how (sourced e source) s).texts ≡ (flushed_before how e s).texts
+advance_texts how e source s t h = ap (λ (w : Walk Standing). w.texts) (advance_after how e source s t h) ∙ (ap (λ ts. (flushed_before how e s).texts ++ ts) (joins_texts (sourced e source) t) ∙ append-nil (flushed_before how e s).texts)
+
+-- without a range a step is that of the event
+pub step_unranged : (how : Rendering) (source : List ℕ) (e : EventView) (s : Standing) → step how source (unranged e) s ≡ advance how (sourced e None) s
+unfolding step
+step_unranged how source e s = refl
+
+abbrev pub prefixed : {S : Type 0} → List (List ℕ) → Walk S → Walk S
+prefixed ts w = record { texts = ts ++ w.texts; outcome = w.outcome }
+
+pub go_on-assoc : {A S : Type 0} (ts us : List (List ℕ)) (o : Result A Error) (f : A → Walk S) → prefixed ts (go_on us o f) ≡ go_on (ts ++ us) o f
+go_on-assoc ts us (Ok s) f = ap (λ xs. record { texts = xs; outcome = (f s).outcome }) (sym (append_assoc ts us (f s).texts))
+go_on-assoc ts us (Err e) f = refl
+
+-- a longer list goes on where a shorter one stands
+pub walk-append : (how : Rendering) (source : List ℕ) (s : Standing) (xs ys : List Pair) → walk how source s (xs ++ ys) ≡ go_on (walk how source s xs).texts (walk how source s xs).outcome (λ t. walk how source t ys)
+walk-append how source s [] ys = refl
+walk-append how source s (x ∷ xs) ys = go (λ t. walk-append how source t xs ys) (step how source x s).texts (step how source x s).outcome
+  where
+    go : ((t : Standing) → walk how source t (xs ++ ys) ≡ go_on (walk how source t xs).texts (walk how source t xs).outcome (λ u. walk how source u ys)) → (ts : List (List ℕ)) (o : Result Standing Error) → go_on ts o (λ t. walk how source t (xs ++ ys)) ≡ go_on (go_on ts o (λ t. walk how source t xs)).texts (go_on ts o (λ t. walk how source t xs)).outcome (λ t. walk how source t ys)
+    go again ts (Ok t) = ap (prefixed ts) (again t) ∙ go_on-assoc ts (walk how source t xs).texts (walk how source t xs).outcome (λ u. walk how source u ys)
+    go again ts (Err e) = refl
+
+pub walk_after : (how : Rendering) (source : List ℕ) (s t : Standing) (xs ys : List Pair) → (walk how source s xs).outcome ≡ Ok t → walk how source s (xs ++ ys) ≡ go_on (walk how source s xs).texts (Ok t) (λ u. walk how source u ys)
+walk_after how source s t xs ys h = walk-append how source s xs ys ∙ ap (λ o. go_on (walk how source s xs).texts o (λ u. walk how source u ys)) h
+
+go_on-stay : {S : Type 0} (ts : List (List ℕ)) (o : Result S Error) → go_on ts o (λ t. stay t) ≡ record { texts = ts; outcome = o }
+go_on-stay ts (Ok t) = ap (λ xs. record { texts = xs; outcome = Ok t }) (append-nil ts)
+go_on-stay ts (Err x) = refl
+
+pub walk_one : (how : Rendering) (source : List ℕ) (s : Standing) (x : Pair) → walk how source s (x ∷ []) ≡ step how source x s
+walk_one how source s x = go_on-stay (step how source x s).texts (step how source x s).outcome
+
+pub walk_more : (how : Rendering) (source : List ℕ) (s t : Standing) (xs : List Pair) (x : Pair) → (walk how source s xs).outcome ≡ Ok t → walk how source s (xs ++ x ∷ []) ≡ go_on (walk how source s xs).texts (Ok t) (λ u. step how source x u)
+walk_more how source s t xs x h = walk_after how source s t xs (x ∷ []) h ∙ ap (prefixed (walk how source s xs).texts) (walk_one how source t x)
+
+-- one more call of a loop
+pub Makes-more : {W X : Type 0} (gives refuses : W → List ℕ → W → Type 0) (w v u : W) (r : Result X Error) (t' : Standing) (how : Rendering) (source : List ℕ) (s t : Standing) (xs : List Pair) (x : Pair) → (walk how source s xs).outcome ≡ Ok t → FoldsTo gives w (walk how source s xs).texts v → Makes gives refuses v u r t' (step how source x t) → Makes gives refuses w u r t' (walk how source s (xs ++ x ∷ []))
+Makes-more gives refuses w v u r t' how source s t xs x h folds m = rw (walk_more how source s t xs x h) (Makes-then gives refuses w v u r t' t (walk how source s xs).texts (λ y. step how source x y) folds m)
+
+ended-at_open : (how : Rendering) (os : List TagEnd) (s : Standing) → (length os == 0) ≡ false → ended_at how os s ≡ refuse error.UnexpectedEvent
+ended-at_open how [] s h = cc
+ended-at_open how (o ∷ os) s h = refl
+
+ended-at_closed : (how : Rendering) (os : List TagEnd) (s : Standing) → (length os == 0) ≡ true → ended_at how os s ≡ ended_at how [] s
+ended-at_closed how [] s h = refl
+ended-at_closed how (o ∷ os) s h = absurd (grind (arith, nat_tests))
+
+reversed_open : (os : List TagEnd) → (length os == 0) ≡ false → (length (reverse os) == 0) ≡ false
+reversed_open os h = rw (length-reverse os) h
+
+reversed_closed : (os : List TagEnd) → (length os == 0) ≡ true → (length (reverse os) == 0) ≡ true
+reversed_closed os h = rw (length-reverse os) h
+
+pub ended_open : (how : Rendering) (s : Standing) (os : List TagEnd) → s.open_tags ≡ reverse os → (length os == 0) ≡ false → ended how s ≡ refuse error.UnexpectedEvent
+unfolding ended
+ended_open how s os e h = ended-at_open how s.open_tags s (rw e (reversed_open os h))
+
+pub ended_closed : (how : Rendering) (s : Standing) (os : List TagEnd) → s.open_tags ≡ reverse os → (length os == 0) ≡ true → ended how s ≡ go_on (flushed_rest how s.pending s).texts (flushed_rest how s.pending s).outcome (λ t. hand_walk (how.definitions t.document) done)
+unfolding ended
+ended_closed how s os e h = ended-at_closed how s.open_tags s (rw e (reversed_closed os h))
+
+pub ended_after : (how : Rendering) (s t : Standing) (os : List TagEnd) → s.open_tags ≡ reverse os → (length os == 0) ≡ true → (flushed_rest how s.pending s).outcome ≡ Ok t → ended how s ≡ go_on (flushed_rest how s.pending s).texts (Ok t) (λ u. hand_walk (how.definitions u.document) done)
+ended_after how s t os e h k = ended_closed how s os e h ∙ ap (λ o. go_on (flushed_rest how s.pending s).texts o (λ u. hand_walk (how.definitions u.document) done)) k
+
+pub ended_bytes : (how : Rendering) (s t : Standing) (os : List TagEnd) → s.open_tags ≡ reverse os → (length os == 0) ≡ true → (flushed_rest how s.pending s).outcome ≡ Ok t → sum_by length (ended how s).texts ≡ sum_by length (flushed_rest how s.pending s).texts + length (how.definitions t.document)
+ended_bytes how s t os e h k =
+    ap (λ (w : Walk Done). sum_by length w.texts) (ended_after how s t os e h k)
+    ∙ (sum_by-append length (flushed_rest how s.pending s).texts (handed_text (how.definitions t.document))
+    ∙ ap (λ n. sum_by length (flushed_rest how s.pending s).texts + n) (sum_by-handed_text (how.definitions t.document)))
+
+-- an error of the definitions is want of memory
+pub Gives-refused : {W : Type 0} (gives refuses : W → List ℕ → W → Type 0) (w : W) (e : Error) (t u : List ℕ) → Gives (Err e) t → RefusesAt gives refuses w w e (hand_walk u done)
+Gives-refused gives refuses w (error.FormatFailed f) t u h = absurd h
+Gives-refused gives refuses w error.OutOfMemory t u h = ([], handed_text u, refl, refl)
+Gives-refused gives refuses w e t u h = absurd h
+
+pub rest_empty : (how : Rendering) (es : List SourcedEvent) (s : Standing) → (length es == 0) ≡ true → flushed_rest how es s ≡ stay s
+rest_empty how [] s h = refl
+rest_empty how (e ∷ es) s h = absurd (grind (arith, nat_tests))
+
+pub rest_some : (how : Rendering) (es : List SourcedEvent) (s : Standing) → (length es == 0) ≡ false → flushed_rest how es s ≡ flushed how None s
+rest_some how [] s h = cc
+rest_some how (e ∷ es) s h = refl
+
+pub keeping_ok : (f f' : ParserOptions) (o : Result (List ℕ × DocumentView) Error) (t : List ℕ) (d : DocumentView) → f' ≡ f → o ≡ Ok (t, d) → keeping f o ≡ Ok (t, record { flags = f'; document = d })
+keeping_ok f f' o t d h k = rw (h, k) refl
+
+pub keeping_refused : (f : ParserOptions) (o : Result (List ℕ × DocumentView) Error) (e : Error) → Refuses e o → Refuses e (keeping f o)
+keeping_refused f o e h = Refuses-from e o (keeping f o) (λ x k. rw k refl) h

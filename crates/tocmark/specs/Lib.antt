@@ -1,0 +1,5 @@
+pub mod Ranges
+pub mod Walk
+pub mod Writes
+pub mod StateView
+pub mod Trees

@@ -1,0 +1,132 @@
+-- What a state holds, as plain values.
+use Rattle.std.specs.Prelude.{◌≡◌, ℕ, ◌-◌, ◌^◌, ◌++◌, min, List, map, reverse, length, Result, Ok, Err, Option, string_bytes}
+use Rattle.std.specs.Borrow.{Bor}
+use Rattle.std.specs.List.{sum_by}
+use Rattle.std.specs.Option.{option_map}
+use Rattle.std.specs.Result.{IfOk}
+use Rattle.tocmark_event.specs.Options.{OptionsView, options_view}
+use Rattle.tocmark_event.specs.Reading.{ReadingView}
+use Rattle.tocmark_event.specs.Text.{text_of}
+use Rattle.tocmark_event.specs.View.{event_view}
+use Rattle.tocmark_event.specs.declared.event.EventOf.{EventOf}
+use Rattle.tocmark_event.specs.declared.event.flags.ParserOptions.{ParserOptions}
+use Rattle.tocmark_event.specs.declared.event.text.CowStr.{CowStr}
+use Rattle.tocmark_event.specs.declared.options.Error.{Error}
+use Rattle.tocmark_spelling.specs.Buffered.{buffered_view}
+use Rattle.tocmark_render.specs.Chosen.{DocumentView, Refuses, document_view, document_flags, chosen, needs_placeholder, definitions}
+use Rattle.tocmark_render.specs.declared.render.Document.{Document}
+use Rattle.tocmark.specs.declared.state.Progress.{Progress}
+use Rattle.tocmark.specs.declared.state.Held.{Held}
+use Rattle.tocmark.specs.declared.state.KeptOptions.{KeptOptions}
+use Rattle.tocmark.specs.declared.state.State.{State}
+use Rattle.tocmark.specs.declared.state.Tools.{Tools}
+use Rattle.tocmark.specs.declared.state.Status.TheVariants.{Active, Finished, Failed}
+use Rattle.tocmark.specs.Ranges.{Pair, unranged}
+use Rattle.tocmark.specs.Walk.{done, Kept, Rendering, Standing, walk, nothing_yet, script}
+use Rattle.tocmark.specs.Writes.{Makes}
+
+-- a call that left y where it succeeded
+abbrev pub Answers : {X Y : Type 0} → Result X Error → Y → Result Y Error → Type 0
+Answers (Ok x) y answer = answer ≡ Ok y
+Answers (Err e) y answer = Refuses e answer
+
+abbrev pub options_kept : KeptOptions → OptionsView
+options_kept o = record {
+  newlines_after_headline = o.newlines_after_headline;
+  newlines_after_paragraph = o.newlines_after_paragraph;
+  newlines_after_codeblock = o.newlines_after_codeblock;
+  newlines_after_htmlblock = o.newlines_after_htmlblock;
+  newlines_after_table = o.newlines_after_table;
+  newlines_after_rule = o.newlines_after_rule;
+  newlines_after_list = o.newlines_after_list;
+  newlines_after_blockquote = o.newlines_after_blockquote;
+  newlines_after_rest = o.newlines_after_rest;
+  newlines_after_metadata = o.newlines_after_metadata;
+  code_block_token_count = o.code_block_token_count;
+  code_block_token = o.code_block_token;
+  list_token = o.list_token;
+  ordered_list_token = o.ordered_list_token;
+  increment_ordered_list_bullets = o.increment_ordered_list_bullets;
+  emphasis_token = o.emphasis_token;
+  strong_token = string_bytes o.strong_token;
+  use_html_for_super_sub_script = o.use_html_for_super_sub_script;
+}
+
+abbrev pub keeping : ParserOptions → Result (List ℕ × DocumentView) Error → Result (List ℕ × Kept) Error
+keeping flags (Ok x) = Ok (x.0, record { flags = flags; document = x.1 })
+keeping flags (Err e) = Err e
+
+-- how units are written with these options and a reader with these readings
+abbrev pub rendering : OptionsView → (List ℕ → ParserOptions → ReadingView) → Rendering
+rendering options reading = record {
+  choice = λ kept unit next. keeping kept.flags (chosen (record { options = options; flags = kept.flags; reading = reading }) kept.document unit next);
+  waits = needs_placeholder;
+  definitions = λ kept. definitions kept.document;
+}
+
+abbrev pub kept_of : Document → Kept
+kept_of d = record { flags = document_flags d; document = document_view d }
+
+abbrev pub standing_of : Held → Standing
+standing_of h = record {
+  pending = map buffered_view h.pending.items;
+  open_tags = reverse h.open_tags.items;
+  document = kept_of h.document;
+  range_end = h.range_end;
+  is_deferred = h.is_deferred;
+}
+
+-- how a state writes units
+abbrev pub rendering_of : {R : Type 0} → (R → List ℕ → ParserOptions → ReadingView) → State R → Rendering
+rendering_of reading s = rendering (options_kept s.options) (reading s.reader)
+
+abbrev pub rendering_with : {R : Type 0} → (R → List ℕ → ParserOptions → ReadingView) → Tools R → Rendering
+rendering_with reading t = rendering (options_view t.options) (reading t.reader.now)
+
+-- a text that is there, as bytes
+abbrev pub text_now : Option (Bor (List ℕ)) → Option (List ℕ)
+text_now source = option_map (λ s. s.now) source
+
+-- events as pairs without ranges
+abbrev pub pairs : List (Bor (EventOf CowStr)) → List Pair
+pairs xs = map (λ x. unranged (event_view text_of x.now)) xs
+
+abbrev pub IsActive : {R : Type 0} → State R → Type 0
+IsActive s = s.status ≡ Active
+
+-- a state that is active, and stands where the list of pairs over the source does
+pub record Stands {R : Type 0} (reading : R → List ℕ → ParserOptions → ReadingView) (flags : ParserOptions) (source : List ℕ) (s : State R) (p : List Pair) : Type 0 where
+  pub active : IsActive s
+  pub standing : (walk (rendering_of reading s) source (nothing_yet flags) p).outcome ≡ Ok (standing_of s.held)
+
+-- a count stops at the greatest number of its type
+abbrev pub at_most : ℕ → ℕ
+at_most n = min n (2 ^ 64 - 1)
+
+pub record Counts (p : Progress) (events bytes : ℕ) : Type 0 where
+  pub events_consumed : p.events_consumed ≡ at_most events
+  pub bytes_written : p.bytes_written ≡ at_most bytes
+
+abbrev pub IsFailed : {R : Type 0} → State R → Type 0
+IsFailed s = s.status ≡ Failed
+
+abbrev pub IsFinished : {R : Type 0} → State R → Type 0
+IsFinished s = s.status ≡ Finished
+
+-- nothing is known of what a writer refuses
+abbrev pub unknown : {W : Type 0} → W → List ℕ → W → Type 0
+unknown w text v = Unit {0}
+
+-- A call that took the pairs q after p handed what the walk of both adds to that of p, and stands there or answers its end.
+pub record Adds {W : Type 0} (gives : W → List ℕ → W → Type 0) (w v : W) (how : Rendering) (flags : ParserOptions) (source : List ℕ) (r : Result Progress Error) (held : Held) (p q : List Pair) : Type 0 where
+  pub more : List (List ℕ)
+  pub added : (walk how source (nothing_yet flags) (p ++ q)).texts ≡ (walk how source (nothing_yet flags) p).texts ++ more
+  pub made : Makes gives unknown w v r (standing_of held) (record { texts = more; outcome = (walk how source (nothing_yet flags) (p ++ q)).outcome })
+  pub counts : IfOk r (λ n. Counts n (length q) (sum_by length more))
+
+-- A call that ended the list p handed what its script adds to its walk, and answers its end.
+pub record Ends {W : Type 0} (gives : W → List ℕ → W → Type 0) (w v : W) (how : Rendering) (flags : ParserOptions) (source : List ℕ) (r : Result Progress Error) (p : List Pair) : Type 0 where
+  pub more : List (List ℕ)
+  pub added : (script how source (nothing_yet flags) p).texts ≡ (walk how source (nothing_yet flags) p).texts ++ more
+  pub made : Makes gives unknown w v r done (record { texts = more; outcome = (script how source (nothing_yet flags) p).outcome })
+  pub counts : IfOk r (λ n. Counts n 0 (sum_by length more))

@@ -1,0 +1,152 @@
+-- What a list of events comes to: the texts of its units, and where it stands after them.
+use Rattle.std.specs.Prelude.{ℕ, List, [], ◌∷◌, ◌++◌, Bool, true, false, not, ◌&&◌, if◌then◌else◌, Result, Ok, Err, Option, Some, None}
+use Rattle.tocmark_event.specs.Ends.{same_end}
+use Rattle.tocmark_event.specs.View.{EventView, Start, End, Leaf, SourcedEvent, unsourced, end_of}
+use Rattle.tocmark_event.specs.declared.event.TagEnd.{TagEnd}
+use Rattle.tocmark_event.specs.declared.event.flags.ParserOptions.{ParserOptions}
+use Rattle.tocmark_event.specs.declared.options.Error.{Error}
+use Rattle.tocmark_event.specs.declared.options.Error.TheVariants as error
+use Rattle.tocmark_render.specs.Chosen.{DocumentView, new_document}
+use Rattle.tocmark.specs.Ranges.{Pair, resolved}
+
+-- a document: the parser's flags, and what earlier units left
+pub record Kept : Type 0 where
+  pub flags : ParserOptions
+  pub document : DocumentView
+
+-- how units are written, of which the walk assumes nothing
+pub record Rendering : Type 0 where
+  -- the text of a unit that the event follows, and the document after it, or a refusal
+  pub choice : Kept → List SourcedEvent → Option EventView → Result (List ℕ × Kept) Error
+  -- whether a unit can't be written before the end of the events
+  pub waits : List SourcedEvent → Bool
+  -- the definitions that are left at the end
+  pub definitions : Kept → List ℕ
+
+-- where a list of events stands
+pub record Standing : Type 0 where
+  -- the events since the last unit that was written
+  pub pending : List SourcedEvent
+  -- the Ends of the open containers, innermost first
+  pub open_tags : List TagEnd
+  pub document : Kept
+  -- the end of the last range, Starts left out
+  pub range_end : ℕ
+  -- a unit waits, so that all later events join it
+  pub is_deferred : Bool
+
+-- the end of a list, where nothing is left to stand
+pub data Done : Type 0 where
+  done : Done
+
+-- texts that are handed, and where it stands then, or why it stops
+pub record Walk (S : Type 0) : Type 0 where
+  pub texts : List (List ℕ)
+  pub outcome : Result S Error
+
+-- a walk, and another one from where it stands
+abbrev pub go_on : {A S : Type 0} → List (List ℕ) → Result A Error → (A → Walk S) → Walk S
+go_on texts (Ok s) f = record { texts = texts ++ (f s).texts; outcome = (f s).outcome }
+go_on texts (Err e) f = record { texts = texts; outcome = Err e }
+
+-- nothing is handed
+abbrev pub stay : {S : Type 0} → S → Walk S
+stay s = record { texts = []; outcome = Ok s }
+
+-- nothing is handed, and the walk stops
+abbrev pub refuse : {S : Type 0} → Error → Walk S
+refuse e = record { texts = []; outcome = Err e }
+
+-- an empty text isn't handed
+abbrev pub handed_text : List ℕ → List (List ℕ)
+handed_text [] = []
+handed_text (b ∷ bs) = (b ∷ bs) ∷ []
+
+-- one text
+abbrev pub hand_walk : {S : Type 0} → List ℕ → S → Walk S
+hand_walk text s = record { texts = handed_text text; outcome = Ok s }
+
+-- the open containers after an End, which none but the innermost one's may be
+abbrev pub closed : List TagEnd → TagEnd → Result (List TagEnd) Error
+closed [] k = Err error.UnexpectedEvent
+closed (o ∷ os) k = if same_end k o then Ok os else Err error.UnexpectedEvent
+
+-- the open containers after one event
+abbrev pub nested : List TagEnd → EventView → Result (List TagEnd) Error
+nested os (Start t) = Ok (end_of t ∷ os)
+nested os (End k) = closed os k
+nested os (Leaf l) = Ok os
+
+abbrev pub with_event : Standing → SourcedEvent → Result (List TagEnd) Error → Walk Standing
+with_event s e (Ok os) = stay (record s { pending = s.pending ++ e ∷ []; open_tags = os })
+with_event s e (Err x) = refuse x
+
+-- the event joins what is pending
+unfoldable pub joins : SourcedEvent → Standing → Walk Standing
+joins e s = with_event s e (nested s.open_tags (unsourced e))
+
+abbrev pub flush_of : Standing → Result (List ℕ × Kept) Error → Walk Standing
+flush_of s (Ok x) = hand_walk x.0 (record s { pending = []; document = x.1 })
+flush_of s (Err e) = refuse e
+
+-- what is pending is written as one unit
+unfoldable pub flushed : Rendering → Option EventView → Standing → Walk Standing
+flushed how next s = flush_of s (how.choice s.document s.pending next)
+
+-- events are pending and no container is open
+abbrev pub is_whole : List TagEnd → List SourcedEvent → Bool
+is_whole [] (e ∷ es) = true
+is_whole os es = false
+
+-- what is pending is a unit of its own
+abbrev pub is_due : Standing → Bool
+is_due s = not s.is_deferred && is_whole s.open_tags s.pending
+
+abbrev pub flushed_or_deferred : Rendering → Bool → EventView → Standing → Walk Standing
+flushed_or_deferred how true next s = stay (record s { is_deferred = true })
+flushed_or_deferred how false next s = flushed how (Some next) s
+
+-- a whole unit is written before the event that follows it, unless it waits
+unfoldable pub flushed_before : Rendering → EventView → Standing → Walk Standing
+flushed_before how next s = if is_due s then flushed_or_deferred how (how.waits s.pending) next s else stay s
+
+-- one more event
+unfoldable pub advance : Rendering → SourcedEvent → Standing → Walk Standing
+advance how e s = go_on (flushed_before how (unsourced e) s).texts (flushed_before how (unsourced e) s).outcome (λ t. joins e t)
+
+abbrev pub advance_with : Rendering → Standing → Result (SourcedEvent × ℕ) Error → Walk Standing
+advance_with how s (Ok x) = advance how x.0 (record s { range_end = x.1 })
+advance_with how s (Err e) = refuse e
+
+-- one more pair: its range is looked at first
+unfoldable pub step : Rendering → List ℕ → Pair → Standing → Walk Standing
+step how source pair s = advance_with how s (resolved source s.range_end pair)
+
+-- a list of pairs over a source, from a standing
+abbrev pub walk : Rendering → List ℕ → Standing → List Pair → Walk Standing
+walk how source s [] = stay s
+walk how source s (x ∷ xs) = go_on (step how source x s).texts (step how source x s).outcome (λ t. walk how source t xs)
+
+-- where nothing stands yet, over a document
+abbrev pub beginning : Kept → Standing
+beginning kept = record { pending = []; open_tags = []; document = kept; range_end = 0; is_deferred = false }
+
+-- what a new state stands at
+abbrev pub nothing_yet : ParserOptions → Standing
+nothing_yet flags = beginning (record { flags = flags; document = new_document })
+
+abbrev pub flushed_rest : Rendering → List SourcedEvent → Standing → Walk Standing
+flushed_rest how [] s = stay s
+flushed_rest how (e ∷ es) s = flushed how None s
+
+abbrev pub ended_at : Rendering → List TagEnd → Standing → Walk Done
+ended_at how [] s = go_on (flushed_rest how s.pending s).texts (flushed_rest how s.pending s).outcome (λ t. hand_walk (how.definitions t.document) done)
+ended_at how (o ∷ os) s = refuse error.UnexpectedEvent
+
+-- the end of the events: what is pending is written, and then the definitions that are left
+unfoldable pub ended : Rendering → Standing → Walk Done
+ended how s = ended_at how s.open_tags s
+
+-- what the whole list comes to
+abbrev pub script : Rendering → List ℕ → Standing → List Pair → Walk Done
+script how source s p = go_on (walk how source s p).texts (walk how source s p).outcome (λ t. ended how t)

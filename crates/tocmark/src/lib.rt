@@ -1,0 +1,87 @@
+//! Turns Markdown events back into Markdown text that reads back as those events.
+#![tactic(auto)]
+
+mod laws;
+mod state;
+mod taker;
+
+ghost use Rattle.std.specs.Prelude.{◌≡◌, List, ℕ, IfOk, IsOk};
+ghost use Rattle.std.specs.Borrow.{Bor};
+ghost use Rattle.std.specs.Iterator.{IsFinite, DrainsIf};
+ghost use Rattle.tocmark_event.specs.Options.{default_options, options_view};
+ghost use Rattle.tocmark_event.specs.declared.event.EventOf.{EventOf};
+ghost use Rattle.tocmark_event.specs.declared.event.text.CowStr.{CowStr};
+ghost use Rattle.tocmark.specs.Walk.{done, nothing_yet, script};
+ghost use Rattle.tocmark.specs.Writes.{Makes};
+ghost use Rattle.tocmark.specs.StateView.{IsFinished, pairs, rendering, unknown};
+
+pub use state::{Progress, State};
+use std::alloc::Global;
+use std::fmt;
+pub use tocmark_core_reader as core_reader;
+use tocmark_event::event::{Event, ParserOptions};
+pub use tocmark_event::options::{
+    DEFAULT_CODE_BLOCK_TOKEN_COUNT, Error, Options, OptionsError, SUPPORTED_PARSER_OPTIONS,
+};
+use tocmark_event::reader::Reader;
+pub use tocmark_event::{event, reader};
+
+/// Writes events with the default options: `cmark_with_options` with `Options::default()`.
+pub fn cmark<'a, I, W, R>(
+    alloc: Global,
+    events: I,
+    writer: &mut W,
+    reader: R,
+    parser_options: ParserOptions,
+) -> Result<State<R>, Error>
+where
+    I: IntoIterator<Item = &'a Event<'a>>,
+    W: fmt::Write,
+    R: Reader + Drop,
+    requires { (it : I.IntoIter) → I.into_iter_gives events it → I.IntoIter.can_next it × IsFinite (I.IntoIter.remaining it) }
+    ensures made { (it : I.IntoIter) × (xs : List (Bor (EventOf CowStr))) × I.into_iter_gives events it
+        × DrainsIf I.IntoIter.next_gives (IsOk result) it xs
+        × ((source : List ℕ) → Makes W.write_str_gives unknown writer.old writer.new result done (script (rendering default_options (R.reading reader)) source (nothing_yet parser_options) (pairs xs))) }
+    ensures finished { IfOk result (λ state. IsFinished state) }
+{
+    cmark_with_options(
+        alloc,
+        events,
+        writer,
+        reader,
+        parser_options,
+        Options::default(),
+    )
+}
+
+/// Writes events: one call of `State::process` and one of `State::finish` on a new state, which is
+/// returned.
+///
+/// `events` is any finite iterable of `&Event`, `parser_options` are the flags under which the events
+/// were read and under which the text is to read back, and `reader` is what reads it. Each unit's text
+/// is handed to `writer` by one `write_str`. An `Err` is the first refusal of those calls; what was
+/// handed before it stays with the writer.
+pub fn cmark_with_options<'a, I, W, R>(
+    alloc: Global,
+    events: I,
+    writer: &mut W,
+    reader: R,
+    parser_options: ParserOptions,
+    options: Options<'_>,
+) -> Result<State<R>, Error>
+where
+    I: IntoIterator<Item = &'a Event<'a>>,
+    W: fmt::Write,
+    R: Reader + Drop,
+    requires { (it : I.IntoIter) → I.into_iter_gives events it → I.IntoIter.can_next it × IsFinite (I.IntoIter.remaining it) }
+    ensures made { (it : I.IntoIter) × (xs : List (Bor (EventOf CowStr))) × I.into_iter_gives events it
+        × DrainsIf I.IntoIter.next_gives (IsOk result) it xs
+        × ((source : List ℕ) → Makes W.write_str_gives unknown writer.old writer.new result done (script (rendering (options_view options.entry) (R.reading reader)) source (nothing_yet parser_options) (pairs xs))) }
+    ensures finished { IfOk result (λ state. IsFinished state) }
+{
+    let events = events.into_iter();
+    let mut state = State::new(alloc, reader, parser_options, options)?;
+    state.process(events, writer)?;
+    state.finish(writer)?;
+    Ok(state)
+}

@@ -1,0 +1,492 @@
+//! A state that takes events.
+
+ghost use Rattle.std.specs.Prelude.{◌≡◌, ◌++◌, length, map, reverse, Bool, IfOk, OnOk, OnErr, List, ℕ, IsOk, Some, None, [], option_map, string_bytes, sum_by};
+ghost use Rattle.std.specs.Borrow.{Bor};
+ghost use Rattle.std.specs.Iterator.{IsFinite, DrainsIf};
+ghost use Rattle.tocmark_event.specs.Ends.{end_code};
+ghost use Rattle.tocmark_event.specs.Options.{options_view};
+ghost use Rattle.tocmark_event.specs.Text.{text_of};
+ghost use Rattle.tocmark_event.specs.View.{event_view};
+ghost use Rattle.tocmark_event.specs.declared.event.EventOf.{EventOf};
+ghost use Rattle.tocmark_event.specs.declared.event.text.CowStr.{CowStr};
+ghost use Rattle.tocmark_spelling.specs.Buffered.{buffered_view, next_view, sourced};
+ghost use Rattle.tocmark_render.specs.Chosen.{Refuses};
+ghost use Rattle.tocmark.specs.Ranges.{unranged};
+ghost use Rattle.tocmark.specs.Walk.{Standing, done, is_due, is_whole, nested, flushed, flushed_before, advance, joins, walk, hand_walk, flushed_rest, ended};
+ghost use Rattle.tocmark.specs.Writes.{Makes};
+ghost use Rattle.tocmark.specs.StateView.{Adds, Answers, Counts, Ends, at_most, options_kept, pairs, rendering, rendering_of, rendering_with, standing_of, text_now};
+
+use crate::taker::Taker;
+use std::alloc::{AllocError, Global};
+use std::fmt;
+use tocmark_event::event::{
+    BlockQuoteKind, Event, EventOf, HeadingLevel, MetadataBlockKind, ParserOptions, TagEnd,
+};
+use tocmark_event::options::{Error, Options};
+use tocmark_event::reader::Reader;
+use tocmark_render::render::{Document, needs_list_placeholder};
+use tocmark_spelling::spelling::BufferedEvent;
+
+/// How much a call did. Both counts stop at the greatest `usize`.
+#[derive(Clone, Copy, Debug, PartialEq, Eq, Default)]
+pub struct Progress {
+    /// The events that the call took; `finish` takes none.
+    pub events_consumed: usize,
+    /// The bytes of the texts that the call handed to its writer.
+    pub bytes_written: usize,
+}
+
+/// Whether a state takes events.
+#[derive(Clone, Copy, Debug, PartialEq, Eq)]
+enum Status {
+    Active,
+    Finished,
+    Failed,
+}
+
+/// Options with a strong token of their own.
+#[derive(Debug, Drop)]
+struct KeptOptions {
+    newlines_after_headline: usize,
+    newlines_after_paragraph: usize,
+    newlines_after_codeblock: usize,
+    newlines_after_htmlblock: usize,
+    newlines_after_table: usize,
+    newlines_after_rule: usize,
+    newlines_after_list: usize,
+    newlines_after_blockquote: usize,
+    newlines_after_rest: usize,
+    newlines_after_metadata: usize,
+    code_block_token_count: usize,
+    code_block_token: char,
+    list_token: char,
+    ordered_list_token: char,
+    increment_ordered_list_bullets: bool,
+    emphasis_token: char,
+    strong_token: String,
+    use_html_for_super_sub_script: bool,
+}
+
+/// What a state holds of the events that it took.
+#[derive(Debug, Drop)]
+struct Held {
+    document: Document,
+    /// The events since the last unit that was written.
+    pending: Vec<BufferedEvent>,
+    /// The Ends of the open containers, outermost first.
+    open_tags: Vec<TagEnd>,
+    /// The end of the last range of an event other than a Start, in bytes.
+    range_end: usize,
+    /// Whether a unit waits, so that all later events join it.
+    is_deferred: bool,
+}
+
+/// What writing a unit takes beside the unit.
+#[derive(Drop)]
+struct Tools<'s, R> {
+    alloc: Global,
+    reader: &'s R,
+    options: Options<'s>,
+}
+
+/// Takes events, and hands the text of each unit to a writer.
+#[derive(Debug, Drop)]
+pub struct State<R> {
+    alloc: Global,
+    reader: R,
+    options: KeptOptions,
+    status: Status,
+    held: Held,
+}
+
+impl KeptOptions {
+    /// The options with a copy of their strong token.
+    fn new(alloc: Global, options: Options<'_>) -> Result<KeptOptions, AllocError>
+        ensures { IfOk result (λ kept. options_kept kept ≡ options_view options.entry) }
+    {
+        Ok(KeptOptions {
+            newlines_after_headline: options.newlines_after_headline,
+            newlines_after_paragraph: options.newlines_after_paragraph,
+            newlines_after_codeblock: options.newlines_after_codeblock,
+            newlines_after_htmlblock: options.newlines_after_htmlblock,
+            newlines_after_table: options.newlines_after_table,
+            newlines_after_rule: options.newlines_after_rule,
+            newlines_after_list: options.newlines_after_list,
+            newlines_after_blockquote: options.newlines_after_blockquote,
+            newlines_after_rest: options.newlines_after_rest,
+            newlines_after_metadata: options.newlines_after_metadata,
+            code_block_token_count: options.code_block_token_count,
+            code_block_token: options.code_block_token,
+            list_token: options.list_token,
+            ordered_list_token: options.ordered_list_token,
+            increment_ordered_list_bullets: options.increment_ordered_list_bullets,
+            emphasis_token: options.emphasis_token,
+            strong_token: String::from_str(alloc, options.strong_token)?,
+            use_html_for_super_sub_script: options.use_html_for_super_sub_script,
+        })
+    }
+
+    /// The options.
+    fn options(&self) -> Options<'_>
+        ensures { options_view result ≡ options_kept self.now }
+    {
+        Options {
+            newlines_after_headline: self.newlines_after_headline,
+            newlines_after_paragraph: self.newlines_after_paragraph,
+            newlines_after_codeblock: self.newlines_after_codeblock,
+            newlines_after_htmlblock: self.newlines_after_htmlblock,
+            newlines_after_table: self.newlines_after_table,
+            newlines_after_rule: self.newlines_after_rule,
+            newlines_after_list: self.newlines_after_list,
+            newlines_after_blockquote: self.newlines_after_blockquote,
+            newlines_after_rest: self.newlines_after_rest,
+            newlines_after_metadata: self.newlines_after_metadata,
+            code_block_token_count: self.code_block_token_count,
+            code_block_token: self.code_block_token,
+            list_token: self.list_token,
+            ordered_list_token: self.ordered_list_token,
+            increment_ordered_list_bullets: self.increment_ordered_list_bullets,
+            emphasis_token: self.emphasis_token,
+            strong_token: self.strong_token.as_str(),
+            use_html_for_super_sub_script: self.use_html_for_super_sub_script,
+        }
+    }
+}
+
+fn end_number(end: TagEnd) -> u8
+    ensures { result ≡ end_code end }
+{
+    match end {
+        TagEnd::Paragraph => 0,
+        TagEnd::Heading(HeadingLevel::H1) => 1,
+        TagEnd::Heading(HeadingLevel::H2) => 2,
+        TagEnd::Heading(HeadingLevel::H3) => 3,
+        TagEnd::Heading(HeadingLevel::H4) => 4,
+        TagEnd::Heading(HeadingLevel::H5) => 5,
+        TagEnd::Heading(HeadingLevel::H6) => 6,
+        TagEnd::BlockQuote(None) => 7,
+        TagEnd::BlockQuote(Some(BlockQuoteKind::Note)) => 8,
+        TagEnd::BlockQuote(Some(BlockQuoteKind::Tip)) => 9,
+        TagEnd::BlockQuote(Some(BlockQuoteKind::Important)) => 10,
+        TagEnd::BlockQuote(Some(BlockQuoteKind::Warning)) => 11,
+        TagEnd::BlockQuote(Some(BlockQuoteKind::Caution)) => 12,
+        TagEnd::CodeBlock => 13,
+        TagEnd::HtmlBlock => 14,
+        TagEnd::List(true) => 15,
+        TagEnd::List(false) => 16,
+        TagEnd::Item => 17,
+        TagEnd::FootnoteDefinition => 18,
+        TagEnd::DefinitionList => 19,
+        TagEnd::DefinitionListTitle => 20,
+        TagEnd::DefinitionListDefinition => 21,
+        TagEnd::Table => 22,
+        TagEnd::TableHead => 23,
+        TagEnd::TableRow => 24,
+        TagEnd::TableCell => 25,
+        TagEnd::Emphasis => 26,
+        TagEnd::Strong => 27,
+        TagEnd::Strikethrough => 28,
+        TagEnd::Superscript => 29,
+        TagEnd::Subscript => 30,
+        TagEnd::Link => 31,
+        TagEnd::Image => 32,
+        TagEnd::MetadataBlock(MetadataBlockKind::YamlStyle) => 33,
+        TagEnd::MetadataBlock(MetadataBlockKind::PlusesStyle) => 34,
+    }
+}
+
+/// Opens or ends a container.
+fn nest(open_tags: &mut Vec<TagEnd>, event: &Event<'_>) -> Result<(), Error>
+    ensures { Answers result (reverse open_tags.new.items) (nested (reverse open_tags.old.items) (event_view text_of event.now)) }
+{
+    match event {
+        EventOf::Start(tag) => {
+            open_tags.push(tag.to_end())?;
+            Ok(())
+        }
+        EventOf::End(end) => match open_tags.pop() {
+            Some(innermost) => {
+                if end_number(*end) == end_number(innermost) {
+                    Ok(())
+                } else {
+                    Err(Error::UnexpectedEvent)
+                }
+            }
+            None => Err(Error::UnexpectedEvent),
+        },
+        _ => Ok(()),
+    }
+}
+
+/// Hands a text, unless it is empty. Returns its length in bytes.
+fn hand<W: Taker>(writer: &mut W, text: &str) -> Result<usize, Error>
+    ensures handed { Makes W.takes W.refuses writer.old writer.new result done (hand_walk text.now done) }
+    ensures count { IfOk result (λ n. n ≡ length text.now) }
+{
+    if !text.is_empty() {
+        writer.take(text)?;
+    }
+    Ok(text.len())
+}
+
+/// Writes what is pending as one unit. Returns the length of its text in bytes.
+fn flush<R: Reader, W: Taker>(
+    tools: &Tools<'_, R>,
+    held: &mut Held,
+    next: Option<&Event<'_>>,
+    writer: &mut W,
+) -> Result<usize, Error>
+    ensures made { Makes W.takes W.refuses writer.old writer.new result (standing_of held.new) (flushed (rendering_with R.reading tools.now) (next_view next.entry) (standing_of held.old)) }
+    ensures count { IfOk result (λ n. n ≡ sum_by length (flushed (rendering_with R.reading tools.now) (next_view next.entry) (standing_of held.old)).texts) }
+{
+    let text = held.document.block(
+        tools.alloc,
+        tools.reader,
+        &held.pending,
+        next,
+        &tools.options,
+    )?;
+    held.pending.clear();
+    hand(writer, text.as_str())
+}
+
+fn copied_source(alloc: Global, source: Option<&str>) -> Result<Option<String>, AllocError>
+    ensures { IfOk result (λ copy. option_map string_bytes copy ≡ text_now source.entry) }
+{
+    match source {
+        Some(text) => Ok(Some(String::from_str(alloc, text)?)),
+        None => Ok(None),
+    }
+}
+
+/// Adds an event to what is pending.
+fn join(
+    alloc: Global,
+    held: &mut Held,
+    event: &Event<'_>,
+    source: Option<&str>,
+) -> Result<(), Error>
+    ensures { Answers result (standing_of held.new) (joins (sourced (event_view text_of event.now) (text_now source.entry)) (standing_of held.old)).outcome }
+{
+    nest(&mut held.open_tags, event)?;
+    let event = event.copied(alloc)?;
+    let source = copied_source(alloc, source)?;
+    held.pending.push(BufferedEvent { event, source })?;
+    Ok(())
+}
+
+/// Whether what is pending is a unit of its own.
+fn is_due_now(held: &Held) -> bool
+    ensures { result ≡ is_due (standing_of held.now) }
+{
+    !held.is_deferred && held.open_tags.is_empty() && !held.pending.is_empty()
+}
+
+/// Writes a whole unit before the event that follows it, unless the unit waits. Returns the length
+/// of its text in bytes.
+fn flush_before<R: Reader, W: Taker>(
+    tools: &Tools<'_, R>,
+    held: &mut Held,
+    next: &Event<'_>,
+    writer: &mut W,
+) -> Result<usize, Error>
+    ensures made { Makes W.takes W.refuses writer.old writer.new result (standing_of held.new) (flushed_before (rendering_with R.reading tools.now) (event_view text_of next.now) (standing_of held.old)) }
+    ensures count { IfOk result (λ n. n ≡ sum_by length (flushed_before (rendering_with R.reading tools.now) (event_view text_of next.now) (standing_of held.old)).texts) }
+{
+    if !is_due_now(held) {
+        return Ok(0);
+    }
+    if needs_list_placeholder(&held.pending) {
+        held.is_deferred = true;
+        return Ok(0);
+    }
+    flush(tools, held, Some(next), writer)
+}
+
+/// Takes one event, with its spelling in the source where that is known. Returns how many bytes it
+/// handed.
+fn take<R: Reader, W: Taker>(
+    tools: &Tools<'_, R>,
+    held: &mut Held,
+    event: &Event<'_>,
+    source: Option<&str>,
+    writer: &mut W,
+) -> Result<usize, Error>
+    ensures made { Makes W.takes W.refuses writer.old writer.new result (standing_of held.new) (advance (rendering_with R.reading tools.now) (sourced (event_view text_of event.now) (text_now source.entry)) (standing_of held.old)) }
+    ensures count { IfOk result (λ n. n ≡ sum_by length (advance (rendering_with R.reading tools.now) (sourced (event_view text_of event.now) (text_now source.entry)) (standing_of held.old)).texts) }
+{
+    let written = flush_before(tools, held, event, writer)?;
+    join(tools.alloc, held, event, source)?;
+    Ok(written)
+}
+
+/// Takes the events of an iterator, which have no ranges.
+fn take_all<'a, I, R, W>(
+    tools: &Tools<'_, R>,
+    held: &mut Held,
+    events: I,
+    writer: &mut W,
+) -> Result<Progress, Error>
+where
+    I: Iterator<Item = &'a Event<'a>>,
+    R: Reader,
+    W: Taker,
+    requires can { I.can_next events }
+    requires ends { IsFinite (I.remaining events) }
+    ensures { (xs : List (Bor (EventOf CowStr))) × DrainsIf I.next_gives (IsOk result) events xs
+        × ((source : List ℕ) → Makes W.takes W.refuses writer.old writer.new result (standing_of held.new) (walk (rendering_with R.reading tools.now) source (standing_of held.old) (pairs xs)))
+        × ((source : List ℕ) → IfOk result (λ p. Counts p (length xs) (sum_by length (walk (rendering_with R.reading tools.now) source (standing_of held.old) (pairs xs)).texts))) }
+{
+    let mut progress = Progress::default();
+    for event in events {
+        let written = take(tools, held, event, None, writer)?;
+        progress.events_consumed = progress.events_consumed.saturating_add(1);
+        progress.bytes_written = progress.bytes_written.saturating_add(written);
+    }
+    Ok(progress)
+}
+
+/// Writes all that is pending as one unit. Returns the length of its text in bytes.
+fn flush_rest<R: Reader, W: Taker>(
+    tools: &Tools<'_, R>,
+    held: &mut Held,
+    writer: &mut W,
+) -> Result<usize, Error>
+    ensures made { Makes W.takes W.refuses writer.old writer.new result (standing_of held.new) (flushed_rest (rendering_with R.reading tools.now) (standing_of held.old).pending (standing_of held.old)) }
+    ensures count { IfOk result (λ n. n ≡ sum_by length (flushed_rest (rendering_with R.reading tools.now) (standing_of held.old).pending (standing_of held.old)).texts) }
+{
+    if held.pending.is_empty() {
+        Ok(0)
+    } else {
+        flush(tools, held, None, writer)
+    }
+}
+
+/// Takes the end of the events. Returns how many bytes it handed, at most the greatest `usize`.
+fn end<R: Reader, W: Taker>(
+    tools: &Tools<'_, R>,
+    held: &mut Held,
+    writer: &mut W,
+) -> Result<usize, Error>
+    ensures made { Makes W.takes W.refuses writer.old writer.new result done (ended (rendering_with R.reading tools.now) (standing_of held.old)) }
+    ensures count { IfOk result (λ n. n ≡ at_most (sum_by length (ended (rendering_with R.reading tools.now) (standing_of held.old)).texts)) }
+{
+    if !held.open_tags.is_empty() {
+        return Err(Error::UnexpectedEvent);
+    }
+    let written = flush_rest(tools, held, writer)?;
+    let definitions = held.document.finish(tools.alloc)?;
+    let more = hand(writer, definitions.as_str())?;
+    Ok(written.saturating_add(more))
+}
+
+impl<R: Reader + Drop> State<R> {
+    ghost use Rattle.std.specs.Prelude.{IfErr};
+    ghost use Rattle.tocmark_event.specs.declared.event.flags.ParserOptions.{ParserOptions};
+    ghost use Rattle.tocmark.specs.Ranges.{Pair};
+    ghost use Rattle.tocmark.specs.StateView.{Stands, IsActive, IsFailed, IsFinished};
+
+    /// A state that took no event. The options aren't checked. An `Err` says that memory ran out for
+    /// a copy of the strong token; the reader is dropped then.
+    pub fn new(
+        alloc: Global,
+        reader: R,
+        parser_options: ParserOptions,
+        options: Options<'_>,
+    ) -> Result<State<R>, Error>
+        ensures stands { IfOk result (λ state. (source : List ℕ) → Stands R.reading parser_options source state []) }
+        ensures same { IfOk result (λ state. rendering_of R.reading state ≡ rendering (options_view options.entry) (R.reading reader)) }
+        ensures refused { IfErr result (λ e. e ≡ Error.OutOfMemory) }
+    {
+        let options = KeptOptions::new(alloc, options)?;
+        Ok(State {
+            alloc,
+            reader,
+            options,
+            status: Status::Active,
+            held: Held {
+                document: Document::new(alloc, parser_options),
+                pending: Vec::new(alloc),
+                open_tags: Vec::new(alloc),
+                range_end: 0,
+                is_deferred: false,
+            },
+        })
+    }
+
+    /// Takes events.
+    pub fn process<'a, I, W>(&mut self, events: I, writer: &mut W) -> Result<Progress, Error>
+    where
+        I: IntoIterator<Item = &'a Event<'a>>,
+        W: fmt::Write,
+        requires { (it : I.IntoIter) → I.into_iter_gives events it → I.IntoIter.can_next it × IsFinite (I.IntoIter.remaining it) }
+        ensures active { IsActive self.old → (it : I.IntoIter) × (xs : List (Bor (EventOf CowStr))) × I.into_iter_gives events it
+            × DrainsIf I.IntoIter.next_gives (IsOk result) it xs
+            × ((flags : ParserOptions) (source : List ℕ) (p : List Pair) → Stands R.reading flags source self.old p →
+            Adds W.write_str_gives writer.old writer.new (rendering_of R.reading self.old) flags source result self.new.held p (pairs xs)) }
+        ensures same { rendering_of R.reading self.new ≡ rendering_of R.reading self.old }
+        ensures stands { OnOk result (self.new.status ≡ self.old.status) }
+        ensures refused { OnErr result (IsFailed self.new) }
+        ensures finished { IsFinished self.old → (result ≡ Err Error.Finished) × (writer.new ≡ writer.old) }
+        ensures failed { IsFailed self.old → (result ≡ Err Error.Failed) × (writer.new ≡ writer.old) }
+    {
+        let events = events.into_iter();
+        match self.status {
+            Status::Active => {
+                let tools = Tools {
+                    alloc: self.alloc,
+                    reader: &self.reader,
+                    options: self.options.options(),
+                };
+                match take_all(&tools, &mut self.held, events, writer) {
+                    Ok(progress) => Ok(progress),
+                    Err(error) => {
+                        self.status = Status::Failed;
+                        Err(error)
+                    }
+                }
+            }
+            Status::Finished => {
+                self.status = Status::Failed;
+                Err(Error::Finished)
+            }
+            Status::Failed => Err(Error::Failed),
+        }
+    }
+
+    /// Takes the end of the events.
+    pub fn finish<W: fmt::Write>(&mut self, writer: &mut W) -> Result<Progress, Error>
+        ensures active { (flags : ParserOptions) (source : List ℕ) (p : List Pair) → Stands R.reading flags source self.old p →
+            Ends W.write_str_gives writer.old writer.new (rendering_of R.reading self.old) flags source result p }
+        ensures same { rendering_of R.reading self.new ≡ rendering_of R.reading self.old }
+        ensures ok { OnOk result (IsFinished self.new) }
+        ensures refused { OnErr result (IsFailed self.new) }
+        ensures finished { IsFinished self.old → (result ≡ Ok (record { events_consumed = 0; bytes_written = 0 })) × (writer.new ≡ writer.old) }
+        ensures failed { IsFailed self.old → (result ≡ Err Error.Failed) × (writer.new ≡ writer.old) }
+    {
+        match self.status {
+            Status::Active => {
+                let tools = Tools {
+                    alloc: self.alloc,
+                    reader: &self.reader,
+                    options: self.options.options(),
+                };
+                match end(&tools, &mut self.held, writer) {
+                    Ok(bytes_written) => {
+                        self.status = Status::Finished;
+                        Ok(Progress {
+                            events_consumed: 0,
+                            bytes_written,
+                        })
+                    }
+                    Err(error) => {
+                        self.status = Status::Failed;
+                        Err(error)
+                    }
+                }
+            }
+            Status::Finished => Ok(Progress::default()),
+            Status::Failed => Err(Error::Failed),
+        }
+    }
+}
