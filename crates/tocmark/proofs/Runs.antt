@@ -1,5 +1,5 @@
 -- What a loop over events, and a call after others, add to a walk.
-use Rattle.std.proofs.Common.{◌≡◌, ℕ, ◌+◌, ◌-◌, ◌^◌, min, List, [], ◌∷◌, ◌++◌, length, sum_by, Result, Ok, Err, None, ap, sym, ◌∙◌, subst, arith, false, true}
+use Rattle.std.proofs.Common.{◌≡◌, ℕ, ◌+◌, ◌-◌, ◌^◌, min, List, [], ◌∷◌, ◌++◌, length, sum_by, Result, Ok, Err, Option, None, ap, sym, ◌∙◌, subst, arith, false, true}
 use Rattle.std.proofs.lemmas.List.{map-append}
 use Rattle.std.proofs.lemmas.List.Sums.{sum_by-append}
 use Rattle.std.specs.Borrow.{Bor}
@@ -16,10 +16,10 @@ use Rattle.tocmark_event.specs.declared.options.Error.{Error}
 use Rattle.tocmark_spelling.specs.Buffered.{sourced}
 use Rattle.tocmark.specs.declared.state.Held.{Held}
 use Rattle.tocmark.specs.declared.state.Progress.{Progress}
-use Rattle.tocmark.specs.Ranges.{Pair, unranged}
+use Rattle.tocmark.specs.Ranges.{Pair, Range, unranged}
 use Rattle.tocmark.specs.Walk.{Done, done, Rendering, Standing, Walk, go_on, walk, step, advance, nothing_yet, ended, script}
 use Rattle.tocmark.specs.Writes.{Makes, RefusesAt}
-use Rattle.tocmark.specs.StateView.{standing_of, pairs, Counts, Adds, Ends, rendering, unknown}
+use Rattle.tocmark.specs.StateView.{standing_of, pairs, ranged_pair, ranged_pairs, Counts, Adds, Ends, rendering, unknown}
 use Rattle.tocmark.proofs.Walks.{walk_after, walk_more, Makes-more, Makes-then, step_unranged, RefusesAt-longer}
 
 pub no_ok : {A : Type 0} → false ≡ true → A
@@ -42,6 +42,19 @@ bytes_more how source s t ys y h =
     ∙ (ap (λ (w : Walk Standing). sum_by length w.texts) (walk_more how source s t (pairs ys) (unranged (event_at y)) h)
     ∙ (sum_by-append length (walk how source s (pairs ys)).texts (step how source (unranged (event_at y)) t).texts
     ∙ ap (λ (w : Walk Standing). sum_by length (walk how source s (pairs ys)).texts + sum_by length w.texts) (step_unranged how source (event_at y) t)))
+
+pub ranged_more : (ys : List (Bor (EventOf CowStr) × Option Range)) (y : Bor (EventOf CowStr) × Option Range) → ranged_pairs (ys ++ y ∷ []) ≡ ranged_pairs ys ++ ranged_pair y ∷ []
+ranged_more ys y = map-append ranged_pair ys (y ∷ [])
+
+pub Makes-ranged : {W X : Type 0} (gives refuses : W → List ℕ → W → Type 0) (w v u : W) (r : Result X Error) (t' : Standing) (how : Rendering) (source : List ℕ) (s t : Standing) (ys : List (Bor (EventOf CowStr) × Option Range)) (y : Bor (EventOf CowStr) × Option Range) → (walk how source s (ranged_pairs ys)).outcome ≡ Ok t → FoldsTo gives w (walk how source s (ranged_pairs ys)).texts v → Makes gives refuses v u r t' (step how source (ranged_pair y) t) → Makes gives refuses w u r t' (walk how source s (ranged_pairs (ys ++ y ∷ [])))
+Makes-ranged gives refuses w v u r t' how source s t ys y h folds m =
+    rw (ranged_more ys y) (Makes-more gives refuses w v u r t' how source s t (ranged_pairs ys) (ranged_pair y) h folds m)
+
+pub ranged_bytes : (how : Rendering) (source : List ℕ) (s t : Standing) (ys : List (Bor (EventOf CowStr) × Option Range)) (y : Bor (EventOf CowStr) × Option Range) → (walk how source s (ranged_pairs ys)).outcome ≡ Ok t → sum_by length (walk how source s (ranged_pairs (ys ++ y ∷ []))).texts ≡ sum_by length (walk how source s (ranged_pairs ys)).texts + sum_by length (step how source (ranged_pair y) t).texts
+ranged_bytes how source s t ys y h =
+    ap (λ es. sum_by length (walk how source s es).texts) (ranged_more ys y)
+    ∙ (ap (λ (w : Walk Standing). sum_by length w.texts) (walk_more how source s t (ranged_pairs ys) (ranged_pair y) h)
+    ∙ sum_by-append length (walk how source s (ranged_pairs ys)).texts (step how source (ranged_pair y) t).texts)
 
 pub Counts-more : (p : Progress) (a b events bytes n : ℕ) → Counts p events bytes → a ≡ min (p.events_consumed + 1) (2 ^ 64 - 1) → b ≡ min (p.bytes_written + n) (2 ^ 64 - 1) → Counts (record { events_consumed = a; bytes_written = b }) (events + 1) (bytes + n)
 Counts-more p a b events bytes n c e f = record { events_consumed = omega (arith, c.events_consumed); bytes_written = omega (arith, c.bytes_written) }

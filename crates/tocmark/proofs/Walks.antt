@@ -12,7 +12,7 @@ use Rattle.tocmark_spelling.specs.Buffered.{sourced}
 use Rattle.tocmark_event.specs.declared.event.flags.ParserOptions.{ParserOptions}
 use Rattle.tocmark_render.specs.Chosen.{DocumentView, Refuses, Gives}
 use Rattle.tocmark.specs.StateView.{keeping}
-use Rattle.tocmark.specs.Ranges.{Pair, unranged}
+use Rattle.tocmark.specs.Ranges.{Pair, resolved, unranged}
 use Rattle.tocmark.specs.Walk.{Done, done, Kept, Rendering, Standing, Walk, go_on, stay, refuse, handed_text, hand_walk, nested, with_event, joins, flush_of, flushed, is_due, flushed_before, advance, step, walk, flushed_rest, ended_at, ended}
 use Rattle.tocmark.specs.Writes.{Makes, RefusesAt}
 
@@ -140,6 +140,21 @@ advance_after how e source s t h = advance_sourced how e source s ∙ ap (λ o. 
 
 pub advance_texts : (how : Rendering) (e : EventView) (source : Option (List ℕ)) (s t : Standing) → (flushed_before how e s).outcome ≡ Ok t → (advance how (sourced e source) s).texts ≡ (flushed_before how e s).texts
 advance_texts how e source s t h = ap (λ (w : Walk Standing). w.texts) (advance_after how e source s t h) ∙ (ap (λ ts. (flushed_before how e s).texts ++ ts) (joins_texts (sourced e source) t) ∙ append-nil (flushed_before how e s).texts)
+
+-- a step whose range is good
+pub step_ok : (how : Rendering) (source : List ℕ) (x : Pair) (s : Standing) (e : SourcedEvent) (n : ℕ) → resolved source s.range_end x ≡ Ok (e, n) → step how source x s ≡ advance how e (record s { range_end = n })
+unfolding step
+step_ok how source x s e n h = rw h refl
+
+step_err : (how : Rendering) (source : List ℕ) (x : Pair) (s : Standing) (e : Error) → resolved source s.range_end x ≡ Err e → step how source x s ≡ refuse e
+unfolding step
+step_err how source x s e h = rw h refl
+
+-- a step whose range is refused
+pub step_refused : {W : Type 0} (gives refuses : W → List ℕ → W → Type 0) (w : W) (how : Rendering) (source : List ℕ) (x : Pair) (s : Standing) (e : Error) → Refuses e (resolved source s.range_end x) → RefusesAt gives refuses w w e (step how source x s)
+step_refused gives refuses w how source x s (error.FormatFailed f) h = absurd h
+step_refused gives refuses w how source x s error.OutOfMemory h = ([], (step how source x s).texts, refl, refl)
+step_refused gives refuses w how source x s e h = rw (step_err how source x s e h) (refl, refl)
 
 -- without a range a step is that of the event
 pub step_unranged : (how : Rendering) (source : List ℕ) (e : EventView) (s : Standing) → step how source (unranged e) s ≡ advance how (sourced e None) s

@@ -17,10 +17,10 @@ Pair = EventView × Option Range
 abbrev pub unranged : EventView → Pair
 unranged e = (e, None)
 
--- the place is the start or the end of the text, or that of a byte that begins a character
+-- the place is the end of the text, or that of a byte that begins a character
 abbrev pub is_character_boundary : List ℕ → ℕ → Bool
 is_character_boundary source n =
-    nat_le n (length source) && (n == 0 || n == length source || nat_lt (slice_index source n) 128 || nat_le 192 (slice_index source n))
+    n == length source || (nat_lt n (length source) && (nat_lt (slice_index source n) 128 || nat_le 192 (slice_index source n)))
 
 -- the range isn't reversed, ends within the source and has its ends on character boundaries
 abbrev pub is_good_range : List ℕ → Range → Bool

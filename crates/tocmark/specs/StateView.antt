@@ -7,12 +7,12 @@ use Rattle.std.specs.Result.{IfOk}
 use Rattle.tocmark_event.specs.Options.{OptionsView, options_view}
 use Rattle.tocmark_event.specs.Reading.{ReadingView}
 use Rattle.tocmark_event.specs.Text.{text_of}
-use Rattle.tocmark_event.specs.View.{event_view}
+use Rattle.tocmark_event.specs.View.{EventView, SourcedEvent, event_view}
 use Rattle.tocmark_event.specs.declared.event.EventOf.{EventOf}
 use Rattle.tocmark_event.specs.declared.event.flags.ParserOptions.{ParserOptions}
 use Rattle.tocmark_event.specs.declared.event.text.CowStr.{CowStr}
 use Rattle.tocmark_event.specs.declared.options.Error.{Error}
-use Rattle.tocmark_spelling.specs.Buffered.{buffered_view}
+use Rattle.tocmark_spelling.specs.Buffered.{buffered_view, sourced}
 use Rattle.tocmark_render.specs.Chosen.{DocumentView, Refuses, document_view, document_flags, chosen, needs_placeholder, definitions}
 use Rattle.tocmark_render.specs.declared.render.Document.{Document}
 use Rattle.tocmark.specs.declared.state.Progress.{Progress}
@@ -21,7 +21,7 @@ use Rattle.tocmark.specs.declared.state.KeptOptions.{KeptOptions}
 use Rattle.tocmark.specs.declared.state.State.{State}
 use Rattle.tocmark.specs.declared.state.Tools.{Tools}
 use Rattle.tocmark.specs.declared.state.Status.TheVariants.{Active, Finished, Failed}
-use Rattle.tocmark.specs.Ranges.{Pair, unranged}
+use Rattle.tocmark.specs.Ranges.{Pair, Range, unranged}
 use Rattle.tocmark.specs.Walk.{done, Kept, Rendering, Standing, walk, nothing_yet, script}
 use Rattle.tocmark.specs.Writes.{Makes}
 
@@ -93,6 +93,19 @@ pairs xs = map (λ x. unranged (event_view text_of x.now)) xs
 
 abbrev pub IsActive : {R : Type 0} → State R → Type 0
 IsActive s = s.status ≡ Active
+
+-- an event with its range
+abbrev pub ranged_pair : Bor (EventOf CowStr) × Option Range → Pair
+ranged_pair x = (event_view text_of x.0.now, x.1)
+
+-- events with their ranges
+abbrev pub ranged_pairs : List (Bor (EventOf CowStr) × Option Range) → List Pair
+ranged_pairs xs = map ranged_pair xs
+
+-- an event with this spelling in the source, and the end of the last range
+abbrev pub ResolvedAs : EventView → Result (Option (Bor (List ℕ)) × ℕ) Error → Result (SourcedEvent × ℕ) Error → Type 0
+ResolvedAs e (Ok x) answer = answer ≡ Ok (sourced e (text_now x.0), x.1)
+ResolvedAs e (Err x) answer = Refuses x answer
 
 -- a state that is active, and stands where the list of pairs over the source does
 pub record Stands {R : Type 0} (reading : R → List ℕ → ParserOptions → ReadingView) (flags : ParserOptions) (source : List ℕ) (s : State R) (p : List Pair) : Type 0 where

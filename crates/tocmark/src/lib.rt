@@ -4,6 +4,8 @@
 mod laws;
 mod state;
 mod taker;
+#[cfg(test)]
+mod tests;
 
 ghost use Rattle.std.specs.Prelude.{◌≡◌, List, ℕ, IfOk, IsOk};
 ghost use Rattle.std.specs.Borrow.{Bor};

@@ -1,6 +1,6 @@
 //! A state that takes events.
 
-ghost use Rattle.std.specs.Prelude.{◌≡◌, ◌++◌, length, map, reverse, Bool, IfOk, OnOk, OnErr, List, ℕ, IsOk, Some, None, [], option_map, string_bytes, sum_by};
+ghost use Rattle.std.specs.Prelude.{◌+◌, Option, ◌≤◌, true, slice_range, ◌≡◌, ◌++◌, length, map, reverse, Bool, IfOk, OnOk, OnErr, List, ℕ, IsOk, Some, None, [], option_map, string_bytes, sum_by};
 ghost use Rattle.std.specs.Borrow.{Bor};
 ghost use Rattle.std.specs.Iterator.{IsFinite, DrainsIf};
 ghost use Rattle.tocmark_event.specs.Ends.{end_code};
@@ -11,10 +11,10 @@ ghost use Rattle.tocmark_event.specs.declared.event.EventOf.{EventOf};
 ghost use Rattle.tocmark_event.specs.declared.event.text.CowStr.{CowStr};
 ghost use Rattle.tocmark_spelling.specs.Buffered.{buffered_view, next_view, sourced};
 ghost use Rattle.tocmark_render.specs.Chosen.{Refuses};
-ghost use Rattle.tocmark.specs.Ranges.{unranged};
-ghost use Rattle.tocmark.specs.Walk.{Standing, done, is_due, is_whole, nested, flushed, flushed_before, advance, joins, walk, hand_walk, flushed_rest, ended};
+ghost use Rattle.tocmark.specs.Ranges.{Range, is_character_boundary, is_good_range, resolved_at, spelling_start};
+ghost use Rattle.tocmark.specs.Walk.{Standing, step, done, is_due, is_whole, nested, flushed, flushed_before, advance, joins, walk, hand_walk, flushed_rest, ended};
 ghost use Rattle.tocmark.specs.Writes.{Makes};
-ghost use Rattle.tocmark.specs.StateView.{Adds, Answers, Counts, Ends, at_most, options_kept, pairs, rendering, rendering_of, rendering_with, standing_of, text_now};
+ghost use Rattle.tocmark.specs.StateView.{Adds, Answers, Counts, Ends, at_most, options_kept, pairs, ranged_pairs, rendering, rendering_of, rendering_with, ResolvedAs, standing_of, text_now};
 
 use crate::taker::Taker;
 use std::alloc::{AllocError, Global};
@@ -320,6 +320,17 @@ fn take<R: Reader, W: Taker>(
     Ok(written)
 }
 
+/// One more event, for which this many bytes were handed.
+fn counted(progress: Progress, written: usize) -> Progress
+    ensures events { result.events_consumed ≡ at_most (progress.events_consumed + 1) }
+    ensures bytes { result.bytes_written ≡ at_most (progress.bytes_written + written) }
+{
+    Progress {
+        events_consumed: progress.events_consumed.saturating_add(1),
+        bytes_written: progress.bytes_written.saturating_add(written),
+    }
+}
+
 /// Takes the events of an iterator, which have no ranges.
 fn take_all<'a, I, R, W>(
     tools: &Tools<'_, R>,
@@ -337,11 +348,108 @@ where
         × ((source : List ℕ) → Makes W.takes W.refuses writer.old writer.new result (standing_of held.new) (walk (rendering_with R.reading tools.now) source (standing_of held.old) (pairs xs)))
         × ((source : List ℕ) → IfOk result (λ p. Counts p (length xs) (sum_by length (walk (rendering_with R.reading tools.now) source (standing_of held.old) (pairs xs)).texts))) }
 {
-    let mut progress = Progress::default();
+    let mut taken = Progress::default();
     for event in events {
         let written = take(tools, held, event, None, writer)?;
-        progress.events_consumed = progress.events_consumed.saturating_add(1);
-        progress.bytes_written = progress.bytes_written.saturating_add(written);
+        taken = counted(taken, written);
+    }
+    Ok(taken)
+}
+
+fn is_boundary(source: &str, at: usize) -> bool
+    ensures { result ≡ is_character_boundary source.now at }
+{
+    source.is_char_boundary(at)
+}
+
+/// Whether a range isn't reversed, ends within the source and has its ends on character boundaries.
+fn is_in_source(source: &str, range: (usize, usize)) -> bool
+    ensures { result ≡ is_good_range source.now range }
+{
+    range.0 <= range.1 && is_boundary(source, range.0) && is_boundary(source, range.1)
+}
+
+fn text_start(source: &str, range_end: usize, start: usize) -> usize
+    requires { start ≤ length source.now }
+    ensures { result ≡ spelling_start source.now range_end start }
+{
+    if range_end < start && source.as_bytes()[start - 1] == b'\\' {
+        start - 1
+    } else {
+        start
+    }
+}
+
+/// What stands in the source for a text, with the backslash before it.
+fn text_spelling(source: &str, range_end: usize, range: (usize, usize)) -> &str
+    requires { is_good_range source.now range ≡ true }
+    ensures { result.now ≡ slice_range source.now (spelling_start source.now range_end range.0) range.1 }
+{
+    let start = text_start(source, range_end, range.0);
+    &source[start..range.1]
+}
+
+/// What stands in the source for an event, which only a text has, and the end of the last range.
+fn resolve<'s>(
+    source: &'s str,
+    range_end: usize,
+    event: &Event<'_>,
+    range: Option<(usize, usize)>,
+) -> Result<(Option<&'s str>, usize), Error>
+    ensures { ResolvedAs (event_view text_of event.now) result (resolved_at source.now range_end (event_view text_of event.now) range) }
+{
+    let Some(range) = range else {
+        return Ok((None, range_end));
+    };
+    if !is_in_source(source, range) {
+        return Err(Error::InvalidSourceRange);
+    }
+    match event {
+        EventOf::Start(_) => Ok((None, range_end)),
+        EventOf::Text(_) => Ok((Some(text_spelling(source, range_end, range)), range.1)),
+        _ => Ok((None, range.1)),
+    }
+}
+
+/// Takes one event with its range, if it has one. Returns how many bytes it handed.
+fn take_ranged<R: Reader, W: Taker>(
+    tools: &Tools<'_, R>,
+    held: &mut Held,
+    event: &Event<'_>,
+    range: Option<(usize, usize)>,
+    source: &str,
+    writer: &mut W,
+) -> Result<usize, Error>
+    ensures made { Makes W.takes W.refuses writer.old writer.new result (standing_of held.new) (step (rendering_with R.reading tools.now) source.now (event_view text_of event.now, range) (standing_of held.old)) }
+    ensures count { IfOk result (λ n. n ≡ sum_by length (step (rendering_with R.reading tools.now) source.now (event_view text_of event.now, range) (standing_of held.old)).texts) }
+{
+    let (spelling, range_end) = resolve(source, held.range_end, event, range)?;
+    held.range_end = range_end;
+    take(tools, held, event, spelling, writer)
+}
+
+/// Takes the events of an iterator, with their ranges.
+fn take_all_ranged<'a, I, R, W>(
+    tools: &Tools<'_, R>,
+    held: &mut Held,
+    pairs: I,
+    source: &str,
+    writer: &mut W,
+) -> Result<Progress, Error>
+where
+    I: Iterator<Item = (&'a Event<'a>, Option<(usize, usize)>)>,
+    R: Reader,
+    W: Taker,
+    requires can { I.can_next pairs }
+    requires ends { IsFinite (I.remaining pairs) }
+    ensures { (xs : List (Bor (EventOf CowStr) × Option Range)) × DrainsIf I.next_gives (IsOk result) pairs xs
+        × Makes W.takes W.refuses writer.old writer.new result (standing_of held.new) (walk (rendering_with R.reading tools.now) source.now (standing_of held.old) (ranged_pairs xs))
+        × IfOk result (λ p. Counts p (length xs) (sum_by length (walk (rendering_with R.reading tools.now) source.now (standing_of held.old) (ranged_pairs xs)).texts)) }
+{
+    let mut progress = Progress::default();
+    for (event, range) in pairs {
+        let written = take_ranged(tools, held, event, range, source, writer)?;
+        progress = counted(progress, written);
     }
     Ok(progress)
 }
@@ -414,7 +522,30 @@ impl<R: Reader + Drop> State<R> {
         })
     }
 
-    /// Takes events.
+    /// The error, after which every call answers `Failed`.
+    fn failed(&mut self, error: Error) -> Error
+        ensures state { self.new ≡ record self.old { status = Status.Failed } }
+        ensures error { result ≡ error }
+    {
+        self.status = Status::Failed;
+        error
+    }
+
+    /// Takes events, and hands the text of each unit to the writer, once the event behind the unit has
+    /// come. The events needn't outlive the call; the writer is to be the same in all calls.
+    ///
+    /// A unit is a container at top level with all that is in it, or a leaf at top level. Each nonempty
+    /// text is handed by one `write_str`. The answer counts the events of this call and the bytes that
+    /// it handed.
+    ///
+    /// An `Err` is one of these, and every later call answers `Failed`:
+    /// - `FormatFailed`: the writer refused a text in this call.
+    /// - `UnexpectedEvent`: an End that isn't the innermost open container's, found after the unit
+    ///   before it is written, or a unit with events that cannot stand where they do.
+    /// - `Unrepresentable`: no spelling of a unit reads back.
+    /// - `OutOfMemory`: memory ran out.
+    /// - `Finished`, after `finish`, even for no events, and `Failed`, after another error: nothing is
+    ///   handed, and no memory is taken.
     pub fn process<'a, I, W>(&mut self, events: I, writer: &mut W) -> Result<Progress, Error>
     where
         I: IntoIterator<Item = &'a Event<'a>>,
@@ -440,21 +571,65 @@ impl<R: Reader + Drop> State<R> {
                 };
                 match take_all(&tools, &mut self.held, events, writer) {
                     Ok(progress) => Ok(progress),
-                    Err(error) => {
-                        self.status = Status::Failed;
-                        Err(error)
-                    }
+                    Err(error) => Err(self.failed(error)),
                 }
             }
-            Status::Finished => {
-                self.status = Status::Failed;
-                Err(Error::Finished)
-            }
+            Status::Finished => Err(self.failed(Error::Finished)),
             Status::Failed => Err(Error::Failed),
         }
     }
 
-    /// Takes the end of the events.
+    /// Takes events with their byte ranges in a source, as `process` does. A text whose spelling in the
+    /// source reads back as that text is written as it stands there, with a backslash just before it
+    /// that no earlier range holds. All calls on a state are to name the same source, which needn't
+    /// outlive a call.
+    ///
+    /// An `Err` is as in `process`, or `InvalidSourceRange`, before anything else is looked at: a range
+    /// is reversed, ends past the source or isn't on character boundaries.
+    pub fn process_with_source_range<'a, I, W>(
+        &mut self,
+        pairs: I,
+        source: &str,
+        writer: &mut W,
+    ) -> Result<Progress, Error>
+    where
+        I: IntoIterator<Item = (&'a Event<'a>, Option<(usize, usize)>)>,
+        W: fmt::Write,
+        requires { (it : I.IntoIter) → I.into_iter_gives pairs it → I.IntoIter.can_next it × IsFinite (I.IntoIter.remaining it) }
+        ensures active { IsActive self.old → (it : I.IntoIter) × (xs : List (Bor (EventOf CowStr) × Option Range)) × I.into_iter_gives pairs it
+            × DrainsIf I.IntoIter.next_gives (IsOk result) it xs
+            × ((flags : ParserOptions) (p : List Pair) → Stands R.reading flags source.now self.old p →
+                Adds W.write_str_gives writer.old writer.new (rendering_of R.reading self.old) flags source.now result self.new.held p (ranged_pairs xs)) }
+        ensures same { rendering_of R.reading self.new ≡ rendering_of R.reading self.old }
+        ensures stands { OnOk result (self.new.status ≡ self.old.status) }
+        ensures refused { OnErr result (IsFailed self.new) }
+        ensures finished { IsFinished self.old → (result ≡ Err Error.Finished) × (writer.new ≡ writer.old) }
+        ensures failed { IsFailed self.old → (result ≡ Err Error.Failed) × (writer.new ≡ writer.old) }
+    {
+        let pairs = pairs.into_iter();
+        match self.status {
+            Status::Active => {
+                let tools = Tools {
+                    alloc: self.alloc,
+                    reader: &self.reader,
+                    options: self.options.options(),
+                };
+                match take_all_ranged(&tools, &mut self.held, pairs, source, writer) {
+                    Ok(progress) => Ok(progress),
+                    Err(cause) => Err(self.failed(cause)),
+                }
+            }
+            Status::Finished => Err(self.failed(Error::Finished)),
+            Status::Failed => Err(Error::Failed),
+        }
+    }
+
+    /// Takes the end of the events: hands the text of what is pending, and then the definitions that
+    /// are left. The counts are 0 events and the bytes that it handed.
+    ///
+    /// On a finished state it answers zeros and hands nothing; it takes no memory then. An `Err` is
+    /// `UnexpectedEvent` where a container is open, `Failed` after another error (no memory is taken
+    /// for it), and else as in `process`; every later call answers `Failed`.
     pub fn finish<W: fmt::Write>(&mut self, writer: &mut W) -> Result<Progress, Error>
         ensures active { (flags : ParserOptions) (source : List ℕ) (p : List Pair) → Stands R.reading flags source self.old p →
             Ends W.write_str_gives writer.old writer.new (rendering_of R.reading self.old) flags source result p }
@@ -479,10 +654,7 @@ impl<R: Reader + Drop> State<R> {
                             bytes_written,
                         })
                     }
-                    Err(error) => {
-                        self.status = Status::Failed;
-                        Err(error)
-                    }
+                    Err(refusal) => Err(self.failed(refusal)),
                 }
             }
             Status::Finished => Ok(Progress::default()),

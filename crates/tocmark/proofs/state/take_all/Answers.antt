@@ -22,7 +22,7 @@ loop-event-preserved g c =
       λ source. (m source).0,
       λ source. (m source).1,
       λ source. rw (length-append ys (y ∷ []), bytes_more how source s t ys y (i.2 source), ← c.in_ok-written.ensures.count)
-          (Counts-more c.loop-event.progress c.saturating_add.result c.saturating_add-in-loop-event.result (length ys) (sum_by length (walk how source s (pairs ys)).texts) c.in_ok-written.written (i.4 source) c.saturating_add.ensures c.saturating_add-in-loop-event.ensures),
+          (Counts-more c.loop-event.taken c.counted-taken.result.events_consumed c.counted-taken.result.bytes_written (length ys) (sum_by length (walk how source s (pairs ys)).texts) c.in_ok-written.written (i.4 source) c.counted-taken.ensures.events c.counted-taken.ensures.bytes),
     )
 
 pub returns : goal.returns

@@ -6,4 +6,5 @@ use Rattle.tocmark.proofs.state.State.finish.Goals as goal
 
 pub returns-in-Err-clause-active : goal.returns-in-Err-clause-active
 returns-in-Err-clause-active g c flags source p h =
-    Ends-with g.W.Write.write_str_gives c.args.writer.now c.end.new.writer (options_kept c.args.self.now.options) (options_view c.options.result) (g.R.Reader.reading c.args.self.now.reader) flags source (Err c.in-Err.error) p (standing_of c.args.self.now.held) c.options.ensures h.standing c.in-Err.ensures.made tt
+    rw c.failed.ensures.error
+    (Ends-with g.W.Write.write_str_gives c.args.writer.now c.end.new.writer (options_kept c.args.self.now.options) (options_view c.options.result) (g.R.Reader.reading c.args.self.now.reader) flags source (Err c.in-Err.refusal) p (standing_of c.args.self.now.held) c.options.ensures h.standing c.in-Err.ensures.made tt)

@@ -17,7 +17,8 @@ returns-in-Ok-clause-active g c a =
 
 pub returns-in-Err-clause-active : goal.returns-in-Err-clause-active
 returns-in-Err-clause-active g c a =
-    let e = c.in-Err.ensures in (
+    let e = c.in-Err.ensures in
+    rw (c.failed.ensures.error, c.failed.ensures.state) (
       c.into_iter-events.result,
       e.0,
       c.into_iter-events.ensures.into_iter_gives,
