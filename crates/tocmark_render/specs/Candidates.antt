@@ -1,8 +1,8 @@
 -- The spellings that are tried for a unit, in order.
-use Rattle.std.specs.Prelude.{ℕ, Bool, true, false, ◌&&◌, ◌||◌, if◌then◌else◌, ◌==◌, is_some, List, [], ◌∷◌, ◌++◌, bytes_eq, codes, flat_map, map}
+use Rattle.std.specs.Prelude.{ℕ, Bool, true, false, ◌||◌, if◌then◌else◌, ◌==◌, is_some, List, [], ◌∷◌, ◌++◌, bytes_eq, codes, flat_map, map}
 use Rattle.tocmark_event.specs.Options.{OptionsView}
-use Rattle.tocmark_event.specs.Forest.{Forest, empty, leaf, node}
-use Rattle.tocmark_event.specs.View.{TagView, Emphasis, Strong, Strikethrough, Superscript, Subscript, LeafView, Text, InlineMath, DisplayMath, SourcedLeaf}
+use Rattle.tocmark_event.specs.Forest.{empty, leaf, node}
+use Rattle.tocmark_event.specs.View.{TagView, Emphasis, Strong, Strikethrough, Superscript, Subscript, LeafView, InlineMath, DisplayMath, SourcedLeaf}
 use Rattle.tocmark_spelling.specs.Body.{Trees, some_leaf}
 use Rattle.tocmark_spelling.specs.Words.{asterisk}
 use Rattle.tocmark_spelling.specs.Plan.{Layout, Preferred, Runs, Uniform, Shared, RuleThree, TextSpelling, Escaped, Literal, Entities, LiteralEntities, Plan, Markers, Manner}

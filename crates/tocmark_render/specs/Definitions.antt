@@ -1,5 +1,5 @@
 -- The definitions of the links that are written by labels.
-use Rattle.std.specs.Prelude.{ℕ, ◌-◌, Bool, true, false, ◌&&◌, if◌then◌else◌, List, [], ◌∷◌, ◌++◌, bytes_eq, codes, replicate}
+use Rattle.std.specs.Prelude.{ℕ, ◌-◌, Bool, ◌&&◌, if◌then◌else◌, List, [], ◌∷◌, ◌++◌, bytes_eq, codes, replicate}
 use Rattle.std.specs.List.{list_any}
 use Rattle.tocmark_spelling.specs.Page.{Reference}
 use Rattle.tocmark_spelling.specs.Destination.{definition_closing}

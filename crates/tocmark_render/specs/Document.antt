@@ -1,8 +1,8 @@
 -- The document so far, as plain values.
-use Rattle.std.specs.Prelude.{ℕ, Bool, true, false, if◌then◌else◌, List, [], ◌∷◌, ◌++◌, bytes_eq, chars, encode_utf8_all}
+use Rattle.std.specs.Prelude.{ℕ, Bool, false, if◌then◌else◌, List, [], ◌∷◌, ◌++◌, bytes_eq, chars, encode_utf8_all}
 use Rattle.std.specs.List.{list_any}
 use Rattle.caseless.specs.Caseless.{default_case_fold}
-use Rattle.tocmark_spelling.specs.Page.{Trail, first_trail, Reference, Path, Page, Sheet}
+use Rattle.tocmark_spelling.specs.Page.{Trail, first_trail, Reference}
 
 -- the trail, how many line feeds end what was written, the references so far, the folded labels that are defined by
 -- earlier units and those that a reader takes literally, and whether a unit was flushed

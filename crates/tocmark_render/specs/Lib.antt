@@ -5,4 +5,5 @@ pub mod Candidates
 pub mod ReadsBack
 pub mod Placeholder
 pub mod Choice
+pub mod Units
 pub mod Chosen

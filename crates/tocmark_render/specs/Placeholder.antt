@@ -1,7 +1,7 @@
 -- When a list needs a placeholder, and the label that is reserved for it.
-use Rattle.std.specs.Prelude.{ℕ, zero, suc, ◌+◌, Bool, true, false, not, ◌&&◌, ◌||◌, if◌then◌else◌, Option, Some, None, List, [], ◌∷◌, ◌++◌, bytes_eq, codes, decimal, length}
-use Rattle.tocmark_event.specs.Forest.{Forest, empty, leaf, node}
-use Rattle.tocmark_event.specs.View.{TagView, Paragraph, Item, ListOf, Link, Image, LeafView, Html, Rule, EventView, Start, End, Leaf, SourcedEvent, end_of}
+use Rattle.std.specs.Prelude.{ℕ, zero, suc, Bool, true, false, ◌&&◌, ◌||◌, Option, None, List, [], ◌∷◌, ◌++◌, codes, decimal, length}
+use Rattle.tocmark_event.specs.Forest.{empty, leaf, node}
+use Rattle.tocmark_event.specs.View.{TagView, Link, Image, Html, Rule, EventView, Start, End, Leaf, SourcedEvent}
 use Rattle.tocmark_spelling.specs.Kinds.{is_inline_end, is_item, is_list, is_paragraph, and_is}
 use Rattle.tocmark_spelling.specs.Body.{Trees, is_empty}
 use Rattle.tocmark_spelling.specs.Page.{Around, front}

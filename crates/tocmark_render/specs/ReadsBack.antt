@@ -1,7 +1,7 @@
 -- When a spelling is read back as its unit.
 use Rattle.std.specs.Prelude.{◌≡◌, ℕ, ◌-◌, Bool, true, false, not, ◌&&◌, ◌||◌, if◌then◌else◌, Option, Some, None, List, [], ◌∷◌, ◌++◌, bit_and, bytes_eq, codes}
 use Rattle.std.specs.List.{list_any}
-use Rattle.tocmark_event.specs.View.{Paragraph, LeafView, Html, Rule, EventView, Start, End, Leaf}
+use Rattle.tocmark_event.specs.View.{Paragraph, Html, Rule, EventView, Start, End, Leaf}
 use Rattle.tocmark_event.specs.Merged.{merged}
 use Rattle.tocmark_event.specs.Reading.{ReadingView}
 use Rattle.tocmark_event.specs.declared.event.flags.ParserOptions.{ParserOptions}

@@ -2,7 +2,7 @@
 use Rattle.std.specs.Prelude.{ℕ, ◌+◌, Bool, true, false, not, ◌&&◌, ◌||◌, ◌==◌, if◌then◌else◌, Option, Some, None, List, [], ◌∷◌, ◌++◌}
 use Rattle.tocmark_event.specs.View.{TagView, LeafView, SourcedLeaf, SourcedEvent, Start, End, Leaf, Text, Html, InlineHtml, SoftBreak, HardBreak, Rule, end_of}
 use Rattle.tocmark_event.specs.Forest.{Forest, empty, leaf, node}
-use Rattle.tocmark_spelling.specs.Words.{holds}
+use Rattle.tocmark_spelling.specs.Words.{holds, or_else}
 use Rattle.tocmark_spelling.specs.Kinds.{is_inline_tag, is_paragraph, is_item}
 
 -- a unit's events as trees
@@ -101,12 +101,8 @@ abbrev pub html_in : LeafView → Option (List ℕ)
 html_in (Html t) = Some t
 html_in l = None
 
-abbrev pub or_html : Option (List ℕ) → Option (List ℕ) → Option (List ℕ)
-or_html (Some t) later = Some t
-or_html None later = later
-
 -- the first HTML at any depth
 abbrev pub first_html : Trees → Option (List ℕ)
 first_html empty = None
-first_html (leaf l f) = or_html (html_in l.leaf) (first_html f)
-first_html (node t kids f) = or_html (first_html kids) (first_html f)
+first_html (leaf l f) = or_else (html_in l.leaf) (first_html f)
+first_html (node t kids f) = or_else (first_html kids) (first_html f)

@@ -1,6 +1,6 @@
 -- When the id of a link or image spells its body.
 use Rattle.std.specs.Prelude.{ℕ, Bool, true, false, ◌&&◌, List, [], ◌∷◌, ◌++◌, codes, map}
-use Rattle.tocmark_event.specs.View.{TagView, Paragraph, Link, Image, EventView, Start, End, Leaf, end_of, unsourced}
+use Rattle.tocmark_event.specs.View.{TagView, Paragraph, Link, Image, EventView, Start, End, end_of, unsourced}
 use Rattle.tocmark_event.specs.Forest.{flat}
 use Rattle.tocmark_event.specs.Merged.{merged}
 use Rattle.tocmark_event.specs.Reading.{ReadingView}

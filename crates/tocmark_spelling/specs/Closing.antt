@@ -1,5 +1,5 @@
 -- What each container's closing writes, and what it leaves to the container's right neighbour.
-use Rattle.std.specs.Prelude.{ℕ, ◌+◌, ◌-◌, Bool, true, false, not, ◌&&◌, ◌||◌, ◌==◌, if◌then◌else◌, nat_lt, Option, Some, None, is_some, is_none, List, [], ◌∷◌, ◌++◌, length, max, replicate, flat_map, drop, codes}
+use Rattle.std.specs.Prelude.{ℕ, ◌+◌, ◌-◌, Bool, true, false, not, ◌&&◌, ◌==◌, if◌then◌else◌, nat_lt, Option, Some, None, is_some, List, [], ◌∷◌, ◌++◌, length, max, replicate, flat_map, drop, codes}
 use Rattle.tocmark_event.specs.View.{TagView, Paragraph, Heading, BlockQuote, CodeBlock, HtmlBlock, ListOf, Item, Table, TableHead, TableRow, TableCell, DefinitionList, DefinitionListTitle, DefinitionListDefinition, Emphasis, Strong, Strikethrough, Superscript, Subscript, Link, Image, MetadataBlock, end_of}
 use Rattle.tocmark_event.specs.Options.{OptionsView}
 use Rattle.tocmark_event.specs.declared.event.Alignment.{Alignment}
@@ -10,9 +10,8 @@ use Rattle.tocmark_event.specs.declared.event.LinkType.{LinkType}
 use Rattle.tocmark_event.specs.declared.event.LinkType.TheVariants as link
 use Rattle.tocmark_event.specs.declared.event.MetadataBlockKind.{MetadataBlockKind}
 use Rattle.tocmark_spelling.specs.Destination.{inline_closing}
-use Rattle.tocmark_spelling.specs.Plan.{Setting}
 use Rattle.tocmark_spelling.specs.Kinds.{is_item, is_list}
-use Rattle.tocmark_spelling.specs.Page.{Tail, ParagraphTail, EmptyTail, BlockTail, Last, Other, Inline, ItemStart, ItemEnd, ListEnd, DefinitionEnd, BlockEnd, LastList, Trail, ListChoice, Content, Plain, Underlined, Fence, HtmlEnds, Listed, Defined, Headers, Width, Delimited, Named, Level, Path, Reference, Page, Site, laid_on, written, filled_to, prefix_of, with_trail, with_last, with_owed, raised}
+use Rattle.tocmark_spelling.specs.Page.{Tail, ParagraphTail, EmptyTail, BlockTail, Last, Other, Inline, ItemStart, ItemEnd, ListEnd, DefinitionEnd, BlockEnd, ListChoice, Content, Underlined, Fence, HtmlEnds, Listed, Headers, Delimited, Named, Level, Path, Page, Site, written, filled_to, prefix_of, with_trail, with_last, with_owed, raised}
 use Rattle.tocmark_spelling.specs.Words.{hyphen}
 use Rattle.tocmark_spelling.specs.Places.{is_in, width_of, with_header}
 use Rattle.tocmark_spelling.specs.Gap.{with_quote_line}

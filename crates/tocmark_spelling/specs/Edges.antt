@@ -1,5 +1,5 @@
 -- The characters beside delimiters, and what a run of delimiters may border on.
-use Rattle.std.specs.Prelude.{ℕ, Bool, true, false, not, ◌&&◌, ◌||◌, ◌==◌, if◌then◌else◌, nat_lt, Option, Some, None, List, [], ◌∷◌, ◌++◌, codes, encode_utf8}
+use Rattle.std.specs.Prelude.{ℕ, Bool, true, false, not, ◌&&◌, ◌||◌, if◌then◌else◌, nat_lt, Option, Some, None, List, ◌++◌, codes, encode_utf8}
 use Rattle.std.specs.List.{list_any}
 use Rattle.tocmark_event.specs.View.{LeafView, Text, InlineHtml, SoftBreak, HardBreak, EventView, Start, End, Leaf}
 use Rattle.tocmark_event.specs.declared.event.flags.ParserOptions.{ParserOptions}

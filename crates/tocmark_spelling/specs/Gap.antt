@@ -1,10 +1,10 @@
 -- The gap before an event.
-use Rattle.std.specs.Prelude.{ℕ, Bool, true, false, not, ◌&&◌, ◌||◌, ◌==◌, if◌then◌else◌, Option, Some, None, is_some, List, [], ◌∷◌, min, max}
+use Rattle.std.specs.Prelude.{ℕ, Bool, true, false, not, ◌&&◌, ◌||◌, ◌==◌, if◌then◌else◌, Option, Some, None, List, [], min}
 use Rattle.tocmark_event.specs.View.{EventView}
 use Rattle.tocmark_event.specs.declared.event.TagEnd.{TagEnd}
 use Rattle.tocmark_event.specs.declared.event.TagEnd.TheVariants as end
 use Rattle.tocmark_spelling.specs.Kinds.{is_paragraph, is_quote, is_indented_code, is_list, is_item, is_definition_list, is_definition_title, is_table, starts, is_break, begins_block}
-use Rattle.tocmark_spelling.specs.Page.{Tail, ParagraphTail, EmptyTail, BlockTail, Last, Other, Inline, ItemStart, ItemEnd, ListEnd, DefinitionEnd, BlockEnd, LastList, Trail, Path, Page, laid_on, filled_to, with_trail, raised}
+use Rattle.tocmark_spelling.specs.Page.{Tail, ParagraphTail, BlockTail, Last, Inline, ItemStart, ItemEnd, ListEnd, DefinitionEnd, BlockEnd, Trail, Path, Page, laid_on, filled_to, with_trail, raised}
 use Rattle.tocmark_spelling.specs.Places.{is_in, is_close, is_in_loose_list}
 
 abbrev pub is_inline : Last → Bool

@@ -1,5 +1,5 @@
 -- How HTML blocks end (CommonMark, section 4.6).
-use Rattle.std.specs.Prelude.{ℕ, Bool, true, false, not, ◌&&◌, ◌||◌, ◌==◌, if◌then◌else◌, Option, Some, None, List, [], ◌∷◌, ◌++◌, bytes_eq, codes, drop, take_while}
+use Rattle.std.specs.Prelude.{ℕ, Bool, false, not, ◌&&◌, ◌||◌, ◌==◌, if◌then◌else◌, Option, Some, None, List, [], ◌∷◌, ◌++◌, bytes_eq, codes, drop, take_while}
 use Rattle.std.specs.List.{list_any}
 use Rattle.std.specs.Str.{trim_start, str_to_ascii_lowercase}
 use Rattle.tocmark_spelling.specs.Characters.{is_ascii_white_space, greater_than}

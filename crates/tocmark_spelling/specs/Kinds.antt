@@ -1,6 +1,6 @@
 -- Kinds of events.
-use Rattle.std.specs.Prelude.{ℕ, Bool, true, false, not, ◌||◌, Option, Some, None, is_none}
-use Rattle.tocmark_event.specs.View.{CodeView, Indented, TagView, Paragraph, Heading, BlockQuote, CodeBlock, HtmlBlock, ListOf, Item, DefinitionList, DefinitionListTitle, Table, TableCell, TableHead, Emphasis, Strong, Strikethrough, Superscript, Subscript, Link, Image, MetadataBlock, EventView, EventWith, Start, End, Leaf, LeafView, Text, Html, SoftBreak, HardBreak, Rule}
+use Rattle.std.specs.Prelude.{Bool, true, false, not, ◌||◌, Option, Some, None}
+use Rattle.tocmark_event.specs.View.{Indented, TagView, Paragraph, Heading, BlockQuote, CodeBlock, ListOf, Item, DefinitionList, DefinitionListTitle, Table, TableCell, TableHead, Emphasis, Strong, Strikethrough, Superscript, Subscript, Link, Image, EventView, Start, Leaf, Text, SoftBreak, HardBreak, Rule}
 use Rattle.tocmark_event.specs.declared.event.TagEnd.{TagEnd}
 use Rattle.tocmark_event.specs.declared.event.TagEnd.TheVariants as end
 

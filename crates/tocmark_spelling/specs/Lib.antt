@@ -3,9 +3,9 @@ pub mod Escape
 pub mod Unescape
 pub mod Leaves
 pub mod Destination
+pub mod Words
 pub mod Plan
 pub mod Page
-pub mod Words
 pub mod Kinds
 pub mod Body
 pub mod Html

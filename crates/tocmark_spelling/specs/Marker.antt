@@ -1,16 +1,16 @@
 -- The markers of Emphasis and Strong (CommonMark, section 6.2).
-use Rattle.std.specs.Prelude.{ℕ, ◌+◌, ◌%◌, Bool, true, false, not, ◌&&◌, ◌||◌, ◌==◌, if◌then◌else◌, Option, Some, None, is_some, List, [], ◌∷◌, ◌++◌, length, replicate, slice_index, bytes_eq, codes, encode_utf8}
+use Rattle.std.specs.Prelude.{ℕ, ◌+◌, ◌%◌, Bool, true, false, not, ◌&&◌, ◌||◌, ◌==◌, if◌then◌else◌, Option, Some, None, List, [], length, replicate, slice_index, bytes_eq, codes, encode_utf8, unwrap_or}
 use Rattle.tocmark_event.specs.Ends.{same_end}
-use Rattle.tocmark_event.specs.View.{TagView, Emphasis, Strong, EventView, Start, End, Leaf, end_of}
+use Rattle.tocmark_event.specs.View.{TagView, Strong, EventView, End, end_of}
 use Rattle.tocmark_event.specs.declared.event.TagEnd.{TagEnd}
 use Rattle.tocmark_spelling.specs.Characters.{underscore}
-use Rattle.tocmark_spelling.specs.Words.{last_character, last_byte, asterisk}
-use Rattle.tocmark_spelling.specs.Plan.{Layout, Preferred, Runs, Uniform, Shared, RuleThree, TextSpelling, Escaped, Literal, Entities, LiteralEntities, Markers, Setting, Manner}
+use Rattle.tocmark_spelling.specs.Words.{last_character, last_byte, asterisk, or_else, same_truth}
+use Rattle.tocmark_spelling.specs.Plan.{Layout, Preferred, Runs, Uniform, Shared, RuleThree, TextSpelling, LiteralEntities, Markers, Setting, Manner}
 use Rattle.tocmark_spelling.specs.Kinds.{is_emphasis, is_emphasis_or_strong}
 use Rattle.tocmark_spelling.specs.Edges.{is_boundary, is_punctuation, edge_after}
 use Rattle.tocmark_spelling.specs.Runs.{tag_width, end_width, is_marker, run_around, last_run}
 use Rattle.tocmark_spelling.specs.Look.{Look}
-use Rattle.tocmark_spelling.specs.Page.{Content, Plain, Underlined, Fence, HtmlEnds, Listed, Defined, Headers, Width, Delimited, Named, Level, Path, Page}
+use Rattle.tocmark_spelling.specs.Page.{Content, Delimited, Level, Path, Page}
 use Rattle.tocmark_spelling.specs.Places.{nearest}
 
 -- the other marker
@@ -73,10 +73,6 @@ same_finish parent l = is_end (end_of parent.tag) l.next_in_unit
 
 abbrev pub marker_of : Level → ℕ
 marker_of parent = slice_index (opening_token parent.content) 0
-
-abbrev pub same_truth : Bool → Bool → Bool
-same_truth true b = b
-same_truth false b = not b
 
 -- by runs: another marker than the parent's, if they begin and end together or apart, or punctuation follows
 abbrev pub beside_parent : Setting → ℕ → Look → Option Level → Page → ℕ
@@ -156,17 +152,9 @@ marker_by_sharing s layout c t l path p =
     if ends_delimiter l.previous then after_closing layout l p
     else inside_parent s layout c t l (nearest is_emphasis_or_strong path) p
 
-abbrev pub or_marker : Option ℕ → ℕ → ℕ
-or_marker (Some c) d = c
-or_marker None d = d
-
-abbrev pub or_literal : Option ℕ → Option ℕ → Option ℕ
-or_literal (Some c) later = Some c
-or_literal None later = later
-
 -- with literal texts: the marker that stands in a Text before or after
 abbrev pub literal_marker : TextSpelling → Look → Option ℕ
-literal_marker LiteralEntities l = or_literal l.opening.literal_before l.closing.literal_after
+literal_marker LiteralEntities l = or_else l.opening.literal_before l.closing.literal_after
 literal_marker text l = None
 
 -- as many as the node is wide
@@ -178,9 +166,9 @@ marker_in Preferred s m t l path p = if is_strong t then m.markers.strong else p
 marker_in Runs s m t l path p = in_width t (marker_by_runs s (asked_marker m.markers t) l path p)
 marker_in Uniform s m t l path p = asked_token m.markers t
 marker_in (Shared ends adjacent split) s m t l path p =
-    in_width t (or_marker (literal_marker m.plan.text l) (marker_by_sharing s (Shared ends adjacent split) (asked_marker m.markers t) t l path p))
+    in_width t (unwrap_or (literal_marker m.plan.text l) (marker_by_sharing s (Shared ends adjacent split) (asked_marker m.markers t) t l path p))
 marker_in RuleThree s m t l path p =
-    in_width t (or_marker (literal_marker m.plan.text l) (marker_by_sharing s RuleThree (asked_marker m.markers t) t l path p))
+    in_width t (unwrap_or (literal_marker m.plan.text l) (marker_by_sharing s RuleThree (asked_marker m.markers t) t l path p))
 
 -- what a container of Emphasis or Strong opens and closes with
 unfoldable pub marker : Setting → Manner → TagView → Look → Path → Page → List ℕ

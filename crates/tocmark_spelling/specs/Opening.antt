@@ -1,7 +1,7 @@
 -- What each container's opening writes and chooses.
 use Rattle.std.specs.Prelude.{ℕ, ◌+◌, Bool, true, false, not, ◌&&◌, ◌||◌, ◌==◌, if◌then◌else◌, nat_le, Option, Some, None, is_some, is_none, List, [], ◌∷◌, ◌++◌, length, min, max, replicate, flat_map, drop, codes, chars, decimal, encode_utf8, bytes_eq}
 use Rattle.std.specs.List.{list_any}
-use Rattle.tocmark_event.specs.View.{CodeView, Indented, Fenced, TagView, Paragraph, Heading, BlockQuote, CodeBlock, HtmlBlock, ListOf, Item, FootnoteDefinition, DefinitionList, DefinitionListTitle, DefinitionListDefinition, Table, TableHead, TableRow, TableCell, Emphasis, Strong, Strikethrough, Superscript, Subscript, Link, Image, MetadataBlock, EventView, Start}
+use Rattle.tocmark_event.specs.View.{CodeView, Indented, Fenced, TagView, Heading, BlockQuote, CodeBlock, HtmlBlock, ListOf, Item, FootnoteDefinition, DefinitionListTitle, DefinitionListDefinition, Table, TableHead, TableCell, Emphasis, Strong, Strikethrough, Superscript, Subscript, Link, Image, MetadataBlock}
 use Rattle.tocmark_event.specs.Options.{OptionsView}
 use Rattle.tocmark_event.specs.declared.event.HeadingLevel.{HeadingLevel}
 use Rattle.tocmark_event.specs.declared.event.HeadingLevel.TheVariants as level
@@ -12,14 +12,14 @@ use Rattle.tocmark_event.specs.declared.event.MetadataBlockKind.TheVariants as m
 use Rattle.tocmark_event.specs.declared.event.LinkType.{LinkType}
 use Rattle.tocmark_event.specs.declared.event.flags.ParserOptions.{ParserOptions}
 use Rattle.std.specs.Prelude.{bit_and}
-use Rattle.tocmark_spelling.specs.Characters.{hash, space, ampersand, backslash, backtick, tab}
+use Rattle.tocmark_spelling.specs.Characters.{hash, space, ampersand, backslash, backtick}
 use Rattle.tocmark_spelling.specs.Leaves.{longest_run}
-use Rattle.tocmark_spelling.specs.Words.{asterisk, hyphen}
-use Rattle.tocmark_spelling.specs.Plan.{Layout, Preferred, Runs, Uniform, Shared, RuleThree, Setting, Manner}
+use Rattle.tocmark_spelling.specs.Words.{asterisk, hyphen, or_else, same_truth}
+use Rattle.tocmark_spelling.specs.Plan.{Layout, Uniform, Setting, Manner}
 use Rattle.tocmark_spelling.specs.Kinds.{is_heading, is_list, is_table, is_strikethrough, is_indented_code, starts, and_is}
 use Rattle.tocmark_spelling.specs.Html.{is_blank_terminated, is_html_closed}
 use Rattle.tocmark_spelling.specs.Look.{Look, is_preferred}
-use Rattle.tocmark_spelling.specs.Page.{Last, Other, ItemStart, LastList, ListChoice, Content, Plain, Underlined, Fence, HtmlEnds, Listed, Defined, Headers, Width, Delimited, Named, Level, Path, Page, Site, written, filled_to, with_last, with_owed}
+use Rattle.tocmark_spelling.specs.Page.{Other, ItemStart, LastList, ListChoice, Content, Plain, Underlined, Fence, HtmlEnds, Listed, Defined, Headers, Width, Delimited, Named, Level, Path, Page, Site, written, filled_to, with_last, with_owed}
 use Rattle.tocmark_spelling.specs.Places.{is_in, is_directly_in, depth_in, nearest, at_item_start, is_raw_link}
 use Rattle.tocmark_spelling.specs.Marker.{marker, opening_token}
 
@@ -75,13 +75,13 @@ abbrev pub open_quote : Option BlockQuoteKind → Path → Page → Option Site
 open_quote kind path p =
     let at_item = at_item_start path p in
     entered (BlockQuote kind) (codes " > ") Plain path
-      (with_owed (if at_item && is_none kind then 0 else 1) (written path (without_space at_item (quote_mark kind)) (on_new_line path p)))
+    (with_owed (if at_item && is_none kind then 0 else 1) (written path (without_space at_item (quote_mark kind)) (on_new_line path p)))
 
 -- indented code (CommonMark, section 4.4)
 abbrev pub open_indented : Path → Page → Option Site
 open_indented path p =
     entered (CodeBlock Indented) (codes "    ") Plain path
-      (if at_item_start path p then written path (codes "    ") p else on_new_line path p)
+    (if at_item_start path p then written path (codes "    ") p else on_new_line path p)
 
 -- the preferred token, but `~` where a backtick couldn't stand before this info string
 abbrev pub fence_token : OptionsView → List ℕ → ℕ
@@ -101,7 +101,7 @@ info_byte b = if b == ampersand then codes "&amp;" else if b == backslash then c
 abbrev pub open_fenced : OptionsView → List ℕ → Look → Path → Page → Option Site
 open_fenced o info l path p =
     entered (CodeBlock (Fenced info)) [] (Fence (fence o info l.text)) path
-      (written path (fence o info l.text ++ flat_map info_byte info ++ codes "\n") (on_new_line path p))
+    (written path (fence o info l.text ++ flat_map info_byte info ++ codes "\n") (on_new_line path p))
 
 abbrev pub open_code : OptionsView → CodeView → Look → Path → Page → Option Site
 open_code o Indented l path p = open_indented path p
@@ -114,14 +114,10 @@ abbrev pub bullet_of : Content → Option ℕ
 bullet_of (Listed c) = if is_none c.number then Some c.token else None
 bullet_of c = None
 
-abbrev pub or_bullet : Option ℕ → Option ℕ → Option ℕ
-or_bullet (Some c) later = Some c
-or_bullet None later = later
-
 -- the token of the nearest open bullet list
 abbrev pub nearest_bullet : Path → Option ℕ
 nearest_bullet [] = None
-nearest_bullet (l ∷ path) = or_bullet (bullet_of l.content) (nearest_bullet path)
+nearest_bullet (l ∷ path) = or_else (bullet_of l.content) (nearest_bullet path)
 
 abbrev pub is_number : Option ℕ → ℕ → Bool
 is_number None n = false
@@ -131,10 +127,6 @@ is_number (Some m) n = m == n
 abbrev pub changed_token : Option ℕ → ℕ → ℕ
 changed_token (Some number) token = if token == 46 then 41 else 46
 changed_token None token = if token == asterisk then hyphen else asterisk
-
-abbrev pub same_truth : Bool → Bool → Bool
-same_truth true b = b
-same_truth false b = not b
 
 -- a list of this kind and token would go on with the last list
 abbrev pub continues_list : Option LastList → ℕ → Option ℕ → ℕ → Bool
@@ -194,7 +186,7 @@ item_with s c list l outside p =
     let path = record list { content = Listed (record c { number = next_number s.options c.number }) } ∷ outside in
     let empty_inner = is_empty_inner l path in
     entered Item (replicate (length (item_marker c)) space) Plain path
-      (with_last ItemStart (with_label s.label (c.labelled || empty_inner) empty_inner path (written path (item_marker c) p)))
+    (with_last ItemStart (with_label s.label (c.labelled || empty_inner) empty_inner path (written path (item_marker c) p)))
 
 abbrev pub item_in : Setting → Content → Level → Look → Path → Page → Option Site
 item_in s (Listed c) list l outside p = item_with s c list l outside p
@@ -211,13 +203,13 @@ open_footnote label path p = entered (FootnoteDefinition label) (codes "    ") P
 abbrev pub open_title : Path → Page → Option Site
 open_title path p =
     open_plain DefinitionListTitle path
-      (if (p.sheet.feeds == 0) && not (length p.sheet.text == 0) && not (at_item_start path p) then written path (codes "\n") p else p)
+    (if (p.sheet.feeds == 0) && not (length p.sheet.text == 0) && not (at_item_start path p) then written path (codes "\n") p else p)
 
 -- a definition; a blank line before it says that its paragraphs are Paragraphs
 abbrev pub open_definition : Look → Path → Page → Option Site
 open_definition l path p =
     entered DefinitionListDefinition (codes "  ") (Defined l.has_paragraph) path
-      (written path (codes ": ") (if l.begins_paragraph then filled_to 2 path p else p))
+    (written path (codes ": ") (if l.begins_paragraph then filled_to 2 path p else p))
 
 -- a table's head, which stands directly in a table alone
 abbrev pub open_head : Path → Page → Option Site

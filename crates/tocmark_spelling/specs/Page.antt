@@ -1,7 +1,8 @@
 -- The text so far, the open containers, and what a finished container leaves to its right neighbour.
-use Rattle.std.specs.Prelude.{ℕ, ◌+◌, ◌-◌, Bool, true, false, ◌&&◌, ◌||◌, Option, Some, None, List, [], ◌∷◌, ◌++◌, length, nat_lt, max, replicate, if◌then◌else◌, ◌==◌, codes}
+use Rattle.std.specs.Prelude.{ℕ, ◌+◌, ◌-◌, Bool, false, Option, Some, None, List, [], ◌∷◌, ◌++◌, nat_lt, max, replicate, if◌then◌else◌, ◌==◌}
 use Rattle.tocmark_event.specs.View.{TagView, SourcedEvent, EventView, unsourced}
 use Rattle.tocmark_event.specs.declared.event.TagEnd.{TagEnd}
+use Rattle.tocmark_spelling.specs.Words.{or_else}
 
 -- what the last child of an item was
 pub data Tail : Type 0 where
@@ -123,13 +124,9 @@ abbrev pub front : List SourcedEvent → Option EventView
 front [] = None
 front (e ∷ es) = Some (unsourced e)
 
-abbrev pub or_event : Option EventView → Option EventView → Option EventView
-or_event (Some e) next = Some e
-or_event None next = next
-
 -- the event that follows, beyond the unit's end too
 abbrev pub following : Around → Option EventView
-following a = or_event (front a.after) a.next
+following a = or_else (front a.after) a.next
 
 -- what stands before a byte that is written after so many line feeds: the prefix at a line's beginning
 abbrev pub lead : List ℕ → ℕ → List ℕ

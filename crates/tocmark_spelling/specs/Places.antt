@@ -1,10 +1,10 @@
 -- What the open containers say of a place.
-use Rattle.std.specs.Prelude.{ℕ, suc, ◌+◌, Bool, true, false, not, ◌&&◌, ◌||◌, ◌==◌, if◌then◌else◌, Option, Some, None, List, [], ◌∷◌, ◌++◌, length}
+use Rattle.std.specs.Prelude.{ℕ, ◌+◌, Bool, true, false, not, ◌&&◌, ◌||◌, ◌==◌, if◌then◌else◌, Option, Some, None, [], ◌∷◌, ◌++◌, length}
 use Rattle.tocmark_event.specs.View.{TagView, CodeBlock, HtmlBlock, MetadataBlock, Link}
 use Rattle.tocmark_event.specs.declared.event.LinkType.{LinkType}
 use Rattle.tocmark_event.specs.declared.event.LinkType.TheVariants as link
-use Rattle.tocmark_spelling.specs.Kinds.{is_item, is_list, is_cell, is_table}
-use Rattle.tocmark_spelling.specs.Page.{ListChoice, Content, Plain, Underlined, Fence, HtmlEnds, Listed, Defined, Headers, Width, Delimited, Named, Level, Path, Page}
+use Rattle.tocmark_spelling.specs.Kinds.{is_item, is_cell, is_table}
+use Rattle.tocmark_spelling.specs.Page.{Content, Listed, Defined, Headers, Width, Level, Path, Page}
 
 -- inside a container of such a tag
 abbrev pub is_in : (TagView → Bool) → Path → Bool

@@ -1,8 +1,8 @@
 -- Runs of delimiters: longest stretches of neighbouring Starts, or of neighbouring Ends, of Emphasis and Strong.
-use Rattle.std.specs.Prelude.{ℕ, zero, suc, ◌+◌, Bool, true, false, not, ◌&&◌, ◌||◌, ◌==◌, if◌then◌else◌, Option, Some, None, List, [], ◌∷◌, ◌++◌, drop, take, reverse}
+use Rattle.std.specs.Prelude.{ℕ, suc, ◌+◌, Bool, true, false, not, ◌&&◌, ◌||◌, ◌==◌, if◌then◌else◌, Option, Some, None, List, [], ◌∷◌, drop, take, reverse}
 use Rattle.std.specs.List.{prefix_len}
-use Rattle.tocmark_event.specs.View.{TagView, Emphasis, Strong, SourcedEvent, EventView, Start, End, Leaf, LeafView, Text, end_of}
-use Rattle.tocmark_event.specs.Forest.{Forest, empty, leaf, node, flat_onto}
+use Rattle.tocmark_event.specs.View.{TagView, Emphasis, Strong, SourcedEvent, EventView, Start, End, Leaf, Text, end_of}
+use Rattle.tocmark_event.specs.Forest.{empty, leaf, node, flat_onto}
 use Rattle.tocmark_event.specs.declared.event.TagEnd.{TagEnd}
 use Rattle.tocmark_event.specs.declared.event.TagEnd.TheVariants as end
 use Rattle.tocmark_spelling.specs.Characters.{is_white_space, underscore}

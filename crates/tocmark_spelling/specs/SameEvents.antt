@@ -2,7 +2,7 @@
 use Rattle.std.specs.Prelude.{ℕ, ◌+◌, Bool, if◌then◌else◌, Option, Some, None, List, [], ◌∷◌, ◌++◌, length, map, flat_map, bytes_eq}
 use Rattle.std.specs.Cmp.Lexicographic.{pointwise}
 use Rattle.tocmark_event.specs.Ends.{end_code}
-use Rattle.tocmark_event.specs.View.{CodeView, Indented, Fenced, TagView, Paragraph, Heading, CodeBlock, ListOf, FootnoteDefinition, Table, Link, Image, LeafView, Text, Code, InlineMath, DisplayMath, Html, InlineHtml, FootnoteReference, SoftBreak, HardBreak, Rule, TaskListMarker, EventView, Start, End, Leaf, end_of}
+use Rattle.tocmark_event.specs.View.{Indented, Fenced, TagView, Heading, CodeBlock, ListOf, FootnoteDefinition, Table, Link, Image, LeafView, Text, Code, InlineMath, DisplayMath, Html, InlineHtml, FootnoteReference, SoftBreak, HardBreak, Rule, TaskListMarker, EventView, Start, End, Leaf, end_of}
 use Rattle.tocmark_event.specs.declared.event.Alignment.{Alignment}
 use Rattle.tocmark_event.specs.declared.event.Alignment.TheVariants as alignment
 use Rattle.tocmark_event.specs.declared.event.LinkType.{LinkType}

@@ -1,15 +1,15 @@
 -- The spelling of a forest, and the nodes for which there is none.
 use Rattle.std.specs.Prelude.{ℕ, Bool, true, false, not, ◌&&◌, ◌||◌, Option, Some, None, List, [], ◌∷◌}
-use Rattle.tocmark_event.specs.View.{TagView, Item, Heading, TableCell, TableHead, Link, Image, SourcedEvent, Leaf}
-use Rattle.tocmark_event.specs.Forest.{Forest, empty, leaf, node}
+use Rattle.tocmark_event.specs.View.{TagView, Item, Heading, TableCell, TableHead, Link, Image, Leaf}
+use Rattle.tocmark_event.specs.Forest.{empty, leaf, node}
 use Rattle.std.specs.List.{list_any}
 use Rattle.tocmark_spelling.specs.Plan.{Setting, Manner}
 use Rattle.tocmark_spelling.specs.Kinds.{is_heading, is_list, is_table}
 use Rattle.tocmark_spelling.specs.Body.{Trees}
 use Rattle.tocmark_spelling.specs.ById.{by_id}
 use Rattle.tocmark_spelling.specs.Runs.{inside, beyond, ahead_of, past}
-use Rattle.tocmark_spelling.specs.Look.{Look, look}
-use Rattle.tocmark_spelling.specs.Page.{Last, Inline, Content, Plain, Underlined, Fence, HtmlEnds, Listed, Defined, Headers, Width, Delimited, Named, Level, Path, Page, Site, Around, written, with_last}
+use Rattle.tocmark_spelling.specs.Look.{look}
+use Rattle.tocmark_spelling.specs.Page.{Inline, Content, Named, Path, Page, Site, Around, written, with_last}
 use Rattle.tocmark_spelling.specs.Gap.{gap}
 use Rattle.tocmark_spelling.specs.Opening.{opening}
 use Rattle.tocmark_spelling.specs.Closing.{closing}

@@ -1,11 +1,11 @@
 -- The leaves: each with its gap, and a stretch of texts as one.
-use Rattle.std.specs.Prelude.{ℕ, ◌+◌, Bool, true, false, not, ◌&&◌, ◌||◌, ◌==◌, if◌then◌else◌, nat_lt, Option, Some, None, is_none, List, [], ◌∷◌, ◌++◌, length, max, codes, chars}
-use Rattle.tocmark_event.specs.View.{LeafView, Text, Code, InlineMath, DisplayMath, Html, InlineHtml, FootnoteReference, SoftBreak, HardBreak, Rule, TaskListMarker, SourcedLeaf, EventView, Start, End, Leaf}
+use Rattle.std.specs.Prelude.{ℕ, ◌+◌, Bool, true, false, ◌&&◌, ◌||◌, ◌==◌, if◌then◌else◌, nat_lt, Option, Some, None, is_none, List, [], ◌∷◌, ◌++◌, length, max, codes, chars}
+use Rattle.tocmark_event.specs.View.{LeafView, Text, Code, InlineMath, DisplayMath, Html, InlineHtml, FootnoteReference, SoftBreak, HardBreak, Rule, TaskListMarker, SourcedLeaf, EventView, Leaf}
 use Rattle.tocmark_spelling.specs.Escape.{Place, escaped}
 use Rattle.tocmark_spelling.specs.Leaves.{code_span, inline_math, display_math, task_marker, footnote_reference}
-use Rattle.tocmark_spelling.specs.Plan.{TextSpelling, Escaped, Literal, Entities, LiteralEntities, Setting, Manner}
+use Rattle.tocmark_spelling.specs.Plan.{TextSpelling, Literal, Entities, LiteralEntities, Setting, Manner}
 use Rattle.tocmark_spelling.specs.Kinds.{is_table, is_heading, is_emphasis_or_strong, starts, is_text, and_is}
-use Rattle.tocmark_spelling.specs.Page.{Last, Other, Inline, ItemStart, ListChoice, Content, Plain, Underlined, Fence, HtmlEnds, Listed, Defined, Headers, Width, Delimited, Named, Level, Path, Page, Site, Held, Around, front, following, written, with_last, with_owed}
+use Rattle.tocmark_spelling.specs.Page.{Last, Other, Inline, Content, Listed, Path, Page, Site, Held, Around, front, following, written, with_last, with_owed}
 use Rattle.tocmark_spelling.specs.Places.{is_in, is_after_opening, is_raw, widened}
 use Rattle.tocmark_spelling.specs.Gap.{gap, is_inline, is_item_opening}
 use Rattle.tocmark_spelling.specs.Marker.{ends_delimiter}

@@ -1,5 +1,5 @@
 -- Words on texts, which are lists of bytes.
-use Rattle.std.specs.Prelude.{ℕ, Bool, true, false, ◌||◌, Option, List, [], ◌∷◌, chars, nat_eq, reverse, slice_get, slice_index}
+use Rattle.std.specs.Prelude.{ℕ, Bool, true, false, not, ◌||◌, Option, Some, None, List, [], ◌∷◌, chars, nat_eq, reverse, slice_get, slice_index}
 use Rattle.std.specs.List.{starts_with}
 
 -- the first and the last character
@@ -21,6 +21,15 @@ begins_with text piece = starts_with nat_eq text piece
 abbrev pub holds : List ℕ → List ℕ → Bool
 holds [] piece = begins_with [] piece
 holds (b ∷ bs) piece = begins_with (b ∷ bs) piece || holds bs piece
+
+-- the first of two that is there
+abbrev pub or_else : {A : Type 0} → Option A → Option A → Option A
+or_else (Some a) later = Some a
+or_else None later = later
+
+abbrev pub same_truth : Bool → Bool → Bool
+same_truth true b = b
+same_truth false b = not b
 
 abbrev pub asterisk : ℕ
 asterisk = 42

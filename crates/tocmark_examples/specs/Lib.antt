@@ -1,0 +1,10 @@
+pub mod Script
+pub mod Blocks
+pub mod Tables
+pub mod Links
+pub mod Delimiters
+pub mod Fallbacks
+pub mod EdgesOfLists
+pub mod EdgesOfInlines
+pub mod EdgesOfBlocks
+pub mod Manners

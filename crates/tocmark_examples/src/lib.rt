@@ -1,0 +1,59 @@
+//! Examples of what lists of events are written as. The contract of each function is a table of them, and the
+//! definitions are computed on each; the functions do nothing.
+#![tactic(auto)]
+
+ghost use Rattle.tocmark_examples.specs.Script.{AreWritten};
+ghost use Rattle.tocmark_examples.specs.Blocks.{blocks};
+ghost use Rattle.tocmark_examples.specs.Delimiters.{delimiters};
+ghost use Rattle.tocmark_examples.specs.EdgesOfBlocks.{edges_of_blocks};
+ghost use Rattle.tocmark_examples.specs.EdgesOfInlines.{edges_of_inlines};
+ghost use Rattle.tocmark_examples.specs.EdgesOfLists.{edges_of_lists};
+ghost use Rattle.tocmark_examples.specs.Fallbacks.{fallbacks};
+ghost use Rattle.tocmark_examples.specs.Links.{links};
+ghost use Rattle.tocmark_examples.specs.Manners.{manners, AreSpelt};
+ghost use Rattle.tocmark_examples.specs.Tables.{tables};
+
+/// Quotes, lists, code and HTML.
+pub fn blocks_are_written()
+    ensures { AreWritten blocks }
+{}
+
+/// Tables, definition lists, footnotes and metadata.
+pub fn tables_are_written()
+    ensures { AreWritten tables }
+{}
+
+/// Links, labels and texts from the source.
+pub fn links_are_written()
+    ensures { AreWritten links }
+{}
+
+/// Emphasis and its like.
+pub fn delimiters_are_written()
+    ensures { AreWritten delimiters }
+{}
+
+/// Fallbacks.
+pub fn fallbacks_are_written()
+    ensures { AreWritten fallbacks }
+{}
+
+/// Lists at the edges of the rules.
+pub fn edges_of_lists_are_written()
+    ensures { AreWritten edges_of_lists }
+{}
+
+/// Inline content at the edges of the rules.
+pub fn edges_of_inlines_are_written()
+    ensures { AreWritten edges_of_inlines }
+{}
+
+/// Other blocks at the edges of the rules.
+pub fn edges_of_blocks_are_written()
+    ensures { AreWritten edges_of_blocks }
+{}
+
+/// Paragraphs in single manners.
+pub fn manners_are_spelt()
+    ensures { AreSpelt manners }
+{}

@@ -1,0 +1,38 @@
+-- Units as lists of events.
+use Rattle.std.specs.Prelude.{Bool, false, Option, Some, None, Err, List, [], ◌∷◌}
+use Rattle.tocmark_event.specs.Forest.{Opened, Grown, read_all, nothing_read}
+use Rattle.tocmark_event.specs.View.{EventView, SourcedLeaf, SourcedEvent}
+use Rattle.tocmark_event.specs.declared.options.Error.TheVariants.{UnexpectedEvent}
+use Rattle.tocmark_spelling.specs.Plan.{Setting}
+use Rattle.tocmark_spelling.specs.Body.{Trees}
+use Rattle.tocmark_render.specs.Document.{DocumentView}
+use Rattle.tocmark_render.specs.Placeholder.{needs_placeholder}
+use Rattle.tocmark_render.specs.Choice.{Chosen, choice}
+
+abbrev pub if_closed : List (Opened SourcedLeaf) → Trees → Option Trees
+if_closed [] f = Some f
+if_closed (o ∷ opens) f = None
+
+abbrev pub trees_read : Option (Grown SourcedLeaf) → Option Trees
+trees_read None = None
+trees_read (Some r) = if_closed r.opens r.since
+
+-- the forest that a list of events is; none where it isn't balanced
+unfoldable pub trees_of : List SourcedEvent → Option Trees
+trees_of es = trees_read (read_all es nothing_read)
+
+abbrev pub choice_of : Setting → DocumentView → Option Trees → Option EventView → Chosen
+choice_of s d None next = Err UnexpectedEvent
+choice_of s d (Some f) next = choice s d f next
+
+-- the choice for a unit that is given as its events
+unfoldable pub chosen : Setting → DocumentView → List SourcedEvent → Option EventView → Chosen
+chosen s d unit next = choice_of s d (trees_of unit) next
+
+abbrev pub placeholder_in : Option Trees → Bool
+placeholder_in None = false
+placeholder_in (Some f) = needs_placeholder f
+
+-- whether a unit that is given as its events waits for a label
+unfoldable pub waits : List SourcedEvent → Bool
+waits unit = placeholder_in (trees_of unit)
