@@ -1,1 +1,5 @@
 pub mod Choices
+pub mod Forests
+pub mod LabelLemmas
+pub mod Misplaced
+pub mod SpelledUnits
