@@ -1,20 +1,13 @@
 -- Reading a list of events into trees, and writing trees as a list, undo each other.
-use Rattle.std.proofs.Common.{◌≡◌, ℕ, Bool, true, false, Option, Some, None, List, [], ◌∷◌, refl, sym, ap, ◌∙◌, eq-eqb, get_or, nat_eq, arith}
-use Rattle.std.proofs.lemmas.Bool.Decides.{nat_tests}
+use Rattle.std.proofs.Common.{◌≡◌, true, Option, Some, List, [], refl, sym, ap, ◌∙◌, eq-eqb}
 use Rattle.tocmark_event.specs.Ends.{same_end, end_code}
-use Rattle.tocmark_event.specs.Forest.{Forest, empty, leaf, node, flat_onto, flat, joined, Opened, Grown, closed_if, read_end, read_one, then_read, read_all, nothing_read}
-use Rattle.tocmark_event.specs.View.{EventWith, Start, End, Leaf, SourcedEvent, SourcedLeaf, TagView, EventView, end_of}
-use Rattle.tocmark_event.specs.declared.event.BlockQuoteKind.TheVariants as quote
-use Rattle.tocmark_event.specs.declared.event.HeadingLevel.TheVariants as level
-use Rattle.tocmark_event.specs.declared.event.MetadataBlockKind.TheVariants as metadata
-use Rattle.tocmark_event.specs.declared.event.TagEnd.{TagEnd}
-use Rattle.tocmark_event.specs.declared.event.TagEnd.TheVariants as end
+use Rattle.tocmark_event.specs.Forest.{empty, leaf, node, flat_onto, flat, joined, Opened, closed_if, then_read, read_all}
+use Rattle.tocmark_event.specs.View.{SourcedEvent, SourcedLeaf, TagView, EventView, end_of}
 use Rattle.tocmark_spelling.specs.Body.{Trees}
 use Rattle.tocmark_spelling.specs.Plan.{Setting}
-use Rattle.tocmark_render.specs.Choice.{Chosen}
 use Rattle.tocmark_render.specs.Document.{DocumentView}
 use Rattle.tocmark_render.specs.Spelled.{is_spelled, choice_if, choice_if_spelled, chosen_if_spelled}
-use Rattle.tocmark_render.specs.Units.{trees_of, trees_read, if_closed}
+use Rattle.tocmark_render.specs.Units.{trees_of, trees_read}
 
 same_end-itself : (t : TagView) → same_end (end_of t) (end_of t) ≡ true
 same_end-itself t = eq-eqb (end_code (end_of t)) (end_code (end_of t)) refl

@@ -7,7 +7,7 @@ use Rattle.std.proofs.lemmas.Bool.Decides.{same_from_decides, Decides-like}
 use Rattle.std.proofs.lemmas.List.{map-append}
 use Rattle.std.proofs.lemmas.Slice.Eq.{bytes_eq-Decides}
 use Rattle.indexmap.specs.IndexSet.{insert_key}
-use Rattle.tocmark_render.specs.Document.{folded, is_among, with_label}
+use Rattle.tocmark_render.specs.Document.{folded, with_label}
 
 bytes_eq-flip : (a b : List ℕ) → bytes_eq a b ≡ bytes_eq b a
 bytes_eq-flip a b = same_from_decides _ _ (bytes_eq-Decides a b) (Decides-like _ (λ e. sym e) (λ e. sym e) (bytes_eq-Decides b a))

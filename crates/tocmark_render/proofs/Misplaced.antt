@@ -1,5 +1,5 @@
 -- A forest has a spelling just where no node of it is misplaced.
-use Rattle.std.proofs.Common.{◌≡◌, ℕ, Bool, true, false, not, ◌||◌, ◌&&◌, if◌then◌else◌, Option, Some, None, List, [], ◌∷◌, map, refl, sym, ap, subst, ◌∙◌}
+use Rattle.std.proofs.Common.{◌≡◌, ℕ, Bool, true, false, not, ◌||◌, ◌&&◌, if◌then◌else◌, Option, Some, None, List, [], ◌∷◌, map, refl, ap, subst, ◌∙◌}
 use Rattle.std.specs.Prelude.{is_none}
 use Rattle.std.specs.List.{list_any}
 use Rattle.tocmark_event.specs.Forest.{empty, leaf, node}
@@ -252,7 +252,7 @@ opens-within : (s : Setting) (m : Manner) (t : TagView) (kids : Trees) (a : Arou
 opens-within s m t kids a outside path p e =
     opens-along _ _ t _ _ _ (wrong-outside t outside path e)
     (subst (λ ks. Opens (is_wrong_at t path) t (by_id s t kids) ks (opening s m t (look s m t kids a) path p)) e
-      (opening-opens s m t kids (look s m t kids a) path p refl))
+    (opening-opens s m t kids (look s m t kids a) path p refl))
 
 -- ---- a container, its body and its right neighbours
 

@@ -1,6 +1,7 @@
 -- What a unit comes to.
-use Rattle.std.specs.Prelude.{◌≡◌, ℕ, List, [], Bool, false, Option, Some, None, Result, Ok, Err, string_bytes, String}
+use Rattle.std.specs.Prelude.{◌≡◌, ℕ, ◌==◌, List, [], Bool, true, false, if◌then◌else◌, Option, Some, None, Result, Ok, Err, string_bytes, String}
 use Rattle.std.specs.Global.{Global}
+use Rattle.std.specs.List.{list_any}
 use Rattle.tocmark_event.specs.Options.{OptionsView}
 use Rattle.tocmark_event.specs.Reading.{ReadingView}
 use Rattle.tocmark_event.specs.View.{EventView, SourcedEvent, event_view}
@@ -10,6 +11,8 @@ use Rattle.tocmark_event.specs.declared.options.Error.{Error}
 use Rattle.tocmark_event.specs.declared.options.Error.TheVariants as error
 use Rattle.tocmark_spelling.specs.Draft.{Draft, run}
 use Rattle.tocmark_spelling.specs.DraftOf.{draft_of, between, nothing_drafted}
+use Rattle.tocmark_render.specs.Document.{with_labels}
+use Rattle.tocmark_render.specs.LabelsOf.{labels_of}
 use Rattle.tocmark_render.specs.declared.render.Document.{Document}
 
 -- what holds for all units: the options, the parser's flags and the reader's readings
@@ -18,32 +21,43 @@ pub record Setting : Type 0 where
   pub flags : ParserOptions
   pub reading : List ℕ → ParserOptions → ReadingView
 
--- what earlier units leave to later ones
+-- what earlier units leave to later ones: what was written last, the folded labels that a reader takes literally, and
+-- whether there was a unit
 pub record DocumentView : Type 0 where
   pub draft : Draft
+  pub literal : List (List ℕ)
+  pub flushed : Bool
 
 abbrev pub document_view : Document → DocumentView
-document_view d = record { draft = draft_of d.renderer }
+document_view d = record { draft = draft_of d.renderer; literal = labels_of d.literal; flushed = d.flushed }
 
 abbrev pub document_flags : Document → ParserOptions
 document_flags d = d.flags
 
 -- what a new document holds
 abbrev pub new_document : DocumentView
-new_document = record { draft = nothing_drafted }
+new_document = record { draft = nothing_drafted; literal = []; flushed = false }
 
 -- an event that is kept
 abbrev pub kept_view : Option (EventOf (String Global)) → Option EventView
 kept_view None = None
 kept_view (Some e) = Some (event_view string_bytes e)
 
-abbrev pub outcome : Option Draft → Result (List ℕ × DocumentView) Error
-outcome None = Err error.UnexpectedEvent
-outcome (Some d) = Ok (d.text, record { draft = between d })
+-- the labels that stay open in a text with a bracket become literal
+abbrev pub literal_in : (List ℕ → ParserOptions → ReadingView) → ParserOptions → List (List ℕ) → List ℕ → List (List ℕ)
+literal_in reading flags literal text = if list_any (λ b. b == 91) text then with_labels literal (reading text flags).unresolved else literal
+
+-- the document that a unit leaves
+abbrev pub left_by : Setting → DocumentView → Draft → DocumentView
+left_by s d r = record { draft = between r; literal = literal_in s.reading s.flags d.literal r.text; flushed = true }
+
+abbrev pub outcome : Setting → DocumentView → Option Draft → Result (List ℕ × DocumentView) Error
+outcome s d None = Err error.UnexpectedEvent
+outcome s d (Some r) = Ok (r.text, left_by s d r)
 
 -- the text of a unit that the event follows, and the document after it, or a refusal
 unfoldable pub chosen : Setting → DocumentView → List SourcedEvent → Option EventView → Result (List ℕ × DocumentView) Error
-chosen s d unit next = outcome (run s.options s.flags next unit (between d.draft))
+chosen s d unit next = outcome s d (run s.options s.flags next unit (between d.draft))
 
 -- a unit waits for a label that only the end of the events can give: none, as long as no list is spelled
 unfoldable pub needs_placeholder : List SourcedEvent → Bool

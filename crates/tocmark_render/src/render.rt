@@ -1,10 +1,13 @@
 //! The text of one unit, in a document.
 
-ghost use Rattle.std.specs.Prelude.{◌≡◌, [], map, string_bytes, IfOk};
+ghost use Rattle.std.specs.Prelude.{◌≡◌, ◌==◌, [], map, string_bytes, IfOk, OnOk};
+ghost use Rattle.std.specs.List.{list_any};
 ghost use Rattle.tocmark_event.specs.Options.{options_view};
 ghost use Rattle.tocmark_spelling.specs.Buffered.{buffered_view, following_view, next_view};
-ghost use Rattle.tocmark_render.specs.Chosen.{Spells, Gives, chosen, definitions, needs_placeholder, kept_view, document_view, document_flags, new_document};
+ghost use Rattle.tocmark_render.specs.Chosen.{Spells, Gives, chosen, definitions, needs_placeholder, kept_view, document_view, document_flags, new_document, literal_in};
+ghost use Rattle.tocmark_render.specs.LabelsOf.{labels_of};
 
+use crate::labels::Labels;
 use std::alloc::{AllocError, Global};
 use tocmark_event::event::{Event, OwnedEvent, ParserOptions};
 use tocmark_event::options::{Error, Options};
@@ -16,6 +19,10 @@ use tocmark_spelling::spelling::{BufferedEvent, Renderer};
 pub struct Document {
     flags: ParserOptions,
     renderer: Renderer,
+    /// The labels of earlier units that are no links, since nothing defines them.
+    literal: Labels,
+    /// Whether a unit was written.
+    flushed: bool,
 }
 
 /// Whether a unit waits for a label that only the end of the events can give.
@@ -46,6 +53,30 @@ fn lent_event(event: &Option<OwnedEvent>) -> Option<&OwnedEvent>
     }
 }
 
+fn has_bracket(text: &str) -> bool
+    ensures { result ≡ list_any (λ b. b == 91) text.now }
+{
+    text.as_bytes().iter().any(|byte| *byte == b'[')
+}
+
+/// Adds the labels that a reader finds in a unit's text and nothing defines. Only a text with a
+/// bracket is read. An `Err` says that memory ran out.
+fn note_open_labels<R: Reader>(
+    literal: &mut Labels,
+    alloc: Global,
+    reader: &R,
+    text: &str,
+    flags: ParserOptions,
+) -> Result<(), AllocError>
+    ensures { OnOk result (labels_of literal.new ≡ literal_in (R.reading reader.now) flags (labels_of literal.old) text.now) }
+{
+    if !has_bracket(text) {
+        return Ok(());
+    }
+    let found = reader.read(alloc, text, flags)?;
+    literal.add_all(alloc, &found.unresolved)
+}
+
 impl Document {
     /// A document before its first unit, for events of a parser with these flags.
     pub fn new(alloc: Global, flags: ParserOptions) -> Document
@@ -55,6 +86,8 @@ impl Document {
         Document {
             flags,
             renderer: Renderer::new(alloc),
+            literal: Labels::new(alloc),
+            flushed: false,
         }
     }
 
@@ -67,17 +100,21 @@ impl Document {
     pub fn block<R: Reader>(
         &mut self,
         alloc: Global,
-        _reader: &R,
+        reader: &R,
         unit: &[BufferedEvent],
         next: Option<&Event<'_>>,
         options: &Options<'_>,
     ) -> Result<String, Error>
-        ensures chosen { Spells (document_view self.new) result (chosen (record { options = options_view options.now; flags = document_flags self.old; reading = R.reading _reader.now }) (document_view self.old) (map buffered_view unit.now) (next_view next.entry)) }
+        ensures chosen { Spells (document_view self.new) result (chosen (record { options = options_view options.now; flags = document_flags self.old; reading = R.reading reader.now }) (document_view self.old) (map buffered_view unit.now) (next_view next.entry)) }
         ensures flags { document_flags self.new ≡ document_flags self.old }
     {
         let next = kept_event(alloc, next)?;
-        self.renderer
-            .render_block(alloc, unit, lent_event(&next), options, self.flags)
+        let text = self
+            .renderer
+            .render_block(alloc, unit, lent_event(&next), options, self.flags)?;
+        note_open_labels(&mut self.literal, alloc, reader, text.as_str(), self.flags)?;
+        self.flushed = true;
+        Ok(text)
     }
 
     /// The definitions that are left: none as long as no link is spelled. An `Err` says that memory
