@@ -1,1 +1,4 @@
 pub mod Choices
+pub mod Forests
+pub mod LabelLemmas
+pub mod SpelledUnits

@@ -1,9 +1,11 @@
 pub mod Definitions
 pub mod Document
 pub mod Validates
+pub mod LabelsOf
 pub mod Candidates
 pub mod ReadsBack
 pub mod Placeholder
 pub mod Choice
 pub mod Units
+pub mod Spelled
 pub mod Chosen

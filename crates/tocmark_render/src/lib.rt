@@ -1,4 +1,6 @@
 //! The text of one unit of events, and what it leaves to later ones.
 #![tactic(auto)]
 
+pub mod labels;
+pub mod laws;
 pub mod render;

@@ -1,0 +1,30 @@
+-- A set of folded labels grows as the definition says.
+use Rattle.std.proofs.Common.{◌≡◌, ℕ, Bool, true, false, ◌||◌, if◌then◌else◌, List, [], ◌∷◌, ◌++◌, map, refl, sym, ap, ◌∙◌, string_bytes, String}
+use Rattle.std.specs.Global.{Global}
+use Rattle.std.specs.Prelude.{bytes_eq, string_eq}
+use Rattle.std.specs.List.{list_any}
+use Rattle.std.proofs.lemmas.Bool.Decides.{same_from_decides, Decides-like}
+use Rattle.std.proofs.lemmas.List.{map-append}
+use Rattle.std.proofs.lemmas.Slice.Eq.{bytes_eq-Decides}
+use Rattle.indexmap.specs.IndexSet.{insert_key}
+use Rattle.tocmark_render.specs.Document.{folded, with_label}
+
+bytes_eq-flip : (a b : List ℕ) → bytes_eq a b ≡ bytes_eq b a
+bytes_eq-flip a b = same_from_decides _ _ (bytes_eq-Decides a b) (Decides-like _ (λ e. sym e) (λ e. sym e) (bytes_eq-Decides b a))
+
+among-keys : (f : String Global) (keys : List (String Global)) → list_any (string_eq f) keys ≡ list_any (λ l. bytes_eq l (string_bytes f)) (map string_bytes keys)
+among-keys f [] = refl
+among-keys f (k ∷ ks) =
+    ap (λ b. b || list_any (string_eq f) ks) (bytes_eq-flip (string_bytes f) (string_bytes k))
+    ∙ ap (λ b. bytes_eq (string_bytes k) (string_bytes f) || b) (among-keys f ks)
+
+inserted : (b : Bool) (f : String Global) (keys : List (String Global)) → map string_bytes (if b then keys else keys ++ f ∷ []) ≡ (if b then map string_bytes keys else map string_bytes keys ++ string_bytes f ∷ [])
+inserted true f keys = refl
+inserted false f keys = map-append string_bytes keys (f ∷ [])
+
+pub label-inserted : (f : String Global) (keys : List (String Global)) (label : List ℕ) → string_bytes f ≡ folded label
+    → map string_bytes (insert_key string_eq keys f) ≡ with_label (map string_bytes keys) label
+label-inserted f keys label e =
+    inserted (list_any (string_eq f) keys) f keys
+    ∙ ap (λ b. if b then map string_bytes keys else map string_bytes keys ++ string_bytes f ∷ []) (among-keys f keys)
+    ∙ ap (λ x. if list_any (λ l. bytes_eq l x) (map string_bytes keys) then map string_bytes keys else map string_bytes keys ++ x ∷ []) e

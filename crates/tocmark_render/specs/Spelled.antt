@@ -1,0 +1,40 @@
+-- The units that are spelled so far.
+use Rattle.std.specs.Prelude.{Bool, true, false, not, ◌&&◌, Option, Some, None, is_none, Err, List, []}
+use Rattle.tocmark_event.specs.Forest.{empty, leaf, node}
+use Rattle.tocmark_event.specs.View.{TagView, Paragraph, Heading, EventView, LeafView, Text, SoftBreak, SourcedEvent}
+use Rattle.tocmark_event.specs.declared.options.Error.TheVariants.{UnexpectedEvent}
+use Rattle.tocmark_spelling.specs.Body.{Trees, is_broken}
+use Rattle.tocmark_spelling.specs.Plan.{Setting}
+use Rattle.tocmark_render.specs.Choice.{Chosen, choice}
+use Rattle.tocmark_render.specs.Document.{DocumentView}
+use Rattle.tocmark_render.specs.Units.{trees_of}
+
+-- a Paragraph, or a heading without id, classes, attributes and breaks
+abbrev pub is_spelled_tag : TagView → Trees → Bool
+is_spelled_tag Paragraph kids = true
+is_spelled_tag (Heading level None [] []) kids = not (is_broken kids)
+is_spelled_tag t kids = false
+
+-- a text or a soft break
+abbrev pub is_spelled_leaf : LeafView → Bool
+is_spelled_leaf (Text t) = true
+is_spelled_leaf SoftBreak = true
+is_spelled_leaf l = false
+
+-- whether each event of a unit is spelled so far; texts are, as long as no source of theirs is known
+unfoldable pub is_spelled : Trees → Bool
+is_spelled empty = true
+is_spelled (leaf l f) = is_spelled_leaf l.leaf && is_none l.source && is_spelled f
+is_spelled (node t kids f) = is_spelled_tag t kids && is_spelled kids && is_spelled f
+
+abbrev pub choice_if : Bool → Setting → DocumentView → Trees → Option EventView → Chosen
+choice_if true s d f next = choice s d f next
+choice_if false s d f next = Err UnexpectedEvent
+
+abbrev pub choice_if_spelled : Setting → DocumentView → Option Trees → Option EventView → Chosen
+choice_if_spelled s d None next = Err UnexpectedEvent
+choice_if_spelled s d (Some f) next = choice_if (is_spelled f) s d f next
+
+-- the choice for a unit that is given as its events; a unit with an event that isn't spelled yet is refused
+unfoldable pub chosen_if_spelled : Setting → DocumentView → List SourcedEvent → Option EventView → Chosen
+chosen_if_spelled s d unit next = choice_if_spelled s d (trees_of unit) next

@@ -1,0 +1,23 @@
+//! Laws of the definitions: calls that do nothing, whose contracts are the laws.
+
+ghost use Rattle.std.specs.Prelude.{◌≡◌, [], is_none, true, Option};
+ghost use Rattle.tocmark_event.specs.Forest.{flat};
+ghost use Rattle.tocmark_event.specs.View.{EventView};
+ghost use Rattle.tocmark_spelling.specs.Body.{Trees};
+ghost use Rattle.tocmark_spelling.specs.Page.{Around, Page};
+ghost use Rattle.tocmark_spelling.specs.Plan.{Setting, Manner};
+ghost use Rattle.tocmark_spelling.specs.Spelling.{spelling, is_misplaced};
+ghost use Rattle.tocmark_render.specs.Choice.{choice, preferred};
+ghost use Rattle.tocmark_render.specs.Document.{DocumentView};
+ghost use Rattle.tocmark_render.specs.Spelled.{is_spelled, choice_if, chosen_if_spelled};
+
+/// A unit of which each event is spelled takes its preferred spelling: it has no delimiters and no known
+/// sources, so that there is nothing to choose from.
+pub fn spelled_units_are_preferred()
+    ensures { (s : Setting) (d : DocumentView) (f : Trees) (next : Option EventView) → is_spelled f ≡ true → choice s d f next ≡ preferred s d f next }
+{}
+
+/// What is chosen for a unit that is given as its events is what is chosen for their forest.
+pub fn events_are_chosen_as_forests()
+    ensures { (s : Setting) (d : DocumentView) (f : Trees) (next : Option EventView) → chosen_if_spelled s d (flat f) next ≡ choice_if (is_spelled f) s d f next }
+{}
