@@ -40,6 +40,7 @@ pub record Grown (L : Type 0) : Type 0 where
   pub opens : List (Opened L)
   pub since : Forest L
 
+-- the innermost container ends, with its children since its Start; none where the End isn't its own
 abbrev pub closed_if : {L : Type 0} → Bool → TagView → Forest L → List (Opened L) → Forest L → Option (Grown L)
 closed_if true t before opens since = Some (record { opens = opens; since = joined before (node t since empty) })
 closed_if false t before opens since = None
@@ -55,6 +56,7 @@ read_one (Leaf l) r = Some (record { opens = r.opens; since = joined r.since (le
 read_one (Start t) r = Some (record { opens = record { tag = t; before = r.since } ∷ r.opens; since = empty })
 read_one (End k) r = read_end k r.opens r.since
 
+-- reading goes on, unless an earlier event was none that could come
 abbrev pub then_read : {L : Type 0} → Option (Grown L) → (Grown L → Option (Grown L)) → Option (Grown L)
 then_read (Some r) f = f r
 then_read None f = None
@@ -64,9 +66,11 @@ abbrev pub read_all : {L : Type 0} → List (EventWith L) → Grown L → Option
 read_all [] r = Some r
 read_all (e ∷ es) r = then_read (read_one e r) (λ r. read_all es r)
 
+-- no event is read, and no container is open
 abbrev pub nothing_read : {L : Type 0} → Grown L
 nothing_read = record { opens = []; since = empty }
 
+-- the Ends of open containers, innermost first
 abbrev pub ends_of : {L : Type 0} → List (Opened L) → List TagEnd
 ends_of [] = []
 ends_of (o ∷ opens) = end_of o.tag ∷ ends_of opens

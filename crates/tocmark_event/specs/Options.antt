@@ -23,6 +23,7 @@ pub record OptionsView : Type 0 where
   pub strong_token : List ℕ
   pub use_html_for_super_sub_script : Bool
 
+-- options as plain values
 abbrev pub options_view : Options → OptionsView
 options_view o = record {
   newlines_after_headline = o.newlines_after_headline;

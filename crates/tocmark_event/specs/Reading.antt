@@ -10,6 +10,7 @@ pub record ReadingView : Type 0 where
   pub defined : List (List ℕ)
   pub unresolved : List (List ℕ)
 
+-- what a reader found, as a plain value: each text is its bytes
 abbrev pub reading_view : Reading → ReadingView
 reading_view r = record {
   events = map (λ e. (event_view text_of e.0, e.1)) r.events.items;

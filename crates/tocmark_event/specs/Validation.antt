@@ -15,12 +15,14 @@ pub data OptionsFault : Type 0 where
   Scripts : OptionsFault
   Size : List ℕ → OptionsFault
 
+-- what is wrong with the options, as an error says it
 abbrev pub fault_of : OptionsError → OptionsFault
 fault_of (error.UnsupportedParserOptions flags) = Flags flags.0
 fault_of (error.InvalidToken field) = Token field.now
 fault_of error.HtmlSuperSubscript = Scripts
 fault_of (error.SizeOverflow field) = Size field.now
 
+-- what is wrong with the options, where a call answered an error
 abbrev pub fault_in : Result (Unit {0}) OptionsError → Option OptionsFault
 fault_in (Ok _) = None
 fault_in (Err e) = Some (fault_of e)
@@ -39,6 +41,7 @@ first_fault None later = later
 abbrev pub unsupported : ParserOptions → ℕ
 unsupported flags = bit_and flags.0 (2 ^ 32 - 1 - 0x7DDE)
 
+-- flags that are not supported
 unfoldable pub flags_fault : ParserOptions → Option OptionsFault
 flags_fault flags = fault_unless (unsupported flags == 0) (Flags (unsupported flags))
 
@@ -89,6 +92,7 @@ named_sizes o =
     ∷ (o.code_block_token_count, codes "code_block_token_count")
     ∷ []
 
+-- a size with its field's name, as plain values
 abbrev pub named_size : ℕ × Bor (List ℕ) → ℕ × List ℕ
 named_size s = (s.0, s.1.now)
 

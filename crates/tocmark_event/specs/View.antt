@@ -87,10 +87,12 @@ unsourced (Start t) = Start t
 unsourced (End k) = End k
 unsourced (Leaf l) = Leaf l.leaf
 
+-- the kind of a code block, whose info string has these bytes (CommonMark, sections 4.4 and 4.5)
 abbrev pub code_view : {T : Type 0} → (T → List ℕ) → CodeBlockKindOf T → CodeView
 code_view bytes kind.Indented = Indented
 code_view bytes (kind.Fenced info) = Fenced (bytes info)
 
+-- a heading's attribute: its name, and its value if it has one, have these bytes
 abbrev pub attribute_view : {T : Type 0} → (T → List ℕ) → T × Option T → List ℕ × Option (List ℕ)
 attribute_view bytes a = (bytes a.0, option_map bytes a.1)
 

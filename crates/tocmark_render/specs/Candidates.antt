@@ -7,6 +7,7 @@ use Rattle.tocmark_spelling.specs.Body.{Trees, some_leaf}
 use Rattle.tocmark_spelling.specs.Words.{asterisk}
 use Rattle.tocmark_spelling.specs.Plan.{Layout, Preferred, Runs, Uniform, Shared, RuleThree, TextSpelling, Escaped, Literal, Entities, LiteralEntities, Plan, Markers, Manner}
 
+-- emphasis, strong emphasis (CommonMark, section 6.2), strikethrough (GFM, section 6.5), super- or subscript
 abbrev pub is_delimiter_tag : TagView → Bool
 is_delimiter_tag Emphasis = true
 is_delimiter_tag Strong = true
@@ -15,6 +16,7 @@ is_delimiter_tag Superscript = true
 is_delimiter_tag Subscript = true
 is_delimiter_tag t = false
 
+-- mathematics, in a line or by itself
 abbrev pub is_math : LeafView → Bool
 is_math (InlineMath t) = true
 is_math (DisplayMath t) = true
@@ -30,6 +32,7 @@ some_tag test (node t kids f) = test t || some_tag test kids || some_tag test f
 abbrev pub is_delimiter_block : Trees → Bool
 is_delimiter_block f = some_tag is_delimiter_tag f || some_leaf is_math f
 
+-- whether a leaf's spelling in the source is known
 abbrev pub is_sourced : SourcedLeaf → Bool
 is_sourced l = is_some l.source
 
@@ -39,9 +42,11 @@ has_source empty = false
 has_source (leaf l f) = is_sourced l || has_source f
 has_source (node t kids f) = has_source kids || has_source f
 
+-- a manner: a layout, a way with texts, the two markers, and whether texts are taken from the source
 abbrev pub in_manner : Layout → TextSpelling → Markers → Bool → Manner
 in_manner layout text markers source = record { plan = record { layout = layout; text = text }; markers = markers; source = source }
 
+-- the markers that the options name
 abbrev pub own_markers : OptionsView → Markers
 own_markers o = record { emphasis = o.emphasis_token; strong = o.strong_token }
 
@@ -49,12 +54,15 @@ own_markers o = record { emphasis = o.emphasis_token; strong = o.strong_token }
 abbrev pub preferred_manner : OptionsView → Manner
 preferred_manner o = in_manner Preferred Escaped (own_markers o) false
 
+-- the other marker of emphasis: `_` for `*`, else `*` (CommonMark, section 6.2)
 abbrev pub other_emphasis : ℕ → ℕ
 other_emphasis c = if c == asterisk then 95 else asterisk
 
+-- the other marker of strong emphasis: `__` for `**`, else `**` (CommonMark, section 6.2)
 abbrev pub other_strong : List ℕ → List ℕ
 other_strong t = if bytes_eq t (codes "**") then codes "__" else codes "**"
 
+-- a marker of Emphasis with one of Strong
 abbrev pub pair : ℕ → List ℕ → Markers
 pair emphasis strong = record { emphasis = emphasis; strong = strong }
 

@@ -20,6 +20,7 @@ use Rattle.tocmark_render.specs.Validates.{validates}
 abbrev pub page_in : DocumentView → Page
 page_in d = record { sheet = record { text = []; feeds = d.feeds }; trail = d.trail; references = []; held = None }
 
+-- the page to which a spelling came; none where it was refused
 abbrev pub page_of : Option Site → Option Page
 page_of None = None
 page_of (Some here) = Some here.page
@@ -32,10 +33,12 @@ spelled s d f next m = page_of (spelling s m f (whole next) [] (page_in d))
 abbrev pub definitions_of : Page → List ℕ
 definitions_of p = definitions_text p.references p.sheet.feeds
 
+-- the page, if it reads back
 abbrev pub if_read_back : Bool → Page → Option Page
 if_read_back true p = Some p
 if_read_back false p = None
 
+-- the page to which a spelling came, if it reads back as the unit
 abbrev pub page_read_back : Setting → DocumentView → Trees → Option Page → Option Page
 page_read_back s d f None = None
 page_read_back s d f (Some p) = if_read_back (reads_back s d f (definitions_of p) p.sheet.text) p
@@ -51,6 +54,7 @@ abbrev pub known_after : Setting → DocumentView → List ℕ → List (List �
 known_after s d [] = d.known
 known_after s d (b ∷ defs) = with_labels d.known (s.reading (b ∷ defs) s.flags).defined
 
+-- the labels that a reader looks up in vain in a text become literal, if it is read at all
 abbrev pub literal_if : Bool → Setting → DocumentView → List ℕ → List (List ℕ)
 literal_if true s d text = with_labels d.literal (s.reading text s.flags).unresolved
 literal_if false s d text = d.literal
@@ -74,9 +78,11 @@ document_after s d p = record {
 abbrev pub Chosen : Type 0
 Chosen = Result (List ℕ × DocumentView) Error
 
+-- a page's text and the document that it leaves
 abbrev pub accepted : Setting → DocumentView → Page → Chosen
 accepted s d p = Ok (p.sheet.text, document_after s d p)
 
+-- the same for a spelling; one that was refused met an unexpected event
 abbrev pub accepted_if : Setting → DocumentView → Option Page → Chosen
 accepted_if s d (Some p) = accepted s d p
 accepted_if s d None = Err UnexpectedEvent
@@ -95,6 +101,7 @@ abbrev pub without_spelling : Setting → DocumentView → Trees → Option Even
 without_spelling s d f next =
     elim (is_delimiter_block f && validates s.options s.flags) as (λ _. Chosen) [ true ↦ Err Unrepresentable | false ↦ preferred s d f next ]
 
+-- the spelling that was found, or what is done where none reads back
 abbrev pub first_or : Setting → DocumentView → Trees → Option EventView → Option Page → Chosen
 first_or s d f next (Some p) = accepted s d p
 first_or s d f next None = without_spelling s d f next
@@ -108,6 +115,7 @@ abbrev pub by_markers : Bool → Setting → DocumentView → Trees → Option E
 by_markers true s d f next = searched s d f next
 by_markers false s d f next = preferred s d f next
 
+-- a unit with a misplaced node is refused; any other is spelled
 abbrev pub unless_misplaced : Bool → Setting → DocumentView → Trees → Option EventView → Chosen
 unless_misplaced true s d f next = Err UnexpectedEvent
 unless_misplaced false s d f next = by_markers (has_standard_markers s.options) s d f next

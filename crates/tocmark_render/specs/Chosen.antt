@@ -22,9 +22,11 @@ pub record Setting : Type 0 where
 pub record DocumentView : Type 0 where
   pub draft : Draft
 
+-- a document's fields as plain values
 abbrev pub document_view : Document → DocumentView
 document_view d = record { draft = draft_of d.renderer }
 
+-- the parser's flags that a document is written for
 abbrev pub document_flags : Document → ParserOptions
 document_flags d = d.flags
 
@@ -37,6 +39,7 @@ abbrev pub kept_view : Option (EventOf (String Global)) → Option EventView
 kept_view None = None
 kept_view (Some e) = Some (event_view string_bytes e)
 
+-- the text of a unit and the document after it; a refusal where an event was unexpected
 abbrev pub outcome : Option Draft → Result (List ℕ × DocumentView) Error
 outcome None = Err error.UnexpectedEvent
 outcome (Some d) = Ok (d.text, record { draft = between d })

@@ -4,6 +4,7 @@ use Rattle.std.specs.List.{list_any}
 use Rattle.tocmark_spelling.specs.Page.{Reference}
 use Rattle.tocmark_spelling.specs.Destination.{definition_closing}
 
+-- two definitions of links have the same label, destination and title
 abbrev pub same_reference : Reference → Reference → Bool
 same_reference a b = bytes_eq a.label b.label && bytes_eq a.destination b.destination && bytes_eq a.title b.title
 

@@ -26,6 +26,7 @@ folded label = encode_utf8_all (default_case_fold (chars label))
 abbrev pub is_among : List (List ℕ) → List ℕ → Bool
 is_among labels label = list_any (λ l. bytes_eq l (folded label)) labels
 
+-- folded labels, and then this one, folded, if it was not among them
 abbrev pub with_label : List (List ℕ) → List ℕ → List (List ℕ)
 with_label labels l = if is_among labels l then labels else labels ++ folded l ∷ []
 

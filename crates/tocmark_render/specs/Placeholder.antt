@@ -37,6 +37,7 @@ abbrev pub is_ambiguous_list : TagView → Trees → Around → Bool
 is_ambiguous_list t kids a =
     is_list t && ((begins_with_empty_item kids && and_is is_inline_end_or_leaf (front a.before)) || is_only_item kids)
 
+-- some list among these trees, at any depth, would be read otherwise without a placeholder
 abbrev pub needs_placeholder_at : Trees → Around → Bool
 needs_placeholder_at empty a = false
 needs_placeholder_at (leaf l f) a = needs_placeholder_at f (past (Leaf l) a)
@@ -51,6 +52,7 @@ whole next = record { before = []; after = []; next = next }
 unfoldable pub needs_placeholder : Trees → Bool
 needs_placeholder f = needs_placeholder_at f (whole None)
 
+-- the folded id of a link or image; nothing for other containers
 abbrev pub id_label : TagView → List (List ℕ)
 id_label (Link kind dest title id) = folded id ∷ []
 id_label (Image kind dest title id) = folded id ∷ []
@@ -66,6 +68,7 @@ ids_of (e ∷ es) = ids_of es
 abbrev pub used_labels : DocumentView → List SourcedEvent → List (List ℕ)
 used_labels d pending = d.known ++ d.literal ++ ids_of pending
 
+-- `cmark-loose-n` with this number
 abbrev pub numbered_label : ℕ → List ℕ
 numbered_label n = codes "cmark-loose-" ++ decimal n
 

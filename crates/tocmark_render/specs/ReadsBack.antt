@@ -22,6 +22,7 @@ abbrev pub whole_text : List ℕ → List ℕ → List ℕ
 whole_text [] text = text
 whole_text (b ∷ defs) text = (b ∷ defs) ++ codes "\n\n" ++ text
 
+-- whether an event is of a block: the Start or End of one, Rule or Html
 abbrev pub stands_alone : EventView → Bool
 stands_alone (Start t) = not (is_inline_tag t)
 stands_alone (End k) = not (is_inline_end k)
@@ -29,6 +30,7 @@ stands_alone (Leaf Rule) = true
 stands_alone (Leaf (Html t)) = true
 stands_alone (Leaf l) = false
 
+-- inline events in a Paragraph, as a reader finds them (CommonMark, section 4.8); with a block, as they are
 abbrev pub in_paragraph : List EventView → List EventView
 in_paragraph [] = []
 in_paragraph (e ∷ es) =
@@ -38,6 +40,7 @@ in_paragraph (e ∷ es) =
 abbrev pub expected : Trees → List EventView
 expected f = in_paragraph (merged_trees f)
 
+-- whether a label is the reserved one, as labels are compared (CommonMark, section 6.3)
 abbrev pub is_label : Option (List ℕ) → List ℕ → Bool
 is_label None label = false
 is_label (Some reserved) label = bytes_eq (folded reserved) (folded label)
@@ -46,6 +49,7 @@ is_label (Some reserved) label = bytes_eq (folded reserved) (folded label)
 abbrev pub is_taken : Setting → DocumentView → List ℕ → Bool
 is_taken s d label = is_among d.known label || is_label s.label label
 
+-- a reader found the unit's events, merged, and left no label open that is taken
 abbrev pub is_read_back : Setting → DocumentView → Trees → ReadingView → Bool
 is_read_back s d f r = same_events (merged (events_of r)) (expected f) && not (list_any (is_taken s d) r.unresolved)
 

@@ -27,10 +27,12 @@ is_spelled empty = true
 is_spelled (leaf l f) = is_spelled_leaf l.leaf && is_none l.source && is_spelled f
 is_spelled (node t kids f) = is_spelled_tag t kids && is_spelled kids && is_spelled f
 
+-- the choice for a unit, or a refusal if it isn't spelled yet
 abbrev pub choice_if : Bool → Setting → DocumentView → Trees → Option EventView → Chosen
 choice_if true s d f next = choice s d f next
 choice_if false s d f next = Err UnexpectedEvent
 
+-- the choice for a unit's trees; a refusal where there are none or they aren't spelled yet
 abbrev pub choice_if_spelled : Setting → DocumentView → Option Trees → Option EventView → Chosen
 choice_if_spelled s d None next = Err UnexpectedEvent
 choice_if_spelled s d (Some f) next = choice_if (is_spelled f) s d f next

@@ -9,10 +9,12 @@ use Rattle.tocmark_render.specs.Document.{DocumentView}
 use Rattle.tocmark_render.specs.Placeholder.{needs_placeholder}
 use Rattle.tocmark_render.specs.Choice.{Chosen, choice}
 
+-- the forest, if no container is open
 abbrev pub if_closed : List (Opened SourcedLeaf) → Trees → Option Trees
 if_closed [] f = Some f
 if_closed (o ∷ opens) f = None
 
+-- the forest that was read, if each container in it was closed
 abbrev pub trees_read : Option (Grown SourcedLeaf) → Option Trees
 trees_read None = None
 trees_read (Some r) = if_closed r.opens r.since
@@ -21,6 +23,7 @@ trees_read (Some r) = if_closed r.opens r.since
 unfoldable pub trees_of : List SourcedEvent → Option Trees
 trees_of es = trees_read (read_all es nothing_read)
 
+-- the choice for a unit's trees; a refusal where its events aren't balanced
 abbrev pub choice_of : Setting → DocumentView → Option Trees → Option EventView → Chosen
 choice_of s d None next = Err UnexpectedEvent
 choice_of s d (Some f) next = choice s d f next
@@ -29,6 +32,7 @@ choice_of s d (Some f) next = choice s d f next
 unfoldable pub chosen : Setting → DocumentView → List SourcedEvent → Option EventView → Chosen
 chosen s d unit next = choice_of s d (trees_of unit) next
 
+-- whether a unit needs a placeholder; one whose events are not balanced does not
 abbrev pub placeholder_in : Option Trees → Bool
 placeholder_in None = false
 placeholder_in (Some f) = needs_placeholder f

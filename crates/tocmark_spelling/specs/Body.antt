@@ -15,6 +15,7 @@ back_onto empty es = es
 back_onto (leaf l f) es = back_onto f (Leaf l ∷ es)
 back_onto (node t kids f) es = back_onto f (End (end_of t) ∷ back_onto kids (Start t ∷ es))
 
+-- whether there is no tree at all
 abbrev pub is_empty : Trees → Bool
 is_empty empty = true
 is_empty f = false
@@ -31,10 +32,12 @@ count_tags test empty = 0
 count_tags test (leaf l f) = count_tags test f
 count_tags test (node t kids f) = (if test t then 1 else 0) + count_tags test f
 
+-- whether the first tree is a Paragraph
 abbrev pub begins_paragraph : Trees → Bool
 begins_paragraph (node t kids f) = is_paragraph t
 begins_paragraph f = false
 
+-- whether a leaf counts as inline: each but a Rule does
 abbrev pub is_inline_leaf : LeafView → Bool
 is_inline_leaf Rule = false
 is_inline_leaf l = true
@@ -51,6 +54,7 @@ some_child test empty = false
 some_child test (leaf l f) = some_child test f
 some_child test (node t kids f) = test kids || some_child test f
 
+-- how many there are in the children of all trees, by this count
 abbrev pub count_children : (Trees → ℕ) → Trees → ℕ
 count_children count empty = 0
 count_children count (leaf l f) = count_children count f
@@ -83,10 +87,12 @@ breaks_line l = false
 abbrev pub is_broken : Trees → Bool
 is_broken kids = some_leaf breaks_line kids
 
+-- the text of a Text; empty for any other leaf
 abbrev pub text_of_leaf : LeafView → List ℕ
 text_of_leaf (Text t) = t
 text_of_leaf l = []
 
+-- the text of an Html leaf; empty for any other leaf
 abbrev pub html_of_leaf : LeafView → List ℕ
 html_of_leaf (Html t) = t
 html_of_leaf l = []
@@ -97,6 +103,7 @@ joined_by text empty = []
 joined_by text (leaf l f) = text l.leaf ++ joined_by text f
 joined_by text (node t kids f) = joined_by text kids ++ joined_by text f
 
+-- the text of an Html leaf; none for any other leaf
 abbrev pub html_in : LeafView → Option (List ℕ)
 html_in (Html t) = Some t
 html_in l = None

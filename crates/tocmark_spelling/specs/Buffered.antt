@@ -15,9 +15,11 @@ sourced (Start t) source = Start t
 sourced (End k) source = End k
 sourced (Leaf l) source = Leaf (record { leaf = l; source = source })
 
+-- the event that waits, without its spelling in the source
 abbrev pub event_of : BufferedEvent → EventView
 event_of b = event_view string_bytes b.event
 
+-- the event that waits, with its spelling in the source where that is known
 abbrev pub buffered_view : BufferedEvent → SourcedEvent
 buffered_view b = sourced (event_of b) (option_map string_bytes b.source)
 

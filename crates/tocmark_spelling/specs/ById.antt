@@ -25,6 +25,7 @@ goes_by_id link.Collapsed = true
 goes_by_id link.Shortcut = true
 goes_by_id k = false
 
+-- whether the event starts a link, or an image, as the tag does
 abbrev pub is_same_kind : TagView → EventView → Bool
 is_same_kind (Link k d t i) (Start (Link k' d' t' i')) = true
 is_same_kind (Image k d t i) (Start (Image k' d' t' i')) = true
@@ -40,6 +41,7 @@ abbrev pub reads_as : Setting → List ℕ → TagView → List ℕ → Trees �
 reads_as s mark t id body =
     is_one_link t (merged_trees body) (merged (events_of (s.reading (mark ++ codes "[" ++ id ++ codes "](cmark-label)") s.flags)))
 
+-- whether the id of such a link or image stands in place of its body, where its type lets it
 abbrev pub by_id_of : Bool → Setting → List ℕ → TagView → List ℕ → Trees → Bool
 by_id_of true s mark t id body = reads_as s mark t id body
 by_id_of false s mark t id body = false

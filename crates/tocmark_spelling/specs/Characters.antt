@@ -19,66 +19,87 @@ is_alphanumeric c =
 abbrev pub is_white_space : ℕ → Bool
 is_white_space = is_whitespace
 
+-- the tab
 abbrev pub tab : ℕ
 tab = 9
 
+-- the line feed
 abbrev pub line_feed : ℕ
 line_feed = 10
 
+-- the carriage return
 abbrev pub carriage_return : ℕ
 carriage_return = 13
 
+-- the space
 abbrev pub space : ℕ
 space = 32
 
+-- the exclamation mark, `!`
 abbrev pub exclamation_mark : ℕ
 exclamation_mark = 33
 
+-- the quotation mark, `"`
 abbrev pub quotation_mark : ℕ
 quotation_mark = 34
 
+-- the hash, `#`
 abbrev pub hash : ℕ
 hash = 35
 
+-- the dollar sign, `$`
 abbrev pub dollar : ℕ
 dollar = 36
 
+-- the ampersand, `&`
 abbrev pub ampersand : ℕ
 ampersand = 38
 
+-- the opening parenthesis, `(`
 abbrev pub opening_parenthesis : ℕ
 opening_parenthesis = 40
 
+-- the closing parenthesis, `)`
 abbrev pub closing_parenthesis : ℕ
 closing_parenthesis = 41
 
+-- the colon, `:`
 abbrev pub colon : ℕ
 colon = 58
 
+-- the semicolon, `;`
 abbrev pub semicolon : ℕ
 semicolon = 59
 
+-- the less-than sign, `<`
 abbrev pub less_than : ℕ
 less_than = 60
 
+-- the greater-than sign, `>`
 abbrev pub greater_than : ℕ
 greater_than = 62
 
+-- the backslash, `\`
 abbrev pub backslash : ℕ
 backslash = 92
 
+-- the caret, `^`
 abbrev pub caret : ℕ
 caret = 94
 
+-- the underscore, `_`
 abbrev pub underscore : ℕ
 underscore = 95
 
+-- the backtick, the character of code spans
 abbrev pub backtick : ℕ
 backtick = 96
 
+-- the opening brace, `{`
 abbrev pub opening_brace : ℕ
 opening_brace = 123
 
+-- the vertical bar, `|`
 abbrev pub vertical_bar : ℕ
 vertical_bar = 124
 

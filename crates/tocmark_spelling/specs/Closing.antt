@@ -21,6 +21,7 @@ use Rattle.tocmark_spelling.specs.Opening.{metadata_fence}
 abbrev pub left : Path → Page → Site
 left path p = record { path = path; page = p }
 
+-- the block with this tag is what was written last
 abbrev pub ended : TagView → Page → Page
 ended t p = with_last (BlockEnd (end_of t)) p
 
@@ -32,14 +33,17 @@ close_block t owed path p = left path (with_owed owed (ended t p))
 abbrev pub close_plain : TagView → Path → Page → Site
 close_plain t path p = left path (ended t p)
 
+-- a heading's id behind a space and `#`; nothing if it has none
 abbrev pub id_text : Option (List ℕ) → List ℕ
 id_text None = []
 id_text (Some id) = codes " #" ++ id
 
+-- an attribute's value behind `=`; nothing if it has none
 abbrev pub value_text : Option (List ℕ) → List ℕ
 value_text None = []
 value_text (Some value) = codes "=" ++ value
 
+-- an attribute of a heading behind a space, with its value if it has one
 abbrev pub attribute_text : List ℕ × Option (List ℕ) → List ℕ
 attribute_text a = codes " " ++ a.0 ++ value_text a.1
 
@@ -53,10 +57,12 @@ abbrev pub underline : HeadingLevel → List ℕ
 underline level.H1 = codes "\n==="
 underline l = codes "\n---"
 
+-- the line below a heading that is underlined; nothing below others (CommonMark, section 4.3)
 abbrev pub underline_of : HeadingLevel → Content → List ℕ
 underline_of level (Underlined true) = underline level
 underline_of level c = []
 
+-- a heading ends with its attributes and its underline; at least a new line is owed
 abbrev pub close_heading : OptionsView → TagView → HeadingLevel → List ℕ → Content → Path → Page → Site
 close_heading o t level attributes c path p =
     close_block t (max o.newlines_after_headline 1) path (written path (underline_of level c) (written path attributes p))
@@ -66,6 +72,7 @@ abbrev pub with_pending_quote : Path → Page → Page
 with_pending_quote path p =
     if is_in is_item path then with_trail (record p.trail { quote_line = Some (prefix_of path ++ codes " >") }) p else p
 
+-- a quote ends; at least a blank line is owed (CommonMark, section 5.1)
 abbrev pub close_quote : OptionsView → TagView → Path → Page → Site
 close_quote o t path p = close_block t (max o.newlines_after_blockquote 2) path (with_pending_quote path p)
 
@@ -78,14 +85,17 @@ abbrev pub fence_closing : Content → ℕ → List ℕ
 fence_closing (Fence f) feeds = if nat_lt 0 feeds then f else []
 fence_closing c feeds = []
 
+-- a code block ends, a fenced one with its fence; at least a blank line is owed (CommonMark, section 4.5)
 abbrev pub close_code : OptionsView → TagView → Content → Path → Page → Site
 close_code o t c path p =
     close_block t (max o.newlines_after_codeblock 2) path (written path (fence_closing c p.sheet.feeds) (with_raw_end p))
 
+-- what was written last behind an HTML block: the block, only if a blank line ends it (CommonMark, section 4.6)
 abbrev pub html_last : Bool → Last
 html_last true = BlockEnd (end_of HtmlBlock)
 html_last false = Other
 
+-- an HTML block owes at least a blank line, and is open if nothing has ended it (CommonMark, section 4.6)
 abbrev pub html_left : OptionsView → Bool → Bool → Page → Page
 html_left o blank closed p =
     with_trail (record p.trail { owed = max o.newlines_after_htmlblock 2; last = html_last blank; open_html = not blank && not closed }) p
@@ -100,6 +110,7 @@ abbrev pub with_last_list : ListChoice → Path → Page → Page
 with_last_list c path p =
     with_trail (record p.trail { last_list = Some (record { depth = length path; ordered = is_some c.number; token = c.token }) }) p
 
+-- what the last child of a list's last item was
 abbrev pub list_tail : Last → Tail
 list_tail (ItemEnd tail) = tail
 list_tail l = BlockTail
@@ -110,16 +121,19 @@ list_left o t path p =
     if is_in is_list path then with_last (ListEnd (list_tail p.trail.last)) p
     else ended t (with_trail (raised (max o.newlines_after_list 2) p.trail) p)
 
+-- a list ends, and is the last list from here on
 abbrev pub close_list : OptionsView → TagView → Content → Path → Page → Site
 close_list o t (Listed c) path p = left path (list_left o t path (with_last_list c path p))
 close_list o t c path p = left path p
 
+-- what the last child of an item was; for an inner list, the last child of its last item
 abbrev pub item_tail : Last → Tail
 item_tail Inline = ParagraphTail
 item_tail ItemStart = EmptyTail
 item_tail (ListEnd tail) = tail
 item_tail l = BlockTail
 
+-- an item ends; at least a new line is owed, and a quote has to go on only inside another item
 abbrev pub close_item : OptionsView → Path → Page → Site
 close_item o path p =
     left path (with_trail (record (raised (max o.newlines_after_rest 1) p.trail) {
@@ -127,6 +141,7 @@ close_item o path p =
       quote_line = if is_in is_item path then p.trail.quote_line else None;
     }) p)
 
+-- the fewest characters below a header of this alignment: a dash and its colons (GFM, section 4.10)
 abbrev pub least_dashes : Alignment → ℕ
 least_dashes alignment.None = 1
 least_dashes alignment.Left = 2
@@ -146,10 +161,12 @@ alignment_cells [] headers = []
 alignment_cells (a ∷ as') [] = []
 alignment_cells (a ∷ as') (n ∷ headers) = codes "|" ++ dashes a (max n (least_dashes a)) ++ alignment_cells as' headers
 
+-- the widths of a table's headers; none for another container
 abbrev pub headers_of : Content → List ℕ
 headers_of (Headers ns) = ns
 headers_of c = []
 
+-- the alignments of a table's columns; none for another container
 abbrev pub alignments_of : TagView → List Alignment
 alignments_of (Table alignments) = alignments
 alignments_of t = []
@@ -159,12 +176,15 @@ abbrev pub alignment_row : Path → List ℕ
 alignment_row [] = codes "|"
 alignment_row (table ∷ path) = alignment_cells (alignments_of table.tag) (headers_of table.content) ++ codes "|"
 
+-- a table's head ends, with the row of dashes below it (GFM, section 4.10)
 abbrev pub close_head : Path → Page → Site
 close_head path p = close_block TableHead 1 path (written path (codes "|\n" ++ alignment_row path) p)
 
+-- a table's row ends with `|`, and a new line is owed (GFM, section 4.10)
 abbrev pub close_row : Path → Page → Site
 close_row path p = close_block TableRow 1 path (written path (codes "|") p)
 
+-- a cell ends, and its table keeps its width
 abbrev pub close_cell : Content → Path → Page → Site
 close_cell c path p = left (with_header (width_of c) path) (ended TableCell p)
 
@@ -172,14 +192,17 @@ close_cell c path p = left (with_header (width_of c) path) (ended TableCell p)
 abbrev pub with_quote_end : Path → Page → Page
 with_quote_end path p = if p.trail.open_html then p else with_quote_line p.trail.quote_line path p
 
+-- the line is ended, unless raw text ended inside it
 abbrev pub with_line_end : Path → Page → Page
 with_line_end path p = if p.trail.raw_end then p else filled_to 1 path p
 
+-- a definition ends; a quote that has to go on is written out, and the line is ended
 abbrev pub close_definition : Path → Page → Site
 close_definition path p =
     let shown = with_line_end path (with_quote_end path p) in
     left path (with_trail (record shown.trail { owed = 1; last = DefinitionEnd; quote_line = None }) shown)
 
+-- metadata ends with the same line that opened it
 abbrev pub close_metadata : OptionsView → MetadataBlockKind → Path → Page → Site
 close_metadata o kind path p = close_block (MetadataBlock kind) (o.newlines_after_metadata + 1) path (written path (metadata_fence kind) p)
 
@@ -187,6 +210,7 @@ close_metadata o kind path p = close_block (MetadataBlock kind) (o.newlines_afte
 abbrev pub close_inline : List ℕ → Path → Page → Site
 close_inline text path p = left path (with_last Inline (written path text p))
 
+-- what stands after the body of a delimited container
 abbrev pub closing_token : Content → List ℕ
 closing_token (Delimited before after) = after
 closing_token c = []

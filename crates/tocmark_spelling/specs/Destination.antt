@@ -5,6 +5,7 @@ use Rattle.tocmark_event.specs.declared.event.LinkType.{LinkType}
 use Rattle.tocmark_event.specs.declared.event.LinkType.TheVariants.{Shortcut}
 use Rattle.tocmark_spelling.specs.Characters.{line_feed, carriage_return, space, quotation_mark, ampersand, opening_parenthesis, closing_parenthesis, less_than, greater_than, backslash}
 
+-- a character of a destination, escaped where it has to be (CommonMark, sections 2.4, 2.5 and 6.3)
 abbrev pub destination_character : ℕ → List ℕ
 destination_character c =
     if c == ampersand then codes "&amp;"
@@ -39,6 +40,7 @@ unfoldable pub destination : Bool → List ℕ → List ℕ
 destination in_definition text =
     if needs_brackets in_definition text then codes "<" ++ destination_text text ++ codes ">" else destination_text text
 
+-- a character of a title in quotes, escaped where it has to be (CommonMark, sections 2.4, 2.5 and 6.3)
 abbrev pub title_character : ℕ → List ℕ
 title_character c =
     if c == ampersand then codes "&amp;"

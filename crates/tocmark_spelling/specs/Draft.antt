@@ -33,15 +33,19 @@ filled lines d = record d { text = d.text ++ replicate (lines - d.feeds) 10; fee
 abbrev pub gap_owed : Draft → ℕ
 gap_owed d = if d.inline then max d.owed 1 else d.owed
 
+-- line feeds until so many stand, after which none is owed
 abbrev pub with_gap : ℕ → Draft → Draft
 with_gap owed d = record (filled owed d) { owed = 0 }
 
+-- a block opens here: a heading, or else a paragraph
 abbrev pub with_open : Bool → Draft → Draft
 with_open heading d = record d { inline = false; opens = d.opens ++ record { heading = heading; start = length d.text } ∷ [] }
 
+-- a paragraph begins behind the gap (CommonMark, section 4.8)
 unfoldable pub opened_paragraph : Draft → Draft
 opened_paragraph d = with_open false (with_gap (gap_owed d) d)
 
+-- a heading's level, from 1 to 6 (CommonMark, section 4.2)
 abbrev pub level_of : HeadingLevel → ℕ
 level_of level.H1 = 1
 level_of level.H2 = 2
@@ -54,9 +58,11 @@ level_of level.H6 = 6
 abbrev pub with_marker : ℕ → Draft → Draft
 with_marker n d = record d { text = d.text ++ (replicate n 35 ++ 32 ∷ []); feeds = 0 }
 
+-- an ATX heading begins behind the gap (CommonMark, section 4.2)
 unfoldable pub opened_heading : ℕ → Draft → Draft
 opened_heading n d = with_open true (with_marker n (with_gap (gap_owed d) d))
 
+-- a heading is open
 unfoldable pub is_in_heading : Draft → Bool
 is_in_heading d = list_any (λ o. o.heading) d.opens
 
@@ -74,6 +80,7 @@ ends_opening d = option_map_or (λ (o : OpenBlock). o.start == length d.text) (s
 unfoldable pub is_at_front : Draft → Bool
 is_at_front d = (nat_lt 0 d.feeds || (length d.text == 0)) || ends_opening d
 
+-- where the texts that are held stand, and which event follows them
 abbrev pub place_of : OptionsView → ParserOptions → Option EventView → Draft → Place
 place_of o flags next d = record {
   flags = flags;
@@ -87,6 +94,7 @@ place_of o flags next d = record {
   next = next;
 }
 
+-- a text is written in its line, and none is held any more
 abbrev pub with_text : List ℕ → Draft → Draft
 with_text t d = record d { text = d.text ++ t; feeds = if length t == 0 then d.feeds else 0; inline = true; held = [] }
 
@@ -134,6 +142,7 @@ abbrev pub following : List SourcedEvent → Option EventView → Option EventVi
 following [] next = next
 following (e ∷ es) next = Some (unsourced e)
 
+-- a text comes next, so the stretch goes on
 abbrev pub goes_on : List SourcedEvent → Bool
 goes_on [] = false
 goes_on (e ∷ es) = is_text (unsourced e)

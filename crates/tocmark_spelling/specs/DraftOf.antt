@@ -6,6 +6,7 @@ use Rattle.tocmark_event.specs.declared.options.Error.TheVariants as error
 use Rattle.tocmark_spelling.specs.Draft.{Draft}
 use Rattle.tocmark_spelling.specs.declared.spelling.Renderer.{Renderer}
 
+-- the renderer's fields as a draft
 abbrev pub draft_of : Renderer → Draft
 draft_of r = record {
   text = string_bytes r.text;

@@ -9,6 +9,7 @@ use Rattle.tocmark_spelling.specs.Words.{first_character, last_character, asteri
 use Rattle.tocmark_spelling.specs.Kinds.{is_inline_tag, is_inline_end, is_emphasis, starts}
 use Rattle.tocmark_spelling.specs.ById.{events_of}
 
+-- the first or last character of a leaf, as its neighbours see it
 abbrev pub leaf_edge : (List ℕ → Option ℕ) → LeafView → Option ℕ
 leaf_edge pick (Text t) = pick t
 leaf_edge pick (InlineHtml t) = pick t
@@ -16,6 +17,7 @@ leaf_edge pick SoftBreak = Some line_feed
 leaf_edge pick HardBreak = Some line_feed
 leaf_edge pick l = Some asterisk
 
+-- the first or last character of an event, as its neighbours see it; none at the border of a block
 abbrev pub event_edge : (List ℕ → Option ℕ) → EventView → Option ℕ
 event_edge pick (Start t) = if is_inline_tag t then Some asterisk else None
 event_edge pick (End k) = if is_inline_end k then Some asterisk else None
@@ -30,9 +32,11 @@ edge pick (Some e) = event_edge pick e
 abbrev pub edge_before : Option EventView → Option ℕ
 edge_before e = edge last_character e
 
+-- the first character of the event after
 abbrev pub edge_after : Option EventView → Option ℕ
 edge_after e = edge first_character e
 
+-- the flags for plain Markdown: no extension is switched on
 abbrev pub no_flags : ParserOptions
 no_flags = record { 0 = 0 }
 
@@ -40,6 +44,7 @@ no_flags = record { 0 = 0 }
 abbrev pub opens_behind : Setting → ℕ → Bool
 opens_behind s c = list_any (λ e. starts is_emphasis e) (events_of (s.reading (encode_utf8 c ++ codes "_x_") no_flags))
 
+-- whether `_` may open or close emphasis beside a character, in ASCII or past it (CommonMark, section 6.2)
 abbrev pub is_boundary_character : Bool → Setting → ℕ → Bool
 is_boundary_character true s c = is_ascii_white_space c || is_ascii_punctuation c
 is_boundary_character false s c = opens_behind s c

@@ -26,6 +26,7 @@ pub record Place : Type 0 where
   -- the event after it
   pub next : Option EventView
 
+-- the writer's place of a stretch, as a plain value
 abbrev pub place_of : EscapePlace → Place
 place_of e = record {
   flags = e.flags;
@@ -57,9 +58,11 @@ spot before c after = spot_from (slice_get before 0) (list_all is_ascii_digit be
 abbrev pub has : Place → ℕ → Bool
 has p flag = bit_and p.flags.0 flag == flag
 
+-- whether a character is the first one of its stretch
 abbrev pub is_first : Spot → Bool
 is_first s = is_none s.before
 
+-- whether a character is the last one of its stretch
 abbrev pub is_last : Spot → Bool
 is_last s = is_none s.after
 

@@ -7,18 +7,22 @@ use Rattle.tocmark_spelling.specs.Kinds.{is_paragraph, is_quote, is_indented_cod
 use Rattle.tocmark_spelling.specs.Page.{Tail, ParagraphTail, BlockTail, Last, Inline, ItemStart, ItemEnd, ListEnd, DefinitionEnd, BlockEnd, Trail, Path, Page, laid_on, filled_to, with_trail, raised}
 use Rattle.tocmark_spelling.specs.Places.{is_in, is_close, is_in_loose_list}
 
+-- whether inline content was written last
 abbrev pub is_inline : Last → Bool
 is_inline Inline = true
 is_inline l = false
 
+-- whether an item's marker was written last
 abbrev pub is_item_opening : Last → Bool
 is_item_opening ItemStart = true
 is_item_opening l = false
 
+-- whether an item ended last
 abbrev pub is_item_end : Last → Bool
 is_item_end (ItemEnd tail) = true
 is_item_end l = false
 
+-- whether a definition of a definition list ended last
 abbrev pub is_definition_end : Last → Bool
 is_definition_end DefinitionEnd = true
 is_definition_end l = false
@@ -44,6 +48,7 @@ abbrev pub could_continue : EventView → Bool
 could_continue e =
     not (begins_block e) || starts is_paragraph e || starts is_definition_list e || starts is_table e || starts is_indented_code e
 
+-- the line feeds that keep the event apart from such a block (CommonMark, sections 4.6 and 5.1; GFM, section 4.10)
 abbrev pub least_after : TagEnd → EventView → ℕ
 least_after end.HtmlBlock e = 2
 least_after end.DefinitionList e = if could_continue e then 2 else 0
@@ -62,13 +67,16 @@ abbrev pub with_quote_line : Option (List ℕ) → Path → Page → Page
 with_quote_line None path p = p
 with_quote_line (Some line) path p = laid_on [] line (filled_to 1 path p)
 
+-- what is owed once a quote's line is written: one line feed; without such a line, as many as before
 abbrev pub owed_after_line : Option (List ℕ) → ℕ → ℕ
 owed_after_line None owed = owed
 owed_after_line (Some line) owed = 1
 
+-- the line with which a quote goes on before the event, unless a blank line is needed or an item begins
 abbrev pub quote_line_for : EventView → Trail → Option (List ℕ)
 quote_line_for e t = if (least e t.last == 0) && not (starts is_item e) then t.quote_line else None
 
+-- the page on which no quote has to go on
 abbrev pub forget_quote : Page → Page
 forget_quote p = with_trail (record p.trail { quote_line = None }) p
 
@@ -79,13 +87,16 @@ close_up e path p =
     let shown = with_quote_line line path p in
     with_trail (record p.trail { owed = owed_after_line line (min p.trail.owed 1); quote_line = None }) shown
 
+-- the page with close children closed up; where they aren't close, or HTML is open, no quote goes on
 abbrev pub closed_up : EventView → Path → Page → Page
 closed_up e path p = if not p.trail.open_html && is_close path then close_up e path p else forget_quote p
 
+-- whether the item ended with inline content, which is read as a paragraph
 abbrev pub is_paragraph_tail : Tail → Bool
 is_paragraph_tail ParagraphTail = true
 is_paragraph_tail t = false
 
+-- whether the item ended with a block
 abbrev pub is_block_tail : Tail → Bool
 is_block_tail BlockTail = true
 is_block_tail t = false
@@ -96,6 +107,7 @@ could_join e tail =
     starts is_paragraph e || starts is_definition_list e || (starts is_table e && is_paragraph_tail tail)
     || (starts is_indented_code e && not (is_block_tail tail))
 
+-- whether an inner list ended last and the event could go on with its last item (CommonMark, section 5.2)
 abbrev pub joins_list : EventView → Last → Bool
 joins_list e (ListEnd tail) = could_join e tail
 joins_list e l = false
@@ -121,6 +133,7 @@ abbrev pub before_event : EventView → Path → Page → Page
 before_event e path p =
     closed_up e path (with_trail (raised_for_block e (raised_for_title e (raised_for_list e path (resumed e p.trail)))) p)
 
+-- what is owed, raised by all that wants a blank line before the event, unless HTML is open
 abbrev pub raised_before : EventView → Path → Trail → Trail
 raised_before e path t = after_html (raised_for_item e path (raised_after_list e (raised (least e t.last) t)))
 

@@ -9,6 +9,7 @@ use Rattle.tocmark_spelling.specs.Words.{begins_with, holds}
 abbrev pub raw_names : List (List ℕ)
 raw_names = codes "pre" ∷ codes "script" ∷ codes "style" ∷ codes "textarea" ∷ []
 
+-- a text without the `<` that it begins with
 abbrev pub without_bracket : List ℕ → List ℕ
 without_bracket text = if begins_with text (codes "<") then drop 1 text else text
 
@@ -16,6 +17,7 @@ without_bracket text = if begins_with text (codes "<") then drop 1 text else tex
 abbrev pub name_of : List ℕ → List ℕ
 name_of text = take_while (λ b. not (is_ascii_white_space b || b == greater_than)) (without_bracket text)
 
+-- whether this is the name of a tag of raw text, in capitals or not (CommonMark, section 4.6)
 abbrev pub is_raw_name : List ℕ → Bool
 is_raw_name name = list_any (λ raw. bytes_eq (str_to_ascii_lowercase name) raw) raw_names
 
@@ -28,6 +30,7 @@ abbrev pub is_blank_terminated : Option (List ℕ) → Bool
 is_blank_terminated None = false
 is_blank_terminated (Some html) = ends_at_blank (trim_start html)
 
+-- whether the end tag of some raw text stands in it, in capitals or not (CommonMark, section 4.6)
 abbrev pub holds_end_tag : List ℕ → Bool
 holds_end_tag text = list_any (λ raw. holds (str_to_ascii_lowercase text) (codes "</" ++ raw ++ codes ">")) raw_names
 

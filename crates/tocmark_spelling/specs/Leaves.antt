@@ -12,15 +12,18 @@ abbrev pub longest_run : ℕ → List ℕ → ℕ
 longest_run c [] = 0
 longest_run c (d ∷ ds) = max (run_length c (d ∷ ds)) (longest_run c ds)
 
+-- whether a text begins with this character
 abbrev pub first_is : ℕ → List ℕ → Bool
 first_is c [] = false
 first_is c (d ∷ ds) = d == c
 
+-- whether a text ends with this character
 abbrev pub last_is : ℕ → List ℕ → Bool
 last_is c [] = false
 last_is c (d ∷ []) = d == c
 last_is c (d ∷ e ∷ es) = last_is c (e ∷ es)
 
+-- a character in the cell of a table: a vertical bar has a backslash before it (GFM, section 4.10)
 abbrev pub cell_character : ℕ → List ℕ
 cell_character c = if c == vertical_bar then backslash ∷ vertical_bar ∷ [] else c ∷ []
 
@@ -29,6 +32,7 @@ abbrev pub in_cell : Bool → List ℕ → List ℕ
 in_cell true text = flat_map cell_character text
 in_cell false text = text
 
+-- whether a text is nothing but spaces, or empty
 abbrev pub is_blank : List ℕ → Bool
 is_blank text = list_all (λ c. c == space) text
 
@@ -85,9 +89,11 @@ unspan text =
 abbrev pub math_text : List ℕ → Bool → List ℕ → List ℕ
 math_text delimiter in_table text = delimiter ++ (in_cell in_table text ++ delimiter)
 
+-- mathematics within a line, between single dollar signs
 abbrev pub inline_math : Bool → List ℕ → List ℕ
 inline_math in_table text = math_text (codes "$") in_table text
 
+-- mathematics that is shown on its own, between double dollar signs
 abbrev pub display_math : Bool → List ℕ → List ℕ
 display_math in_table text = math_text (codes "$$") in_table text
 

@@ -8,6 +8,7 @@ use Rattle.tocmark_spelling.specs.ById.{by_id}
 use Rattle.tocmark_spelling.specs.Runs.{Run, opening_run, closing_run, opening_width, prefers_underscore, inside}
 use Rattle.tocmark_spelling.specs.Page.{Around, front, following}
 
+-- what an opening may ask: what stands round the container, its runs of markers, and what its body is like
 pub record Look : Type 0 where
   -- the event before the container, the one after it in the unit, and the one after it beyond the unit's end too
   pub previous : Option EventView
@@ -33,6 +34,7 @@ pub record Look : Type 0 where
   pub first_html : Option (List ℕ)
   pub html : List ℕ
 
+-- whether the layout is the preferred one
 abbrev pub is_preferred : Layout → Bool
 is_preferred Preferred = true
 is_preferred l = false

@@ -18,6 +18,7 @@ pub record Layers : Type 0 where
   pub inner : Trees
   pub outer : List Trees
 
+-- the layers with another innermost one, as when a leaf is put in front of it
 abbrev pub with_leaf : Layers → (Trees → Trees) → Layers
 with_leaf l put = record l { inner = put l.inner }
 
@@ -26,6 +27,7 @@ abbrev pub with_node : TagView → Trees → List Trees → Layers
 with_node t kids [] = record { inner = node t kids empty; outer = [] }
 with_node t kids (f ∷ fs) = record { inner = node t kids f; outer = fs }
 
+-- the layers behind an End: inside the container that it ends nothing stands yet
 abbrev pub with_end : Layers → Layers
 with_end l = record { inner = empty; outer = l.inner ∷ l.outer }
 
@@ -55,10 +57,12 @@ pub data Machine : Type 0 where
   skipping : ℕ → Site → List SourcedEvent → Machine
   refused : Machine
 
+-- the machine goes on from this place, or has refused the event where there is none
 abbrev pub arrive : Option Site → List SourcedEvent → Machine
 arrive (Some here) before = going here before
 arrive None before = refused
 
+-- the machine skips a body from this place on, or has refused the event where there is none
 abbrev pub skip : Option Site → List SourcedEvent → Machine
 skip (Some here) before = skipping 0 here before
 skip None before = refused
@@ -68,10 +72,12 @@ abbrev pub entered : Bool → TagView → Site → List SourcedEvent → Machine
 entered true t here before = skip (id_on t here) before
 entered false t here before = going here before
 
+-- behind the opening of a container: its body comes, or its id; where the opening is refused, so is the event
 abbrev pub started : TagView → Option Site → List SourcedEvent → Machine
 started t (Some here) before = entered (skips_body here.path) t here before
 started t None before = refused
 
+-- where an event stands: those before it, the last one first, those after it, and what flushes the unit
 abbrev pub around : List SourcedEvent → List SourcedEvent → Option EventView → Around
 around before after next = record { before = before; after = after; next = next }
 
@@ -85,6 +91,7 @@ abbrev pub begun_if : Setting → Manner → Option EventView → TagView → Tr
 begun_if s m next t kids (Some after) here before = begun s m next t kids after here before
 begun_if s m next t kids None here before = refused
 
+-- the innermost container is closed, or its End is refused
 abbrev pub ended : Setting → TagEnd → Site → List SourcedEvent → Machine
 ended s k here before = arrive (closing s.options here.path here.page) (End k ∷ before)
 

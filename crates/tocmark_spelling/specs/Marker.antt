@@ -22,10 +22,12 @@ abbrev pub opening_token : Content → List ℕ
 opening_token (Delimited open_token close_token) = open_token
 opening_token c = []
 
+-- what stands before the body of an open container, if there is one
 abbrev pub token_of : Option Level → Option (List ℕ)
 token_of None = None
 token_of (Some l) = Some (opening_token l.content)
 
+-- whether there is such a token and it is this one
 abbrev pub is_token : Option (List ℕ) → List ℕ → Bool
 is_token None t = false
 is_token (Some u) t = bytes_eq u t
@@ -59,6 +61,7 @@ abbrev pub ends_delimiter : Option EventView → Bool
 ends_delimiter (Some (End k)) = not (end_width k == 0)
 ends_delimiter e = false
 
+-- whether the event is an End of this kind
 abbrev pub is_end : TagEnd → Option EventView → Bool
 is_end k (Some (End k')) = same_end k' k
 is_end k e = false
@@ -71,6 +74,7 @@ same_start parent p = parent.start == length p.sheet.text
 abbrev pub same_finish : Level → Look → Bool
 same_finish parent l = is_end (end_of parent.tag) l.next_in_unit
 
+-- the marker, `*` or `_`, with which the parent opens
 abbrev pub marker_of : Level → ℕ
 marker_of parent = slice_index (opening_token parent.content) 0
 
@@ -89,6 +93,7 @@ marker_by_runs s t l path p =
     else if l.prefers then underscore
     else beside_parent s t l (nearest is_emphasis_or_strong path) p
 
+-- whether a length is a multiple of three, as the rule of three asks (CommonMark, section 6.2)
 abbrev pub is_divisible : ℕ → Bool
 is_divisible n = n % 3 == 0
 
@@ -100,6 +105,7 @@ copies_marker RuleThree l p =
     not (written_run % 3 == l.width % 3) || is_divisible written_run
 copies_marker layout l p = false
 
+-- the marker of a node that follows a closing: the one written last, or the other one
 abbrev pub after_closing : Layout → Look → Page → ℕ
 after_closing layout l p =
     let c = last_byte p.sheet.text in
@@ -111,14 +117,17 @@ abbrev pub splits : Setting → Bool → Look → Bool
 splits s split l =
     split && not (is_divisible l.opening.width) && is_divisible (l.opening.width + l.closing.width) && is_punctuation s l.closing.before
 
+-- whether the tag is Strong
 abbrev pub is_strong : TagView → Bool
 is_strong Strong = true
 is_strong t = false
 
+-- whether this layout lets a node that ends with its parent take the parent's marker
 abbrev pub shares_finish : Layout → Bool
 shares_finish (Shared ends adjacent split) = ends
 shares_finish layout = false
 
+-- whether this layout minds that the runs of a node could be read as parts of each other
 abbrev pub may_split : Layout → Bool
 may_split (Shared ends adjacent split) = split
 may_split layout = false
@@ -136,11 +145,13 @@ completes_three RuleThree l parent p =
     not (is_divisible run) && is_divisible (run + l.width)
 completes_three layout l parent p = false
 
+-- whether a node takes its parent's marker: as they begin or end together, or by the rule of three
 abbrev pub shares_marker : Setting → Layout → TagView → Look → Level → Page → Bool
 shares_marker s layout t l parent p =
     if same_start parent p then shares_start s layout t l (same_finish parent l)
     else completes_three layout l parent p || (same_finish parent l && shares_finish layout)
 
+-- the marker of a node in its parent: the parent's or the other one; without a parent, the one given
 abbrev pub inside_parent : Setting → Layout → ℕ → TagView → Look → Option Level → Page → ℕ
 inside_parent s layout c t l None p = c
 inside_parent s layout c t l (Some parent) p =
@@ -161,6 +172,7 @@ literal_marker text l = None
 abbrev pub in_width : TagView → ℕ → List ℕ
 in_width t c = replicate (tag_width t) c
 
+-- what Emphasis or Strong opens and closes with, in each layout of a plan (CommonMark, section 6.2)
 abbrev pub marker_in : Layout → Setting → Manner → TagView → Look → Path → Page → List ℕ
 marker_in Preferred s m t l path p = if is_strong t then m.markers.strong else preferred_marker s (encode_utf8 m.markers.emphasis) l path p
 marker_in Runs s m t l path p = in_width t (marker_by_runs s (asked_marker m.markers t) l path p)

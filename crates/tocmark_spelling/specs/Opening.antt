@@ -36,6 +36,7 @@ entered_if false t prefix c path p = None
 abbrev pub open_plain : TagView → Path → Page → Option Site
 open_plain t path p = entered t [] Plain path p
 
+-- a heading's level as a number, from 1 to 6
 abbrev pub level_number : HeadingLevel → ℕ
 level_number level.H1 = 1
 level_number level.H2 = 2
@@ -58,6 +59,7 @@ open_heading t level l path p =
 abbrev pub on_new_line : Path → Page → Page
 on_new_line path p = if (p.sheet.feeds == 0) && not (at_item_start path p) then written path (codes "\n") p else p
 
+-- a quote's marker on its first line, with its kind if it is an alert (CommonMark, section 5.1)
 abbrev pub quote_mark : Option BlockQuoteKind → List ℕ
 quote_mark None = codes " > "
 quote_mark (Some quote.Note) = codes " > [!NOTE]"
@@ -66,6 +68,7 @@ quote_mark (Some quote.Important) = codes " > [!IMPORTANT]"
 quote_mark (Some quote.Warning) = codes " > [!WARNING]"
 quote_mark (Some quote.Caution) = codes " > [!CAUTION]"
 
+-- a text, without the space at its front where that is asked
 abbrev pub without_space : Bool → List ℕ → List ℕ
 without_space true text = drop 1 text
 without_space false text = text
@@ -91,9 +94,11 @@ fence_token o info = if (o.code_block_token == backtick) && list_any (λ b. b ==
 abbrev pub fence_length : OptionsView → ℕ → List ℕ → ℕ
 fence_length o token text = max (max o.code_block_token_count 3) (longest_run token (chars text) + 1)
 
+-- the fence: its token, as often as it is long (CommonMark, section 4.5)
 abbrev pub fence : OptionsView → List ℕ → List ℕ → List ℕ
 fence o info text = flat_map encode_utf8 (replicate (fence_length o (fence_token o info) text) (fence_token o info))
 
+-- a byte of an info string; `&` and backslash stand for themselves (CommonMark, sections 2.4 and 2.5)
 abbrev pub info_byte : ℕ → List ℕ
 info_byte b = if b == ampersand then codes "&amp;" else if b == backslash then codes "\\\\" else b ∷ []
 
@@ -103,13 +108,16 @@ open_fenced o info l path p =
     entered (CodeBlock (Fenced info)) [] (Fence (fence o info l.text)) path
     (written path (fence o info l.text ++ flat_map info_byte info ++ codes "\n") (on_new_line path p))
 
+-- a code block, indented or fenced (CommonMark, sections 4.4 and 4.5)
 abbrev pub open_code : OptionsView → CodeView → Look → Path → Page → Option Site
 open_code o Indented l path p = open_indented path p
 open_code o (Fenced info) l path p = open_fenced o info l path p
 
+-- an HTML block writes nothing of its own; its choice says how it ends (CommonMark, section 4.6)
 abbrev pub open_html : Look → Path → Page → Option Site
 open_html l path p = entered HtmlBlock [] (HtmlEnds (is_blank_terminated l.first_html) (is_html_closed l.html)) path p
 
+-- the token of a list, if it is a bullet list
 abbrev pub bullet_of : Content → Option ℕ
 bullet_of (Listed c) = if is_none c.number then Some c.token else None
 bullet_of c = None
@@ -119,6 +127,7 @@ abbrev pub nearest_bullet : Path → Option ℕ
 nearest_bullet [] = None
 nearest_bullet (l ∷ path) = or_else (bullet_of l.content) (nearest_bullet path)
 
+-- whether there is a number, and it is this one
 abbrev pub is_number : Option ℕ → ℕ → Bool
 is_number None n = false
 is_number (Some m) n = m == n
@@ -139,6 +148,7 @@ first_token o (Some number) path p = o.ordered_list_token
 first_token o None path p =
     if at_item_start path p && is_number (nearest_bullet path) o.list_token then changed_token None o.list_token else o.list_token
 
+-- a list's token: another one where it would go on with the last list (CommonMark, section 5.3)
 abbrev pub list_token : OptionsView → Option ℕ → Path → Page → ℕ
 list_token o number path p =
     let token = first_token o number path p in
@@ -155,6 +165,7 @@ open_list o number l path p =
       labelled = l.lone_paragraph;
     })) path p
 
+-- the number of an ordered list's item; nothing in a bullet list
 abbrev pub number_text : Option ℕ → List ℕ
 number_text None = []
 number_text (Some n) = decimal n
@@ -173,6 +184,7 @@ next_number o (Some n) = Some (if o.increment_ordered_list_bullets then min (n +
 abbrev pub is_empty_inner : Look → Path → Bool
 is_empty_inner l path = l.empty_body && nat_le 2 (depth_in is_list path)
 
+-- a definition of this label, with an empty destination (CommonMark, section 4.7)
 abbrev pub label_text : List ℕ → List ℕ
 label_text label = codes "[" ++ label ++ codes "]: <>"
 
@@ -181,6 +193,7 @@ abbrev pub with_label : Option (List ℕ) → Bool → Bool → Path → Page �
 with_label (Some label) true empty_inner path p = with_owed (if empty_inner then 1 else 2) (written path (label_text label) p)
 with_label label needed empty_inner path p = p
 
+-- an item in the list that chose this: its marker is written, and the list goes on to the next number
 abbrev pub item_with : Setting → ListChoice → Level → Look → Path → Page → Option Site
 item_with s c list l outside p =
     let path = record list { content = Listed (record c { number = next_number s.options c.number }) } ∷ outside in
@@ -188,6 +201,7 @@ item_with s c list l outside p =
     entered Item (replicate (length (item_marker c)) space) Plain path
     (with_last ItemStart (with_label s.label (c.labelled || empty_inner) empty_inner path (written path (item_marker c) p)))
 
+-- an item directly in a container with this content; none if that is not a list
 abbrev pub item_in : Setting → Content → Level → Look → Path → Page → Option Site
 item_in s (Listed c) list l outside p = item_with s c list l outside p
 item_in s c list l outside p = None
@@ -197,9 +211,11 @@ abbrev pub open_item : Setting → Look → Path → Page → Option Site
 open_item s l [] p = None
 open_item s l (list ∷ outside) p = item_in s list.content list l outside p
 
+-- the definition of a footnote: its label, and a body that is indented by four spaces
 abbrev pub open_footnote : List ℕ → Path → Page → Option Site
 open_footnote label path p = entered (FootnoteDefinition label) (codes "    ") Plain path (written path (codes "[^" ++ label ++ codes "]: ") p)
 
+-- a title in a definition list, on a line of its own, but not right behind an item's marker
 abbrev pub open_title : Path → Page → Option Site
 open_title path p =
     open_plain DefinitionListTitle path
@@ -219,10 +235,12 @@ open_head path p = entered_if (is_directly_in is_table path) TableHead [] Plain 
 abbrev pub open_cell : Path → Page → Option Site
 open_cell path p = entered_if (is_in is_table path) TableCell [] (Width 0) path (written path (codes "|") p)
 
+-- the line that opens and closes metadata: `---` for YAML, or `+++`
 abbrev pub metadata_fence : MetadataBlockKind → List ℕ
 metadata_fence metadata.YamlStyle = codes "---\n"
 metadata_fence metadata.PlusesStyle = codes "+++\n"
 
+-- metadata, below the line that opens it
 abbrev pub open_metadata : MetadataBlockKind → Path → Page → Option Site
 open_metadata kind path p = open_plain (MetadataBlock kind) path (written path (metadata_fence kind) p)
 
@@ -230,6 +248,7 @@ open_metadata kind path p = open_plain (MetadataBlock kind) path (written path (
 abbrev pub open_delimited : TagView → List ℕ → List ℕ → Path → Page → Option Site
 open_delimited t before after path p = entered t [] (Delimited before after) path (written path before p)
 
+-- Emphasis or Strong, with the same marker before and after it (CommonMark, section 6.2)
 abbrev pub open_emphasis : Setting → Manner → TagView → Look → Path → Page → Option Site
 open_emphasis s m t l path p = open_delimited t (marker s m t l path p) (marker s m t l path p) path p
 
@@ -237,6 +256,7 @@ open_emphasis s m t l path p = open_delimited t (marker s m t l path p) (marker 
 abbrev pub has_flag : ParserOptions → ℕ → Bool
 has_flag flags bits = bit_and flags.0 bits == bits
 
+-- whether there is an open container, and it opened with `~~`
 abbrev pub is_double : Option Level → Bool
 is_double None = false
 is_double (Some l) = bytes_eq (opening_token l.content) (codes "~~")
@@ -246,21 +266,25 @@ abbrev pub strikethrough_token : Setting → Manner → Path → List ℕ
 strikethrough_token s m path =
     if not (is_preferred m.plan.layout) && not (has_flag s.flags 0x4000) && is_double (nearest is_strikethrough path) then codes "~" else codes "~~"
 
+-- the uniform layout, where each marker is the one that was asked for
 abbrev pub is_uniform : Layout → Bool
 is_uniform Uniform = true
 is_uniform l = false
 
+-- a superscript: as HTML if the options ask for it, else between `^^` in the uniform layout and `^` in others
 abbrev pub open_superscript : Setting → Manner → Path → Page → Option Site
 open_superscript s m path p =
     if s.options.use_html_for_super_sub_script then open_delimited Superscript (codes "<sup>") (codes "</sup>") path p
     else if is_uniform m.plan.layout then open_delimited Superscript (codes "^^") (codes "^^") path p
     else open_delimited Superscript (codes "^") (codes "^") path p
 
+-- a subscript: as HTML if the options ask for it, else between `~`
 abbrev pub open_subscript : Setting → Path → Page → Option Site
 open_subscript s path p =
     if s.options.use_html_for_super_sub_script then open_delimited Subscript (codes "<sub>") (codes "</sub>") path p
     else open_delimited Subscript (codes "~") (codes "~") path p
 
+-- a link or image that opens with this mark, and may be spelled by its id
 abbrev pub open_named : TagView → List ℕ → Look → Path → Page → Option Site
 open_named t mark l path p = entered t [] (Named l.named) path (written path mark p)
 

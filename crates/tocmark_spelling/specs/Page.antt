@@ -136,6 +136,7 @@ lead prefix feeds = if nat_lt 0 feeds then prefix else []
 abbrev pub feeds_after : ℕ → ℕ → ℕ
 feeds_after b feeds = if b == 10 then feeds + 1 else 0
 
+-- the sheet with one byte more, and the prefix before it where a line begins
 abbrev pub put_byte : List ℕ → ℕ → Sheet → Sheet
 put_byte prefix b s = record { text = s.text ++ lead prefix s.feeds ++ b ∷ []; feeds = feeds_after b s.feeds }
 
@@ -165,14 +166,18 @@ written path text p = laid_on (prefix_of path) text p
 abbrev pub filled_to : ℕ → Path → Page → Page
 filled_to lines path p = record p { sheet = filled (prefix_of path) lines p.sheet }
 
+-- the page with this trail
 abbrev pub with_trail : Trail → Page → Page
 with_trail t p = record p { trail = t }
 
+-- the page on which this was written last
 abbrev pub with_last : Last → Page → Page
 with_last l p = record p { trail = record p.trail { last = l } }
 
+-- the page on which so many line feeds are owed
 abbrev pub with_owed : ℕ → Page → Page
 with_owed n p = record p { trail = record p.trail { owed = n } }
 
+-- the trail on which at least so many line feeds are owed
 abbrev pub raised : ℕ → Trail → Trail
 raised n t = record t { owed = max t.owed n }

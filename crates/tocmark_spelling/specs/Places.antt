@@ -31,6 +31,7 @@ abbrev pub is_item_start : ℕ → Path → Bool
 is_item_start place [] = false
 is_item_start place (l ∷ path) = (l.start == place) && (is_item l.tag || is_item_start place path)
 
+-- the same of the place where the text ends now
 abbrev pub at_item_start : Path → Page → Bool
 at_item_start path p = is_item_start (length p.sheet.text) path
 
@@ -39,14 +40,17 @@ abbrev pub is_after_opening : Path → Page → Bool
 is_after_opening [] p = false
 is_after_opening (l ∷ path) p = l.start == length p.sheet.text
 
+-- a list that is tight (CommonMark, section 5.3)
 abbrev pub is_tight_list : Content → Bool
 is_tight_list (Listed c) = c.tight
 is_tight_list c = false
 
+-- directly in a tight list
 abbrev pub is_in_tight_list : Path → Bool
 is_in_tight_list [] = false
 is_in_tight_list (l ∷ path) = is_tight_list l.content
 
+-- no blank lines stand between the children of a container with this content and tag, in the containers outside
 abbrev pub is_close_at : Content → TagView → Path → Bool
 is_close_at (Defined has_paragraph) t path = not has_paragraph
 is_close_at (Listed c) t path = c.tight
@@ -58,6 +62,7 @@ abbrev pub is_close : Path → Bool
 is_close [] = false
 is_close (l ∷ path) = is_close_at l.content l.tag path
 
+-- a list that isn't tight (CommonMark, section 5.3)
 abbrev pub is_loose_content : Content → Bool
 is_loose_content (Listed c) = not c.tight
 is_loose_content c = false
@@ -67,11 +72,13 @@ abbrev pub is_in_loose_list : Path → Bool
 is_in_loose_list [] = false
 is_in_loose_list (l ∷ path) = is_loose_content l.content
 
+-- an autolink, whose text is written as it is (CommonMark, section 6.5)
 abbrev pub is_raw_link : LinkType → Bool
 is_raw_link link.Autolink = true
 is_raw_link link.Email = true
 is_raw_link k = false
 
+-- a container whose texts are written as they are: code, HTML, metadata or an autolink
 abbrev pub is_raw_tag : TagView → Bool
 is_raw_tag (CodeBlock k) = true
 is_raw_tag HtmlBlock = true
@@ -83,10 +90,12 @@ is_raw_tag t = false
 abbrev pub is_raw : Path → Bool
 is_raw path = is_in is_raw_tag path
 
+-- what a cell keeps, wider by so many characters; that of another container does not change
 abbrev pub wider : ℕ → Content → Content
 wider n (Width k) = Width (k + n)
 wider n c = c
 
+-- an open cell that is wider by so many characters
 abbrev pub widened_level : ℕ → Level → Level
 widened_level n l = record l { content = wider n l.content }
 
@@ -95,10 +104,12 @@ abbrev pub widened : ℕ → Path → Path
 widened n [] = []
 widened n (l ∷ path) = if is_cell l.tag then widened_level n l ∷ path else l ∷ widened n path
 
+-- what a table keeps, with one more cell of this width; that of another container does not change
 abbrev pub with_width : ℕ → Content → Content
 with_width n (Headers ns) = Headers (ns ++ n ∷ [])
 with_width n c = c
 
+-- the width of a cell; 0 for another container
 abbrev pub width_of : Content → ℕ
 width_of (Width n) = n
 width_of c = 0

@@ -19,6 +19,7 @@ pub data TextSpelling : Type 0 where
   Entities : TextSpelling
   LiteralEntities : TextSpelling
 
+-- how a unit is spelled: how the markers of emphasis are chosen, and how texts are written
 pub record Plan : Type 0 where
   pub layout : Layout
   pub text : TextSpelling

@@ -17,6 +17,7 @@ use Rattle.tocmark_spelling.specs.declared.plan.TextSpelling.{TextSpelling}
 use Rattle.tocmark_spelling.specs.declared.plan.TextSpelling.TheVariants as text
 use Rattle.tocmark_spelling.specs.declared.plan.Delimiters.{Delimiters}
 
+-- how the markers of emphasis are chosen, as a plain value (CommonMark, section 6.2)
 abbrev pub layout_view : Layout → plan.Layout
 layout_view layout.Preferred = Preferred
 layout_view layout.Runs = Runs
@@ -24,12 +25,14 @@ layout_view layout.Uniform = Uniform
 layout_view (layout.Shared ends adjacent split) = Shared ends adjacent split
 layout_view layout.RuleThree = RuleThree
 
+-- how texts are written, as a plain value
 abbrev pub text_spelling_view : TextSpelling → plan.TextSpelling
 text_spelling_view text.Escaped = Escaped
 text_spelling_view text.Literal = Literal
 text_spelling_view text.Entities = Entities
 text_spelling_view text.LiteralEntities = LiteralEntities
 
+-- what one spelling is asked for: a layout, a way with texts and two markers, from the source or not
 abbrev pub manner_of : Delimiters → Bool → Manner
 manner_of d source = record {
   plan = record { layout = layout_view d.layout; text = text_spelling_view d.text };
@@ -37,6 +40,7 @@ manner_of d source = record {
   source = source;
 }
 
+-- what is the same for all spellings of a unit: options, flags, the reader, and the reserved label if any
 abbrev pub setting_of : OptionsView → ParserOptions → (List ℕ → ParserOptions → ReadingView) → Option (List ℕ) → Setting
 setting_of options flags reading label = record { options = options; flags = flags; reading = reading; label = label }
 

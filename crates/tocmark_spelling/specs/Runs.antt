@@ -19,15 +19,18 @@ tag_width Emphasis = 1
 tag_width Strong = 2
 tag_width t = 0
 
+-- the width of the delimiter that such an End closes: one for Emphasis, two for Strong (CommonMark, section 6.2)
 abbrev pub end_width : TagEnd → ℕ
 end_width end.Emphasis = 1
 end_width end.Strong = 2
 end_width k = 0
 
+-- the width of the delimiter that an event opens; zero unless it is a Start of Emphasis or Strong
 abbrev pub start_width : SourcedEvent → ℕ
 start_width (Start t) = tag_width t
 start_width e = 0
 
+-- the width of the delimiter that an event closes; zero unless it is an End of Emphasis or Strong
 abbrev pub close_width : SourcedEvent → ℕ
 close_width (End k) = end_width k
 close_width e = 0
@@ -37,6 +40,7 @@ abbrev pub width_ahead : (SourcedEvent → ℕ) → List SourcedEvent → ℕ
 width_ahead width [] = 0
 width_ahead width (e ∷ es) = if width e == 0 then 0 else width e + width_ahead width es
 
+-- the events behind the run that a list begins with
 abbrev pub behind_run : (SourcedEvent → ℕ) → List SourcedEvent → List SourcedEvent
 behind_run width [] = []
 behind_run width (e ∷ es) = if width e == 0 then e ∷ es else behind_run width es
@@ -45,16 +49,20 @@ behind_run width (e ∷ es) = if width e == 0 then e ∷ es else behind_run widt
 abbrev pub run_before : (SourcedEvent → ℕ) → List SourcedEvent → Option ℕ
 run_before width before = edge_before (front (behind_run width before))
 
+-- the character after a run, from any place in it
 abbrev pub run_after : (SourcedEvent → ℕ) → List SourcedEvent → Option ℕ
 run_after width after = edge_after (front (behind_run width after))
 
+-- whether a character is one of the markers of emphasis, `*` or `_` (CommonMark, section 6.2)
 abbrev pub is_marker : ℕ → Bool
 is_marker c = c == asterisk || c == underscore
 
+-- the character if it is `*` or `_`, else none
 abbrev pub marker_only : Option ℕ → Option ℕ
 marker_only None = None
 marker_only (Some c) = if is_marker c then Some c else None
 
+-- the event if it is a Text, else none
 abbrev pub text_only : Option EventView → Option EventView
 text_only (Some (Leaf (Text t))) = Some (Leaf (Text t))
 text_only e = None
@@ -63,6 +71,7 @@ text_only e = None
 abbrev pub literal_before : (SourcedEvent → ℕ) → List SourcedEvent → Option ℕ
 literal_before width before = marker_only (edge_before (text_only (front (behind_run width before))))
 
+-- a `*` or `_` that begins the Text after a run
 abbrev pub literal_after : (SourcedEvent → ℕ) → List SourcedEvent → Option ℕ
 literal_after width after = marker_only (edge_after (text_only (front (behind_run width after))))
 
@@ -78,6 +87,7 @@ pub record Run : Type 0 where
   pub literal_after : Option ℕ
   pub width : ℕ
 
+-- the run round a delimiter of this width, with all that is asked of it
 abbrev pub run_at : (SourcedEvent → ℕ) → ℕ → List SourcedEvent → List SourcedEvent → Run
 run_at width own before after = record {
   before = run_before width before;
@@ -91,6 +101,7 @@ run_at width own before after = record {
 abbrev pub behind_start : TagView → Trees → Around → List SourcedEvent
 behind_start t kids a = flat_onto kids (End (end_of t) ∷ a.after)
 
+-- the events before a container's End, the last one first
 abbrev pub before_end : TagView → Trees → Around → List SourcedEvent
 before_end t kids a = back_onto kids (Start t ∷ a.before)
 
@@ -98,6 +109,7 @@ before_end t kids a = back_onto kids (Start t ∷ a.before)
 abbrev pub opening_run : TagView → Trees → Around → Run
 opening_run t kids a = run_at start_width (tag_width t) a.before (behind_start t kids a)
 
+-- the run in which a container's End stands
 abbrev pub closing_run : TagView → Trees → Around → Run
 closing_run t kids a = run_at close_width (tag_width t) (before_end t kids a) a.after
 
@@ -119,6 +131,7 @@ opening_width t kids = tag_width t + width_within kids
 abbrev pub inside : TagView → Around → Around
 inside t a = record { before = Start t ∷ a.before; after = End (end_of t) ∷ a.after; next = a.next }
 
+-- where the right neighbours of a container stand
 abbrev pub beyond : TagView → Trees → Around → Around
 beyond t kids a = record a { before = End (end_of t) ∷ before_end t kids a }
 
@@ -126,6 +139,7 @@ beyond t kids a = record a { before = End (end_of t) ∷ before_end t kids a }
 abbrev pub ahead_of : Trees → Around → Around
 ahead_of f a = record a { after = flat_onto f a.after }
 
+-- the place just behind this event
 abbrev pub past : SourcedEvent → Around → Around
 past e a = record a { before = e ∷ a.before }
 
@@ -138,6 +152,7 @@ abbrev pub can_close : Setting → Option ℕ → Option ℕ → Bool
 can_close s None first = false
 can_close s (Some c) first = not (is_white_space c) && (not (is_boundary s (Some c)) || is_boundary s first)
 
+-- between these characters a node needs asterisks, and its first could close emphasis (CommonMark, section 6.2)
 abbrev pub disturbs_at : Setting → Option ℕ → Option ℕ → Option ℕ → Bool
 disturbs_at s before first after = needs_asterisk s before after && can_close s before first
 
@@ -152,6 +167,7 @@ abbrev pub counts : Bool → TagView → Bool
 counts true t = is_emphasis_or_strong t
 counts false t = is_emphasis t
 
+-- whether a node both counts and disturbs
 abbrev pub and_disturbs : Bool → Setting → Bool → TagView → Trees → Around → Bool
 and_disturbs true s runs t kids a = disturbs s runs t kids a
 and_disturbs false s runs t kids a = false
@@ -169,6 +185,7 @@ prefers_underscore s runs (node t kids f) a =
 abbrev pub run_around : ℕ → ℕ → List ℕ → ℕ
 run_around c place text = prefix_len (λ b. b == c) (reverse (take place text)) + prefix_len (λ b. b == c) (drop place text)
 
+-- the length of the last run of a marker in a text that is given backwards
 abbrev pub last_run_of : List ℕ → ℕ
 last_run_of [] = 0
 last_run_of (b ∷ bs) = if is_marker b then suc (prefix_len (λ c. c == b) bs) else last_run_of bs

@@ -8,22 +8,27 @@ use Rattle.tocmark_event.specs.declared.event.Alignment.TheVariants as alignment
 use Rattle.tocmark_event.specs.declared.event.LinkType.{LinkType}
 use Rattle.tocmark_event.specs.declared.event.LinkType.TheVariants as link
 
+-- a number as a list
 abbrev pub number : ℕ → List ℕ
 number n = n ∷ []
 
+-- a text that may be missing; a missing one is told from an empty one
 abbrev pub optional : Option (List ℕ) → List ℕ
 optional None = 0 ∷ []
 optional (Some t) = 1 ∷ t
 
+-- 1 for true, 0 for false
 abbrev pub code_of_truth : Bool → ℕ
 code_of_truth b = if b then 1 else 0
 
+-- the number that stands for a column's alignment in a table (GFM, section 4.10)
 abbrev pub alignment_code : Alignment → ℕ
 alignment_code alignment.None = 0
 alignment_code alignment.Left = 1
 alignment_code alignment.Center = 2
 alignment_code alignment.Right = 3
 
+-- the number that stands for a type of link (CommonMark, sections 6.3 and 6.5)
 abbrev pub link_code : LinkType → ℕ
 link_code link.Inline = 0
 link_code link.Reference = 1
@@ -36,6 +41,7 @@ link_code link.Autolink = 7
 link_code link.Email = 8
 link_code (link.WikiLink has_pothole) = 9 + code_of_truth has_pothole
 
+-- a heading's attribute: its name, and its value if it has one
 abbrev pub attribute_key : List ℕ × Option (List ℕ) → List (List ℕ)
 attribute_key a = a.0 ∷ optional a.1 ∷ []
 
@@ -52,6 +58,7 @@ fields_key (Link k dest title id) = number (link_code k) ∷ dest ∷ title ∷ 
 fields_key (Image k dest title id) = number (link_code k) ∷ dest ∷ title ∷ id ∷ []
 fields_key t = []
 
+-- what tells a leaf from all other leaves
 abbrev pub leaf_key : LeafView → List (List ℕ)
 leaf_key (Text t) = number 0 ∷ t ∷ []
 leaf_key (Code t) = number 1 ∷ t ∷ []
@@ -65,6 +72,7 @@ leaf_key HardBreak = number 8 ∷ []
 leaf_key Rule = number 9 ∷ []
 leaf_key (TaskListMarker b) = number 10 ∷ number (code_of_truth b) ∷ []
 
+-- what tells an event from all other events
 abbrev pub event_key : EventView → List (List ℕ)
 event_key (Start t) = number 0 ∷ number (end_code (end_of t)) ∷ fields_key t
 event_key (End k) = number 1 ∷ number (end_code k) ∷ []

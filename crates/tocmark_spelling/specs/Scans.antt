@@ -15,6 +15,7 @@ pub record AreEnds (es : List SourcedEvent) (ends : List ℕ) : Type 0 where
   pub len : length ends ≡ length es
   pub at : (i : ℕ) → i < length es → slice_index ends i ≡ i + 1 + span 0 (drop (i + 1) es)
 
+-- a list without its first number; nothing of an empty one
 abbrev pub tail_of : List ℕ → List ℕ
 tail_of [] = []
 tail_of (x ∷ xs) = xs

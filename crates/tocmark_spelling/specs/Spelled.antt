@@ -9,16 +9,19 @@ is_spelled_tag Paragraph = true
 is_spelled_tag (Heading level None classes attrs) = (length classes == 0) && (length attrs == 0)
 is_spelled_tag t = false
 
+-- texts and soft breaks
 abbrev pub is_spelled_leaf : LeafView → Bool
 is_spelled_leaf (Text t) = true
 is_spelled_leaf SoftBreak = true
 is_spelled_leaf l = false
 
+-- the Start of such a container, any End, or such a leaf
 abbrev pub is_spelled : SourcedEvent → Bool
 is_spelled (Start t) = is_spelled_tag t
 is_spelled (End k) = true
 is_spelled (Leaf l) = is_spelled_leaf l.leaf
 
+-- all events of a list are among them
 abbrev pub are_spelled : List SourcedEvent → Bool
 are_spelled [] = true
 are_spelled (e ∷ es) = is_spelled e && are_spelled es

@@ -16,6 +16,7 @@ use Rattle.tocmark_spelling.specs.Closing.{closing}
 use Rattle.tocmark_spelling.specs.Stretch.{leaf_on}
 use Rattle.tocmark_event.specs.View.{Start}
 
+-- whether the innermost of these containers has such a tag
 abbrev pub directly_in : (TagView → Bool) → List TagView → Bool
 directly_in test [] = false
 directly_in test (t ∷ ts) = test t
@@ -36,6 +37,7 @@ is_misplaced s outside (leaf l f) = is_misplaced s outside f
 is_misplaced s outside (node t kids f) =
     is_wrong_in t outside || (not (by_id s t kids) && is_misplaced s (t ∷ outside) kids) || is_misplaced s outside f
 
+-- what comes next, from where the spelling stands; none if there was no spelling so far
 abbrev pub then_site : Option Site → (Site → Option Site) → Option Site
 then_site (Some here) f = f here
 then_site None f = None
@@ -45,10 +47,12 @@ abbrev pub is_named : Content → Bool
 is_named (Named named) = named
 is_named c = false
 
+-- whether the body of the innermost container is left out, since its id stands in its place
 abbrev pub skips_body : Path → Bool
 skips_body [] = false
 skips_body (l ∷ path) = is_named l.content
 
+-- the id of a link or image; empty for any other tag
 abbrev pub id_of : TagView → List ℕ
 id_of (Link kind dest title id) = id
 id_of (Image kind dest title id) = id

@@ -11,11 +11,13 @@ use Rattle.tocmark_spelling.specs.Gap.{gap, is_inline, is_item_opening}
 use Rattle.tocmark_spelling.specs.Marker.{ends_delimiter}
 use Rattle.tocmark_spelling.specs.Words.{hyphen}
 
+-- whether markers in texts stay as they are
 abbrev pub is_literal : TextSpelling → Bool
 is_literal Literal = true
 is_literal LiteralEntities = true
 is_literal t = false
 
+-- whether characters beside markers are written as references (CommonMark, section 2.5)
 abbrev pub has_entities : TextSpelling → Bool
 has_entities Entities = true
 has_entities LiteralEntities = true
@@ -39,10 +41,12 @@ place s m after_close next path p = record {
   next = next;
 }
 
+-- the text in the source, where it is wanted and known
 abbrev pub from_source : Bool → Option (List ℕ) → Option (List ℕ)
 from_source true source = source
 from_source false source = None
 
+-- the source text if there is one, else the text escaped
 abbrev pub or_escaped : Option (List ℕ) → Place → List ℕ → List ℕ
 or_escaped (Some source) place text = source
 or_escaped None place text = escaped place text
@@ -53,6 +57,7 @@ stretch_text s m h next path p =
     if is_raw path then h.text
     else or_escaped (from_source m.source h.source) (place s m h.after_close next path p) h.text
 
+-- two texts joined; none unless both are known
 abbrev pub both : Option (List ℕ) → Option (List ℕ) → Option (List ℕ)
 both (Some t) (Some u) = Some (t ++ u)
 both a b = None
@@ -75,10 +80,12 @@ text_on s m text source a path p =
     if and_is is_text (front a.after) then record { path = path; page = record p { held = Some h } }
     else stretch_on s m h (following a) path p
 
+-- whether a container is a bullet list with hyphens as markers (CommonMark, section 5.2)
 abbrev pub is_bullet_hyphen : Content → Bool
 is_bullet_hyphen (Listed c) = is_none c.number && (c.token == hyphen)
 is_bullet_hyphen c = false
 
+-- whether a bullet list with hyphens is open, at any depth (CommonMark, section 5.2)
 abbrev pub is_in_hyphen_list : Path → Bool
 is_in_hyphen_list [] = false
 is_in_hyphen_list (l ∷ path) = is_bullet_hyphen l.content || is_in_hyphen_list path
@@ -87,6 +94,7 @@ is_in_hyphen_list (l ∷ path) = is_bullet_hyphen l.content || is_in_hyphen_list
 abbrev pub rule_text : Last → Path → List ℕ
 rule_text last path = if is_inline last || (is_item_opening last && is_in_hyphen_list path) then codes "***" else codes "---"
 
+-- a thematic break, after its gap (CommonMark, section 4.1)
 abbrev pub rule_on : Setting → Path → Page → Site
 rule_on s path p =
     let here = gap (Leaf Rule) path p in

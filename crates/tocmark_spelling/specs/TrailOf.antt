@@ -10,11 +10,13 @@ use Rattle.tocmark_spelling.specs.declared.trail.Last.TheVariants as last
 use Rattle.tocmark_spelling.specs.declared.trail.LastList.{LastList}
 use Rattle.tocmark_spelling.specs.declared.trail.Trail.{Trail}
 
+-- what the last child of an item was, as a plain value
 abbrev pub tail_view : Tail → page.Tail
 tail_view tail.Paragraph = ParagraphTail
 tail_view tail.Empty = EmptyTail
 tail_view tail.Block = BlockTail
 
+-- what was written last, as a plain value
 abbrev pub last_view : Last → page.Last
 last_view last.Other = Other
 last_view last.Inline = Inline
@@ -24,9 +26,11 @@ last_view (last.ListEnd t) = ListEnd (tail_view t)
 last_view last.DefinitionEnd = DefinitionEnd
 last_view (last.BlockEnd k) = BlockEnd k
 
+-- the list that ended last, as a plain value
 abbrev pub last_list_view : LastList → page.LastList
 last_list_view l = record { depth = l.depth; ordered = l.ordered; token = l.token }
 
+-- what was left to the right neighbour, as a plain value
 abbrev pub trail_view : Trail → page.Trail
 trail_view t = record {
   owed = t.owed;
@@ -37,5 +41,6 @@ trail_view t = record {
   open_html = t.open_html;
 }
 
+-- the trail without the line that goes on with a quote
 abbrev pub forgotten_line : page.Trail → page.Trail
 forgotten_line t = record t { quote_line = None }

@@ -6,6 +6,7 @@ use Rattle.std.specs.List.{starts_with}
 abbrev pub first_character : List ℕ → Option ℕ
 first_character text = slice_get (chars text) 0
 
+-- the last character, if there is one
 abbrev pub last_character : List ℕ → Option ℕ
 last_character text = slice_get (reverse (chars text)) 0
 
@@ -27,12 +28,15 @@ abbrev pub or_else : {A : Type 0} → Option A → Option A → Option A
 or_else (Some a) later = Some a
 or_else None later = later
 
+-- whether both are true or both are false
 abbrev pub same_truth : Bool → Bool → Bool
 same_truth true b = b
 same_truth false b = not b
 
+-- the character `*`
 abbrev pub asterisk : ℕ
 asterisk = 42
 
+-- the character `-`
 abbrev pub hyphen : ℕ
 hyphen = 45

@@ -23,12 +23,15 @@ abbrev pub HasNoFeed : List ℕ → Type 0
 HasNoFeed [] = Unit {0}
 HasNoFeed (b ∷ bs) = (b == 10 ≡ false) × HasNoFeed bs
 
+-- what the writer has put out, as a sheet
 abbrev pub sheet_of : Output → Sheet
 sheet_of o = record { text = string_bytes o.text; feeds = o.newlines }
 
+-- what the opening of a list chose, as a plain value
 abbrev pub choice_view : ListChoice → page.ListChoice
 choice_view c = record { number = c.number; token = c.token; tight = c.tight; wide = c.wide; labelled = c.labelled }
 
+-- what the opening of a container chose, as a plain value
 abbrev pub content_view : Content → page.Content
 content_view content.Plain = Plain
 content_view (content.Underlined b) = Underlined b
@@ -41,6 +44,7 @@ content_view (content.Width n) = Width n
 content_view (content.Delimited before after) = Delimited (string_bytes before) (string_bytes after)
 content_view (content.Named b) = Named b
 
+-- an open container of the writer, as a level
 abbrev pub level_of : Frame → Level
 level_of f = record { tag = tag_view string_bytes f.tag.now; prefix = string_bytes f.prefix; start = f.start; content = content_view f.content }
 
@@ -48,9 +52,11 @@ level_of f = record { tag = tag_view string_bytes f.tag.now; prefix = string_byt
 abbrev pub path_of : List Frame → Path
 path_of fs = map level_of (reverse fs)
 
+-- a definition of a link that is still to be written, as a plain value (CommonMark, section 4.7)
 abbrev pub reference_view : Reference → page.Reference
 reference_view r = record { label = string_bytes r.label; destination = string_bytes r.destination; title = string_bytes r.title }
 
+-- a stretch of texts that the writer holds, as a plain value
 abbrev pub held_view : Held → page.Held
 held_view h = record { text = string_bytes h.text; source = option_map string_bytes h.source; after_close = h.after_close }
 
@@ -62,16 +68,20 @@ longer h text source = record { text = h.text ++ text; source = both h.source so
 abbrev pub begun : List ℕ → Option (List ℕ) → Option EventView → page.Held
 begun text source previous = record { text = text; source = source; after_close = ends_delimiter previous }
 
+-- the stretch with one more text; where none was held, one begins
 abbrev pub held_after : Option page.Held → List ℕ → Option (List ℕ) → Option EventView → page.Held
 held_after None text source previous = begun text source previous
 held_after (Some h) text source previous = longer h text source
 
+-- the page with no stretch held
 abbrev pub unheld : Page → Page
 unheld p = record p { held = None }
 
+-- the writer's open containers, the innermost first
 abbrev pub levels_of : Writer → Path
 levels_of w = path_of w.frames.items
 
+-- the writer's page
 abbrev pub page_of : Writer → Page
 page_of w = record {
   sheet = sheet_of w.output;
@@ -80,6 +90,7 @@ page_of w = record {
   held = option_map held_view w.held;
 }
 
+-- where the writer stands: its open containers and its page
 abbrev pub site_of : Writer → Site
 site_of w = record { path = levels_of w; page = page_of w }
 
@@ -93,6 +104,7 @@ pub record Stands (w : Writer) (path : Path) (page : Page) : Type 0 where
   pub page_is : page_of w ≡ page
   pub prefix_is : HasPrefix w
 
+-- the writer stands where the definition does; never so where the definition refuses
 abbrev pub Arrives : Writer → Option Site → Type 0
 Arrives w (Some here) = Stands w here.path here.page
 Arrives w None = ⊥
