@@ -27,6 +27,7 @@ pub mod Spelled
 pub mod PlanOf
 pub mod WriterOf
 pub mod Scans
+pub mod Turn
 pub mod Buffered
 pub mod Draft
 pub mod DraftOf

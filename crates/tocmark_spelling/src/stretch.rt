@@ -60,7 +60,7 @@ impl<'a> Writer<'a> {
     }
 
     /// Takes the stretch that is held, longer by a text.
-    fn take_held(
+    pub fn take_held(
         &mut self,
         alloc: Global,
         text: &str,

@@ -1,0 +1,25 @@
+use Rattle.std.proofs.Common.{◌∙◌, ap, map, take, drop, suc, arith, string_bytes}
+use Rattle.std.specs.List.{list_any}
+use Rattle.tocmark_event.specs.View.{tag_view}
+use Rattle.tocmark_spelling.specs.Body.{breaks_line}
+use Rattle.tocmark_spelling.specs.Buffered.{buffered_view}
+use Rattle.tocmark_spelling.specs.Look.{look}
+use Rattle.tocmark_spelling.specs.Machine.{kids_of, around}
+use Rattle.tocmark_spelling.specs.Scans.{span, is_leaf}
+use Rattle.tocmark_spelling.specs.WriterOf.{site_of}
+use Rattle.tocmark_spelling.proofs.Turns.{length-events}
+use Rattle.tocmark_spelling.proofs.Steps.{start-moves, start-refused, broken-look, events-take}
+use Rattle.tocmark_spelling.proofs.writer.Writer.start_before.Goals as goal
+
+pub returns-then-width-rest : goal.returns-then-width-rest
+returns-then-width-rest c =
+    λ s m next before. start-refused s m next (tag_view string_bytes c.args.tag.now) (map buffered_view c.args.rest.now) before (site_of c.args.self.now) (omega (arith, length-events c.args.rest.now, c.requires.width, c.if-width-rest.true))
+
+pub returns : goal.returns
+returns c =
+    let rest = map buffered_view c.args.rest.now in
+    let t = tag_view string_bytes c.args.tag.now in
+    let body = ap (list_any (is_leaf breaks_line)) (events-take c.args.rest.now c.args.width ∙ ap (λ n. take n rest) c.requires.width) in
+    λ s m next before.
+    let a = around before (drop (suc (span 0 rest)) rest) next in
+    start-moves c.start.result c.start.new.self s m next t rest before (site_of c.args.self.now) c.requires.spelled c.requires.path (omega (arith, length-events c.args.rest.now, c.requires.width, c.if-width-rest.false)) (c.start.ensures s m (look s m t (kids_of rest) a) (broken-look s m t rest a c.is_broken.result (c.is_broken.ensures ∙ body)))

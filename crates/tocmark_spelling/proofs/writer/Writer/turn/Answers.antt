@@ -1,0 +1,36 @@
+use Rattle.std.proofs.Common.{ap, sym, subst, map, string_bytes, ◌∷◌}
+use Rattle.std.specs.Option.{option_map}
+use Rattle.tocmark_event.specs.Options.{options_view}
+use Rattle.tocmark_event.specs.View.{event_view, SourcedEvent}
+use Rattle.tocmark_spelling.specs.Buffered.{sourced, buffered_view, following_view}
+use Rattle.tocmark_spelling.specs.Machine.{step, going}
+use Rattle.tocmark_spelling.specs.PlanOf.{setting_of, text_spelling_view}
+use Rattle.tocmark_spelling.specs.Turn.{manner_with, Moves}
+use Rattle.tocmark_spelling.specs.WriterOf.{site_of}
+use Rattle.tocmark_spelling.proofs.Steps.{end-moves, text-moves, break-moves}
+use Rattle.tocmark_spelling.proofs.writer.Writer.turn.Goals as goal
+
+pub returns-in-End : goal.returns-in-End
+returns-in-End c =
+    let rest = map buffered_view c.args.rest.now in
+    let here = site_of c.args.self.now in
+    let is = ap (λ e. sourced (event_view string_bytes e) (option_map string_bytes c.args.event.now.source)) c.in-End.is in
+    λ reading label layout markers before p.
+    let s = setting_of (options_view c.args.options.now) c.args.flags reading label in
+    let m = manner_with layout markers (text_spelling_view c.args.spelling) c.args.from_source in
+    let P : SourcedEvent → Type 0 = λ e. Moves c.end.result c.end.new.self (step s m (following_view c.args.next) e rest (going here before)) (e ∷ before) in
+    subst P (sym is) (end-moves c.end.result c.end.new.self s m (following_view c.args.next) c.in-End.field-0 rest before here c.requires.path c.end.ensures)
+
+pub returns-in_ok-add_text-in-Text : goal.returns-in_ok-add_text-in-Text
+returns-in_ok-add_text-in-Text c =
+    let rest = map buffered_view c.args.rest.now in
+    let source = option_map string_bytes c.args.event.now.source in
+    λ reading label layout markers before p.
+    text-moves (setting_of (options_view c.args.options.now) c.args.flags reading label) (manner_with layout markers (text_spelling_view c.args.spelling) c.args.from_source) (following_view c.args.next) rest before (site_of c.args.self.now) c.add_text.new.self (buffered_view c.args.event.now) (event_view string_bytes c.args.event.now.event) (string_bytes c.in-Text.text) c.as_str.result.now source (following_view c.args.previous) (following_view c.following-after.result) c.goes_on-more.result (ap (λ e. sourced (event_view string_bytes e) source) c.in-Text.is) (ap (event_view string_bytes) c.in-Text.is) c.as_str.ensures.value p c.goes_on-more.ensures c.following-after.ensures c.requires.path c.in_ok-add_text-in-Text.ensures
+
+pub returns-in_ok-write_leaf-in-SoftBreak : goal.returns-in_ok-write_leaf-in-SoftBreak
+returns-in_ok-write_leaf-in-SoftBreak c =
+    let rest = map buffered_view c.args.rest.now in
+    let source = option_map string_bytes c.args.event.now.source in
+    λ reading label layout markers before p.
+    break-moves (setting_of (options_view c.args.options.now) c.args.flags reading label) (manner_with layout markers (text_spelling_view c.args.spelling) c.args.from_source) (following_view c.args.next) rest before (site_of c.args.self.now) c.write_leaf.new.self (buffered_view c.args.event.now) (event_view string_bytes c.args.event.now.event) source (ap (λ e. sourced (event_view string_bytes e) source) c.in-SoftBreak.is) (ap (event_view string_bytes) c.in-SoftBreak.is) c.requires.path c.in_ok-write_leaf-in-SoftBreak.ensures
