@@ -28,6 +28,7 @@ pub mod PlanOf
 pub mod WriterOf
 pub mod Scans
 pub mod Turn
+pub mod Rendered
 pub mod Buffered
 pub mod Draft
 pub mod DraftOf

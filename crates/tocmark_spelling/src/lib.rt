@@ -1,6 +1,7 @@
 //! How events are written as Markdown.
 #![tactic(auto)]
 
+pub mod block;
 pub mod closing;
 pub mod ends;
 pub mod escape;

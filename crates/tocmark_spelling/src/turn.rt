@@ -1,6 +1,6 @@
 //! One event of a unit after the other.
 
-ghost use Rattle.std.specs.Prelude.{◌≡◌, ℕ, List, ◌∷◌, map, string_bytes, true, OnOk, Option};
+ghost use Rattle.std.specs.Prelude.{◌≡◌, ◌<◌, ◌≤◌, ◌+◌, ◌-◌, ℕ, List, ◌∷◌, [], map, drop, take, reverse, length, slice_index, string_bytes, true, OnOk, Option};
 ghost use Rattle.std.specs.Option.{option_map};
 ghost use Rattle.tocmark_event.specs.Options.{options_view};
 ghost use Rattle.tocmark_event.specs.Reading.{ReadingView};
@@ -11,13 +11,13 @@ ghost use Rattle.tocmark_spelling.specs.Closing.{closing};
 ghost use Rattle.tocmark_spelling.specs.Gap.{gap};
 ghost use Rattle.tocmark_spelling.specs.Kinds.{is_text, and_is};
 ghost use Rattle.tocmark_spelling.specs.Look.{Look};
-ghost use Rattle.tocmark_spelling.specs.Machine.{step, going};
+ghost use Rattle.tocmark_spelling.specs.Machine.{step, going, run, answer_of};
 ghost use Rattle.tocmark_spelling.specs.Opening.{opening};
 ghost use Rattle.tocmark_spelling.specs.Page.{front};
 ghost use Rattle.tocmark_spelling.specs.Plan.{Setting, Manner, Layout, Markers};
 ghost use Rattle.tocmark_spelling.specs.PlanOf.{setting_of, text_spelling_view};
-ghost use Rattle.tocmark_spelling.specs.Scans.{span};
-ghost use Rattle.tocmark_spelling.specs.Spelled.{is_spelled, is_spelled_tag, is_spelled_path};
+ghost use Rattle.tocmark_spelling.specs.Scans.{span, AreEnds};
+ghost use Rattle.tocmark_spelling.specs.Spelled.{is_spelled, are_spelled, is_spelled_tag, is_spelled_path};
 ghost use Rattle.tocmark_spelling.specs.Turn.{manner_with, turned, Moves};
 ghost use Rattle.tocmark_spelling.specs.Words.{or_else};
 ghost use Rattle.tocmark_spelling.specs.WriterOf.{levels_of, page_of, site_of, held_after, HasPrefix, Stands, Comes};
@@ -171,6 +171,76 @@ impl<'a> Writer<'a> {
             }
             _ => Err(Error::UnexpectedEvent),
         }
+    }
+
+    /// All events of a unit, given where its containers end; `next` follows the unit.
+    pub fn write_events(
+        &mut self,
+        alloc: Global,
+        events: &'a [BufferedEvent],
+        ends: &[usize],
+        next: Option<&OwnedEvent>,
+        options: &Options<'_>,
+        flags: ParserOptions,
+        spelling: TextSpelling,
+        from_source: bool,
+    ) -> Result<(), Error>
+        requires prefix { HasPrefix self.old }
+        requires path { is_spelled_path (levels_of self.old) ≡ true }
+        requires spelled { are_spelled (map buffered_view events.now) ≡ true }
+        requires ends { AreEnds (map buffered_view events.now) ends.now }
+        ensures { (reading : List ℕ → ParserOptions → ReadingView) (label : Option (List ℕ)) (layout : Layout) (markers : Markers) → Comes result self.new (answer_of (run (setting_of (options_view options.now) flags reading label) (manner_with layout markers (text_spelling_view spelling) from_source) (following_view next.entry) (map buffered_view events.entry.now) (going (site_of self.old) []))) }
+    {
+        for (i, event) in events.iter().enumerate() {
+            let rest = rest_of(events, i + 1);
+            let width = width_of(ends, i);
+            let previous = previous_of(events, i);
+            self.turn(
+                alloc,
+                event,
+                rest,
+                width,
+                previous,
+                next,
+                options,
+                flags,
+                spelling,
+                from_source,
+            )?;
+        }
+        Ok(())
+    }
+}
+
+/// What follows a place of a unit.
+fn rest_of(events: &[BufferedEvent], start: usize) -> &[BufferedEvent]
+    ensures { result.now ≡ drop start events.now }
+{
+    if start <= events.len() {
+        &events[start..]
+    } else {
+        &[]
+    }
+}
+
+/// How many events stand between the one at a place and the end of the container that is innermost
+/// behind it.
+fn width_of(ends: &[usize], i: usize) -> usize
+    requires { i < length ends.now }
+    ensures { result ≡ slice_index ends.now i - (i + 1) }
+{
+    ends[i].saturating_sub(i + 1)
+}
+
+/// The event before a place of a unit.
+fn previous_of(events: &[BufferedEvent], i: usize) -> Option<&OwnedEvent>
+    requires { i ≤ length events.now }
+    ensures { following_view result ≡ front (reverse (map buffered_view (take i events.now))) }
+{
+    if i == 0 {
+        None
+    } else {
+        Some(&events[i - 1].event)
     }
 }
 
