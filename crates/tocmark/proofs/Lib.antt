@@ -2,3 +2,4 @@ pub mod Walks
 pub mod Runs
 pub mod Trees
 pub mod Reading
+pub mod TokenRuns
