@@ -3,3 +3,4 @@ pub mod Runs
 pub mod Trees
 pub mod Reading
 pub mod TokenRuns
+pub mod Paragraphs

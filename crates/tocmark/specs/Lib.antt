@@ -5,3 +5,4 @@ pub mod StateView
 pub mod Trees
 pub mod TokenCount
 pub mod SeenTokens
+pub mod Paragraphs
