@@ -1,5 +1,5 @@
 -- What the program is asked, and what it answers.
-use Rattle.std.specs.Prelude.{◌≡◌, ℕ, List, [], ◌∷◌, map, Bool, true, false, Ok, String}
+use Rattle.std.specs.Prelude.{◌≡◌, ◌⊎◌, ℕ, List, [], ◌∷◌, map, Bool, true, false, Ok, Some, None, String}
 use Rattle.std.specs.Global.{Global}
 use Rattle.std.specs.Io.KnownBytes.{Appends}
 use Rattle.std.specs.List.{concat}
@@ -53,3 +53,14 @@ pub record Wrote (input : List ℕ) (old new : Option (List ℕ)) : Type 0 where
   pub is_text : IsUtf8 input
   pub rewritten : IsRewritten input output
   pub appended : Appends old new output
+
+-- the input is text, and what is written back for it is a text
+pub record IsRewritable (input : List ℕ) : Type 0 where
+  pub output : List ℕ
+  pub is_text : IsUtf8 input
+  pub rewritten : IsRewritten input output
+
+-- nothing was written, or the input, if it is known, can be written back
+abbrev pub WritesLate : {O : Type 0} → Option (List ℕ) → O → O → Type 0
+WritesLate (Some input) old new = (new ≡ old) ⊎ IsRewritable input
+WritesLate None old new = Unit {0}

@@ -3,10 +3,10 @@
 
 mod fault;
 
-ghost use Rattle.std.specs.Prelude.{◌≡◌, ◌≤◌, ℕ, List, true, false, IfErr, IfOk, IfSome, OnOk, string_bytes};
+ghost use Rattle.std.specs.Prelude.{◌≡◌, ◌≤◌, ℕ, List, true, false, IfErr, IfOk, IfSome, OnErr, OnOk, string_bytes};
 ghost use Rattle.std.specs.Str.{IsUtf8};
 ghost use Rattle.std.specs.Io.KnownBytes.{Appends};
-ghost use Rattle.tocmark_program.specs.Program.{is_right, status_of, IsWriteFault, IsRewritten, Wrote};
+ghost use Rattle.tocmark_program.specs.Program.{is_right, status_of, IsWriteFault, IsRewritten, WritesLate, Wrote};
 
 use fault::Fault;
 use std::alloc::Global;
@@ -107,6 +107,7 @@ fn answer<I: Read, O: Write>(
     ensures unwritten { IfErr result (λ fault. ¬ (IsWriteFault fault) → output.new ≡ output.old) }
     ensures done { OnOk result ((text : List ℕ) × Appends (O.contents output.old) (O.contents output.new) text) }
     ensures wrote { IfSome (I.remaining input.old) (λ bytes. OnOk result (Wrote bytes (O.contents output.old) (O.contents output.new))) }
+    ensures late { OnErr result (WritesLate (I.remaining input.old) output.old output.new) }
 {
     if !are_right(words) {
         return Err(Fault::Usage);
@@ -133,6 +134,7 @@ pub fn run<I: Read, O: Write, F: Write>(
     ensures right { is_right words.now ≡ true → result ≤ 1 }
     ensures done { result ≡ 0 → (text : List ℕ) × Appends (O.contents output.old) (O.contents output.new) text }
     ensures wrote { IfSome (I.remaining input.old) (λ bytes. result ≡ 0 → Wrote bytes (O.contents output.old) (O.contents output.new)) }
+    ensures late { result ≡ 1 → WritesLate (I.remaining input.old) output.old output.new }
 {
     match answer(alloc, words, input, output) {
         Ok(()) => 0,
