@@ -2,3 +2,4 @@ pub mod Choices
 pub mod Forests
 pub mod LabelLemmas
 pub mod SpelledUnits
+pub mod Balanced

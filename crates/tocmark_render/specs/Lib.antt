@@ -9,3 +9,4 @@ pub mod Choice
 pub mod Units
 pub mod Spelled
 pub mod Chosen
+pub mod Balanced

@@ -1,8 +1,8 @@
 //! Laws of the definitions: calls that do nothing, whose contracts are the laws.
 
-ghost use Rattle.std.specs.Prelude.{◌≡◌, [], is_none, true, Option};
+ghost use Rattle.std.specs.Prelude.{◌≡◌, [], is_none, true, List, Option, Some};
 ghost use Rattle.tocmark_event.specs.Forest.{flat};
-ghost use Rattle.tocmark_event.specs.View.{EventView};
+ghost use Rattle.tocmark_event.specs.View.{EventView, SourcedEvent};
 ghost use Rattle.tocmark_spelling.specs.Body.{Trees};
 ghost use Rattle.tocmark_spelling.specs.Page.{Around, Page};
 ghost use Rattle.tocmark_spelling.specs.Plan.{Setting, Manner};
@@ -10,6 +10,7 @@ ghost use Rattle.tocmark_spelling.specs.Spelling.{spelling, is_misplaced};
 ghost use Rattle.tocmark_render.specs.Choice.{choice, preferred};
 ghost use Rattle.tocmark_render.specs.Document.{DocumentView};
 ghost use Rattle.tocmark_render.specs.Spelled.{is_spelled, choice_if, chosen_if_spelled};
+ghost use Rattle.tocmark_render.specs.Units.{trees_of};
 
 /// A unit of which each event is spelled takes its preferred spelling: it has no delimiters and no known
 /// sources, so that there is nothing to choose from.
@@ -20,4 +21,9 @@ pub fn spelled_units_are_preferred()
 /// What is chosen for a unit that is given as its events is what is chosen for their forest.
 pub fn events_are_chosen_as_forests()
     ensures { (s : Setting) (d : DocumentView) (f : Trees) (next : Option EventView) → chosen_if_spelled s d (flat f) next ≡ choice_if (is_spelled f) s d f next }
+{}
+
+/// A list of which there is a forest is the events of that forest: reading it loses nothing.
+pub fn events_are_those_of_their_trees()
+    ensures { (es : List SourcedEvent) (f : Trees) → trees_of es ≡ Some f → flat f ≡ es }
 {}

@@ -1,6 +1,7 @@
 //! The text of one unit of events, and what it leaves to later ones.
 #![tactic(auto)]
 
+pub mod balance;
 pub mod labels;
 pub mod laws;
 pub mod render;

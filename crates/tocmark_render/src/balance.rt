@@ -1,0 +1,152 @@
+//! Whether the events of a unit are balanced.
+
+ghost use Rattle.std.specs.Prelude.{◌≡◌, map, reverse, string_bytes, IfOk, is_some};
+ghost use Rattle.tocmark_event.specs.Ends.{end_code};
+ghost use Rattle.tocmark_event.specs.View.{event_view};
+ghost use Rattle.tocmark_spelling.specs.Buffered.{buffered_view};
+ghost use Rattle.tocmark_render.specs.Balanced.{if_fits, left_open, open_after};
+ghost use Rattle.tocmark_render.specs.Units.{trees_of};
+
+use std::alloc::{AllocError, Global};
+use tocmark_event::event::{
+    BlockQuoteKind, EventOf, HeadingLevel, MetadataBlockKind, OwnedEvent, TagEnd,
+};
+use tocmark_spelling::spelling::BufferedEvent;
+
+/// A number for each End.
+fn end_number(end: TagEnd) -> u8
+    ensures { result ≡ end_code end }
+{
+    match end {
+        TagEnd::Paragraph => 0,
+        TagEnd::Heading(HeadingLevel::H1) => 1,
+        TagEnd::Heading(HeadingLevel::H2) => 2,
+        TagEnd::Heading(HeadingLevel::H3) => 3,
+        TagEnd::Heading(HeadingLevel::H4) => 4,
+        TagEnd::Heading(HeadingLevel::H5) => 5,
+        TagEnd::Heading(HeadingLevel::H6) => 6,
+        TagEnd::BlockQuote(None) => 7,
+        TagEnd::BlockQuote(Some(BlockQuoteKind::Note)) => 8,
+        TagEnd::BlockQuote(Some(BlockQuoteKind::Tip)) => 9,
+        TagEnd::BlockQuote(Some(BlockQuoteKind::Important)) => 10,
+        TagEnd::BlockQuote(Some(BlockQuoteKind::Warning)) => 11,
+        TagEnd::BlockQuote(Some(BlockQuoteKind::Caution)) => 12,
+        TagEnd::CodeBlock => 13,
+        TagEnd::HtmlBlock => 14,
+        TagEnd::List(true) => 15,
+        TagEnd::List(false) => 16,
+        TagEnd::Item => 17,
+        TagEnd::FootnoteDefinition => 18,
+        TagEnd::DefinitionList => 19,
+        TagEnd::DefinitionListTitle => 20,
+        TagEnd::DefinitionListDefinition => 21,
+        TagEnd::Table => 22,
+        TagEnd::TableHead => 23,
+        TagEnd::TableRow => 24,
+        TagEnd::TableCell => 25,
+        TagEnd::Emphasis => 26,
+        TagEnd::Strong => 27,
+        TagEnd::Strikethrough => 28,
+        TagEnd::Superscript => 29,
+        TagEnd::Subscript => 30,
+        TagEnd::Link => 31,
+        TagEnd::Image => 32,
+        TagEnd::MetadataBlock(MetadataBlockKind::YamlStyle) => 33,
+        TagEnd::MetadataBlock(MetadataBlockKind::PlusesStyle) => 34,
+    }
+}
+
+/// Takes off the innermost container that is open, and tells whether this is its end.
+fn ends_innermost(awaited: &mut Vec<TagEnd>, end: TagEnd) -> bool
+    ensures { if_fits result (reverse awaited.new.items) ≡ left_open (reverse awaited.old.items) end }
+{
+    match awaited.pop() {
+        Some(innermost) => end_number(end) == end_number(innermost),
+        None => false,
+    }
+}
+
+/// Opens or ends a container, and tells whether the event can stand where these Ends are awaited,
+/// the innermost last. An `Err` says that memory ran out.
+fn nest(awaited: &mut Vec<TagEnd>, event: &OwnedEvent) -> Result<bool, AllocError>
+    ensures { IfOk result (λ fits. if_fits fits (reverse awaited.new.items) ≡ open_after (reverse awaited.old.items) (event_view string_bytes event.now)) }
+{
+    match event {
+        EventOf::Start(tag) => {
+            awaited.push(tag.to_end())?;
+            Ok(true)
+        }
+        EventOf::End(end) => Ok(ends_innermost(awaited, *end)),
+        _ => Ok(true),
+    }
+}
+
+/// Whether the events of a unit are balanced: each End is that of the innermost container that is
+/// open there, and no container stays open. An `Err` says that memory ran out.
+///
+/// A paragraph's Start, a text and a paragraph's End are balanced, and so are no events at all; the
+/// Start and the text alone aren't, nor is a paragraph's Start with a heading's End.
+pub fn are_balanced(alloc: Global, events: &[BufferedEvent]) -> Result<bool, AllocError>
+    ensures { IfOk result (λ balanced. balanced ≡ is_some (trees_of (map buffered_view events.now))) }
+{
+    let mut awaited: Vec<TagEnd> = Vec::new(alloc);
+    for buffered in events {
+        if !nest(&mut awaited, &buffered.event)? {
+            return Ok(false);
+        }
+    }
+    Ok(awaited.is_empty())
+}
+
+#[cfg(test)]
+mod tests {
+    use super::*;
+    use std::process::Abort;
+    use std::test::Fail;
+    use tocmark_event::event::TagOf;
+
+    /// Whether these events, as a unit, are balanced.
+    fn balanced(alloc: Global, events: &[OwnedEvent]) -> Result<bool, AllocError> {
+        let mut unit: Vec<BufferedEvent> = Vec::new(alloc);
+        for event in events {
+            let event = event.copied(alloc)?;
+            unit.push(BufferedEvent {
+                event,
+                source: None,
+            })?;
+        }
+        are_balanced(alloc, &unit)
+    }
+
+    #[test]
+    fn ends_of_open_containers(rt: HostRuntime) -> Result<(), Fail> {
+        let alloc = rt.alloc();
+        let heading = TagEnd::Heading(HeadingLevel::H2);
+        let whole = [
+            EventOf::Start(TagOf::BlockQuote(None)),
+            EventOf::Start(TagOf::Paragraph),
+            EventOf::SoftBreak,
+            EventOf::End(TagEnd::Paragraph),
+            EventOf::End(TagEnd::BlockQuote(None)),
+            EventOf::Rule,
+        ];
+        assert!(rt; balanced(alloc, &whole)?);
+        assert!(rt; balanced(alloc, &[])?);
+        assert!(rt; !balanced(alloc, &whole[..4])?);
+        assert!(rt; !balanced(alloc, &whole[1..])?);
+        assert!(rt; !balanced(alloc, &[EventOf::Rule, EventOf::End(heading)])?);
+        let wrong = [
+            EventOf::Start(TagOf::List(Some(3))),
+            EventOf::End(TagEnd::List(false)),
+        ];
+        assert!(rt; !balanced(alloc, &wrong)?);
+        let crossed = [
+            EventOf::Start(TagOf::Emphasis),
+            EventOf::Start(TagOf::Strong),
+            EventOf::End(TagEnd::Emphasis),
+            EventOf::End(TagEnd::Strong),
+        ];
+        assert!(rt; !balanced(alloc, &crossed)?);
+        Ok(())
+    }
+}
