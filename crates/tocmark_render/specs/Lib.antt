@@ -10,3 +10,4 @@ pub mod Units
 pub mod Spelled
 pub mod Chosen
 pub mod Balanced
+pub mod DocumentOf

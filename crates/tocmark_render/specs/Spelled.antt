@@ -1,31 +1,35 @@
 -- The units that are spelled so far.
-use Rattle.std.specs.Prelude.{Bool, true, false, not, ◌&&◌, Option, Some, None, is_none, Err, List, []}
+use Rattle.std.specs.Prelude.{Bool, true, false, not, ◌&&◌, Option, Some, None, is_none, is_some, Err, List, [], ◌∷◌}
 use Rattle.tocmark_event.specs.Forest.{empty, leaf, node}
-use Rattle.tocmark_event.specs.View.{TagView, Paragraph, Heading, EventView, LeafView, Text, SoftBreak, SourcedEvent}
+use Rattle.tocmark_event.specs.View.{EventView, SourcedEvent, Start, End, Leaf}
 use Rattle.tocmark_event.specs.declared.options.Error.TheVariants.{UnexpectedEvent}
-use Rattle.tocmark_spelling.specs.Body.{Trees, is_broken}
+use Rattle.tocmark_spelling.specs.Body.{Trees}
+use Rattle.tocmark_spelling.specs.Spelled as spelled
+use Rattle.tocmark_spelling.specs.Spelled.{is_spelled_tag, is_spelled_leaf}
 use Rattle.tocmark_spelling.specs.Plan.{Setting}
 use Rattle.tocmark_render.specs.Choice.{Chosen, choice}
 use Rattle.tocmark_render.specs.Document.{DocumentView}
 use Rattle.tocmark_render.specs.Units.{trees_of}
 
--- a Paragraph, or a heading without id, classes, attributes and breaks
-abbrev pub is_spelled_tag : TagView → Trees → Bool
-is_spelled_tag Paragraph kids = true
-is_spelled_tag (Heading level None [] []) kids = not (is_broken kids)
-is_spelled_tag t kids = false
-
--- a text or a soft break
-abbrev pub is_spelled_leaf : LeafView → Bool
-is_spelled_leaf (Text t) = true
-is_spelled_leaf SoftBreak = true
-is_spelled_leaf l = false
-
 -- whether each event of a unit is spelled so far; texts are, as long as no source of theirs is known
 unfoldable pub is_spelled : Trees → Bool
 is_spelled empty = true
 is_spelled (leaf l f) = is_spelled_leaf l.leaf && is_none l.source && is_spelled f
-is_spelled (node t kids f) = is_spelled_tag t kids && is_spelled kids && is_spelled f
+is_spelled (node t kids f) = is_spelled_tag t && is_spelled kids && is_spelled f
+
+-- whether an event has a text that is known in the source
+abbrev pub is_sourced_event : SourcedEvent → Bool
+is_sourced_event (Leaf l) = is_some l.source
+is_sourced_event e = false
+
+-- the same of a unit's events
+abbrev pub is_plain : SourcedEvent → Bool
+is_plain e = spelled.is_spelled e && not (is_sourced_event e)
+
+-- all events of a list are so
+abbrev pub are_plain : List SourcedEvent → Bool
+are_plain [] = true
+are_plain (e ∷ es) = is_plain e && are_plain es
 
 -- the choice for a unit, or a refusal if it isn't spelled yet
 abbrev pub choice_if : Bool → Setting → DocumentView → Trees → Option EventView → Chosen

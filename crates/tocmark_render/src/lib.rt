@@ -2,6 +2,7 @@
 #![tactic(auto)]
 
 pub mod balance;
+pub mod document;
 pub mod labels;
 pub mod laws;
 pub mod render;

@@ -27,3 +27,8 @@ RenderedAt text new (Some here) = Rendered text new here.page
 abbrev pub Renders : Result (String Global) Error → UnitRenderer → Option Site → Type 0
 Renders (Ok text) new answer = RenderedAt (string_bytes text) new answer
 Renders (Err e) new answer = IsRefusal e answer
+
+-- a spelling needs no more definitions than the page that it began with
+abbrev pub NeedsNone : Option Site → Page → Type 0
+NeedsNone None page = Unit {0}
+NeedsNone (Some here) page = here.page.references ≡ page.references

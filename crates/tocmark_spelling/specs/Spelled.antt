@@ -1,6 +1,8 @@
 -- Which tags and leaves the writer writes so far.
 use Rattle.std.specs.Prelude.{Bool, true, false, ◌&&◌, ◌==◌, None, List, [], ◌∷◌, length}
 use Rattle.tocmark_event.specs.View.{TagView, Paragraph, Heading, LeafView, Text, SoftBreak, SourcedEvent, Start, End, Leaf}
+use Rattle.tocmark_event.specs.Forest.{empty, leaf, node}
+use Rattle.tocmark_spelling.specs.Body.{Trees}
 use Rattle.tocmark_spelling.specs.Page.{Path}
 
 -- paragraphs, and headings without id, classes and attributes
@@ -30,3 +32,9 @@ are_spelled (e ∷ es) = is_spelled e && are_spelled es
 abbrev pub is_spelled_path : Path → Bool
 is_spelled_path [] = true
 is_spelled_path (l ∷ path) = is_spelled_tag l.tag && is_spelled_path path
+
+-- the tags and leaves of a forest are among them
+unfoldable pub is_spelled_forest : Trees → Bool
+is_spelled_forest empty = true
+is_spelled_forest (leaf l f) = is_spelled_leaf l.leaf && is_spelled_forest f
+is_spelled_forest (node t kids f) = (is_spelled_tag t && is_spelled_forest kids) && is_spelled_forest f

@@ -28,7 +28,7 @@ fn is_spelled_tag(tag: &TagOf<String>) -> bool
     }
 }
 
-fn is_spelled(event: &BufferedEvent) -> bool
+pub fn is_spelled(event: &BufferedEvent) -> bool
     ensures { result ≡ is_spelled (buffered_view event.now) }
 {
     match &event.event {
