@@ -5,3 +5,5 @@
 mod first_path;
 #[cfg(test)]
 mod run;
+#[cfg(test)]
+mod validation;
