@@ -119,10 +119,8 @@ mod tests {
     }
 
     #[test]
-    fn ends_of_open_containers(rt: HostRuntime) -> Result<(), Fail> {
-        let alloc = rt.alloc();
-        let heading = TagEnd::Heading(HeadingLevel::H2);
-        let whole = [
+    fn balanced_units(rt: HostRuntime) -> Result<(), Fail> {
+        let unit = [
             EventOf::Start(TagOf::BlockQuote(None)),
             EventOf::Start(TagOf::Paragraph),
             EventOf::SoftBreak,
@@ -130,23 +128,54 @@ mod tests {
             EventOf::End(TagEnd::BlockQuote(None)),
             EventOf::Rule,
         ];
-        assert!(rt; balanced(alloc, &whole)?);
-        assert!(rt; balanced(alloc, &[])?);
-        assert!(rt; !balanced(alloc, &whole[..4])?);
-        assert!(rt; !balanced(alloc, &whole[1..])?);
-        assert!(rt; !balanced(alloc, &[EventOf::Rule, EventOf::End(heading)])?);
-        let wrong = [
+        assert!(rt; balanced(rt.alloc(), &unit)?);
+        let none: [OwnedEvent; 0] = [];
+        assert!(rt; balanced(rt.alloc(), &none)?);
+        Ok(())
+    }
+
+    #[test]
+    fn ends_too_many(rt: HostRuntime) -> Result<(), Fail> {
+        let behind = [
+            EventOf::Start(TagOf::Paragraph),
+            EventOf::End(TagEnd::Paragraph),
+            EventOf::End(TagEnd::Paragraph),
+        ];
+        assert!(rt; !balanced(rt.alloc(), &behind)?);
+        let alone = [
+            EventOf::Rule,
+            EventOf::End(TagEnd::Heading(HeadingLevel::H2)),
+        ];
+        assert!(rt; !balanced(rt.alloc(), &alone)?);
+        Ok(())
+    }
+
+    #[test]
+    fn containers_left_open(rt: HostRuntime) -> Result<(), Fail> {
+        let unit = [
+            EventOf::Start(TagOf::BlockQuote(None)),
+            EventOf::Start(TagOf::Paragraph),
+            EventOf::SoftBreak,
+            EventOf::End(TagEnd::Paragraph),
+        ];
+        assert!(rt; !balanced(rt.alloc(), &unit)?);
+        Ok(())
+    }
+
+    #[test]
+    fn wrong_ends(rt: HostRuntime) -> Result<(), Fail> {
+        let other = [
             EventOf::Start(TagOf::List(Some(3))),
             EventOf::End(TagEnd::List(false)),
         ];
-        assert!(rt; !balanced(alloc, &wrong)?);
+        assert!(rt; !balanced(rt.alloc(), &other)?);
         let crossed = [
             EventOf::Start(TagOf::Emphasis),
             EventOf::Start(TagOf::Strong),
             EventOf::End(TagEnd::Emphasis),
             EventOf::End(TagEnd::Strong),
         ];
-        assert!(rt; !balanced(alloc, &crossed)?);
+        assert!(rt; !balanced(rt.alloc(), &crossed)?);
         Ok(())
     }
 }

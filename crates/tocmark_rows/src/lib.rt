@@ -2,6 +2,10 @@
 #![tactic(auto)]
 
 #[cfg(test)]
+mod copies;
+#[cfg(test)]
 mod first_path;
 #[cfg(test)]
 mod run;
+#[cfg(test)]
+mod validation;
