@@ -3,3 +3,4 @@ pub mod Forests
 pub mod LabelLemmas
 pub mod SpelledUnits
 pub mod Balanced
+pub mod Documents

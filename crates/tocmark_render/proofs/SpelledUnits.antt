@@ -13,7 +13,8 @@ use Rattle.tocmark_render.specs.Candidates.{candidates, has_source, is_sourced, 
 use Rattle.tocmark_render.specs.Choice.{Chosen, choice, preferred, spelled, accepted_if, page_of, page_in, by_markers, unless_misplaced, searched, first_or, first_that_reads_back, without_spelling, has_standard_markers}
 use Rattle.tocmark_render.specs.Document.{DocumentView}
 use Rattle.tocmark_render.specs.Placeholder.{whole}
-use Rattle.tocmark_render.specs.Spelled.{is_spelled, is_spelled_tag, is_spelled_leaf}
+use Rattle.tocmark_spelling.specs.Spelled.{is_spelled_tag, is_spelled_leaf}
+use Rattle.tocmark_render.specs.Spelled.{is_spelled}
 use Rattle.tocmark_render.specs.Validates.{validates}
 use Rattle.tocmark_spelling.proofs.Refusals.{none-misplaced}
 
@@ -43,10 +44,10 @@ spelled-math (Text t) h = refl
 spelled-math SoftBreak h = refl
 spelled-math l h = absurd (cc)
 
-spelled-delimiter : (t : TagView) (kids : Trees) → is_spelled_tag t kids ≡ true → is_delimiter_tag t ≡ false
-spelled-delimiter Paragraph kids h = refl
-spelled-delimiter (Heading level id classes attributes) kids h = refl
-spelled-delimiter t kids h = absurd (cc)
+spelled-delimiter : (t : TagView) → is_spelled_tag t ≡ true → is_delimiter_tag t ≡ false
+spelled-delimiter Paragraph h = refl
+spelled-delimiter (Heading level id classes attributes) h = refl
+spelled-delimiter t h = absurd (cc)
 
 -- no source is known, no delimiter and no mathematics stands in it
 pub record IsPlain (f : Trees) : Type 0 where
@@ -67,13 +68,13 @@ spelled-plain (leaf l f) h =
       unmathematical = none_of _ _ (spelled-math l.leaf here.0) rest.unmathematical;
     }
 spelled-plain (node t kids f) h =
-    let split : ((is_spelled_tag t kids && is_spelled kids) ≡ true) × (is_spelled f ≡ true) = both_are _ _ h in
-    let here : (is_spelled_tag t kids ≡ true) × (is_spelled kids ≡ true) = both_are _ _ split.0 in
+    let split : ((is_spelled_tag t && is_spelled kids) ≡ true) × (is_spelled f ≡ true) = both_are _ _ h in
+    let here : (is_spelled_tag t ≡ true) × (is_spelled kids ≡ true) = both_are _ _ split.0 in
     let below : IsPlain kids = spelled-plain kids here.1 in
     let rest : IsPlain f = spelled-plain f split.1 in
     record {
       unsourced = none_of _ _ below.unsourced rest.unsourced;
-      undelimited = none_of _ _ (none_of _ _ (spelled-delimiter t kids here.0) below.undelimited) rest.undelimited;
+      undelimited = none_of _ _ (none_of _ _ (spelled-delimiter t here.0) below.undelimited) rest.undelimited;
       unmathematical = none_of _ _ below.unmathematical rest.unmathematical;
     }
 

@@ -1,7 +1,7 @@
 -- The units that are spelled so far.
 use Rattle.std.specs.Prelude.{Bool, true, false, not, ◌&&◌, Option, Some, None, is_none, is_some, Err, List, [], ◌∷◌}
 use Rattle.tocmark_event.specs.Forest.{empty, leaf, node}
-use Rattle.tocmark_event.specs.View.{EventView, SourcedEvent, Start, End, Leaf}
+use Rattle.tocmark_event.specs.View.{EventView, SourcedEvent, Leaf}
 use Rattle.tocmark_event.specs.declared.options.Error.TheVariants.{UnexpectedEvent}
 use Rattle.tocmark_spelling.specs.Body.{Trees}
 use Rattle.tocmark_spelling.specs.Spelled as spelled

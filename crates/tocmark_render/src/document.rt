@@ -1,11 +1,10 @@
 //! The text that is chosen for a unit, and what the unit leaves to later ones.
 
-ghost use Rattle.std.specs.Prelude.{◌≡◌, ◌==◌, [], map, string_bytes, IfOk, OnOk, None, false};
+ghost use Rattle.std.specs.Prelude.{◌≡◌, ◌==◌, [], map, string_bytes, IfOk, OnOk, None};
 ghost use Rattle.std.specs.List.{list_any};
 ghost use Rattle.tocmark_event.specs.Options.{options_view};
 ghost use Rattle.tocmark_spelling.specs.Buffered.{buffered_view, following_view, next_view};
-ghost use Rattle.tocmark_spelling.specs.PlanOf.{setting_of, manner_of};
-ghost use Rattle.tocmark_render.specs.Candidates.{preferred_manner};
+ghost use Rattle.tocmark_spelling.specs.PlanOf.{setting_of};
 ghost use Rattle.tocmark_render.specs.Document.{first_document};
 ghost use Rattle.tocmark_render.specs.DocumentOf.{document_view, document_flags, Spells, literal_in, kept_view};
 ghost use Rattle.tocmark_render.specs.LabelsOf.{labels_of};
@@ -82,18 +81,6 @@ fn lent_event(event: &Option<OwnedEvent>) -> Option<&OwnedEvent>
     }
 }
 
-/// The preferred way to write.
-fn preferred<'a>(options: &Options<'a>) -> Delimiters<'a>
-    ensures { manner_of result.entry false ≡ preferred_manner (options_view options.now) }
-{
-    Delimiters {
-        layout: Layout::Preferred,
-        text: TextSpelling::Escaped,
-        emphasis: options.emphasis_token,
-        strong: options.strong_token,
-    }
-}
-
 fn has_bracket(text: &str) -> bool
     ensures { result ≡ list_any (λ b. b == 91) text.now }
 {
@@ -116,4 +103,65 @@ fn note_open_labels<R: Reader>(
     }
     let found = reader.read(alloc, text, flags)?;
     literal.add_all(alloc, &found.unresolved)
+}
+
+impl Document {
+    /// A document before its first unit, for events of a parser with these flags.
+    pub fn new(alloc: Global, flags: ParserOptions) -> Document
+        ensures view { document_view result ≡ first_document }
+        ensures flags { document_flags result ≡ flags }
+    {
+        Document {
+            flags,
+            renderer: UnitRenderer::new(alloc),
+            known: Labels::new(alloc),
+            literal: Labels::new(alloc),
+            flushed: false,
+        }
+    }
+
+    /// Writes a unit and gives its text.
+    ///
+    /// `next` is the event after the unit, if there is one. An `Err` is `UnexpectedEvent` where the unit
+    /// has an event that isn't written so far or a text that is known in the source, where its events
+    /// aren't balanced, and where a heading stands in a heading; and `OutOfMemory` where memory ran out or
+    /// the reader answered it. The document is of no use after it.
+    pub fn block<R: Reader>(
+        &mut self,
+        alloc: Global,
+        reader: &R,
+        unit: &[BufferedEvent],
+        next: Option<&Event<'_>>,
+        options: &Options<'_>,
+    ) -> Result<String, Error>
+        ensures chosen { Spells (document_view self.new) result (chosen_if_spelled (setting_of (options_view options.now) (document_flags self.old) (R.reading reader.now) None) (document_view self.old) (map buffered_view unit.now) (next_view next.entry)) }
+        ensures flags { document_flags self.new ≡ document_flags self.old }
+    {
+        if !are_plain(unit) {
+            return Err(Error::UnexpectedEvent);
+        }
+        if !are_balanced(alloc, unit)? {
+            return Err(Error::UnexpectedEvent);
+        }
+        let next = kept_event(alloc, next)?;
+        let preferred = Delimiters {
+            layout: Layout::Preferred,
+            text: TextSpelling::Escaped,
+            emphasis: options.emphasis_token,
+            strong: options.strong_token,
+        };
+        let text = self.renderer.render_block(
+            alloc,
+            reader,
+            unit,
+            lent_event(&next),
+            options,
+            self.flags,
+            false,
+            preferred,
+        )?;
+        note_open_labels(&mut self.literal, alloc, reader, text.as_str(), self.flags)?;
+        self.flushed = true;
+        Ok(text)
+    }
 }
