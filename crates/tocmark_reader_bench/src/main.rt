@@ -40,7 +40,10 @@ fn measure<C: CpuClock, O: Write, T: Write>(
 fn reading_count(rt: &HostRuntime) -> io::Result<u64> {
     match env::args(rt)?.nth(1) {
         None => Ok(1),
-        Some(word) => word.as_str().parse().map_err(|_| io::Error::from(io::ErrorKind::InvalidInput)),
+        Some(word) => word
+            .as_str()
+            .parse()
+            .map_err(|_| io::Error::from(io::ErrorKind::InvalidInput)),
     }
 }
 
@@ -48,7 +51,14 @@ fn run(rt: &HostRuntime) -> io::Result<()> {
     let alloc = rt.alloc();
     let count = reading_count(rt)?;
     let text = io::read_to_string(alloc, rt.stdin())?;
-    measure(alloc, rt, text.as_str(), count, &mut rt.stdout(), &mut rt.stderr())
+    measure(
+        alloc,
+        rt,
+        text.as_str(),
+        count,
+        &mut rt.stdout(),
+        &mut rt.stderr(),
+    )
 }
 
 fn main(rt: HostRuntime) -> ExitCode {
