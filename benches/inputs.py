@@ -212,6 +212,8 @@ INLINES = [
     ("growing backticks", SIZE * 10, growing_ticks),
     ("`a` ``a``", SIZE, repeated("`a` ``a``")),
     ("` ``", SIZE, repeated("` ``")),
+    ("* .. a", SIZE, followed("*")),
+    ("_ .. a", SIZE, followed("_")),
     ("*_", SIZE, repeated("*_")),
     ("*a_ ", SIZE, repeated("*a_ ")),
     ("*a ", SIZE, repeated("*a ")),
