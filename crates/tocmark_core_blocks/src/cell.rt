@@ -1,6 +1,6 @@
 //! The columns of a line.
 
-ghost use Rattle.std.specs.Prelude.{◌≡◌, ◌++◌, [], IfOk, OnOk, replicate};
+ghost use Rattle.std.specs.Prelude.{◌≡◌, ◌++◌, [], IfOk, OnOk, drop, replicate};
 ghost use Rattle.tocmark_core_scan.specs.Basic.{piece};
 ghost use Rattle.tocmark_core_blocks.specs.Cells.{filled, cells_of, cell_byte, cell_place, run_of, ink_from, count_of, part, trailing, trimmed, moved, indent_of, is_blank_at, first_cursor};
 
@@ -72,13 +72,23 @@ pub fn cell_place(cells: &[Cell], column: usize, end: usize) -> usize
     cells.get(column).map_or(end, |cell| cell.at)
 }
 
+/// The columns from one on.
+pub fn cells_from(cells: &[Cell], column: usize) -> &[Cell]
+    ensures { result.now ≡ drop column cells.now }
+{
+    if column <= cells.len() {
+        &cells[column..]
+    } else {
+        &[]
+    }
+}
+
 /// The number of columns from one on that have this byte, one after the other.
 pub fn run_of(cells: &[Cell], column: usize, byte: u8) -> usize
     ensures { result ≡ run_of cells.now column byte }
 {
-    cells
+    cells_from(cells, column)
         .iter()
-        .skip(column)
         .take_while(|cell| cell.byte == byte)
         .count()
 }
@@ -87,9 +97,8 @@ pub fn run_of(cells: &[Cell], column: usize, byte: u8) -> usize
 pub fn count_of(cells: &[Cell], column: usize, byte: u8) -> usize
     ensures { result ≡ count_of cells.now column byte }
 {
-    cells
+    cells_from(cells, column)
         .iter()
-        .skip(column)
         .filter(|cell| cell.byte == byte)
         .count()
 }

@@ -3,7 +3,7 @@
 ghost use Rattle.std.specs.Prelude.{◌≡◌};
 ghost use Rattle.tocmark_core_blocks.specs.Codes.{same_place, is_split, code_piece, text_piece, heading_piece, keeps_line};
 
-use crate::cell::{Cell, Cursor, cell_place, ink_from};
+use crate::cell::{Cell, Cursor, cell_place, cells_from, ink_from};
 use crate::definition::Piece;
 use crate::leaf::Leaf;
 use crate::line::Line;
@@ -14,9 +14,8 @@ use tocmark_core_scan::basic::{minus, plus};
 fn same_place(cells: &[Cell], column: usize, at: usize) -> usize
     ensures { result ≡ same_place cells.now column at }
 {
-    cells
+    cells_from(cells, column)
         .iter()
-        .skip(column)
         .take_while(|cell| cell.at == at)
         .count()
 }

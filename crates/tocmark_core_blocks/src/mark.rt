@@ -3,7 +3,9 @@
 ghost use Rattle.std.specs.Prelude.{◌≡◌};
 ghost use Rattle.tocmark_core_blocks.specs.Marks.{level_of, is_behind, heading_end, heading_at, is_fence_byte, fence_at, closes_fence, tail_step, tail_of, is_rule_byte, is_rule, is_underline_byte, underline_at, digit_count, number_step, number_of, bullet_at, ordered_at, marker_at};
 
-use crate::cell::{Cell, Cursor, cell_byte, count_of, indent_of, ink_from, part, run_of, trimmed};
+use crate::cell::{
+    Cell, Cursor, cell_byte, cells_from, count_of, indent_of, ink_from, part, run_of, trimmed,
+};
 use tocmark_core_scan::basic::{minus, plus};
 use tocmark_event::event::HeadingLevel;
 
@@ -212,9 +214,8 @@ pub fn underline_at(cells: &[Cell], column: usize) -> Option<HeadingLevel>
 fn digit_count(cells: &[Cell], column: usize) -> usize
     ensures { result ≡ digit_count cells.now column }
 {
-    cells
+    cells_from(cells, column)
         .iter()
-        .skip(column)
         .take_while(|cell| cell.byte.is_ascii_digit())
         .count()
 }

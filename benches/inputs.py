@@ -1,0 +1,235 @@
+"""Markdown that is meant to make a reader slow: each input is a name, a size and a text of that size."""
+
+SIZE = 100_000
+DEPTH = 10_000
+
+
+def repeated(word):
+    return lambda size: word * size
+
+
+def followed(word, last="a"):
+    return lambda size: word * size + last
+
+
+def headed(first, word):
+    return lambda size: first + word * size
+
+
+def mirrored(before, middle, after):
+    return lambda size: before * size + middle + after * size
+
+
+def definitions(size):
+    lines = "".join(f"[k{at}]: /u{at}\n" for at in range(size))
+    uses = "".join(f"[k{at}]\n" for at in range(size))
+    return f"{lines}\n{uses}"
+
+
+def same_definition(size):
+    return "[k]: /u\n" * size + "\n" + "[k]\n" * size
+
+
+def growing_ticks(size):
+    """Runs of 1, 2, 3 .. backticks, `size` bytes in all; none is closed."""
+    words, length, total = [], 1, 0
+    while total < size:
+        words.append("`" * length + "a")
+        total += length + 1
+        length += 1
+    return "".join(words)
+
+
+def lines_in_quotes(size):
+    """Lines in quotes that are 100 deep."""
+    return ("> " * 100 + "a\n") * (size // 100)
+
+
+def fading_quotes(size):
+    """Lines that stand in ever fewer quotes and go on with the innermost paragraph."""
+    depth = int(size**0.5)
+    return "".join("> " * at + "a\n" for at in range(depth, 0, -1))
+
+
+def stairs(size):
+    """Lists in lists, each on a line of its own."""
+    depth = int(size**0.5)
+    return "".join("  " * at + "- a\n" for at in range(depth))
+
+
+def stairs_and_blanks(size):
+    return stairs(size // 2) + "\n" * (size // 2) + "a\n"
+
+
+def paragraphs_in_list(size):
+    """A list 100 deep, and paragraphs in its innermost item."""
+    return "- " * 100 + "a\n" + ("\n" + "  " * 100 + "b\n") * (size // 100)
+
+
+def long_label(size):
+    return "[" + "a" * size + "]: /u\n\n[" + "a" * size + "]"
+
+
+def labels_of_999(size):
+    return ("[" + "a" * 999 + "] ") * (size // 1000)
+
+
+# those that the reader was promised to be linear on
+NAMED = [
+    ("*", SIZE, repeated("*")),
+    ("_", SIZE, repeated("_")),
+    ("[", SIZE, repeated("[")),
+    ("![", SIZE, repeated("![")),
+    ("(", SIZE, repeated("(")),
+    ("`", SIZE, repeated("`")),
+    ("<", SIZE, repeated("<")),
+    ("&", SIZE, repeated("&")),
+    (">", SIZE, repeated(">")),
+    ("- ", SIZE, repeated("- ")),
+    ("1. ", SIZE, repeated("1. ")),
+    ("a**b_c* ", SIZE, repeated("a**b_c* ")),
+    ("[a](", SIZE, repeated("[a](")),
+    ('[a](b "', SIZE, repeated('[a](b "')),
+    ("<!--", SIZE, repeated("<!--")),
+    ('<a b="', SIZE, repeated('<a b="')),
+    ("**a *a ", SIZE, repeated("**a *a ")),
+    ("> .. a", DEPTH, followed("> ")),
+    ("- .. a", DEPTH, followed("- ")),
+    ("1. .. a", DEPTH, followed("1. ")),
+    ("> - .. a", DEPTH, followed("> - ")),
+    ("definitions and uses", DEPTH, definitions),
+]
+
+BLOCKS = [
+    ("lines in 100 quotes", SIZE, lines_in_quotes),
+    ("fading quotes", SIZE * 10, fading_quotes),
+    ("quote, lazy lines", SIZE, headed("> a\n", "b\n")),
+    ("deep quote, lazy lines", SIZE, lambda size: "> " * (size // 10) + "a\n" + "b\n" * size),
+    ("deep quote, blank lines", SIZE, lambda size: "> " * (size // 10) + "a\n" + "\n" * size),
+    ("deep list, lazy lines", SIZE, lambda size: "- " * (size // 10) + "a\n" + "b\n" * size),
+    ("deep list, blank lines", SIZE, lambda size: "- " * (size // 10) + "a\n" + "\n" * size + "b"),
+    ("quote of lists, blank lines", SIZE, lambda size: "> " + "- " * (size // 10) + "a\n" + ">\n" * size),
+    ("list of quotes, blank lines", SIZE, lambda size: "- " + "> " * (size // 10) + "a\n" + "  \n" * size),
+    ("stairs of lists", SIZE * 10, stairs),
+    ("stairs of lists, blank lines", SIZE * 10, stairs_and_blanks),
+    ("paragraphs in 100 lists", SIZE, paragraphs_in_list),
+    ("- with tabs", DEPTH, followed("-\t")),
+    ("> with tabs", DEPTH, followed(">\t")),
+    ("- a, blank", SIZE, repeated("- a\n\n")),
+    ("empty items", SIZE, repeated("-\n")),
+    ("- and + in turn", SIZE, repeated("- a\n+ b\n")),
+    ("ordered items", SIZE, repeated("1. a\n")),
+    ("long number", SIZE, repeated("1")),
+    ("paragraph of lines", SIZE, repeated("a\n")),
+    ("many lines underlined", SIZE, followed("a\n", "===")),
+    ("underlined", SIZE, repeated("a\n===\n")),
+    ("underlines", SIZE, repeated("===\n")),
+    ("definition, underlines", SIZE, headed("[a]: /u\n", "===\n")),
+    ("rules", SIZE, repeated("---\n")),
+    ("long rule", SIZE, repeated("* ")),
+    ("almost a rule", SIZE, followed("* ", "+")),
+    ("#", SIZE, repeated("#")),
+    ("# a #", SIZE, repeated("# a #\n")),
+    ("# .. #", SIZE, headed("# ", "#")),
+    ("tabs", SIZE, repeated("\t")),
+    ("tab lines", SIZE, repeated("\ta\n")),
+    ("spaces", SIZE, repeated(" ")),
+    ("blank lines", SIZE, repeated("\n")),
+    ("carriage returns", SIZE, repeated("\r")),
+    ("open fence", SIZE, headed("~~~\n", "a\n")),
+    ("open fence, short fences", SIZE, headed("~~~~\n", "~~~\n")),
+    ("fences", SIZE, repeated("```\n")),
+    ("long fence", SIZE, repeated("~")),
+    ("long info", SIZE, headed("~~~ ", "&amp;")),
+    ("indented code, blank lines", SIZE, headed("    a\n", "\n")),
+    ("<div>", SIZE, repeated("<div>\n")),
+    ("<div> and blank", SIZE, repeated("<div>\n\n")),
+    ("open <pre>", SIZE, headed("<pre>\n", "</pr\n")),
+    ("open <!--", SIZE, headed("<!--\n", "--\n")),
+    ("open <![CDATA[", SIZE, headed("<![CDATA[\n", "]]\n")),
+    ("<a> lines", SIZE, repeated("<a>\n")),
+    ("one definition often", DEPTH, same_definition),
+    ("definitions without end", SIZE, repeated('[a]: b "c\n')),
+    ("definitions without end, blank", SIZE, repeated('[a]: b "c\n\n')),
+    ("definitions, titles on lines", SIZE, repeated('[a]: b\n"c\n')),
+    ("definitions, long label", SIZE, long_label),
+    ("[a]:", SIZE, repeated("[a]:\n")),
+    ("|", SIZE, repeated("|")),
+    ("|-", SIZE, repeated("|a|\n|-|\n")),
+]
+
+INLINES = [
+    ("\\", SIZE, repeated("\\")),
+    ("hard breaks", SIZE, repeated("a\\\n")),
+    ("spaces at ends", SIZE, repeated("a   \n")),
+    ("spaces within", SIZE, repeated("a   ")),
+    ("U+0000", SIZE, repeated("\0")),
+    ("&amp;", SIZE, repeated("&amp;")),
+    ("&#1;", SIZE, repeated("&#1;")),
+    ("&# and digits", SIZE, headed("&#", "1")),
+    ("&#", SIZE, repeated("&#1")),
+    ("]", SIZE, repeated("]")),
+    ("[ .. ]", SIZE, mirrored("[", "a", "]")),
+    ("![ .. ]", SIZE, mirrored("![", "a", "]")),
+    ("[[a](b) .. ]", SIZE, mirrored("[", "[a](b)", "](b)")),
+    ("![ .. ](b)", SIZE, mirrored("![", "a", "](b)")),
+    ("![[[", SIZE, repeated("![[[")),
+    ("[]", SIZE, repeated("[]")),
+    ("[a]", SIZE, repeated("[a]")),
+    ("[a][b]", SIZE, repeated("[a][b]")),
+    ("[a][]", SIZE, repeated("[a][]")),
+    ("[a] defined", SIZE, headed("[a]: /u\n\n", "[a]")),
+    ("[a\\]", SIZE, repeated("[a\\]")),
+    ("[`[`", SIZE, repeated("[`[`")),
+    ("labels of 999", SIZE * 10, labels_of_999),
+    ("[a](b)", SIZE, repeated("[a](b)")),
+    ("[a](<b", SIZE, repeated("[a](<b")),
+    ("[a](\\(", SIZE, repeated("[a](\\(")),
+    ("[a](b (", SIZE, repeated("[a](b (")),
+    ("[a](b '", SIZE, repeated("[a](b '")),
+    ("[a](b \" [a](b '", SIZE, repeated("[a](b \"[a](b '")),
+    ("[a](  ", SIZE, repeated("[a](   ")),
+    ("[a](b c)", SIZE, repeated("[a](b c)")),
+    ("[a](b( .. )", SIZE, lambda size: "[a](" + "b(" * size + ")" * size),
+    ("<?", SIZE, repeated("<?")),
+    ("a<?", SIZE, repeated("a<?")),
+    ("<![CDATA[", SIZE, repeated("<![CDATA[")),
+    ("a<![CDATA[", SIZE, repeated("a<![CDATA[")),
+    ("a<!--", SIZE, repeated("a<!--")),
+    ("a<!-- -->", SIZE, repeated("a<!-- -->")),
+    ("a<!A", SIZE, repeated("a<!A")),
+    ("<a ", SIZE, repeated("<a ")),
+    ("<a b='", SIZE, repeated("<a b='")),
+    ("<a b=\" <a b='", SIZE, repeated("<a b=\"<a b='")),
+    ('<a b="', SIZE, headed("a", '<a b="')),
+    ("<a b b b", SIZE, headed("a <a", " b")),
+    ("</a ", SIZE, repeated("</a ")),
+    ("<a:", SIZE, repeated("<a:")),
+    ("<a@b", SIZE, repeated("<a@b.")),
+    ("<http://a>", SIZE, repeated("<http://a>")),
+    ("<a@b.c>", SIZE, repeated("<a@b.c>")),
+    ("<a", SIZE, headed("<", "a")),
+    ("growing backticks", SIZE * 10, growing_ticks),
+    ("`a` ``a``", SIZE, repeated("`a` ``a``")),
+    ("` ``", SIZE, repeated("` ``")),
+    ("* .. a", SIZE, followed("*")),
+    ("_ .. a", SIZE, followed("_")),
+    ("*_", SIZE, repeated("*_")),
+    ("*a_ ", SIZE, repeated("*a_ ")),
+    ("*a ", SIZE, repeated("*a ")),
+    ("a* ", SIZE, repeated("a* ")),
+    ("a*a", SIZE, repeated("a*a")),
+    ("*a** ", SIZE, repeated("*a** ")),
+    ("***a***", SIZE, repeated("***a***")),
+    ("a***a**", SIZE, repeated("a***a**")),
+    ("* .. a .. *", SIZE, mirrored("*", "a", "*")),
+    ("*a .. b*", SIZE, mirrored("*a ", "", "b* ")),
+    ("_a .. b*", SIZE, mirrored("_a ", "", "b* ")),
+    ("*a _b .. c_ d*", SIZE, mirrored("*a _b ", "", "c_ d* ")),
+    ("*[", SIZE, repeated("*[")),
+    ("*[a](b)", SIZE, repeated("*[a](b)")),
+    ("\u00e9*", SIZE, repeated("\u00e9*")),
+    ("U+00A0", SIZE, repeated("\u00a0*")),
+]
+
+GROUPS = {"named": NAMED, "blocks": BLOCKS, "inlines": INLINES}
