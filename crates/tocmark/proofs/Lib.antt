@@ -2,3 +2,5 @@ pub mod Walks
 pub mod Runs
 pub mod Trees
 pub mod Reading
+pub mod TokenRuns
+pub mod Paragraphs

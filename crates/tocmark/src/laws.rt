@@ -1,10 +1,18 @@
 //! Laws of the walk, each the contract of a function that does nothing.
 
-ghost use Rattle.std.specs.Prelude.{◌≡◌, ◌++◌, List, [], ℕ, Ok};
+ghost use Rattle.std.specs.Prelude.{◌≡◌, ◌≢◌, ◌++◌, All, IsTrue, IsUtf8, List, [], ℕ, Ok, chars, codes};
+ghost use Rattle.std.specs.Char.{char_set_contains};
 ghost use Rattle.tocmark_event.specs.Forest.{IsBalanced, IsReading};
+ghost use Rattle.tocmark_event.specs.Options.{OptionsView};
+ghost use Rattle.tocmark_event.specs.Reading.{ReadingView};
+ghost use Rattle.tocmark_event.specs.declared.event.flags.ParserOptions.{ParserOptions};
+ghost use Rattle.tocmark.specs.Paragraphs.{ReadsAs, paragraph_of};
 ghost use Rattle.tocmark.specs.Ranges.{Pair};
 ghost use Rattle.tocmark.specs.Trees.{Trees, ranged, then_ranged, walk_trees};
-ghost use Rattle.tocmark.specs.Walk.{Kept, Rendering, Standing, beginning, go_on, walk};
+ghost use Rattle.tocmark.specs.StateView.{rendering};
+ghost use Rattle.tocmark.specs.Walk.{Kept, Rendering, Standing, beginning, go_on, nothing_yet, script, walk};
+
+use tocmark_spelling::laws::escapes_read_back;
 
 /// What later events add depends on where the earlier ones stand alone, whatever a unit comes to.
 pub fn cuts_are_free()
@@ -27,3 +35,13 @@ pub fn pending_events_are_nested()
     ensures { (how : Rendering) (source : List ℕ) (kept : Kept) (s : Standing) (p : List Pair) → (walk how source (beginning kept) p).outcome ≡ Ok s →
         IsReading s.pending s.open_tags × (s.open_tags ≡ [] → IsBalanced s.pending) }
 {}
+
+/// For one paragraph with one text, without NUL, texts are handed that join to an escape of the text, and
+/// an escape is read as the text: under all flags, over each reader, with `*` or `_` for emphasis.
+pub fn a_paragraph_is_read_back()
+    ensures { (options : OptionsView) (reading : List ℕ → ParserOptions → ReadingView) (flags : ParserOptions) (source text : List ℕ) →
+        IsTrue (char_set_contains (codes "*_") options.emphasis_token) → IsUtf8 text → All (λ c. c ≢ 0) (chars text) →
+        ReadsAs text (script (rendering options reading) source (nothing_yet flags) (paragraph_of text)) }
+{
+    escapes_read_back();
+}

@@ -6,6 +6,7 @@ mod state;
 mod taker;
 #[cfg(test)]
 mod tests;
+mod token_count;
 
 ghost use Rattle.std.specs.Prelude.{◌≡◌, List, Option, ℕ, IfOk, IsOk};
 ghost use Rattle.std.specs.Borrow.{Bor};
@@ -28,6 +29,7 @@ pub use tocmark_event::options::{
 };
 use tocmark_event::reader::Reader;
 pub use tocmark_event::{event, reader};
+pub use token_count::calculate_code_block_token_count;
 
 /// Writes events with the default options: `cmark_with_options` with `Options::default()`.
 pub fn cmark<'a, I, W, R>(

@@ -2,10 +2,11 @@
 
 ghost use Rattle.std.specs.Prelude.{[]};
 
-use crate::event::{CowStr, Event, ParserOptions, Tag, TagEnd};
+use crate::event::{CodeBlockKind, CowStr, Event, ParserOptions, Tag, TagEnd};
 use crate::reader::{Reader, Reading};
 use crate::{
-    Error, Options, Progress, State, cmark, cmark_with_options, cmark_with_source_range,
+    DEFAULT_CODE_BLOCK_TOKEN_COUNT, Error, Options, Progress, SUPPORTED_PARSER_OPTIONS, State,
+    calculate_code_block_token_count, cmark, cmark_with_options, cmark_with_source_range,
     cmark_with_source_range_and_options,
 };
 use std::alloc::{AllocError, Global};
@@ -202,5 +203,58 @@ fn one_call(rt: HostRuntime) -> Result<(), Fail> {
         alloc, pairs, "1. a", &mut text, Nothing, flags, options,
     )?;
     assert_eq!(rt; text.as_str(), "1. a1. a1. a1. a");
+    Ok(())
+}
+
+fn fence() -> Event<'static> {
+    Event::Start(Tag::CodeBlock(CodeBlockKind::Fenced(CowStr::Borrowed(""))))
+}
+
+fn end() -> Event<'static> {
+    Event::End(TagEnd::CodeBlock)
+}
+
+fn text(text: &'static str) -> Event<'static> {
+    Event::Text(CowStr::Borrowed(text))
+}
+
+fn count(events: &[Event<'_>]) -> Option<usize> {
+    calculate_code_block_token_count(events.iter())
+}
+
+#[test]
+fn tokens_of_code(rt: HostRuntime) -> Result<(), Fail> {
+    assert_eq!(rt; count(&[]), None);
+    assert_eq!(rt; count(&[text("``````")]), None);
+    assert_eq!(rt; count(&[fence(), text("``"), text("`"), end()]), Some(4));
+    assert_eq!(rt; count(&[fence(), text("``"), end()]), None);
+    assert_eq!(rt; count(&[fence(), text("``"), fence(), text("`")]), Some(4));
+    assert_eq!(rt;
+        count(&[fence(), text("``"), Event::SoftBreak, text("`")]),
+        None
+    );
+    assert_eq!(rt;
+        count(&[fence(), text("``"), end(), fence(), text("`"), end()]),
+        None
+    );
+    assert_eq!(rt;
+        count(&[fence(), text("```~~~~"), text("~``"), end()]),
+        Some(6)
+    );
+    assert_eq!(rt;
+        count(&[fence(), text("~~~"), end(), text("~~~~~")]),
+        Some(4)
+    );
+    assert_eq!(rt;
+        count(&[fence(), text("a````b"), text("```"), end()]),
+        Some(5)
+    );
+    Ok(())
+}
+
+#[test]
+fn constants(rt: HostRuntime) -> Result<(), Fail> {
+    assert_eq!(rt; DEFAULT_CODE_BLOCK_TOKEN_COUNT, 3);
+    assert_eq!(rt; SUPPORTED_PARSER_OPTIONS, ParserOptions(0x7DDE));
     Ok(())
 }

@@ -4,6 +4,7 @@ pub mod Links
 pub mod Delimiters
 pub mod Fallbacks
 pub mod EdgesOfLists
-pub mod EdgesOfInlines
+pub mod EdgesOfDelimiters
+pub mod EdgesOfLinks
 pub mod EdgesOfBlocks
 pub mod Manners

@@ -6,7 +6,8 @@ ghost use Rattle.tocmark_examples.specs.Script.{AreWritten};
 ghost use Rattle.tocmark_examples.specs.Blocks.{blocks};
 ghost use Rattle.tocmark_examples.specs.Delimiters.{delimiters};
 ghost use Rattle.tocmark_examples.specs.EdgesOfBlocks.{edges_of_blocks};
-ghost use Rattle.tocmark_examples.specs.EdgesOfInlines.{edges_of_inlines};
+ghost use Rattle.tocmark_examples.specs.EdgesOfDelimiters.{edges_of_delimiters};
+ghost use Rattle.tocmark_examples.specs.EdgesOfLinks.{edges_of_links};
 ghost use Rattle.tocmark_examples.specs.EdgesOfLists.{edges_of_lists};
 ghost use Rattle.tocmark_examples.specs.Fallbacks.{fallbacks};
 ghost use Rattle.tocmark_examples.specs.Links.{links};
@@ -43,9 +44,14 @@ pub fn edges_of_lists_are_written()
     ensures { AreWritten edges_of_lists }
 {}
 
-/// Inline content at the edges of the rules.
-pub fn edges_of_inlines_are_written()
-    ensures { AreWritten edges_of_inlines }
+/// Emphasis and its like at the edges of the rules.
+pub fn edges_of_delimiters_are_written()
+    ensures { AreWritten edges_of_delimiters }
+{}
+
+/// Links, images, labels and texts at the edges of the rules.
+pub fn edges_of_links_are_written()
+    ensures { AreWritten edges_of_links }
 {}
 
 /// Other blocks at the edges of the rules.

@@ -25,8 +25,8 @@ use Rattle.tocmark_render.specs.ReadsBack.{reads_back}
 use Rattle.tocmark_render.specs.Placeholder.{needs_placeholder, reserved_label}
 use Rattle.tocmark_render.specs.Choice.{spelled, first_that_reads_back, document_after, choice}
 use Rattle.tocmark_examples.specs.Script.{AreWritten}
-use Rattle.tocmark_examples.specs.EdgesOfInlines.{edges_of_inlines}
+use Rattle.tocmark_examples.specs.EdgesOfDelimiters.{edges_of_delimiters}
 
-pub edges_of_inlines-written : AreWritten edges_of_inlines
+pub edges_of_delimiters-written : AreWritten edges_of_delimiters
 unfolding chars trim_start digits default_case_fold is_alphanumeric coded reference ends_line is_marker doubles_backslash opens_label is_read_as_marker needs_backslash with_backslash written escaped destination title padding span code_span by_id is_boundary prefers_underscore marker opening closing leaf_on is_misplaced spelling definitions_text candidates reads_back needs_placeholder reserved_label spelled first_that_reads_back document_after choice full_folding full_folding_rows value_in flags_fault lists_fault emphasis_fault tokens_fault scripts_fault size_fault validation lib.Utf8.encode AreWritten
-edges_of_inlines-written = (refl, (refl, (refl, (refl, (refl, (refl, (refl, (refl, (refl, (refl, (refl, (refl, (refl, (refl, (refl, (refl, (refl, (refl, (refl, (refl, (refl, (refl, (refl, (refl, (refl, (refl, (refl, (refl, (refl, (refl, (refl, (refl, (refl, (refl, (refl, (refl, (refl, (refl, (refl, (refl, (refl, (refl, (refl, (refl, (refl, (refl, (refl, (refl, (refl, (refl, (refl, (refl, tt))))))))))))))))))))))))))))))))))))))))))))))))))))
+edges_of_delimiters-written = (refl, (refl, (refl, (refl, (refl, (refl, (refl, (refl, (refl, (refl, (refl, (refl, (refl, (refl, (refl, (refl, (refl, (refl, (refl, (refl, (refl, (refl, (refl, (refl, (refl, (refl, (refl, (refl, tt))))))))))))))))))))))))))))
