@@ -101,18 +101,21 @@ impl fmt::Display for EndLine {
                 let level = level_number(level);
                 write!(f, " {level}")
             }
-            TagEnd::BlockQuote(Some(kind)) => {
-                let kind = quote_kind_name(kind);
-                write!(f, " {kind}")
-            }
+            TagEnd::BlockQuote(Some(kind)) => write_word(f, quote_kind_name(kind)),
             TagEnd::List(is_ordered) => write!(f, " {is_ordered}"),
-            TagEnd::MetadataBlock(kind) => {
-                let kind = metadata_kind_name(kind);
-                write!(f, " {kind}")
-            }
+            TagEnd::MetadataBlock(kind) => write_word(f, metadata_kind_name(kind)),
             _ => Ok(()),
         }
     }
+}
+
+fn write_word<W: fmt::Write>(f: &mut fmt::Formatter<W>, word: &str) -> fmt::Result {
+    write!(f, " {word}")
+}
+
+fn write_string<W: fmt::Write>(f: &mut fmt::Formatter<W>, text: &CowStr<'_>) -> fmt::Result {
+    let text = Quoted(text.as_str());
+    write!(f, " {text}")
 }
 
 fn write_attributes<W: fmt::Write>(
@@ -178,20 +181,14 @@ fn write_parts<W: fmt::Write>(f: &mut fmt::Formatter<W>, tag: &Tag<'_>) -> fmt::
             write!(f, " {level}")?;
             write_attributes(f, id, classes, attrs)
         }
-        TagOf::BlockQuote(Some(kind)) => {
-            let kind = quote_kind_name(*kind);
-            write!(f, " {kind}")
-        }
-        TagOf::CodeBlock(CodeBlockKindOf::Indented) => write!(f, " Indented"),
+        TagOf::BlockQuote(Some(kind)) => write_word(f, quote_kind_name(*kind)),
+        TagOf::CodeBlock(CodeBlockKindOf::Indented) => write_word(f, "Indented"),
         TagOf::CodeBlock(CodeBlockKindOf::Fenced(info)) => {
-            let info = Quoted(info.as_str());
-            write!(f, " Fenced {info}")
+            write_word(f, "Fenced")?;
+            write_string(f, info)
         }
         TagOf::List(Some(start)) => write!(f, " {start}"),
-        TagOf::FootnoteDefinition(label) => {
-            let label = Quoted(label.as_str());
-            write!(f, " {label}")
-        }
+        TagOf::FootnoteDefinition(label) => write_string(f, label),
         TagOf::Table(alignments) => write_alignments(f, alignments),
         TagOf::Link {
             link_type,
@@ -205,10 +202,7 @@ fn write_parts<W: fmt::Write>(f: &mut fmt::Formatter<W>, tag: &Tag<'_>) -> fmt::
             title,
             id,
         } => write_target(f, *link_type, dest_url, title, id),
-        TagOf::MetadataBlock(kind) => {
-            let kind = metadata_kind_name(*kind);
-            write!(f, " {kind}")
-        }
+        TagOf::MetadataBlock(kind) => write_word(f, metadata_kind_name(*kind)),
         _ => Ok(()),
     }
 }

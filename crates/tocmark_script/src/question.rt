@@ -10,7 +10,7 @@ use std::fmt;
 use tocmark::core_reader::CoreReader;
 use tocmark::event::{Event, LinkType, merge_texts};
 use tocmark::reader::{Reader, Reading};
-use tocmark::{Error, OptionsError, State};
+use tocmark::{Error, OptionsError, State, calculate_code_block_token_count};
 use tocmark_spelling::text_modifications::{
     EscapeDestination, EscapeLinkTitle, close_link, max_consecutive_chars,
 };
@@ -44,6 +44,16 @@ fn write_text(answer: &mut String, text: &str) -> Result<(), AllocError> {
     writeln!(answer, "{text}")
 }
 
+/// Writes what `{}` shows of a value, as a string.
+fn write_shown<T: fmt::Display>(
+    alloc: Global,
+    answer: &mut String,
+    shown: &T,
+) -> Result<(), AllocError> {
+    let text = shown.to_string(alloc)?;
+    write_text(answer, text.as_str())
+}
+
 fn write_validation(
     alloc: Global,
     answer: &mut String,
@@ -68,6 +78,18 @@ fn write_special_characters(
 ) -> Result<(), AllocError> {
     let text = script.options().special_characters(alloc)?;
     write_text(answer, text.as_str())
+}
+
+fn write_token_count(
+    answer: &mut String,
+    script: &Script<'_>,
+    events: usize,
+) -> Result<(), AllocError> {
+    let first = script.events.get(..events).unwrap_or(&[]);
+    match calculate_code_block_token_count(Events(first.iter())) {
+        None => writeln!(answer, "None"),
+        Some(count) => writeln!(answer, "Some({count})"),
+    }
 }
 
 fn write_closing(
@@ -213,13 +235,12 @@ fn write_answer(
     match question {
         Question::Validate => write_validation(alloc, answer, script),
         Question::SpecialCharacters => write_special_characters(alloc, answer, script),
+        Question::CountTokens { events } => write_token_count(answer, script, *events),
         Question::EscapeDestination(text) => {
-            let escaped = EscapeDestination(text.as_str()).to_string(alloc)?;
-            write_text(answer, escaped.as_str())
+            write_shown(alloc, answer, &EscapeDestination(text.as_str()))
         }
         Question::EscapeTitle(text) => {
-            let escaped = EscapeLinkTitle(text.as_str()).to_string(alloc)?;
-            write_text(answer, escaped.as_str())
+            write_shown(alloc, answer, &EscapeLinkTitle(text.as_str()))
         }
         Question::CloseLink {
             link_type,

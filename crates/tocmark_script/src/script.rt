@@ -23,6 +23,10 @@ pub enum Question {
     /// Whether the options are valid under the flags.
     Validate,
     SpecialCharacters,
+    /// How many tokens a fence needs for so many first events of the script.
+    CountTokens {
+        events: usize,
+    },
     EscapeDestination(String),
     EscapeTitle(String),
     CloseLink {
@@ -218,6 +222,10 @@ impl Gathering<'static> {
             Statement::Finish => self.finish()?,
             Statement::Calls => script.shows_calls = true,
             Statement::FailAt(place) => script.refused_text = Some(place),
+            Statement::Count => {
+                let events = script.events.len();
+                script.questions.push(Question::CountTokens { events })?;
+            }
             Statement::Ask(question) => script.questions.push(question)?,
             _other => {}
         }

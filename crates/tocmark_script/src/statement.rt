@@ -36,6 +36,8 @@ pub enum Statement<'l> {
     Finish,
     Calls,
     FailAt(usize),
+    /// Asks about the events so far.
+    Count,
     Ask(Question),
 }
 
@@ -118,7 +120,7 @@ fn longest(alloc: Global, cursor: &mut Cursor<'_>) -> Result<Question, LineFault
     Ok(Question::LongestRun { search, text })
 }
 
-/// The strings up to the end of the line, joined.
+/// The strings up to the end of the line, joined. Each takes some bytes of the line.
 fn joined_strings(alloc: Global, cursor: &mut Cursor<'_>) -> Result<String, LineFault> {
     let mut text = cursor.string(alloc)?;
     for _ in 0..cursor.len() {
@@ -165,6 +167,7 @@ fn statement_of_parts<'l>(
         "Calls" => Ok(Statement::Calls),
         "FailAt" => fail_at(cursor),
         "Repeat" => repeat(alloc, cursor),
+        "Count" => Ok(Statement::Count),
         _ => Ok(Statement::Ask(question(alloc, name, cursor)?)),
     }
 }

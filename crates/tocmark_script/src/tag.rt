@@ -69,22 +69,39 @@ pub fn link_type(cursor: &mut Cursor<'_>) -> Result<LinkType, LineFault> {
     }
 }
 
-fn heading(alloc: Global, cursor: &mut Cursor<'_>) -> Result<Tag<'static>, LineFault> {
-    let level = level(cursor)?;
-    let id = cursor.named(alloc, "id")?.map(owned);
+/// The classes that come next. Each takes some bytes of the line.
+fn classes(alloc: Global, cursor: &mut Cursor<'_>) -> Result<Vec<CowStr<'static>>, LineFault> {
     let mut classes = Vec::new(alloc);
-    while let Some(class) = cursor.named(alloc, "class")? {
+    for _ in 0..cursor.len() {
+        let Some(class) = cursor.named(alloc, "class")? else {
+            break;
+        };
         classes.push(owned(class))?;
     }
-    let mut attrs = Vec::new(alloc);
-    while let Some((name, value)) = cursor.attribute(alloc)? {
-        attrs.push((owned(name), value.map(owned)))?;
+    Ok(classes)
+}
+
+/// An attribute's name and its value, if it has one.
+type Attribute = (CowStr<'static>, Option<CowStr<'static>>);
+
+/// The attributes that come next. Each takes some bytes of the line.
+fn attributes(alloc: Global, cursor: &mut Cursor<'_>) -> Result<Vec<Attribute>, LineFault> {
+    let mut attributes = Vec::new(alloc);
+    for _ in 0..cursor.len() {
+        let Some((name, value)) = cursor.attribute(alloc)? else {
+            break;
+        };
+        attributes.push((owned(name), value.map(owned)))?;
     }
+    Ok(attributes)
+}
+
+fn heading(alloc: Global, cursor: &mut Cursor<'_>) -> Result<Tag<'static>, LineFault> {
     Ok(Tag::Heading {
-        level,
-        id,
-        classes,
-        attrs,
+        level: level(cursor)?,
+        id: cursor.named(alloc, "id")?.map(owned),
+        classes: classes(alloc, cursor)?,
+        attrs: attributes(alloc, cursor)?,
     })
 }
 
