@@ -3,20 +3,27 @@
 use crate::event::event_in_line;
 use crate::line::EventLine;
 use crate::run;
-use std::alloc::Global;
+use std::alloc::{AllocError, Global};
 use std::io::{self, ErrorKind, Read, Write};
 use std::process::Abort;
 use std::test::Fail;
+use tocmark::event::Event;
+
+fn shown(
+    alloc: Global,
+    event: &Event<'_>,
+    range: Option<(usize, usize)>,
+) -> Result<String, AllocError> {
+    let event = EventLine(event);
+    format!(in alloc; "{event} {range:?}")
+}
 
 /// An event's line, read and written back.
 fn rewritten(alloc: Global, line: &str) -> Result<String, Fail> {
-    match event_in_line(alloc, line)? {
-        Some((event, range)) => {
-            let event = EventLine(&event);
-            Ok(format!(in alloc; "{event} {range:?}")?)
-        }
-        None => Ok(String::new(alloc)),
-    }
+    let Some((event, range)) = event_in_line(alloc, line)? else {
+        return Ok(String::new(alloc));
+    };
+    Ok(shown(alloc, &event, range)?)
 }
 
 fn keeps(rt: &(impl Abort + AllocGlobal), lines: &[&str]) -> Result<(), Fail> {
