@@ -80,6 +80,16 @@ fn blocks(rt: HostRuntime) -> Result<(), Fail> {
             "Start CodeBlock Indented",
             "Start CodeBlock Fenced \"rust\"",
             "End CodeBlock",
+        ],
+    )
+}
+
+/// Each form of a list's and a definition's tag and of its end.
+#[test]
+fn lists(rt: HostRuntime) -> Result<(), Fail> {
+    keeps(
+        &rt,
+        &[
             "Start HtmlBlock",
             "Start List",
             "Start List 18446744073709551615",
@@ -95,9 +105,9 @@ fn blocks(rt: HostRuntime) -> Result<(), Fail> {
     )
 }
 
-/// Each form of the other tags and of their ends.
+/// Each form of a table's tag and of its end.
 #[test]
-fn tables_and_inlines(rt: HostRuntime) -> Result<(), Fail> {
+fn tables(rt: HostRuntime) -> Result<(), Fail> {
     keeps(
         &rt,
         &[
@@ -107,6 +117,16 @@ fn tables_and_inlines(rt: HostRuntime) -> Result<(), Fail> {
             "Start TableHead",
             "Start TableRow",
             "End TableCell",
+        ],
+    )
+}
+
+/// Each form of an inline tag, of a metadata block's, and of their ends.
+#[test]
+fn inlines(rt: HostRuntime) -> Result<(), Fail> {
+    keeps(
+        &rt,
+        &[
             "Start Emphasis",
             "Start Strong",
             "Start Strikethrough",
@@ -152,81 +172,68 @@ fn refuses(rt: &(impl Abort + AllocGlobal), line: &str, expected: &str) -> Resul
     runs_as(rt, input.as_str(), 1, answer, faults.as_str())
 }
 
-/// What is expected, for lines of each kind. The next script is answered.
-#[test]
-fn faults(rt: HostRuntime) -> Result<(), Fail> {
-    let string = "a string in double quotes, as in JSON";
-    refuses(&rt, "text", "an event, a statement or a question")?;
-    refuses(&rt, " Rule", "an event, a statement or a question")?;
-    refuses(&rt, "Rule ", "the end of the line")?;
-    refuses(&rt, "Text a", string)?;
-    refuses(&rt, "Text \"\\ud800\"", string)?;
-    refuses(&rt, "Text \"a\" \"b\"", "the end of the line")?;
-    refuses(&rt, "Text \"a\"*", "how often the string comes, behind *")?;
-    refuses(&rt, "Text \"a\"\"b\"", "a space behind a string")?;
-    refuses(&rt, "Start Heading 7", "a heading level from 1 to 6")?;
-    refuses(
-        &rt,
-        "Start Link Inline dest=\"\" id=\"\"",
-        "title= and a string",
-    )?;
-    refuses(
-        &rt,
-        "Rule 0..18446744073709551616",
-        "a range of byte numbers below 2^64",
-    )?;
-    refuses(
-        &rt,
-        "Flags 123456789",
-        "parser flags, in at most eight hexadecimal digits",
-    )?;
-    refuses(&rt, "Option list_token \"**\"", "a string of one character")?;
-    refuses(
-        &rt,
-        "Option list_token 1",
-        "the name of an option, and a value of its kind",
-    )?;
-    refuses(&rt, "Repeat 2 Cut", "an event")?;
-    refuses(&rt, "FailAt 0", "the number of a text, from 1")?;
-    refuses(
-        &rt,
-        "End of reading",
-        "a line that begins with Reads, before",
-    )?;
+fn refuse(rt: &(impl Abort + AllocGlobal), rows: &[(&str, &str)]) -> Result<(), Fail> {
+    for (line, expected) in rows {
+        refuses(rt, line, expected)?;
+    }
     Ok(())
+}
+
+/// What is expected in an event. The next script is answered.
+#[test]
+fn faults_of_events(rt: HostRuntime) -> Result<(), Fail> {
+    refuse(
+        &rt,
+        &[
+            ("Rule ", "the end of the line"),
+            ("Text a", "a string in double quotes, as in JSON"),
+            ("Text \"\\ud800\"", "a string in double quotes, as in JSON"),
+            ("Text \"a\"*", "how often the string comes, behind *"),
+            ("Text \"a\"\"b\"", "a space behind a string"),
+            ("Start Heading 7", "a heading level from 1 to 6"),
+            ("Start Link Inline dest=\"\" id=\"\"", "title= and a string"),
+            (
+                "Rule 0..18446744073709551616",
+                "a range of byte numbers below 2^64",
+            ),
+        ],
+    )
+}
+
+/// What is expected in a statement. The next script is answered.
+#[test]
+fn faults_of_statements(rt: HostRuntime) -> Result<(), Fail> {
+    refuse(
+        &rt,
+        &[
+            ("text", "an event, a statement or a question"),
+            (
+                "Flags 123456789",
+                "parser flags, in at most eight hexadecimal digits",
+            ),
+            ("Option list_token \"**\"", "a string of one character"),
+            (
+                "Option list_token 1",
+                "the name of an option, and a value of its kind",
+            ),
+            ("Repeat 2 Cut", "an event"),
+            ("FailAt 0", "the number of a text, from 1"),
+            ("End of reading", "a line that begins with Reads, before"),
+        ],
+    )
 }
 
 /// Batches: what ends a script, and what is none.
 #[test]
 fn batches(rt: HostRuntime) -> Result<(), Fail> {
-    let one = "\"a\"\nOk consumed=1 written=1\n";
-    let none = "Ok consumed=0 written=0\n%\n";
-    runs_as(&rt, "", 0, "", "")?;
     runs_as(&rt, "# nothing\n\n> \"a\"", 0, "", "")?;
-    runs_as(&rt, "%\n", 0, none, "")?;
-    runs_as(&rt, "Text \"a\"", 0, one, "")?;
-    runs_as(
-        &rt,
-        "%\nText \"\"*9\nText \"\\u0061\"*1\n# end",
-        0,
-        "Ok consumed=0 written=0\n%\n\"a\"\nOk consumed=2 written=1\n",
-        "",
-    )?;
-    runs_as(
-        &rt,
-        "Reads \"a\"\n%\n",
-        1,
-        "",
-        "tocmark_script: line 2: expected End of reading\n",
-    )?;
-    runs_as(
-        &rt,
-        "Reads else\nCut\nEnd of reading\n%",
-        1,
-        "",
-        "tocmark_script: line 2: expected an event, or End of reading\n",
-    )?;
-    Ok(())
+    runs_as(&rt, "%\n", 0, "Ok consumed=0 written=0\n%\n", "")?;
+    let two = "%\nText \"\"*9\nText \"\\u0061\"*1\n# end";
+    let answers = "Ok consumed=0 written=0\n%\n\"a\"\nOk consumed=2 written=1\n";
+    runs_as(&rt, two, 0, answers, "")?;
+    let open = "Reads else\nCut\nEnd of reading\n%";
+    let fault = "tocmark_script: line 2: expected an event, or End of reading\n";
+    runs_as(&rt, open, 1, "", fault)
 }
 
 /// Neither reads nor writes.
