@@ -1,0 +1,34 @@
+-- What the reader of a script reads a text as.
+use Rattle.std.specs.Prelude.{ℕ, List, [], map}
+use Rattle.std.specs.Option.{unwrap_or}
+use Rattle.std.specs.HashMap.{get_by_text}
+use Rattle.tocmark_event.specs.Text.{text_of}
+use Rattle.tocmark_event.specs.View.{EventView, event_view}
+use Rattle.tocmark_event.specs.Reading.{ReadingView}
+use Rattle.tocmark_event.specs.declared.event.EventOf.{EventOf}
+use Rattle.tocmark_event.specs.declared.event.text.CowStr.{CowStr}
+use Rattle.tocmark_core_reader.specs.Reading.{core_reading}
+use Rattle.tocmark_script.specs.declared.readers.Table.{Table as ReadingTable}
+use Rattle.tocmark_script.specs.declared.readers.ScriptReader.{ScriptReader}
+use Rattle.tocmark_script.specs.declared.readers.ScriptReader.TheVariants.{Core, Table}
+
+-- an event with its range, as a plain value
+abbrev pub ranged_view : EventOf CowStr × (ℕ × ℕ) → EventView × (ℕ × ℕ)
+ranged_view e = (event_view text_of e.0, e.1)
+
+-- the events that a table has for a text, or those for any other text
+abbrev pub table_events : ReadingTable → List ℕ → List (EventOf CowStr × (ℕ × ℕ))
+table_events t text = (unwrap_or (get_by_text t.readings text) t.otherwise).items
+
+-- these events, without labels
+abbrev pub table_reading : ReadingTable → List ℕ → ReadingView
+table_reading t text = record {
+  events = map ranged_view (table_events t text);
+  defined = [];
+  unresolved = [];
+}
+
+-- the core reader's reading, or the table's, which depends on the text alone
+abbrev pub script_reading : ScriptReader → List ℕ → ReadingView
+script_reading Core text = core_reading text
+script_reading (Table t) text = table_reading t text

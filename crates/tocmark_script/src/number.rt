@@ -1,0 +1,38 @@
+//! Numbers and ranges.
+
+use crate::fault::LineFault;
+
+fn is_decimal(word: &str) -> bool {
+    !word.is_empty() && word.as_bytes().iter().all(|byte| byte.is_ascii_digit())
+}
+
+/// A number in decimal digits, or nothing where the word is none or is too large.
+pub fn decimal(word: &str) -> Option<u64> {
+    if is_decimal(word) {
+        word.parse::<u64>().ok()
+    } else {
+        None
+    }
+}
+
+/// The number of a `usize` in decimal digits.
+pub fn size(word: &str) -> Option<usize> {
+    usize::try_from(decimal(word)?).ok()
+}
+
+/// A line's front and its range `a..b`, where it ends with one.
+pub fn split_range(line: &str) -> Result<(&str, Option<(usize, usize)>), LineFault> {
+    let Some((front, last)) = line.rsplit_once(' ') else {
+        return Ok((line, None));
+    };
+    let Some((start, end)) = last.split_once("..") else {
+        return Ok((line, None));
+    };
+    if !is_decimal(start) || !is_decimal(end) {
+        return Ok((line, None));
+    }
+    match (size(start), size(end)) {
+        (Some(start), Some(end)) => Ok((front, Some((start, end)))),
+        _ => Err(LineFault::Expected("a range of byte numbers below 2^64")),
+    }
+}

@@ -1,0 +1,276 @@
+//! Questions of a script, and their answers.
+
+use crate::event::{Events, RangedEvent, RangedEvents};
+use crate::line::EventLine;
+use crate::runs::error_name;
+use crate::script::{Question, Script};
+use crate::string::Quoted;
+use std::alloc::{AllocError, Global};
+use std::fmt;
+use tocmark::core_reader::CoreReader;
+use tocmark::event::{Event, LinkType, merge_texts};
+use tocmark::reader::{Reader, Reading};
+use tocmark::{Error, OptionsError, State, calculate_code_block_token_count};
+use tocmark_spelling::text_modifications::{
+    EscapeDestination, EscapeLinkTitle, close_link, max_consecutive_chars,
+};
+
+/// The name of what is wrong with options, and what it speaks of.
+#[derive(Clone, Copy, Debug)]
+struct OptionsFault(OptionsError);
+
+impl fmt::Display for OptionsFault {
+    fn fmt<W: fmt::Write>(&self, f: &mut fmt::Formatter<W>) -> fmt::Result {
+        match self.0 {
+            OptionsError::UnsupportedParserOptions(flags) => {
+                let bits = flags.0;
+                write!(f, "UnsupportedParserOptions(0x{bits:x})")
+            }
+            OptionsError::InvalidToken(field) => {
+                let field = Quoted(field);
+                write!(f, "InvalidToken({field})")
+            }
+            OptionsError::HtmlSuperSubscript => write!(f, "HtmlSuperSubscript"),
+            OptionsError::SizeOverflow(field) => {
+                let field = Quoted(field);
+                write!(f, "SizeOverflow({field})")
+            }
+        }
+    }
+}
+
+fn write_text(answer: &mut String, text: &str) -> Result<(), AllocError> {
+    let text = Quoted(text);
+    writeln!(answer, "{text}")
+}
+
+/// Writes what `{}` shows of a value, as a string.
+fn write_shown<T: fmt::Display>(
+    alloc: Global,
+    answer: &mut String,
+    shown: &T,
+) -> Result<(), AllocError> {
+    let text = shown.to_string(alloc)?;
+    write_text(answer, text.as_str())
+}
+
+fn write_validation(
+    alloc: Global,
+    answer: &mut String,
+    script: &Script<'_>,
+) -> Result<(), AllocError> {
+    match script.options().validate(script.flags) {
+        Ok(()) => writeln!(answer, "Ok"),
+        Err(error) => {
+            let fault = OptionsFault(error);
+            let whole = error.to_string(alloc)?;
+            let text = Quoted(whole.as_str());
+            writeln!(answer, "Err {fault}")?;
+            writeln!(answer, "Text {text}")
+        }
+    }
+}
+
+fn write_special_characters(
+    alloc: Global,
+    answer: &mut String,
+    script: &Script<'_>,
+) -> Result<(), AllocError> {
+    let text = script.options().special_characters(alloc)?;
+    write_text(answer, text.as_str())
+}
+
+fn write_token_count(
+    answer: &mut String,
+    script: &Script<'_>,
+    events: usize,
+) -> Result<(), AllocError> {
+    let first = script.events.get(..events).unwrap_or(&[]);
+    match calculate_code_block_token_count(Events(first.iter())) {
+        None => writeln!(answer, "None"),
+        Some(count) => writeln!(answer, "Some({count})"),
+    }
+}
+
+fn write_closing(
+    alloc: Global,
+    answer: &mut String,
+    link_type: LinkType,
+    dest_url: &str,
+    title: &str,
+) -> Result<(), AllocError> {
+    let mut text = String::new(alloc);
+    if close_link(dest_url, title, &mut text, link_type).is_err() {
+        return Err(AllocError);
+    }
+    write_text(answer, text.as_str())
+}
+
+fn write_error_texts(alloc: Global, answer: &mut String) -> Result<(), AllocError> {
+    let errors = [
+        Error::FormatFailed(fmt::Error),
+        Error::UnexpectedEvent,
+        Error::Unrepresentable,
+        Error::InvalidSourceRange,
+        Error::Finished,
+        Error::Failed,
+        Error::OutOfMemory,
+    ];
+    for error in &errors {
+        let name = error_name(error);
+        let whole = error.to_string(alloc)?;
+        let text = Quoted(whole.as_str());
+        writeln!(answer, "{name} {text}")?;
+    }
+    Ok(())
+}
+
+fn write_labels(answer: &mut String, name: &str, labels: &[String]) -> Result<(), AllocError> {
+    for label in labels {
+        let label = Quoted(label.as_str());
+        writeln!(answer, "{name} {label}")?;
+    }
+    Ok(())
+}
+
+fn write_all_labels(
+    answer: &mut String,
+    defined: &[String],
+    unresolved: &[String],
+) -> Result<(), AllocError> {
+    write_labels(answer, "Defined", defined)?;
+    write_labels(answer, "Unresolved", unresolved)
+}
+
+fn write_reading(answer: &mut String, reading: &Reading) -> Result<(), AllocError> {
+    for (event, (start, end)) in &reading.events {
+        let line = EventLine(event);
+        writeln!(answer, "{line} {start}..{end}")?;
+    }
+    write_all_labels(answer, &reading.defined, &reading.unresolved)
+}
+
+/// The events of a reading, with each stretch of texts as one.
+fn merged(
+    alloc: Global,
+    events: &[(Event<'_>, (usize, usize))],
+) -> Result<Vec<Event<'static>>, AllocError> {
+    let mut plain = Vec::new(alloc);
+    for (event, _) in events {
+        plain.push(event.to_static(alloc)?)?;
+    }
+    merge_texts(alloc, &plain)
+}
+
+fn write_merged(alloc: Global, answer: &mut String, reading: &Reading) -> Result<(), AllocError> {
+    for event in &merged(alloc, &reading.events)? {
+        let line = EventLine(event);
+        writeln!(answer, "{line}")?;
+    }
+    write_all_labels(answer, &reading.defined, &reading.unresolved)
+}
+
+fn write_count(alloc: Global, answer: &mut String, reading: &Reading) -> Result<(), AllocError> {
+    let count = merged(alloc, &reading.events)?.len();
+    writeln!(answer, "{count} events")
+}
+
+fn ranged(
+    alloc: Global,
+    events: Vec<(Event<'_>, (usize, usize))>,
+) -> Result<Vec<RangedEvent<'_>>, AllocError> {
+    let mut pairs = Vec::new(alloc);
+    for (event, range) in events {
+        pairs.push((event, Some(range)))?;
+    }
+    Ok(pairs)
+}
+
+/// A text, read and written back, with ranges in it or without.
+fn rewritten(
+    alloc: Global,
+    script: &Script<'_>,
+    text: &str,
+    has_source: bool,
+) -> Result<String, Error> {
+    let reading = CoreReader.read(alloc, text, script.flags)?;
+    let events = ranged(alloc, reading.events)?;
+    let mut output = String::new(alloc);
+    let mut state = State::new(alloc, CoreReader, script.flags, script.options())?;
+    if has_source {
+        state.process_with_source_range(RangedEvents(events.iter()), text, &mut output)?;
+    } else {
+        state.process(Events(events.iter()), &mut output)?;
+    }
+    state.finish(&mut output)?;
+    Ok(output)
+}
+
+fn write_rewritten(
+    alloc: Global,
+    answer: &mut String,
+    script: &Script<'_>,
+    text: &str,
+    has_source: bool,
+) -> Result<(), AllocError> {
+    match rewritten(alloc, script, text, has_source) {
+        Ok(output) => write_text(answer, output.as_str()),
+        Err(error) => {
+            let name = error_name(&error);
+            writeln!(answer, "Err {name}")
+        }
+    }
+}
+
+fn read(alloc: Global, script: &Script<'_>, text: &str) -> Result<Reading, AllocError> {
+    CoreReader.read(alloc, text, script.flags)
+}
+
+fn write_answer(
+    alloc: Global,
+    answer: &mut String,
+    script: &Script<'_>,
+    question: &Question,
+) -> Result<(), AllocError> {
+    match question {
+        Question::Validate => write_validation(alloc, answer, script),
+        Question::SpecialCharacters => write_special_characters(alloc, answer, script),
+        Question::CountTokens { events } => write_token_count(answer, script, *events),
+        Question::EscapeDestination(text) => {
+            write_shown(alloc, answer, &EscapeDestination(text.as_str()))
+        }
+        Question::EscapeTitle(text) => {
+            write_shown(alloc, answer, &EscapeLinkTitle(text.as_str()))
+        }
+        Question::CloseLink {
+            link_type,
+            dest_url,
+            title,
+        } => write_closing(alloc, answer, *link_type, dest_url.as_str(), title.as_str()),
+        Question::LongestRun { search, text } => {
+            let longest = max_consecutive_chars(text.as_str(), *search);
+            writeln!(answer, "{longest}")
+        }
+        Question::ErrorTexts => write_error_texts(alloc, answer),
+        Question::Read(text) => write_reading(answer, &read(alloc, script, text.as_str())?),
+        Question::ReadMerged(text) => {
+            write_merged(alloc, answer, &read(alloc, script, text.as_str())?)
+        }
+        Question::CountRead(text) => {
+            write_count(alloc, answer, &read(alloc, script, text.as_str())?)
+        }
+        Question::Roundtrip(text) => write_rewritten(alloc, answer, script, text.as_str(), false),
+        Question::RoundtripSource(text) => {
+            write_rewritten(alloc, answer, script, text.as_str(), true)
+        }
+    }
+}
+
+/// The answers to the questions of a script, in their order. An `Err` says that memory ran out.
+pub fn answers(alloc: Global, script: &Script<'_>) -> Result<String, AllocError> {
+    let mut answer = String::new(alloc);
+    for question in &script.questions {
+        write_answer(alloc, &mut answer, script, question)?;
+    }
+    Ok(answer)
+}

@@ -1,0 +1,83 @@
+//! The reader of a script.
+
+ghost use Rattle.std.specs.Prelude.{◌≡◌, IfOk, map};
+ghost use Rattle.tocmark_script.specs.Readers.{ranged_view};
+
+use std::alloc::{AllocError, Global};
+use std::collections::HashMap;
+use tocmark::core_reader::CoreReader;
+use tocmark::event::{Event, ParserOptions};
+use tocmark::reader::{Reader, Reading};
+
+/// The events that a text is read as, each with its range in bytes.
+pub type ReadEvents<'a> = Vec<(Event<'a>, (usize, usize))>;
+
+/// A table of readings. A text that isn't in it is read as `otherwise`.
+#[derive(Drop)]
+pub struct Table<'a> {
+    pub readings: HashMap<String, ReadEvents<'a>>,
+    pub otherwise: ReadEvents<'a>,
+}
+
+/// The reader of a script: the core reader, or a table of readings.
+#[derive(Drop)]
+pub enum ScriptReader<'a> {
+    Core,
+    Table(Table<'a>),
+}
+
+fn copied_events(
+    alloc: Global,
+    events: &[(Event<'_>, (usize, usize))],
+) -> Result<ReadEvents<'static>, AllocError>
+    ensures { IfOk result (λ copies. map ranged_view copies.items ≡ map ranged_view events.now) }
+{
+    let mut copies = Vec::new(alloc);
+    for (event, range) in events {
+        copies.push((event.to_static(alloc)?, *range))?;
+    }
+    Ok(copies)
+}
+
+impl<'a> Table<'a> {
+    ghost use Rattle.tocmark_event.specs.Reading.{reading_view};
+    ghost use Rattle.tocmark_script.specs.Readers.{table_events, table_reading};
+
+    /// A table without readings.
+    pub fn new(alloc: Global) -> Table<'a> {
+        Table {
+            readings: HashMap::new(alloc),
+            otherwise: Vec::new(alloc),
+        }
+    }
+
+    fn events_for(&self, text: &str) -> &ReadEvents<'a>
+        ensures { result.now.items ≡ table_events self.now text.now }
+    {
+        self.readings.get(text).unwrap_or(&self.otherwise)
+    }
+
+    fn read(&self, alloc: Global, text: &str) -> Result<Reading, AllocError>
+        ensures { IfOk result (λ found. reading_view found ≡ table_reading self.now text.now) }
+    {
+        Ok(Reading {
+            events: copied_events(alloc, self.events_for(text))?,
+            defined: Vec::new(alloc),
+            unresolved: Vec::new(alloc),
+        })
+    }
+}
+
+/// The core reader has its reading of a text, and a table the events that it has for it.
+impl Reader for ScriptReader<'_> {
+    ghost use Rattle.tocmark_script.specs.Readers.{script_reading};
+
+    ghost reading = { λ r text _. script_reading r text };
+
+    fn read(&self, alloc: Global, text: &str, flags: ParserOptions) -> Result<Reading, AllocError> {
+        match self {
+            ScriptReader::Core => CoreReader.read(alloc, text, flags),
+            ScriptReader::Table(table) => table.read(alloc, text),
+        }
+    }
+}

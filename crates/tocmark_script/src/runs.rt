@@ -1,0 +1,155 @@
+//! Runs of a script.
+
+use crate::event::{Events, RangedEvent, RangedEvents};
+use crate::readers::ScriptReader;
+use crate::script::{Call, Script};
+use crate::string::Quoted;
+use std::alloc::{AllocError, Global};
+use std::fmt;
+use tocmark::{Error, Progress, State};
+
+/// Writes each text that it takes as a line of an answer, and refuses one.
+#[derive(Drop)]
+struct Tape {
+    answer: String,
+    /// How many texts came.
+    texts: usize,
+    /// The number of the text that is refused, counted from 1.
+    refused_text: Option<usize>,
+    /// Whether memory ran out for the answer.
+    is_full: bool,
+}
+
+impl fmt::Write for Tape {
+    fn write_str(&mut self, s: &str) -> fmt::Result {
+        self.texts = self.texts.saturating_add(1);
+        if self.refused_text == Some(self.texts) {
+            return Err(fmt::Error);
+        }
+        let text = Quoted(s);
+        if writeln!(self.answer, "{text}").is_err() {
+            self.is_full = true;
+            return Err(fmt::Error);
+        }
+        Ok(())
+    }
+}
+
+/// The name of an error, as a script answers it.
+pub fn error_name(error: &Error) -> &'static str {
+    match error {
+        Error::FormatFailed(_) => "FormatFailed",
+        Error::UnexpectedEvent => "UnexpectedEvent",
+        Error::Unrepresentable => "Unrepresentable",
+        Error::InvalidSourceRange => "InvalidSourceRange",
+        Error::Finished => "Finished",
+        Error::Failed => "Failed",
+        Error::OutOfMemory => "OutOfMemory",
+    }
+}
+
+fn call_name(call: Call) -> &'static str {
+    match call {
+        Call::Process { .. } => "process",
+        Call::Finish => "finish",
+    }
+}
+
+/// Takes these events, with their ranges where there is a source.
+fn process(
+    state: &mut State<&ScriptReader<'_>>,
+    events: &[RangedEvent<'_>],
+    source: &Option<String>,
+    tape: &mut Tape,
+) -> Result<Progress, Error> {
+    match source {
+        Some(source) => {
+            state.process_with_source_range(RangedEvents(events.iter()), source.as_str(), tape)
+        }
+        None => state.process(Events(events.iter()), tape),
+    }
+}
+
+/// Makes one call.
+fn make(
+    state: &mut State<&ScriptReader<'_>>,
+    script: &Script<'_>,
+    call: Call,
+    tape: &mut Tape,
+) -> Result<Progress, Error> {
+    match call {
+        Call::Process { start, end } => {
+            let events = script.events.get(start..end).unwrap_or(&[]);
+            process(state, events, &script.source, tape)
+        }
+        Call::Finish => state.finish(tape),
+    }
+}
+
+fn write_outcome(answer: &mut String, outcome: &Result<Progress, Error>) -> Result<(), AllocError> {
+    match outcome {
+        Ok(progress) => {
+            let consumed = progress.events_consumed;
+            let written = progress.bytes_written;
+            writeln!(answer, "Ok consumed={consumed} written={written}")
+        }
+        Err(error) => {
+            let name = error_name(error);
+            writeln!(answer, "Err {name}")
+        }
+    }
+}
+
+/// Makes all calls, and writes a line for each.
+fn run_in_calls(
+    state: &mut State<&ScriptReader<'_>>,
+    script: &Script<'_>,
+    tape: &mut Tape,
+) -> Result<(), AllocError> {
+    for call in &script.calls {
+        let outcome = make(state, script, *call, tape);
+        let name = call_name(*call);
+        write!(tape.answer, "{name} ")?;
+        write_outcome(&mut tape.answer, &outcome)?;
+    }
+    Ok(())
+}
+
+/// Makes the calls up to the first error, and returns the sums of their counts.
+fn run_whole(
+    state: &mut State<&ScriptReader<'_>>,
+    script: &Script<'_>,
+    tape: &mut Tape,
+) -> Result<Progress, Error> {
+    let mut total = Progress::default();
+    for call in &script.calls {
+        let progress = make(state, script, *call, tape)?;
+        total.events_consumed = total
+            .events_consumed
+            .saturating_add(progress.events_consumed);
+        total.bytes_written = total.bytes_written.saturating_add(progress.bytes_written);
+    }
+    Ok(total)
+}
+
+/// What a script without questions is answered. An `Err` says that memory ran out for the answer.
+pub fn run(alloc: Global, script: &Script<'_>) -> Result<String, AllocError> {
+    let mut tape = Tape {
+        answer: String::new(alloc),
+        texts: 0,
+        refused_text: script.refused_text,
+        is_full: false,
+    };
+    match State::new(alloc, &script.reader, script.flags, script.options()) {
+        Ok(mut state) if script.shows_calls => run_in_calls(&mut state, script, &mut tape)?,
+        Ok(mut state) => {
+            let outcome = run_whole(&mut state, script, &mut tape);
+            write_outcome(&mut tape.answer, &outcome)?;
+        }
+        Err(error) => write_outcome(&mut tape.answer, &Err(error))?,
+    }
+    if tape.is_full {
+        return Err(AllocError);
+    }
+    Ok(tape.answer)
+}

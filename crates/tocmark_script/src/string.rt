@@ -1,0 +1,115 @@
+//! Strings in double quotes, as in JSON.
+
+use crate::fault::LineFault;
+use serde_json::Value;
+use std::alloc::{AllocError, Global};
+use std::fmt;
+
+const A_STRING: LineFault = LineFault::Expected("a string in double quotes, as in JSON");
+
+/// A text, which `{}` writes in double quotes, with escapes for quotes, backslashes and control
+/// characters.
+#[derive(Clone, Copy, Debug)]
+pub struct Quoted<'a>(pub &'a str);
+
+impl fmt::Display for Quoted<'_> {
+    fn fmt<W: fmt::Write>(&self, f: &mut fmt::Formatter<W>) -> fmt::Result {
+        f.write_char('"')?;
+        for c in self.0.chars() {
+            write_character(f, c)?;
+        }
+        f.write_char('"')
+    }
+}
+
+fn write_character<W: fmt::Write>(f: &mut fmt::Formatter<W>, c: char) -> fmt::Result {
+    match c {
+        '"' | '\\' => write!(f, "\\{c}"),
+        '\n' => f.write_str("\\n"),
+        '\r' => f.write_str("\\r"),
+        '\t' => f.write_str("\\t"),
+        '\0'..='\x1f' | '\x7f' => {
+            let code = u32::from(c);
+            write!(f, "\\u{code:04x}")
+        }
+        _ => f.write_char(c),
+    }
+}
+
+/// The string literal at the front of a text, and what stands behind it.
+fn literal_at_front<'a>(
+    alloc: Global,
+    text: &'a str,
+) -> Result<Option<(String, &'a str)>, AllocError> {
+    let mut chars = text.chars();
+    if chars.next() != Some('"') {
+        return Ok(None);
+    }
+    let mut literal = String::from_str(alloc, "\"")?;
+    let mut is_escaped = false;
+    while let Some(c) = chars.next() {
+        literal.push(c)?;
+        if c == '"' && !is_escaped {
+            return Ok(Some((literal, chars.as_str())));
+        }
+        is_escaped = c == '\\' && !is_escaped;
+    }
+    Ok(None)
+}
+
+/// The text of a string literal.
+fn text_of_literal(alloc: Global, literal: &str) -> Result<String, LineFault> {
+    let value = match Value::from_str(alloc, literal) {
+        Ok(value) => value,
+        Err(error) if error.is_memory() => return Err(LineFault::OutOfMemory),
+        Err(_error) => return Err(A_STRING),
+    };
+    match value {
+        Value::String(text) => Ok(text),
+        _other => Err(A_STRING),
+    }
+}
+
+/// The decimal number at the front of a text, and what stands behind it.
+fn number_at_front(text: &str) -> Option<(usize, &str)> {
+    let mut chars = text.chars();
+    let mut found = None;
+    while let Some(c) = chars.next() {
+        let Some(digit) = c.to_digit(10) else {
+            break;
+        };
+        let (number, _) = found.unwrap_or((0usize, text));
+        let number = number
+            .checked_mul(10)?
+            .checked_add(usize::try_from(digit).ok()?)?;
+        found = Some((number, chars.as_str()));
+    }
+    found
+}
+
+fn repeated(alloc: Global, text: &str, times: usize) -> Result<String, AllocError> {
+    let mut all = String::new(alloc);
+    if text.is_empty() {
+        return Ok(all);
+    }
+    for _ in 0..times {
+        all.push_str(text)?;
+    }
+    Ok(all)
+}
+
+/// The text of the string at the front of a text, and what stands behind it. A string is a literal, or a
+/// literal, `*` and how often it comes.
+pub fn string_at_front<'a>(alloc: Global, text: &'a str) -> Result<(String, &'a str), LineFault> {
+    let Some((literal, behind)) = literal_at_front(alloc, text)? else {
+        return Err(A_STRING);
+    };
+    let once = text_of_literal(alloc, literal.as_str())?;
+    let Some(count) = behind.strip_prefix('*') else {
+        return Ok((once, behind));
+    };
+    let Some((times, behind)) = number_at_front(count) else {
+        return Err(LineFault::Expected("how often the string comes, behind *"));
+    };
+    Ok((repeated(alloc, once.as_str(), times)?, behind))
+}
