@@ -17,6 +17,8 @@ pub mod plan;
 pub mod spelled;
 pub mod spelling;
 pub mod stretch;
+#[cfg(test)]
+mod tests;
 pub mod text_modifications;
 pub mod trail;
 pub mod turn;
