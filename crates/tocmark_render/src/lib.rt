@@ -6,3 +6,5 @@ pub mod document;
 pub mod labels;
 pub mod laws;
 pub mod render;
+#[cfg(test)]
+mod tests;

@@ -209,6 +209,7 @@ module _ (s : Setting) (m : Manner) (next : Option EventView) (before rest : Lis
     where
       by_more : Bool → Held → Site
       by_more more x = if more then record { path = path; page = record p { held = Some x } } else stretch_on s m x (or_else (front rest) next) path p
+
       by_more-turned : (more : Bool) (x : Held) → by_more more x ≡ record { path = path; page = turned more s.options s.flags m.plan.text m.source x (Leaf (Text text)) (or_else (front rest) next) path p }
       by_more-turned true x = refl
       by_more-turned false x =

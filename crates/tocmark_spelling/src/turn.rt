@@ -143,9 +143,7 @@ impl<'a> Writer<'a> {
         ensures { (reading : List ℕ → ParserOptions → ReadingView) (label : Option (List ℕ)) (layout : Layout) (markers : Markers) (before : List SourcedEvent) → following_view previous.entry ≡ front before → Moves result self.new (step (setting_of (options_view options.now) flags reading label) (manner_with layout markers (text_spelling_view spelling) from_source) (following_view next.entry) (buffered_view event.entry.now) (map buffered_view rest.now) (going (site_of self.old) before)) (buffered_view event.entry.now ∷ before) }
     {
         match &event.event {
-            EventOf::Start(tag) => {
-                self.start_before(alloc, &event.event, tag, rest, width)
-            }
+            EventOf::Start(tag) => { self.start_before(alloc, &event.event, tag, rest, width) }
             EventOf::End(_) => self.end(options),
             EventOf::Text(text) => {
                 let more = goes_on(rest);

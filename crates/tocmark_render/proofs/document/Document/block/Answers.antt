@@ -31,9 +31,9 @@ returns-in_err-text-clause-chosen g c =
     let after = c.lent_event.ensures ∙ c.in_ok-next.ensures in
     rw (p.1, p.2)
     (refused s d (map buffered_view c.args.unit.now) (next_view c.args.next) c.in_err-text.field-0.0 (sym c.in_ok-are_balanced.ensures ∙ c.if-not-branch.false) (sym c.are_plain.ensures ∙ c.if-not-are_plain.false)
-      (λ f spelled is.
-      let P : Option EventView → Type 0 = λ n. IsRefusal c.in_err-text.field-0.0 (spelling s (preferred_manner s.options) f (around [] [] n) [] (page_in d)) in
-      subst P after (c.in_err-text.ensures.spelled None f spelled is)))
+    (λ f spelled is.
+    let P : Option EventView → Type 0 = λ n. IsRefusal c.in_err-text.field-0.0 (spelling s (preferred_manner s.options) f (around [] [] n) [] (page_in d)) in
+    subst P after (c.in_err-text.ensures.spelled None f spelled is)))
 
 pub returns-clause-chosen : goal.returns-clause-chosen
 returns-clause-chosen g c =
