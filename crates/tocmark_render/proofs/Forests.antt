@@ -5,8 +5,9 @@ use Rattle.tocmark_event.specs.Forest.{empty, leaf, node, flat_onto, flat, joine
 use Rattle.tocmark_event.specs.View.{SourcedEvent, SourcedLeaf, TagView, EventView, end_of}
 use Rattle.tocmark_spelling.specs.Body.{Trees}
 use Rattle.tocmark_spelling.specs.Plan.{Setting}
+use Rattle.tocmark_spelling.specs.Spelled.{is_spelled_forest}
 use Rattle.tocmark_render.specs.Document.{DocumentView}
-use Rattle.tocmark_render.specs.Spelled.{is_spelled, choice_if, choice_if_spelled, chosen_if_spelled}
+use Rattle.tocmark_render.specs.Spelled.{choice_if, choice_if_spelled, chosen_if_spelled}
 use Rattle.tocmark_render.specs.Units.{trees_of, trees_read}
 
 same_end-itself : (t : TagView) → same_end (end_of t) (end_of t) ≡ true
@@ -41,6 +42,6 @@ unfolding trees_of
 trees-flat f = ap trees_read (read-flat f [] [] empty)
 
 -- so the choice for a forest's events is the forest's
-pub chosen-flat : (s : Setting) (d : DocumentView) (f : Trees) (next : Option EventView) → chosen_if_spelled s d (flat f) next ≡ choice_if (is_spelled f) s d f next
+pub chosen-flat : (s : Setting) (d : DocumentView) (f : Trees) (next : Option EventView) → chosen_if_spelled s d (flat f) next ≡ choice_if (is_spelled_forest f) s d f next
 unfolding chosen_if_spelled
 chosen-flat s d f next = ap (λ o. choice_if_spelled s d o next) (trees-flat f)

@@ -1,6 +1,6 @@
-pub mod Choices
 pub mod Forests
 pub mod LabelLemmas
 pub mod SpelledUnits
 pub mod Balanced
+pub mod ReadBacks
 pub mod Documents

@@ -1,20 +1,22 @@
--- What is chosen for a unit of which each event is spelled: its preferred spelling.
-use Rattle.std.proofs.Common.{◌≡◌, Bool, true, false, ◌||◌, ◌&&◌, if◌then◌else◌, Option, Some, None, Err, [], ◌++◌, refl, sym, ap, ◌∙◌}
-use Rattle.std.specs.Prelude.{is_none, is_some, ◌↔◌}
+-- What is chosen for a unit of which each event is spelled: its spelling from the source, if some text is known there and
+-- that reads back, else its preferred spelling.
+use Rattle.std.proofs.Common.{◌≡◌, Bool, true, false, ◌||◌, ◌&&◌, if◌then◌else◌, Option, Some, None, Err, List, [], ◌∷◌, ◌++◌, refl, sym, ap, ◌∙◌}
+use Rattle.std.specs.Prelude.{is_none, ◌↔◌}
+use Rattle.std.proofs.lemmas.Bool.{true≢false}
 use Rattle.tocmark_event.specs.Forest.{empty, leaf, node}
 use Rattle.tocmark_event.specs.Options.{OptionsView}
-use Rattle.tocmark_event.specs.View.{TagView, Paragraph, Heading, EventView, LeafView, Text, SoftBreak, SourcedLeaf}
+use Rattle.tocmark_event.specs.View.{TagView, Paragraph, Heading, EventView, LeafView, Text, SoftBreak}
 use Rattle.tocmark_event.specs.declared.options.Error.TheVariants.{UnexpectedEvent, Unrepresentable}
 use Rattle.tocmark_spelling.specs.Body.{Trees, some_leaf}
-use Rattle.tocmark_spelling.specs.Page.{Site}
-use Rattle.tocmark_spelling.specs.Plan.{Setting}
+use Rattle.tocmark_spelling.specs.Page.{Page, Site}
+use Rattle.tocmark_spelling.specs.Plan.{Setting, Manner}
 use Rattle.tocmark_spelling.specs.Spelling.{spelling, is_misplaced}
-use Rattle.tocmark_render.specs.Candidates.{candidates, has_source, is_sourced, is_delimiter_tag, is_math, is_delimiter_block, some_tag, preferred_manner, source_manners, delimiter_manners}
-use Rattle.tocmark_render.specs.Choice.{Chosen, choice, preferred, spelled, accepted_if, page_of, page_in, by_markers, unless_misplaced, searched, first_or, first_that_reads_back, without_spelling, has_standard_markers}
+use Rattle.tocmark_render.specs.Candidates.{candidates, has_source, is_delimiter_tag, is_math, is_delimiter_block, some_tag, preferred_manner, source_manners, delimiter_manners}
+use Rattle.tocmark_render.specs.Choice.{Chosen, choice, preferred, spelled, accepted, accepted_if, page_of, page_in, page_read_back, if_read_back, definitions_of, by_markers, unless_misplaced, searched, first_or, first_that_reads_back, without_spelling, has_standard_markers}
 use Rattle.tocmark_render.specs.Document.{DocumentView}
 use Rattle.tocmark_render.specs.Placeholder.{whole}
-use Rattle.tocmark_spelling.specs.Spelled.{is_spelled_tag, is_spelled_leaf}
-use Rattle.tocmark_render.specs.Spelled.{is_spelled}
+use Rattle.tocmark_render.specs.ReadsBack.{reads_back}
+use Rattle.tocmark_spelling.specs.Spelled.{is_spelled_tag, is_spelled_leaf, is_spelled_forest}
 use Rattle.tocmark_render.specs.Validates.{validates}
 use Rattle.tocmark_spelling.proofs.Refusals.{none-misplaced}
 
@@ -32,13 +34,6 @@ both_are false b h = absurd (cc)
 none_of : (a b : Bool) → a ≡ false → b ≡ false → (a || b) ≡ false
 none_of a b ha hb = ap (λ x. x || b) ha ∙ hb
 
-unsourced-leaf : (l : SourcedLeaf) → is_none l.source ≡ true → is_sourced l ≡ false
-unsourced-leaf l h = none l.source h
-  where
-    none : {X : Type 0} (o : Option X) → is_none o ≡ true → is_some o ≡ false
-    none None h = refl
-    none (Some x) h = absurd (cc)
-
 spelled-math : (l : LeafView) → is_spelled_leaf l ≡ true → is_math l ≡ false
 spelled-math (Text t) h = refl
 spelled-math SoftBreak h = refl
@@ -49,69 +44,158 @@ spelled-delimiter Paragraph h = refl
 spelled-delimiter (Heading level id classes attributes) h = refl
 spelled-delimiter t h = absurd (cc)
 
--- no source is known, no delimiter and no mathematics stands in it
+-- no delimiter and no mathematics stands in it
 pub record IsPlain (f : Trees) : Type 0 where
-  pub unsourced : has_source f ≡ false
   pub undelimited : some_tag is_delimiter_tag f ≡ false
   pub unmathematical : some_leaf is_math f ≡ false
 
-pub spelled-plain : (f : Trees) → is_spelled f ≡ true → IsPlain f
-unfolding is_spelled
-spelled-plain empty h = record { unsourced = refl; undelimited = refl; unmathematical = refl }
+pub spelled-plain : (f : Trees) → is_spelled_forest f ≡ true → IsPlain f
+unfolding is_spelled_forest
+spelled-plain empty h = record { undelimited = refl; unmathematical = refl }
 spelled-plain (leaf l f) h =
-    let split : ((is_spelled_leaf l.leaf && is_none l.source) ≡ true) × (is_spelled f ≡ true) = both_are _ _ h in
-    let here : (is_spelled_leaf l.leaf ≡ true) × (is_none l.source ≡ true) = both_are _ _ split.0 in
+    let split : (is_spelled_leaf l.leaf ≡ true) × (is_spelled_forest f ≡ true) = both_are _ _ h in
     let rest : IsPlain f = spelled-plain f split.1 in
     record {
-      unsourced = none_of _ _ (unsourced-leaf l here.1) rest.unsourced;
       undelimited = rest.undelimited;
-      unmathematical = none_of _ _ (spelled-math l.leaf here.0) rest.unmathematical;
+      unmathematical = none_of _ _ (spelled-math l.leaf split.0) rest.unmathematical;
     }
 spelled-plain (node t kids f) h =
-    let split : ((is_spelled_tag t && is_spelled kids) ≡ true) × (is_spelled f ≡ true) = both_are _ _ h in
-    let here : (is_spelled_tag t ≡ true) × (is_spelled kids ≡ true) = both_are _ _ split.0 in
+    let split : ((is_spelled_tag t && is_spelled_forest kids) ≡ true) × (is_spelled_forest f ≡ true) = both_are _ _ h in
+    let here : (is_spelled_tag t ≡ true) × (is_spelled_forest kids ≡ true) = both_are _ _ split.0 in
     let below : IsPlain kids = spelled-plain kids here.1 in
     let rest : IsPlain f = spelled-plain f split.1 in
     record {
-      unsourced = none_of _ _ below.unsourced rest.unsourced;
       undelimited = none_of _ _ (none_of _ _ (spelled-delimiter t here.0) below.undelimited) rest.undelimited;
       unmathematical = none_of _ _ below.unmathematical rest.unmathematical;
     }
 
-no_candidates : (o : OptionsView) (f : Trees) → IsPlain f → candidates o f ≡ []
+is-plain : (f : Trees) → IsPlain f → is_delimiter_block f ≡ false
+is-plain f h = none_of _ _ h.undelimited h.unmathematical
+
+-- the preferred spelling, with texts from the source
+abbrev pub source_manner : OptionsView → Manner
+source_manner o = record (preferred_manner o) { source = true }
+
+-- the spellings that are tried for a unit without delimiters
+abbrev tried : OptionsView → Bool → List Manner
+tried o b = if b then source_manner o ∷ [] else []
+
+-- a list, if there is anything to list
+tried-is : (o : OptionsView) (b : Bool) → (if b then source_manners o false else []) ++ [] ≡ tried o b
+tried-is o true = refl
+tried-is o false = refl
+
+plain-candidates : (o : OptionsView) (f : Trees) → IsPlain f → candidates o f ≡ tried o (has_source f)
 unfolding candidates
-no_candidates o f h =
-    ap (λ (b : Bool). (if b then source_manners o (is_delimiter_block f) else []) ++ (if is_delimiter_block f then delimiter_manners o else [])) h.unsourced
-    ∙ ap (λ (b : Bool). if b then delimiter_manners o else []) (none_of _ _ h.undelimited h.unmathematical)
+plain-candidates o f h =
+    ap (λ (b : Bool). (if has_source f then source_manners o b else []) ++ (if b then delimiter_manners o else [])) (is-plain f h)
+    ∙ tried-is o (has_source f)
 
 module _ (s : Setting) (d : DocumentView) (f : Trees) (next : Option EventView) where
   plain-without : IsPlain f → without_spelling s d f next ≡ preferred s d f next
   plain-without h =
-      ap (λ (b : Bool). elim (b && validates s.options s.flags) as (λ _. Chosen) [ true ↦ Err Unrepresentable | false ↦ preferred s d f next ])
-      (none_of _ _ h.undelimited h.unmathematical)
+      ap (λ (b : Bool). elim (b && validates s.options s.flags) as (λ _. Chosen) [ true ↦ Err Unrepresentable | false ↦ preferred s d f next ]) (is-plain f h)
 
-  plain-searched : IsPlain f → searched s d f next ≡ preferred s d f next
+  -- the page that is found in the source
+  abbrev found : Option Page
+  found = page_read_back s d f (spelled s d f next (source_manner s.options))
+
+  -- that page, if there is a source
+  abbrev found_if : Bool → Option Page
+  found_if b = if b then found else None
+
+  first-found : (o : Option Page) → (elim o as (λ _. Option Page) [ Some p ↦ Some p | None ↦ None ]) ≡ o
+  first-found None = refl
+  first-found (Some p) = refl
+
+  first-tried : (b : Bool) → first_that_reads_back s d f next (tried s.options b) ≡ found_if b
   unfolding first_that_reads_back
-  plain-searched h = ap (λ ms. first_or s d f next (first_that_reads_back s d f next ms)) (no_candidates s.options f h) ∙ plain-without h
+  first-tried true = first-found found
+  first-tried false = refl
 
-  plain-by_markers : IsPlain f → (b : Bool) → by_markers b s d f next ≡ preferred s d f next
-  plain-by_markers h true = plain-searched h
-  plain-by_markers h false = refl
+  -- the page if there is one, else the preferred spelling
+  abbrev found_or : Option Page → Chosen
+  found_or (Some p) = accepted s d p
+  found_or None = preferred s d f next
+
+  first-or : IsPlain f → (o : Option Page) → first_or s d f next o ≡ found_or o
+  first-or h None = plain-without h
+  first-or h (Some p) = refl
+
+  plain-searched : IsPlain f → searched s d f next ≡ found_or (found_if (has_source f))
+  plain-searched h =
+      ap (λ ms. first_or s d f next (first_that_reads_back s d f next ms)) (plain-candidates s.options f h)
+      ∙ ap (λ o. first_or s d f next o) (first-tried (has_source f))
+      ∙ first-or h (found_if (has_source f))
+
+  plain-markers : IsPlain f → (b : Bool) → by_markers b s d f next ≡ found_or (found_if (has_source f && b))
+  plain-markers h true = plain-searched h ∙ ap (λ b. found_or (found_if b)) (sym (and-true (has_source f)))
+    where
+      and-true : (b : Bool) → b && true ≡ b
+      and-true true = refl
+      and-true false = refl
+  plain-markers h false = ap (λ b. found_or (found_if b)) (sym (and-false (has_source f)))
+    where
+      and-false : (b : Bool) → b && false ≡ false
+      and-false true = refl
+      and-false false = refl
+
+  -- whether the source is asked
+  abbrev pub is_asked : Bool
+  is_asked = has_source f && has_standard_markers s.options
+
+  abbrev pub site : Manner → Option Site
+  site m = spelling s m f (whole next) [] (page_in d)
+
+  misplaced-site : (m : Manner) → is_misplaced s [] f ≡ is_none (site m)
+  misplaced-site m = none-test (site m) (is_misplaced s [] f) (none-misplaced s m f (whole next) (page_in d))
 
   refused-none : (o : Option Site) → is_none o ≡ true → accepted_if s d (page_of o) ≡ Err UnexpectedEvent
   refused-none None h = refl
-  refused-none (Some here) h = absurd (cc)
+  refused-none (Some here) h = absurd (true≢false (sym h))
 
-  abbrev site : Option Site
-  site = spelling s (preferred_manner s.options) f (whole next) [] (page_in d)
-
-  plain-unless : IsPlain f → (b : Bool) → b ≡ is_none site → unless_misplaced b s d f next ≡ preferred s d f next
+  unspelled-preferred : is_misplaced s [] f ≡ true → preferred s d f next ≡ Err UnexpectedEvent
   unfolding spelled
-  plain-unless h true e = sym (refused-none site (sym e))
-  plain-unless h false e = plain-by_markers h (has_standard_markers s.options)
+  unspelled-preferred e = refused-none (site (preferred_manner s.options)) (sym (misplaced-site (preferred_manner s.options)) ∙ e)
 
-  -- nothing is searched for a unit of which each event is spelled
-  pub choice-preferred : is_spelled f ≡ true → choice s d f next ≡ preferred s d f next
+  -- a unit with a misplaced node
+  choice-misplaced : is_misplaced s [] f ≡ true → choice s d f next ≡ Err UnexpectedEvent
   unfolding choice
-  choice-preferred h =
-      plain-unless (spelled-plain f h) (is_misplaced s [] f) (none-test (spelling s (preferred_manner s.options) f (whole next) [] (page_in d)) (is_misplaced s [] f) (none-misplaced s (preferred_manner s.options) f (whole next) (page_in d)))
+  choice-misplaced e = ap (λ b. unless_misplaced b s d f next) e
+
+  choice-placed : is_spelled_forest f ≡ true → is_misplaced s [] f ≡ false → choice s d f next ≡ found_or (found_if is_asked)
+  unfolding choice
+  choice-placed h e = ap (λ b. unless_misplaced b s d f next) e ∙ plain-markers (spelled-plain f h) (has_standard_markers s.options)
+
+  by-place : (b : Bool) → is_misplaced s [] f ≡ b → (b ≡ false → choice s d f next ≡ preferred s d f next) → choice s d f next ≡ preferred s d f next
+  by-place true e h = choice-misplaced e ∙ sym (unspelled-preferred e)
+  by-place false e h = h refl
+
+  -- nothing is searched where the source isn't asked
+  pub choice-unasked : is_spelled_forest f ≡ true → is_asked ≡ false → choice s d f next ≡ preferred s d f next
+  choice-unasked h a =
+      by-place (is_misplaced s [] f) refl (λ e. choice-placed h e ∙ ap (λ b. found_or (found_if b)) a)
+
+  page-found : (o : Option Site) (here : Site) → o ≡ Some here → page_read_back s d f (page_of o) ≡ if_read_back (reads_back s d f (definitions_of here.page) here.page.sheet.text) here.page
+  page-found o here e = ap (λ o. page_read_back s d f (page_of o)) e
+
+  found-is : (here : Site) (b : Bool) → site (source_manner s.options) ≡ Some here → reads_back s d f (definitions_of here.page) here.page.sheet.text ≡ b → found ≡ if_read_back b here.page
+  unfolding spelled
+  found-is here b e r = page-found (site (source_manner s.options)) here e ∙ ap (λ b. if_read_back b here.page) r
+
+  placed-source : (here : Site) → site (source_manner s.options) ≡ Some here → is_misplaced s [] f ≡ false
+  placed-source here e = misplaced-site (source_manner s.options) ∙ ap is_none e
+
+  -- the spelling from the source reads back
+  pub choice-found : is_spelled_forest f ≡ true → is_asked ≡ true → (here : Site) → site (source_manner s.options) ≡ Some here → reads_back s d f (definitions_of here.page) here.page.sheet.text ≡ true → choice s d f next ≡ accepted s d here.page
+  choice-found h a here e r =
+      choice-placed h (placed-source here e) ∙ ap (λ b. found_or (found_if b)) a ∙ ap found_or (found-is here true e r)
+
+  -- it doesn't
+  pub choice-lost : is_spelled_forest f ≡ true → is_asked ≡ true → (here : Site) → site (source_manner s.options) ≡ Some here → reads_back s d f (definitions_of here.page) here.page.sheet.text ≡ false → choice s d f next ≡ preferred s d f next
+  choice-lost h a here e r =
+      choice-placed h (placed-source here e) ∙ ap (λ b. found_or (found_if b)) a ∙ ap found_or (found-is here false e r)
+
+  -- there is none
+  pub choice-refused : site (source_manner s.options) ≡ None → choice s d f next ≡ Err UnexpectedEvent
+  choice-refused e = choice-misplaced (misplaced-site (source_manner s.options) ∙ ap is_none e)

@@ -8,6 +8,5 @@ pub mod Placeholder
 pub mod Choice
 pub mod Units
 pub mod Spelled
-pub mod Chosen
 pub mod Balanced
 pub mod DocumentOf

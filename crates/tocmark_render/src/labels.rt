@@ -1,7 +1,8 @@
 //! Folded labels.
 
-ghost use Rattle.std.specs.Prelude.{◌≡◌, [], map, string_bytes, OnOk};
-ghost use Rattle.tocmark_render.specs.Document.{with_label, with_labels};
+ghost use Rattle.std.specs.Prelude.{◌≡◌, [], map, string_bytes, IfOk, OnOk};
+ghost use Rattle.std.specs.List.{list_any};
+ghost use Rattle.tocmark_render.specs.Document.{is_among, with_label, with_labels};
 ghost use Rattle.tocmark_render.specs.LabelsOf.{labels_of};
 
 use caseless::default_case_fold_str;
@@ -31,6 +32,35 @@ impl Labels {
         let folded = default_case_fold_str(alloc, label)?;
         self.folded.insert(folded)?;
         Ok(())
+    }
+
+    /// Whether a label, as Markdown compares them, is among these. An `Err` says that memory ran out.
+    pub fn contains(&self, alloc: Global, label: &str) -> Result<bool, AllocError>
+        ensures { IfOk result (λ b. b ≡ is_among (labels_of self.now) label.now) }
+    {
+        let folded = default_case_fold_str(alloc, label)?;
+        Ok(self.folded.contains(&folded))
+    }
+
+    /// Whether one of these labels is among them. An `Err` says that memory ran out.
+    pub fn contains_any(&self, alloc: Global, labels: &[String]) -> Result<bool, AllocError>
+        ensures { IfOk result (λ b. b ≡ list_any (is_among (labels_of self.now)) (map string_bytes labels.now)) }
+    {
+        for label in labels {
+            if self.contains(alloc, label.as_str())? {
+                return Ok(true);
+            }
+        }
+        Ok(false)
+    }
+
+    /// The same labels. An `Err` says that memory ran out.
+    pub fn copied(&self) -> Result<Labels, AllocError>
+        ensures { IfOk result (λ copy. labels_of copy ≡ labels_of self.now) }
+    {
+        Ok(Labels {
+            folded: self.folded.clone()?,
+        })
     }
 
     /// Adds labels in turn. An `Err` says that memory ran out.

@@ -5,6 +5,7 @@ pub mod balance;
 pub mod document;
 pub mod labels;
 pub mod laws;
-pub mod render;
+pub mod read_back;
+pub mod same_events;
 #[cfg(test)]
 mod tests;

@@ -49,6 +49,29 @@ fn copied_text(alloc: Global, text: &Option<String>) -> Result<Option<String>, A
     }
 }
 
+fn copied_reference(alloc: Global, reference: &Reference) -> Result<Reference, AllocError>
+    ensures { IfOk result (λ copy. reference_view copy ≡ reference_view reference.now) }
+{
+    Ok(Reference {
+        label: String::from_str(alloc, reference.label.as_str())?,
+        destination: String::from_str(alloc, reference.destination.as_str())?,
+        title: String::from_str(alloc, reference.title.as_str())?,
+    })
+}
+
+fn copied_references(
+    alloc: Global,
+    references: &[Reference],
+) -> Result<Vec<Reference>, AllocError>
+    ensures { IfOk result (λ copies. map reference_view copies.items ≡ map reference_view references.now) }
+{
+    let mut copies = Vec::new(alloc);
+    for reference in references {
+        copies.push(copied_reference(alloc, reference)?)?;
+    }
+    Ok(copies)
+}
+
 impl Trail {
     /// An equal trail. An `Err` says that memory ran out.
     pub fn copied(&self, alloc: Global) -> Result<Trail, AllocError>
@@ -76,6 +99,18 @@ impl UnitRenderer {
             trail: Trail::new(),
             references: Vec::new(alloc),
         }
+    }
+
+    /// An equal renderer. An `Err` says that memory ran out.
+    pub fn copied(&self, alloc: Global) -> Result<UnitRenderer, AllocError>
+        ensures page { IfOk result (λ copy. page_before copy ≡ page_before self.now) }
+        ensures references { IfOk result (λ copy. map reference_view copy.references.items ≡ map reference_view self.now.references.items) }
+    {
+        Ok(UnitRenderer {
+            newlines: self.newlines,
+            trail: self.trail.copied(alloc)?,
+            references: copied_references(alloc, &self.references)?,
+        })
     }
 
     /// A writer of the next unit, which takes the trail.

@@ -1,0 +1,54 @@
+-- What a reader found is compared with what it must find.
+use Rattle.std.proofs.Common.{◌≡◌, ℕ, Bool, true, false, List, [], ◌∷◌, map, refl, sym, ap, ◌∙◌, string_bytes}
+use Rattle.std.specs.Prelude.{◌&&◌, not, if◌then◌else◌, nat_eq, length, ◌++◌}
+use Rattle.std.proofs.lemmas.Bool.{false≢true, true≢false}
+use Rattle.tocmark_event.specs.declared.event.TagEnd.TheVariants as end
+use Rattle.std.specs.List.{list_any}
+use Rattle.tocmark_event.specs.Merged.{merged}
+use Rattle.tocmark_event.specs.Reading.{ReadingView, reading_view}
+use Rattle.tocmark_event.specs.Text.{text_of}
+use Rattle.tocmark_event.specs.View.{EventView, Start, End, Paragraph, SourcedEvent, event_view, unsourced}
+use Rattle.tocmark_event.specs.declared.event.EventOf.{EventOf}
+use Rattle.tocmark_event.specs.declared.event.text.CowStr.{CowStr}
+use Rattle.tocmark_event.specs.declared.reader.Reading.{Reading}
+use Rattle.tocmark_spelling.specs.ById.{events_of}
+use Rattle.tocmark_spelling.specs.SameEvents.{same_events}
+use Rattle.tocmark_render.specs.Document.{is_among}
+use Rattle.tocmark_render.specs.ReadsBack.{in_paragraph, stands_alone}
+
+-- a reader found these events in a reading, and no known label stays open
+abbrev pub finds : List (List ℕ) → List SourcedEvent → ReadingView → Bool
+finds known es r = same_events (merged (events_of r)) (in_paragraph (merged (map unsourced es))) && not (list_any (is_among known) r.unresolved)
+
+events-found : (xs : List (EventOf CowStr × (ℕ × ℕ))) → map (λ e. event_view text_of e.0) xs ≡ map (λ (e : EventView × (ℕ × ℕ)). e.0) (map (λ e. (event_view text_of e.0, e.1)) xs)
+events-found [] = refl
+events-found (x ∷ xs) = ap (λ es. event_view text_of x.0 ∷ es) (events-found xs)
+
+module _ (known : List (List ℕ)) (es : List SourcedEvent) (found expected : List EventView) (r : Reading) (q : ReadingView)
+    (is_found : found ≡ merged (map (λ e. event_view text_of e.0) r.events.items)) (is_expected : expected ≡ in_paragraph (merged (map unsourced es))) (is_read : reading_view r ≡ q) where
+  same : same_events found expected ≡ same_events (merged (events_of q)) (in_paragraph (merged (map unsourced es)))
+  same =
+      ap (λ f. same_events f expected) (is_found ∙ ap merged (events-found r.events.items) ∙ ap (λ q. merged (events_of q)) is_read)
+      ∙ ap (same_events (merged (events_of q))) is_expected
+
+  pub not-found : same_events found expected ≡ false → false ≡ finds known es q
+  not-found h = sym (ap (λ b. b && not (list_any (is_among known) q.unresolved)) (sym same ∙ h))
+
+  pub found-open : (taken : Bool) → same_events found expected ≡ true → taken ≡ list_any (is_among known) (map string_bytes r.unresolved.items) → not taken ≡ finds known es q
+  found-open taken h t =
+      ap not (t ∙ ap (λ q. list_any (is_among known) q.unresolved) is_read)
+      ∙ sym (ap (λ b. b && not (list_any (is_among known) q.unresolved)) (sym same ∙ h))
+
+-- ---- inline events in a paragraph
+
+pub wrapped : (es : List EventView) → nat_eq (length es) 0 ≡ false → list_any stands_alone es ≡ false → in_paragraph es ≡ Start Paragraph ∷ es ++ End end.Paragraph ∷ []
+wrapped [] h a = absurd (true≢false h)
+wrapped (e ∷ es) h a = ap (λ b. if b then e ∷ es else Start Paragraph ∷ (e ∷ es) ++ End end.Paragraph ∷ []) a
+
+pub with-block : (es : List EventView) → list_any stands_alone es ≡ true → in_paragraph es ≡ es
+with-block [] a = refl
+with-block (e ∷ es) a = ap (λ b. if b then e ∷ es else Start Paragraph ∷ (e ∷ es) ++ End end.Paragraph ∷ []) a
+
+pub empty-paragraph : (es : List EventView) → nat_eq (length es) 0 ≡ true → in_paragraph es ≡ es
+empty-paragraph [] h = refl
+empty-paragraph (e ∷ es) h = absurd (false≢true h)
