@@ -4,12 +4,16 @@ ghost use Rattle.std.specs.Prelude.{[]};
 
 use crate::block::UnitRenderer;
 use crate::plan::{Delimiters, Layout, TextSpelling};
+use crate::same_events::{same_event, same_events};
 use crate::spelling::BufferedEvent;
 use crate::trail::Last;
 use std::alloc::{AllocError, Global};
 use std::process::Abort;
 use std::test::Fail;
-use tocmark_event::event::{EventOf, HeadingLevel, OwnedEvent, ParserOptions, TagEnd, TagOf};
+use tocmark_event::event::{
+    Alignment, CodeBlockKindOf, Event, EventOf, HeadingLevel, LinkType, OwnedEvent, ParserOptions,
+    TagEnd, TagOf,
+};
 use tocmark_event::options::{Error, Options};
 use tocmark_event::reader::{Reader, Reading};
 
@@ -340,4 +344,153 @@ fn refused_forms(rt: HostRuntime) -> Result<(), Fail> {
     check_refused(&rt, alloc, &ended_twice)?;
     let open = [unsourced(start(alloc, None)), unsourced(text(alloc, "a")?)];
     check_refused(&rt, alloc, &open)
+}
+
+/// Each of these events is the same as a copy of it, and differs from all others.
+fn check_distinct(rt: &impl Abort, alloc: Global, events: &[OwnedEvent]) -> Result<(), Fail> {
+    for (i, event) in events.iter().enumerate() {
+        let copy: Event<'static> = event.copied(alloc)?;
+        for (j, other) in events.iter().enumerate() {
+            assert_eq!(rt; same_event(other, &copy), i == j);
+        }
+    }
+    Ok(())
+}
+
+fn link(
+    alloc: Global,
+    link_type: LinkType,
+    dest_url: &str,
+    title: &str,
+    id: &str,
+) -> Result<OwnedEvent, AllocError> {
+    Ok(EventOf::Start(TagOf::Link {
+        link_type,
+        dest_url: String::from_str(alloc, dest_url)?,
+        title: String::from_str(alloc, title)?,
+        id: String::from_str(alloc, id)?,
+    }))
+}
+
+#[test]
+fn links_differ(rt: HostRuntime) -> Result<(), Fail> {
+    let alloc = rt.alloc();
+    let pothole = LinkType::WikiLink { has_pothole: true };
+    let plain = LinkType::WikiLink { has_pothole: false };
+    let image = EventOf::Start(TagOf::Image {
+        link_type: LinkType::Inline,
+        dest_url: String::from_str(alloc, "a")?,
+        title: String::from_str(alloc, "b")?,
+        id: String::from_str(alloc, "c")?,
+    });
+    let events = [
+        link(alloc, LinkType::Inline, "a", "b", "c")?,
+        link(alloc, LinkType::Reference, "a", "b", "c")?,
+        link(alloc, pothole, "a", "b", "c")?,
+        link(alloc, plain, "a", "b", "c")?,
+        link(alloc, LinkType::Inline, "b", "b", "c")?,
+        link(alloc, LinkType::Inline, "a", "", "c")?,
+        link(alloc, LinkType::Inline, "a", "b", "")?,
+        image,
+        EventOf::End(TagEnd::Link),
+    ];
+    check_distinct(&rt, alloc, &events)
+}
+
+/// A heading with a class, and with an attribute that may have a value.
+fn named_heading(
+    alloc: Global,
+    id: Option<&str>,
+    class: &str,
+    name: &str,
+    value: Option<&str>,
+) -> Result<OwnedEvent, AllocError> {
+    let id = match id {
+        None => None,
+        Some(id) => Some(String::from_str(alloc, id)?),
+    };
+    let value = match value {
+        None => None,
+        Some(value) => Some(String::from_str(alloc, value)?),
+    };
+    let mut classes = Vec::new(alloc);
+    classes.push(String::from_str(alloc, class)?)?;
+    let mut attrs = Vec::new(alloc);
+    attrs.push((String::from_str(alloc, name)?, value))?;
+    Ok(EventOf::Start(TagOf::Heading {
+        level: HeadingLevel::H1,
+        id,
+        classes,
+        attrs,
+    }))
+}
+
+#[test]
+fn headings_differ(rt: HostRuntime) -> Result<(), Fail> {
+    let alloc = rt.alloc();
+    let events = [
+        heading(alloc, HeadingLevel::H1),
+        heading(alloc, HeadingLevel::H2),
+        named_heading(alloc, Some("a"), "b", "c", Some("d"))?,
+        named_heading(alloc, Some(""), "b", "c", Some("d"))?,
+        named_heading(alloc, None, "b", "c", Some("d"))?,
+        named_heading(alloc, Some("a"), "c", "c", Some("d"))?,
+        named_heading(alloc, Some("a"), "b", "b", Some("d"))?,
+        named_heading(alloc, Some("a"), "b", "c", Some("e"))?,
+        named_heading(alloc, Some("a"), "b", "c", Some(""))?,
+        named_heading(alloc, Some("a"), "b", "c", None)?,
+        EventOf::End(TagEnd::Heading(HeadingLevel::H1)),
+    ];
+    check_distinct(&rt, alloc, &events)
+}
+
+#[test]
+fn blocks_differ(rt: HostRuntime) -> Result<(), Fail> {
+    let alloc = rt.alloc();
+    let a = String::from_str(alloc, "a")?;
+    let mut left = Vec::new(alloc);
+    left.push(Alignment::Left)?;
+    let mut right = Vec::new(alloc);
+    right.push(Alignment::Right)?;
+    let fenced = CodeBlockKindOf::Fenced(String::new(alloc));
+    let events = [
+        EventOf::Start(TagOf::CodeBlock(CodeBlockKindOf::Indented)),
+        EventOf::Start(TagOf::CodeBlock(fenced)),
+        EventOf::Start(TagOf::List(None)),
+        EventOf::Start(TagOf::List(Some(1))),
+        EventOf::Start(TagOf::List(Some(2))),
+        EventOf::Start(TagOf::FootnoteDefinition(a)),
+        EventOf::Start(TagOf::FootnoteDefinition(String::new(alloc))),
+        EventOf::Start(TagOf::Table(Vec::new(alloc))),
+        EventOf::Start(TagOf::Table(left)),
+        EventOf::Start(TagOf::Table(right)),
+        EventOf::Start(TagOf::BlockQuote(None)),
+        EventOf::Start(TagOf::Item),
+        EventOf::End(TagEnd::Item),
+    ];
+    check_distinct(&rt, alloc, &events)
+}
+
+#[test]
+fn leaves_differ(rt: HostRuntime) -> Result<(), Fail> {
+    let alloc = rt.alloc();
+    let events = [
+        text(alloc, "a")?,
+        text(alloc, "b")?,
+        text(alloc, "")?,
+        EventOf::Code(String::from_str(alloc, "a")?),
+        EventOf::InlineMath(String::from_str(alloc, "a")?),
+        EventOf::FootnoteReference(String::from_str(alloc, "a")?),
+        EventOf::SoftBreak,
+        EventOf::HardBreak,
+        EventOf::Rule,
+        EventOf::TaskListMarker(true),
+        EventOf::TaskListMarker(false),
+    ];
+    check_distinct(&rt, alloc, &events)?;
+    assert!(rt; same_events(&events, &events));
+    assert!(rt; !same_events(&events, &events[..10]));
+    assert!(rt; !same_events(&events[1..], &events[..10]));
+    assert!(rt; same_events(&events[..0], &events[11..]));
+    Ok(())
 }
