@@ -3,7 +3,7 @@ use Rattle.std.proofs.Common.{◌≡◌, Bool, true, false, ◌||◌, ◌&&◌, 
 use Rattle.std.specs.Prelude.{is_none, is_some, ◌↔◌}
 use Rattle.tocmark_event.specs.Forest.{empty, leaf, node}
 use Rattle.tocmark_event.specs.Options.{OptionsView}
-use Rattle.tocmark_event.specs.View.{TagView, Paragraph, Heading, EventView, LeafView, Text, SoftBreak, SourcedLeaf}
+use Rattle.tocmark_event.specs.View.{TagView, Paragraph, Heading, EventView, LeafView, Text, Code, InlineHtml, SoftBreak, HardBreak, SourcedLeaf}
 use Rattle.tocmark_event.specs.declared.options.Error.TheVariants.{UnexpectedEvent, Unrepresentable}
 use Rattle.tocmark_spelling.specs.Body.{Trees, some_leaf}
 use Rattle.tocmark_spelling.specs.Page.{Site}
@@ -41,7 +41,10 @@ unsourced-leaf l h = none l.source h
 
 spelled-math : (l : LeafView) → is_spelled_leaf l ≡ true → is_math l ≡ false
 spelled-math (Text t) h = refl
+spelled-math (Code t) h = refl
+spelled-math (InlineHtml t) h = refl
 spelled-math SoftBreak h = refl
+spelled-math HardBreak h = refl
 spelled-math l h = absurd (cc)
 
 spelled-delimiter : (t : TagView) → is_spelled_tag t ≡ true → is_delimiter_tag t ≡ false

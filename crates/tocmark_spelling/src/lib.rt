@@ -14,6 +14,7 @@ pub mod misplaced;
 pub mod opening;
 pub mod output;
 pub mod plan;
+pub mod special;
 pub mod spelled;
 pub mod spelling;
 pub mod stretch;
