@@ -5,7 +5,7 @@ use Rattle.std.specs.Prelude.{is_none, ◌↔◌}
 use Rattle.std.proofs.lemmas.Bool.{true≢false}
 use Rattle.tocmark_event.specs.Forest.{empty, leaf, node}
 use Rattle.tocmark_event.specs.Options.{OptionsView}
-use Rattle.tocmark_event.specs.View.{TagView, Paragraph, Heading, EventView, LeafView, Text, SoftBreak}
+use Rattle.tocmark_event.specs.View.{TagView, Paragraph, Heading, EventView, LeafView, Text, Code, InlineHtml, SoftBreak, HardBreak}
 use Rattle.tocmark_event.specs.declared.options.Error.TheVariants.{UnexpectedEvent, Unrepresentable}
 use Rattle.tocmark_spelling.specs.Body.{Trees, some_leaf}
 use Rattle.tocmark_spelling.specs.Page.{Page, Site}
@@ -36,7 +36,10 @@ none_of a b ha hb = ap (λ x. x || b) ha ∙ hb
 
 spelled-math : (l : LeafView) → is_spelled_leaf l ≡ true → is_math l ≡ false
 spelled-math (Text t) h = refl
+spelled-math (Code t) h = refl
+spelled-math (InlineHtml t) h = refl
 spelled-math SoftBreak h = refl
+spelled-math HardBreak h = refl
 spelled-math l h = absurd (cc)
 
 spelled-delimiter : (t : TagView) → is_spelled_tag t ≡ true → is_delimiter_tag t ≡ false

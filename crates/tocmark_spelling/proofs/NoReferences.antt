@@ -1,4 +1,4 @@
--- A unit of paragraphs, headings, texts and soft breaks needs no definition.
+-- A unit of paragraphs, headings, texts, code, inline HTML and breaks needs no definition.
 use Rattle.std.proofs.Common.{◌≡◌, Bool, true, false, Option, Some, None, List, [], ◌∷◌, refl, ap, ◌∙◌, subst, ℕ}
 use Rattle.std.specs.Prelude.{◌&&◌, not, if◌then◌else◌}
 use Rattle.std.proofs.lemmas.Bool.{false≢true, true≢false}
@@ -23,7 +23,7 @@ use Rattle.tocmark_spelling.specs.Turn.{turned}
 use Rattle.tocmark_spelling.specs.Words.{or_else}
 use Rattle.tocmark_spelling.specs.WriterOf.{held_after, unheld}
 use Rattle.tocmark_event.specs.declared.event.flags.ParserOptions.{ParserOptions}
-use Rattle.tocmark_spelling.proofs.Steps.{IsOpened, opening-opened, closing-closed, text-place, break-place}
+use Rattle.tocmark_spelling.proofs.Steps.{IsOpened, opening-opened, closing-closed, text-place, break-place, hard-place, html-place, code-place}
 
 and-left : (a b : Bool) → a && b ≡ true → a ≡ true
 and-left true b e = refl
@@ -82,13 +82,19 @@ kind-keeps s m (Text t) source a path p e h =
 kind-keeps s m SoftBreak source a path p e h =
     let at = break-place s m a.next a.before a.after path p source in
     (ap (λ (x : Site). x.page.references) at ∙ refs-gap (Leaf SoftBreak) path p, ap (λ (x : Site). is_spelled_path x.path) at ∙ h)
-kind-keeps s m (Code t) source a path p e h = absurd (false≢true e)
+kind-keeps s m (Code t) source a path p e h =
+    let at = code-place s m a.next a.before a.after path p t source h in
+    (ap (λ (x : Site). x.page.references) at ∙ refs-gap (Leaf (Code t)) path p, ap (λ (x : Site). is_spelled_path x.path) at ∙ h)
+kind-keeps s m (InlineHtml t) source a path p e h =
+    let at = html-place s m a.next a.before a.after path p t source in
+    (ap (λ (x : Site). x.page.references) at ∙ refs-gap (Leaf (InlineHtml t)) path p, ap (λ (x : Site). is_spelled_path x.path) at ∙ h)
+kind-keeps s m HardBreak source a path p e h =
+    let at = hard-place s m a.next a.before a.after path p source in
+    (ap (λ (x : Site). x.page.references) at ∙ refs-gap (Leaf HardBreak) path p, ap (λ (x : Site). is_spelled_path x.path) at ∙ h)
 kind-keeps s m (InlineMath t) source a path p e h = absurd (false≢true e)
 kind-keeps s m (DisplayMath t) source a path p e h = absurd (false≢true e)
 kind-keeps s m (Html t) source a path p e h = absurd (false≢true e)
-kind-keeps s m (InlineHtml t) source a path p e h = absurd (false≢true e)
 kind-keeps s m (FootnoteReference t) source a path p e h = absurd (false≢true e)
-kind-keeps s m HardBreak source a path p e h = absurd (false≢true e)
 kind-keeps s m Rule source a path p e h = absurd (false≢true e)
 kind-keeps s m (TaskListMarker b) source a path p e h = absurd (false≢true e)
 

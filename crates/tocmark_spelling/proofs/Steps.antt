@@ -1,7 +1,7 @@
 -- A turn of the writer is a step of the machine.
 use Rattle.std.proofs.Common.{◌≡◌, ℕ, suc, zero, ◌<◌, ◌≤◌, Bool, true, false, Option, Some, None, List, [], ◌∷◌, Result, Ok, Err, refl, sym, ap, ◌∙◌, subst, map, drop, take, length}
-use Rattle.std.specs.Prelude.{◌&&◌, if◌then◌else◌}
-use Rattle.tocmark_event.specs.View.{TagView, Paragraph, Heading, BlockQuote, CodeBlock, HtmlBlock, ListOf, Item, FootnoteDefinition, DefinitionList, DefinitionListTitle, DefinitionListDefinition, Table, TableHead, TableRow, TableCell, Emphasis, Strong, Strikethrough, Superscript, Subscript, Link, Image, MetadataBlock, EventView, SourcedEvent, SourcedLeaf, Start, End, Leaf, Text, SoftBreak}
+use Rattle.std.specs.Prelude.{◌&&◌, ◌+◌, if◌then◌else◌, is_some}
+use Rattle.tocmark_event.specs.View.{TagView, Paragraph, Heading, BlockQuote, CodeBlock, HtmlBlock, ListOf, Item, FootnoteDefinition, DefinitionList, DefinitionListTitle, DefinitionListDefinition, Table, TableHead, TableRow, TableCell, Emphasis, Strong, Strikethrough, Superscript, Subscript, Link, Image, MetadataBlock, EventView, SourcedEvent, SourcedLeaf, Start, End, Leaf, Text, Code, InlineMath, DisplayMath, Html, InlineHtml, FootnoteReference, SoftBreak, HardBreak, Rule, TaskListMarker}
 use Rattle.tocmark_event.specs.declared.event.TagEnd.{TagEnd}
 use Rattle.tocmark_event.specs.declared.options.Error.{Error}
 use Rattle.tocmark_event.specs.declared.options.Error.TheVariants as error
@@ -12,13 +12,14 @@ use Rattle.std.specs.Prelude.{OnOk}
 use Rattle.std.specs.List.{list_any}
 use Rattle.std.proofs.lemmas.Bool.{false≢true, true≢false}
 use Rattle.std.specs.Prelude.{chars}
-use Rattle.tocmark_spelling.specs.Kinds.{is_cell, is_text, and_is}
+use Rattle.tocmark_spelling.specs.Kinds.{is_cell, is_table, is_text, and_is}
+use Rattle.tocmark_spelling.specs.Leaves.{code_span}
 use Rattle.tocmark_spelling.specs.Look.{Look, look}
 use Rattle.tocmark_spelling.specs.Body.{breaks_line}
-use Rattle.tocmark_spelling.specs.Buffered.{buffered_view}
+use Rattle.tocmark_spelling.specs.Buffered.{buffered_view, sourced}
 use Rattle.tocmark_spelling.specs.Words.{or_else}
 use Rattle.tocmark_spelling.specs.Page.{Path, Page, Site, Level, Held, Around, Inline, front, with_last, written}
-use Rattle.tocmark_spelling.specs.Places.{widened}
+use Rattle.tocmark_spelling.specs.Places.{is_in, widened}
 use Rattle.tocmark_spelling.specs.Gap.{gap}
 use Rattle.tocmark_spelling.specs.Opening.{opening, entered_if}
 use Rattle.tocmark_spelling.specs.Closing.{closing, closing_of}
@@ -28,7 +29,7 @@ use Rattle.tocmark_spelling.specs.Spelling.{skips_body}
 use Rattle.tocmark_spelling.specs.Spelled.{is_spelled_tag, is_spelled_path}
 use Rattle.tocmark_spelling.specs.Scans.{span, is_leaf}
 use Rattle.tocmark_spelling.specs.Machine.{Machine, going, refused, arrive, started, around, begun_if, kids_of, step}
-use Rattle.tocmark_spelling.specs.Turn.{Goes, IsRefused, Moves, turned}
+use Rattle.tocmark_spelling.specs.Turn.{Goes, IsRefused, Moves, turned, special_text, special_on}
 use Rattle.tocmark_spelling.specs.WriterOf.{levels_of, page_of, site_of, Stands, IsRefusal, Comes, begun, held_after, unheld}
 use Rattle.tocmark_spelling.specs.declared.spelling.BufferedEvent.{BufferedEvent}
 use Rattle.tocmark_spelling.specs.declared.writer.Writer.{Writer}
@@ -222,6 +223,21 @@ module _ (s : Setting) (m : Manner) (next : Option EventView) (before rest : Lis
   unfolding leaf_on
   break-place source = refl
 
+  -- the same of a hard break
+  pub hard-place : (source : Option (List ℕ)) → leaf_on s m (record { leaf = HardBreak; source = source }) (around before rest next) path p ≡ record { path = path; page = with_last Inline (written path (32 ∷ 32 ∷ 10 ∷ []) (gap (Leaf HardBreak) path p)) }
+  unfolding leaf_on
+  hard-place source = refl
+
+  -- the same of inline HTML
+  pub html-place : (text : List ℕ) (source : Option (List ℕ)) → leaf_on s m (record { leaf = InlineHtml text; source = source }) (around before rest next) path p ≡ record { path = path; page = with_last Inline (written path text (gap (Leaf (InlineHtml text)) path p)) }
+  unfolding leaf_on
+  html-place text source = refl
+
+  -- the same of code
+  pub code-place : (text : List ℕ) (source : Option (List ℕ)) → is_spelled_path path ≡ true → leaf_on s m (record { leaf = Code text; source = source }) (around before rest next) path p ≡ record { path = path; page = with_last Inline (written path (code_span (is_in is_table path) text) (gap (Leaf (Code text)) path p)) }
+  unfolding leaf_on
+  code-place text source h = ap (λ x. record { path = x; page = with_last Inline (written path (code_span (is_in is_table path) text) (gap (Leaf (Code text)) path p)) }) (widened-spelled (length (chars text) + 2) path h)
+
 -- a leaf was written
 pub leaf-moves : (s : Setting) (m : Manner) (next : Option EventView) (l : SourcedLeaf) (rest before : List SourcedEvent) (here : Site) (w : Writer) (page : Page) → leaf_on s m l (around before rest next) here.path here.page ≡ record { path = here.path; page = page } → Stands w here.path page → is_spelled_path here.path ≡ true → Goes w (step s m next (Leaf l) rest (going here before)) (Leaf l ∷ before)
 leaf-moves s m next l rest before here w page e h spelled =
@@ -286,8 +302,28 @@ module _ (s : Setting) (m : Manner) (next : Option EventView) (rest before : Lis
       let D : Option EventView → Type 0 = λ x. Stands w here.path (turned (and_is is_text (front rest)) s.options s.flags m.plan.text m.source (held_after here.page.held text source previous) (Leaf (Text text)) x here.path here.page) in
       subst Reaches (sym is) (leaf-moves s m next (record { leaf = Text text; source = source }) rest before here w (turned (and_is is_text (front rest)) s.options s.flags m.plan.text m.source (held_after here.page.held text source previous) (Leaf (Text text)) (or_else (front rest) next) here.path here.page) (text-place s m next before rest here.path here.page text source previous pe spelled) (subst D ae (subst C me (subst B te (subst A ev h)))) spelled)
 
-  -- a soft break was written
-  pub break-moves : (e : SourcedEvent) (v : EventView) (source : Option (List ℕ)) → e ≡ Leaf (record { leaf = SoftBreak; source = source }) → v ≡ Leaf SoftBreak → is_spelled_path here.path ≡ true → Stands w here.path (with_last Inline (written here.path (10 ∷ []) (gap v here.path here.page))) → Reaches e
-  break-moves e v source is ev spelled h =
-      let A : EventView → Type 0 = λ x. Stands w here.path (with_last Inline (written here.path (10 ∷ []) (gap x here.path here.page))) in
-      subst Reaches (sym is) (leaf-moves s m next (record { leaf = SoftBreak; source = source }) rest before here w (with_last Inline (written here.path (10 ∷ []) (gap (Leaf SoftBreak) here.path here.page))) (break-place s m next before rest here.path here.page source) (subst A ev h) spelled)
+module _ {X : Type 0} (result : Result X Error) (w : Writer) (s : Setting) (m : Manner) (next : Option EventView) (rest before : List SourcedEvent) (here : Site) where
+  abbrev Reached : SourcedEvent → Type 0
+  Reached e = Moves result w (step s m next e rest (going here before)) (e ∷ before)
+
+  -- a leaf that leads here was written
+  pub led-moves : (l : SourcedLeaf) (page : Page) → leaf_on s m l (around before rest next) here.path here.page ≡ record { path = here.path; page = page } → is_spelled_path here.path ≡ true → Comes result w (Some (record { path = here.path; page = page })) → Reached (Leaf l)
+  led-moves l page e h comes =
+      let P : Site → Type 0 = λ x. Moves result w (going x (Leaf l ∷ before)) (Leaf l ∷ before) in
+      subst P (sym e) (arrive-moves result w (Some (record { path = here.path; page = page })) (Leaf l ∷ before) h comes)
+
+  -- code, inline HTML or a break was written
+  pub special-moves : (v : EventView) (source : Option (List ℕ)) → is_some (special_text (is_in is_table here.path) v) ≡ true → is_spelled_path here.path ≡ true → Comes result w (special_on v here.path here.page) → Reached (sourced v source)
+  special-moves (Leaf (Code t)) source special h comes = led-moves (record { leaf = Code t; source = source }) _ (code-place s m next before rest here.path here.page t source h) h comes
+  special-moves (Leaf (InlineHtml t)) source special h comes = led-moves (record { leaf = InlineHtml t; source = source }) _ (html-place s m next before rest here.path here.page t source) h comes
+  special-moves (Leaf SoftBreak) source special h comes = led-moves (record { leaf = SoftBreak; source = source }) _ (break-place s m next before rest here.path here.page source) h comes
+  special-moves (Leaf HardBreak) source special h comes = led-moves (record { leaf = HardBreak; source = source }) _ (hard-place s m next before rest here.path here.page source) h comes
+  special-moves (Leaf (Text t)) source special h comes = absurd (false≢true special)
+  special-moves (Leaf (InlineMath t)) source special h comes = absurd (false≢true special)
+  special-moves (Leaf (DisplayMath t)) source special h comes = absurd (false≢true special)
+  special-moves (Leaf (Html t)) source special h comes = absurd (false≢true special)
+  special-moves (Leaf (FootnoteReference t)) source special h comes = absurd (false≢true special)
+  special-moves (Leaf Rule) source special h comes = absurd (false≢true special)
+  special-moves (Leaf (TaskListMarker b)) source special h comes = absurd (false≢true special)
+  special-moves (Start t) source special h comes = absurd (false≢true special)
+  special-moves (End k) source special h comes = absurd (false≢true special)

@@ -1,6 +1,6 @@
 -- Which tags and leaves the writer writes so far.
 use Rattle.std.specs.Prelude.{Bool, true, false, ◌&&◌, ◌==◌, None, List, [], ◌∷◌, length}
-use Rattle.tocmark_event.specs.View.{TagView, Paragraph, Heading, LeafView, Text, SoftBreak, SourcedEvent, Start, End, Leaf}
+use Rattle.tocmark_event.specs.View.{TagView, Paragraph, Heading, LeafView, Text, Code, InlineHtml, SoftBreak, HardBreak, SourcedEvent, Start, End, Leaf}
 use Rattle.tocmark_event.specs.Forest.{empty, leaf, node}
 use Rattle.tocmark_spelling.specs.Body.{Trees}
 use Rattle.tocmark_spelling.specs.Page.{Path}
@@ -11,10 +11,13 @@ is_spelled_tag Paragraph = true
 is_spelled_tag (Heading level None classes attrs) = (length classes == 0) && (length attrs == 0)
 is_spelled_tag t = false
 
--- texts and soft breaks
+-- texts, code, inline HTML and breaks
 abbrev pub is_spelled_leaf : LeafView → Bool
 is_spelled_leaf (Text t) = true
+is_spelled_leaf (Code t) = true
+is_spelled_leaf (InlineHtml t) = true
 is_spelled_leaf SoftBreak = true
+is_spelled_leaf HardBreak = true
 is_spelled_leaf l = false
 
 -- the Start of such a container, any End, or such a leaf

@@ -1,7 +1,6 @@
 //! Writes the events of one unit, and carries along what it leaves to the next.
 
 ghost use Rattle.std.specs.Prelude.{◌≡◌, ℕ, List, [], map, string_bytes, true, false, IfOk, Option, None};
-ghost use Rattle.std.specs.Option.{option_map};
 ghost use Rattle.tocmark_event.specs.Forest.{flat};
 ghost use Rattle.tocmark_event.specs.Options.{options_view};
 ghost use Rattle.tocmark_spelling.specs.Body.{Trees};
@@ -21,6 +20,7 @@ use crate::output::Output;
 use crate::plan::Delimiters;
 use crate::spelled::are_spelled;
 use crate::spelling::BufferedEvent;
+use crate::stretch::copied_text;
 use crate::trail::Trail;
 use crate::writer::Writer;
 use std::alloc::{AllocError, Global};
@@ -38,15 +38,6 @@ pub struct UnitRenderer {
     pub trail: Trail,
     /// The definitions that the last unit needs.
     pub references: Vec<Reference>,
-}
-
-fn copied_text(alloc: Global, text: &Option<String>) -> Result<Option<String>, AllocError>
-    ensures { IfOk result (λ copy. option_map string_bytes copy ≡ option_map string_bytes text.now) }
-{
-    match text {
-        None => Ok(None),
-        Some(text) => Ok(Some(String::from_str(alloc, text.as_str())?)),
-    }
 }
 
 fn copied_reference(alloc: Global, reference: &Reference) -> Result<Reference, AllocError>
@@ -146,12 +137,12 @@ impl UnitRenderer {
 
     /// Writes a unit and gives its text.
     ///
-    /// Spelled are paragraphs, headings without id, classes and attributes, texts and soft breaks. `next`
-    /// is the event after the unit, if there is one; `source_spelling` says whether texts are taken from
-    /// the source where it is known, `delimiters` how emphasis and texts are written. An `Err` is
-    /// `UnexpectedEvent` where the unit has another event, a heading in a heading, an End too many or a
-    /// container that isn't closed, and `OutOfMemory` where memory ran out; the renderer is of no use
-    /// after it.
+    /// Spelled are paragraphs, headings without id, classes and attributes, texts, code, inline HTML, and
+    /// soft and hard breaks. `next` is the event after the unit, if there is one; `source_spelling` says
+    /// whether texts are taken from the source where it is known, `delimiters` how emphasis and texts are
+    /// written. An `Err` is `UnexpectedEvent` where the unit has another event, a heading in a heading, an
+    /// End too many or a container that isn't closed, and `OutOfMemory` where memory ran out; the renderer
+    /// is of no use after it.
     pub fn render_block<R: Reader>(
         &mut self,
         alloc: Global,

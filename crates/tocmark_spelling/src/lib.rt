@@ -15,6 +15,7 @@ pub mod opening;
 pub mod output;
 pub mod plan;
 pub mod same_events;
+pub mod special;
 pub mod spelled;
 pub mod spelling;
 pub mod stretch;

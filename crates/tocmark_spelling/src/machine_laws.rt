@@ -19,7 +19,7 @@ pub fn machine_follows_trees()
     ensures agree { (s : Setting) (m : Manner) (next : Option EventView) (f g : Trees) (here : Site) → flat f ≡ flat g → spelling s m f (around [] [] next) here.path here.page ≡ spelling s m g (around [] [] next) here.path here.page }
 {}
 
-/// A unit of paragraphs, headings, texts and soft breaks alone needs no definition.
+/// A unit of paragraphs, headings, texts, code, inline HTML and breaks alone needs no definition.
 pub fn plain_units_need_no_definitions()
     ensures { (s : Setting) (m : Manner) (f : Trees) (a : Around) (p : Page) → is_spelled_forest f ≡ true → NeedsNone (spelling s m f a [] p) p }
 {}

@@ -35,7 +35,10 @@ pub fn is_spelled(event: &BufferedEvent) -> bool
         EventOf::Start(tag) => is_spelled_tag(tag),
         EventOf::End(_) => true,
         EventOf::Text(_) => true,
+        EventOf::Code(_) => true,
+        EventOf::InlineHtml(_) => true,
         EventOf::SoftBreak => true,
+        EventOf::HardBreak => true,
         _ => false,
     }
 }

@@ -156,7 +156,8 @@ fn joined_sources(
     Ok(Some(source))
 }
 
-fn copied(alloc: Global, text: &Option<String>) -> Result<Option<String>, AllocError>
+/// An equal text, if there is one. An `Err` says that memory ran out.
+pub fn copied_text(alloc: Global, text: &Option<String>) -> Result<Option<String>, AllocError>
     ensures { IfOk result (λ copy. option_map string_bytes copy ≡ option_map string_bytes text.now) }
 {
     match text {
@@ -218,7 +219,7 @@ fn begun(
 {
     Ok(Held {
         text: String::from_str(alloc, text)?,
-        source: copied(alloc, source)?,
+        source: copied_text(alloc, source)?,
         after_close: ends_delimiter(previous),
     })
 }

@@ -183,6 +183,80 @@ fn headings(rt: HostRuntime) -> Result<(), Fail> {
     check_units(&rt, alloc, Some(HeadingLevel::H6), &rows)
 }
 
+/// This leaf between the text `a` and another one, in a heading of this level or a paragraph.
+fn check_between(
+    rt: &impl Abort,
+    alloc: Global,
+    level: Option<HeadingLevel>,
+    leaf: OwnedEvent,
+    after: &str,
+    expected: &str,
+) -> Result<(), Fail> {
+    let mut events = Vec::new(alloc);
+    events.push(unsourced(start(alloc, level)))?;
+    events.push(unsourced(text(alloc, "a")?))?;
+    events.push(unsourced(leaf))?;
+    events.push(unsourced(text(alloc, after)?))?;
+    events.push(unsourced(end(level)))?;
+    let mut renderer = UnitRenderer::new(alloc);
+    let written = rendered(alloc, &mut renderer, &events, None, false)?;
+    assert_eq!(rt; written.as_str(), expected);
+    Ok(())
+}
+
+#[test]
+fn code_spans(rt: HostRuntime) -> Result<(), Fail> {
+    let alloc = rt.alloc();
+    let rows = [
+        ("x", "b", "a`x`b"),
+        ("x`y", "b", "a``x`y``b"),
+        ("`", "b", "a`` ` ``b"),
+        (" ", "b", "a` `b"),
+        (" x ", "b", "a`  x  `b"),
+        ("#", "# b", "a`#`\\# b"),
+        ("x|y", "b", "a`x|y`b"),
+    ];
+    for (code, after, expected) in rows {
+        let code = EventOf::Code(String::from_str(alloc, code)?);
+        check_between(&rt, alloc, None, code, after, expected)?;
+    }
+    let code = EventOf::Code(String::from_str(alloc, "x")?);
+    check_between(&rt, alloc, Some(HeadingLevel::H1), code, "b", "# a`x`b")
+}
+
+#[test]
+fn hard_breaks(rt: HostRuntime) -> Result<(), Fail> {
+    let alloc = rt.alloc();
+    let rows = [
+        (None, "b", "a  \nb"),
+        (None, "# b", "a  \n\\# b"),
+        (Some(HeadingLevel::H1), "b", "a  \nb\n==="),
+        (Some(HeadingLevel::H2), "- b", "a  \n\\- b\n---"),
+        (Some(HeadingLevel::H3), "b", "a  \nb\n---"),
+    ];
+    for (level, after, expected) in rows {
+        check_between(&rt, alloc, level, EventOf::HardBreak, after, expected)?;
+    }
+    Ok(())
+}
+
+#[test]
+fn inline_html(rt: HostRuntime) -> Result<(), Fail> {
+    let alloc = rt.alloc();
+    let rows = [
+        (None, "<b>", "# b", "a<b>\\# b"),
+        (None, "<i\n>", "b", "a<i\n>b"),
+        (Some(HeadingLevel::H1), "<b>", "b", "# a<b>b"),
+        (Some(HeadingLevel::H1), "<i\n>", "b", "a<i\n>b\n==="),
+        (Some(HeadingLevel::H2), "<i\n>", "b", "a<i\n>b\n---"),
+    ];
+    for (level, html, after, expected) in rows {
+        let html = EventOf::InlineHtml(String::from_str(alloc, html)?);
+        check_between(&rt, alloc, level, html, after, expected)?;
+    }
+    Ok(())
+}
+
 /// These units, one after the other, come to these texts.
 fn check_sequence(
     rt: &impl Abort,

@@ -163,9 +163,8 @@ impl<'a> Writer<'a> {
                 )?;
                 Ok(())
             }
-            EventOf::SoftBreak => {
-                self.write_leaf(alloc, &event.event, "\n")?;
-                Ok(())
+            EventOf::Code(_) | EventOf::InlineHtml(_) | EventOf::SoftBreak | EventOf::HardBreak => {
+                self.write_special(alloc, &event.event)
             }
             _ => Err(Error::UnexpectedEvent),
         }
