@@ -3,7 +3,6 @@
 ghost use Rattle.std.specs.Prelude.{◌+◌, Option, ◌≤◌, true, slice_range, ◌≡◌, ◌++◌, length, map, reverse, Bool, IfOk, OnOk, OnErr, List, ℕ, IsOk, Some, None, [], option_map, string_bytes, sum_by};
 ghost use Rattle.std.specs.Borrow.{Bor};
 ghost use Rattle.std.specs.Iterator.{IsFinite, DrainsIf};
-ghost use Rattle.tocmark_event.specs.Ends.{end_code};
 ghost use Rattle.tocmark_event.specs.Options.{options_view};
 ghost use Rattle.tocmark_event.specs.Text.{text_of};
 ghost use Rattle.tocmark_event.specs.View.{event_view};
@@ -19,12 +18,11 @@ ghost use Rattle.tocmark.specs.StateView.{Adds, Answers, Counts, Ends, at_most, 
 use crate::taker::Taker;
 use std::alloc::{AllocError, Global};
 use std::fmt;
-use tocmark_event::event::{
-    BlockQuoteKind, Event, EventOf, HeadingLevel, MetadataBlockKind, ParserOptions, TagEnd,
-};
+use tocmark_event::event::{Event, EventOf, ParserOptions, TagEnd};
 use tocmark_event::options::{Error, Options};
 use tocmark_event::reader::Reader;
 use tocmark_render::render::{Document, needs_list_placeholder};
+use tocmark_spelling::same_events::end_number;
 use tocmark_spelling::spelling::BufferedEvent;
 
 /// How much a call did. Both counts stop at the greatest `usize`.
@@ -150,48 +148,6 @@ impl KeptOptions {
             strong_token: self.strong_token.as_str(),
             use_html_for_super_sub_script: self.use_html_for_super_sub_script,
         }
-    }
-}
-
-fn end_number(end: TagEnd) -> u8
-    ensures { result ≡ end_code end }
-{
-    match end {
-        TagEnd::Paragraph => 0,
-        TagEnd::Heading(HeadingLevel::H1) => 1,
-        TagEnd::Heading(HeadingLevel::H2) => 2,
-        TagEnd::Heading(HeadingLevel::H3) => 3,
-        TagEnd::Heading(HeadingLevel::H4) => 4,
-        TagEnd::Heading(HeadingLevel::H5) => 5,
-        TagEnd::Heading(HeadingLevel::H6) => 6,
-        TagEnd::BlockQuote(None) => 7,
-        TagEnd::BlockQuote(Some(BlockQuoteKind::Note)) => 8,
-        TagEnd::BlockQuote(Some(BlockQuoteKind::Tip)) => 9,
-        TagEnd::BlockQuote(Some(BlockQuoteKind::Important)) => 10,
-        TagEnd::BlockQuote(Some(BlockQuoteKind::Warning)) => 11,
-        TagEnd::BlockQuote(Some(BlockQuoteKind::Caution)) => 12,
-        TagEnd::CodeBlock => 13,
-        TagEnd::HtmlBlock => 14,
-        TagEnd::List(true) => 15,
-        TagEnd::List(false) => 16,
-        TagEnd::Item => 17,
-        TagEnd::FootnoteDefinition => 18,
-        TagEnd::DefinitionList => 19,
-        TagEnd::DefinitionListTitle => 20,
-        TagEnd::DefinitionListDefinition => 21,
-        TagEnd::Table => 22,
-        TagEnd::TableHead => 23,
-        TagEnd::TableRow => 24,
-        TagEnd::TableCell => 25,
-        TagEnd::Emphasis => 26,
-        TagEnd::Strong => 27,
-        TagEnd::Strikethrough => 28,
-        TagEnd::Superscript => 29,
-        TagEnd::Subscript => 30,
-        TagEnd::Link => 31,
-        TagEnd::Image => 32,
-        TagEnd::MetadataBlock(MetadataBlockKind::YamlStyle) => 33,
-        TagEnd::MetadataBlock(MetadataBlockKind::PlusesStyle) => 34,
     }
 }
 

@@ -1,60 +1,15 @@
 //! Whether the events of a unit are balanced.
 
 ghost use Rattle.std.specs.Prelude.{◌≡◌, map, reverse, string_bytes, IfOk, is_some};
-ghost use Rattle.tocmark_event.specs.Ends.{end_code};
 ghost use Rattle.tocmark_event.specs.View.{event_view};
 ghost use Rattle.tocmark_spelling.specs.Buffered.{buffered_view};
 ghost use Rattle.tocmark_render.specs.Balanced.{if_fits, left_open, open_after};
 ghost use Rattle.tocmark_render.specs.Units.{trees_of};
 
 use std::alloc::{AllocError, Global};
-use tocmark_event::event::{
-    BlockQuoteKind, EventOf, HeadingLevel, MetadataBlockKind, OwnedEvent, TagEnd,
-};
+use tocmark_event::event::{EventOf, OwnedEvent, TagEnd};
+use tocmark_spelling::same_events::end_number;
 use tocmark_spelling::spelling::BufferedEvent;
-
-/// A number for each End.
-fn end_number(end: TagEnd) -> u8
-    ensures { result ≡ end_code end }
-{
-    match end {
-        TagEnd::Paragraph => 0,
-        TagEnd::Heading(HeadingLevel::H1) => 1,
-        TagEnd::Heading(HeadingLevel::H2) => 2,
-        TagEnd::Heading(HeadingLevel::H3) => 3,
-        TagEnd::Heading(HeadingLevel::H4) => 4,
-        TagEnd::Heading(HeadingLevel::H5) => 5,
-        TagEnd::Heading(HeadingLevel::H6) => 6,
-        TagEnd::BlockQuote(None) => 7,
-        TagEnd::BlockQuote(Some(BlockQuoteKind::Note)) => 8,
-        TagEnd::BlockQuote(Some(BlockQuoteKind::Tip)) => 9,
-        TagEnd::BlockQuote(Some(BlockQuoteKind::Important)) => 10,
-        TagEnd::BlockQuote(Some(BlockQuoteKind::Warning)) => 11,
-        TagEnd::BlockQuote(Some(BlockQuoteKind::Caution)) => 12,
-        TagEnd::CodeBlock => 13,
-        TagEnd::HtmlBlock => 14,
-        TagEnd::List(true) => 15,
-        TagEnd::List(false) => 16,
-        TagEnd::Item => 17,
-        TagEnd::FootnoteDefinition => 18,
-        TagEnd::DefinitionList => 19,
-        TagEnd::DefinitionListTitle => 20,
-        TagEnd::DefinitionListDefinition => 21,
-        TagEnd::Table => 22,
-        TagEnd::TableHead => 23,
-        TagEnd::TableRow => 24,
-        TagEnd::TableCell => 25,
-        TagEnd::Emphasis => 26,
-        TagEnd::Strong => 27,
-        TagEnd::Strikethrough => 28,
-        TagEnd::Superscript => 29,
-        TagEnd::Subscript => 30,
-        TagEnd::Link => 31,
-        TagEnd::Image => 32,
-        TagEnd::MetadataBlock(MetadataBlockKind::YamlStyle) => 33,
-        TagEnd::MetadataBlock(MetadataBlockKind::PlusesStyle) => 34,
-    }
-}
 
 /// Takes off the innermost container that is open, and tells whether this is its end.
 fn ends_innermost(awaited: &mut Vec<TagEnd>, end: TagEnd) -> bool

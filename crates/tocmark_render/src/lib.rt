@@ -6,6 +6,5 @@ pub mod document;
 pub mod labels;
 pub mod laws;
 pub mod read_back;
-pub mod same_events;
 #[cfg(test)]
 mod tests;

@@ -19,7 +19,7 @@ use std::alloc::{AllocError, Global};
 use tocmark_event::event::{Event, EventOf, OwnedEvent, ParserOptions, TagEnd, TagOf, merge_all};
 use tocmark_event::reader::{Reader, Reading};
 use tocmark_spelling::kinds::is_inline_tag;
-use crate::same_events::same_events;
+use tocmark_spelling::same_events::same_events;
 use tocmark_spelling::spelling::BufferedEvent;
 
 /// Whether it is the End of an inline container; all others are blocks.

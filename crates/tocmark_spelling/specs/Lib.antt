@@ -30,5 +30,3 @@ pub mod Scans
 pub mod Turn
 pub mod Rendered
 pub mod Buffered
-pub mod Draft
-pub mod DraftOf
