@@ -4,3 +4,4 @@ pub mod LabelLemmas
 pub mod SpelledUnits
 pub mod Balanced
 pub mod Documents
+pub mod Ambiguous
