@@ -203,6 +203,12 @@ fn items_with_a_paragraph(rt: HostRuntime) -> Result<(), Fail> {
         EventOf::End(TagEnd::List(false)),
     ];
     assert!(rt; !needs(alloc, &two)?);
+    Ok(())
+}
+
+#[test]
+fn items_with_more_than_a_paragraph(rt: HostRuntime) -> Result<(), Fail> {
+    let alloc = rt.alloc();
     let more = [
         EventOf::Start(TagOf::List(None)),
         EventOf::Start(TagOf::Item),
