@@ -4,3 +4,4 @@ pub mod SpelledUnits
 pub mod Balanced
 pub mod ReadBacks
 pub mod Documents
+pub mod Ambiguous

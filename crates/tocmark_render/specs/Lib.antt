@@ -7,6 +7,7 @@ pub mod ReadsBack
 pub mod Placeholder
 pub mod Choice
 pub mod Units
+pub mod Waiting
 pub mod Spelled
 pub mod Balanced
 pub mod DocumentOf

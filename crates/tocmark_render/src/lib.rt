@@ -5,6 +5,7 @@ pub mod balance;
 pub mod document;
 pub mod labels;
 pub mod laws;
+pub mod placeholder;
 pub mod read_back;
 #[cfg(test)]
 mod tests;

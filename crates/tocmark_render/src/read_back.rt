@@ -23,7 +23,7 @@ use tocmark_spelling::same_events::same_events;
 use tocmark_spelling::spelling::BufferedEvent;
 
 /// Whether it is the End of an inline container; all others are blocks.
-fn is_inline_end(end: TagEnd) -> bool
+pub fn is_inline_end(end: TagEnd) -> bool
     ensures { result ≡ is_inline_end end }
 {
     match end {

@@ -3,6 +3,7 @@
 ghost use Rattle.std.specs.Prelude.{[], ◌∷◌};
 
 use crate::document::Document;
+use crate::placeholder::needs_list_placeholder;
 use std::alloc::{AllocError, Global};
 use std::process::Abort;
 use std::test::Fail;
@@ -100,5 +101,187 @@ fn units_that_are_refused(rt: HostRuntime) -> Result<(), Fail> {
             Err(Error::UnexpectedEvent)
         )
     );
+    Ok(())
+}
+
+/// Whether these events, as a unit, need a placeholder.
+fn needs(alloc: Global, events: &[OwnedEvent]) -> Result<bool, AllocError> {
+    let mut unit: Vec<BufferedEvent> = Vec::new(alloc);
+    for event in events {
+        unit.push(unsourced(event.copied(alloc)?))?;
+    }
+    needs_list_placeholder(alloc, &unit)
+}
+
+/// Whether a list whose first item is empty needs a placeholder behind this leaf, in an item.
+fn needs_behind(alloc: Global, leaf: OwnedEvent) -> Result<bool, AllocError> {
+    let unit = [
+        EventOf::Start(TagOf::List(None)),
+        EventOf::Start(TagOf::Item),
+        leaf,
+        EventOf::Start(TagOf::List(Some(2))),
+        EventOf::Start(TagOf::Item),
+        EventOf::End(TagEnd::Item),
+        EventOf::Start(TagOf::Item),
+        EventOf::SoftBreak,
+        EventOf::End(TagEnd::Item),
+        EventOf::End(TagEnd::List(true)),
+        EventOf::End(TagEnd::Item),
+        EventOf::End(TagEnd::List(false)),
+    ];
+    needs(alloc, &unit)
+}
+
+#[test]
+fn empty_items_behind_leaves(rt: HostRuntime) -> Result<(), Fail> {
+    let alloc = rt.alloc();
+    let text = EventOf::Text(String::from_str(alloc, "a")?);
+    assert!(rt; needs_behind(alloc, text)?);
+    assert!(rt; needs_behind(alloc, EventOf::HardBreak)?);
+    assert!(rt; needs_behind(alloc, EventOf::TaskListMarker(true))?);
+    let html = EventOf::Html(String::from_str(alloc, "<b>")?);
+    assert!(rt; !needs_behind(alloc, html)?);
+    assert!(rt; !needs_behind(alloc, EventOf::Rule)?);
+    Ok(())
+}
+
+/// Whether a list whose first item is empty needs a placeholder behind this container.
+fn needs_beyond(alloc: Global, tag: TagOf<String>) -> Result<bool, AllocError> {
+    let end = tag.to_end();
+    let unit = [
+        EventOf::Start(tag),
+        EventOf::SoftBreak,
+        EventOf::End(end),
+        EventOf::Start(TagOf::List(None)),
+        EventOf::Start(TagOf::Item),
+        EventOf::End(TagEnd::Item),
+        EventOf::End(TagEnd::List(false)),
+    ];
+    needs(alloc, &unit)
+}
+
+#[test]
+fn empty_items_behind_containers(rt: HostRuntime) -> Result<(), Fail> {
+    let alloc = rt.alloc();
+    assert!(rt; needs_beyond(alloc, TagOf::Emphasis)?);
+    assert!(rt; !needs_beyond(alloc, TagOf::Paragraph)?);
+    let first = [
+        EventOf::Start(TagOf::List(None)),
+        EventOf::Start(TagOf::Item),
+        EventOf::End(TagEnd::Item),
+        EventOf::End(TagEnd::List(false)),
+    ];
+    assert!(rt; !needs(alloc, &first)?);
+    Ok(())
+}
+
+#[test]
+fn items_with_a_paragraph(rt: HostRuntime) -> Result<(), Fail> {
+    let alloc = rt.alloc();
+    let one = [
+        EventOf::Start(TagOf::List(None)),
+        EventOf::Start(TagOf::Item),
+        EventOf::Start(TagOf::Paragraph),
+        EventOf::SoftBreak,
+        EventOf::End(TagEnd::Paragraph),
+        EventOf::End(TagEnd::Item),
+        EventOf::End(TagEnd::List(false)),
+    ];
+    assert!(rt; needs(alloc, &one)?);
+    let two = [
+        EventOf::Start(TagOf::List(None)),
+        EventOf::Start(TagOf::Item),
+        EventOf::Start(TagOf::Paragraph),
+        EventOf::SoftBreak,
+        EventOf::End(TagEnd::Paragraph),
+        EventOf::End(TagEnd::Item),
+        EventOf::Start(TagOf::Item),
+        EventOf::Start(TagOf::Paragraph),
+        EventOf::SoftBreak,
+        EventOf::End(TagEnd::Paragraph),
+        EventOf::End(TagEnd::Item),
+        EventOf::End(TagEnd::List(false)),
+    ];
+    assert!(rt; !needs(alloc, &two)?);
+    Ok(())
+}
+
+#[test]
+fn items_with_more_than_a_paragraph(rt: HostRuntime) -> Result<(), Fail> {
+    let alloc = rt.alloc();
+    let more = [
+        EventOf::Start(TagOf::List(None)),
+        EventOf::Start(TagOf::Item),
+        EventOf::Start(TagOf::Paragraph),
+        EventOf::SoftBreak,
+        EventOf::End(TagEnd::Paragraph),
+        EventOf::Rule,
+        EventOf::End(TagEnd::Item),
+        EventOf::End(TagEnd::List(false)),
+    ];
+    assert!(rt; !needs(alloc, &more)?);
+    Ok(())
+}
+
+#[test]
+fn nested_lists(rt: HostRuntime) -> Result<(), Fail> {
+    let alloc = rt.alloc();
+    let below = [
+        EventOf::Start(TagOf::List(None)),
+        EventOf::Start(TagOf::Item),
+        EventOf::SoftBreak,
+        EventOf::Start(TagOf::List(Some(1))),
+        EventOf::Start(TagOf::Item),
+        EventOf::Start(TagOf::Paragraph),
+        EventOf::SoftBreak,
+        EventOf::End(TagEnd::Paragraph),
+        EventOf::End(TagEnd::Item),
+        EventOf::End(TagEnd::List(true)),
+        EventOf::End(TagEnd::Item),
+        EventOf::End(TagEnd::List(false)),
+    ];
+    assert!(rt; needs(alloc, &below)?);
+    let tight = [
+        EventOf::Start(TagOf::List(None)),
+        EventOf::Start(TagOf::Item),
+        EventOf::Start(TagOf::Paragraph),
+        EventOf::SoftBreak,
+        EventOf::End(TagEnd::Paragraph),
+        EventOf::Start(TagOf::List(None)),
+        EventOf::Start(TagOf::Item),
+        EventOf::SoftBreak,
+        EventOf::End(TagEnd::Item),
+        EventOf::End(TagEnd::List(false)),
+        EventOf::End(TagEnd::Item),
+        EventOf::End(TagEnd::List(false)),
+    ];
+    assert!(rt; !needs(alloc, &tight)?);
+    Ok(())
+}
+
+#[test]
+fn placeholders_of_units_that_are_not_balanced(rt: HostRuntime) -> Result<(), Fail> {
+    let alloc = rt.alloc();
+    let open = [
+        EventOf::Start(TagOf::BlockQuote(None)),
+        EventOf::Start(TagOf::List(None)),
+        EventOf::Start(TagOf::Item),
+        EventOf::Start(TagOf::Paragraph),
+        EventOf::End(TagEnd::Paragraph),
+        EventOf::End(TagEnd::Item),
+        EventOf::End(TagEnd::List(false)),
+    ];
+    assert!(rt; !needs(alloc, &open)?);
+    let wrong = [
+        EventOf::Start(TagOf::List(None)),
+        EventOf::Start(TagOf::Item),
+        EventOf::Start(TagOf::Paragraph),
+        EventOf::End(TagEnd::Paragraph),
+        EventOf::End(TagEnd::Item),
+        EventOf::End(TagEnd::List(true)),
+    ];
+    assert!(rt; !needs(alloc, &wrong)?);
+    let none: [OwnedEvent; 0] = [];
+    assert!(rt; !needs(alloc, &none)?);
     Ok(())
 }
