@@ -11,8 +11,8 @@ use std::alloc::{AllocError, Global};
 use std::process::Abort;
 use std::test::Fail;
 use tocmark_event::event::{
-    Alignment, CodeBlockKindOf, Event, EventOf, HeadingLevel, LinkType, OwnedEvent, ParserOptions,
-    TagEnd, TagOf,
+    CodeBlockKindOf, Event, EventOf, HeadingLevel, LinkType, OwnedEvent, ParserOptions, TagEnd,
+    TagOf,
 };
 use tocmark_event::options::{Error, Options};
 use tocmark_event::reader::{Reader, Reading};
@@ -420,14 +420,19 @@ fn refused_forms(rt: HostRuntime) -> Result<(), Fail> {
     check_refused(&rt, alloc, &open)
 }
 
-/// Each of these events is the same as a copy of it, and differs from all others.
-fn check_distinct(rt: &impl Abort, alloc: Global, events: &[OwnedEvent]) -> Result<(), Fail> {
-    for (i, event) in events.iter().enumerate() {
-        let copy: Event<'static> = event.copied(alloc)?;
-        for (j, other) in events.iter().enumerate() {
-            assert_eq!(rt; same_event(other, &copy), i == j);
-        }
-    }
+/// Two events that differ, each the same as a copy of it.
+fn check_differ(
+    rt: &impl Abort,
+    alloc: Global,
+    a: &OwnedEvent,
+    b: &OwnedEvent,
+) -> Result<(), Fail> {
+    let copy: Event<'static> = a.copied(alloc)?;
+    assert!(rt; same_event(a, &copy));
+    assert!(rt; !same_event(b, &copy));
+    let copy: Event<'static> = b.copied(alloc)?;
+    assert!(rt; same_event(b, &copy));
+    assert!(rt; !same_event(a, &copy));
     Ok(())
 }
 
@@ -449,29 +454,29 @@ fn link(
 #[test]
 fn links_differ(rt: HostRuntime) -> Result<(), Fail> {
     let alloc = rt.alloc();
-    let pothole = LinkType::WikiLink { has_pothole: true };
-    let plain = LinkType::WikiLink { has_pothole: false };
-    let image = EventOf::Start(TagOf::Image {
-        link_type: LinkType::Inline,
-        dest_url: String::from_str(alloc, "a")?,
-        title: String::from_str(alloc, "b")?,
-        id: String::from_str(alloc, "c")?,
-    });
-    let events = [
-        link(alloc, LinkType::Inline, "a", "b", "c")?,
-        link(alloc, LinkType::Reference, "a", "b", "c")?,
-        link(alloc, pothole, "a", "b", "c")?,
-        link(alloc, plain, "a", "b", "c")?,
-        link(alloc, LinkType::Inline, "b", "b", "c")?,
-        link(alloc, LinkType::Inline, "a", "", "c")?,
-        link(alloc, LinkType::Inline, "a", "b", "")?,
-        image,
-        EventOf::End(TagEnd::Link),
+    let rows = [
+        (LinkType::Reference, "a", "b", "c"),
+        (LinkType::WikiLink { has_pothole: true }, "a", "b", "c"),
+        (LinkType::Inline, "b", "b", "c"),
+        (LinkType::Inline, "a", "", "c"),
+        (LinkType::Inline, "a", "b", ""),
     ];
-    check_distinct(&rt, alloc, &events)
+    let first = link(alloc, LinkType::Inline, "a", "b", "c")?;
+    for (link_type, dest_url, title, id) in &rows {
+        let other = link(alloc, *link_type, *dest_url, *title, *id)?;
+        check_differ(&rt, alloc, &first, &other)?;
+    }
+    Ok(())
 }
 
-/// A heading with a class, and with an attribute that may have a value.
+fn some_text(alloc: Global, text: Option<&str>) -> Result<Option<String>, AllocError> {
+    match text {
+        None => Ok(None),
+        Some(text) => Ok(Some(String::from_str(alloc, text)?)),
+    }
+}
+
+/// A heading with an id, a class, and an attribute that may have a value.
 fn named_heading(
     alloc: Global,
     id: Option<&str>,
@@ -479,14 +484,8 @@ fn named_heading(
     name: &str,
     value: Option<&str>,
 ) -> Result<OwnedEvent, AllocError> {
-    let id = match id {
-        None => None,
-        Some(id) => Some(String::from_str(alloc, id)?),
-    };
-    let value = match value {
-        None => None,
-        Some(value) => Some(String::from_str(alloc, value)?),
-    };
+    let id = some_text(alloc, id)?;
+    let value = some_text(alloc, value)?;
     let mut classes = Vec::new(alloc);
     classes.push(String::from_str(alloc, class)?)?;
     let mut attrs = Vec::new(alloc);
@@ -502,69 +501,53 @@ fn named_heading(
 #[test]
 fn headings_differ(rt: HostRuntime) -> Result<(), Fail> {
     let alloc = rt.alloc();
-    let events = [
-        heading(alloc, HeadingLevel::H1),
-        heading(alloc, HeadingLevel::H2),
-        named_heading(alloc, Some("a"), "b", "c", Some("d"))?,
-        named_heading(alloc, Some(""), "b", "c", Some("d"))?,
-        named_heading(alloc, None, "b", "c", Some("d"))?,
-        named_heading(alloc, Some("a"), "c", "c", Some("d"))?,
-        named_heading(alloc, Some("a"), "b", "b", Some("d"))?,
-        named_heading(alloc, Some("a"), "b", "c", Some("e"))?,
-        named_heading(alloc, Some("a"), "b", "c", Some(""))?,
-        named_heading(alloc, Some("a"), "b", "c", None)?,
-        EventOf::End(TagEnd::Heading(HeadingLevel::H1)),
+    let rows = [
+        (Some(""), "b", "c", Some("")),
+        (Some("a"), "c", "c", Some("")),
+        (Some("a"), "b", "b", Some("")),
+        (Some("a"), "b", "c", Some("d")),
+        (Some("a"), "b", "c", None),
     ];
-    check_distinct(&rt, alloc, &events)
+    let first = named_heading(alloc, Some("a"), "b", "c", Some(""))?;
+    for (id, class, name, value) in &rows {
+        let other = named_heading(alloc, *id, *class, *name, *value)?;
+        check_differ(&rt, alloc, &first, &other)?;
+    }
+    Ok(())
 }
 
 #[test]
-fn blocks_differ(rt: HostRuntime) -> Result<(), Fail> {
+fn blocks_and_leaves_differ(rt: HostRuntime) -> Result<(), Fail> {
     let alloc = rt.alloc();
-    let a = String::from_str(alloc, "a")?;
-    let mut left = Vec::new(alloc);
-    left.push(Alignment::Left)?;
-    let mut right = Vec::new(alloc);
-    right.push(Alignment::Right)?;
+    let first = EventOf::Start(TagOf::List(Some(1)));
+    let second = EventOf::Start(TagOf::List(Some(2)));
+    check_differ(&rt, alloc, &first, &second)?;
+    let first = EventOf::Start(TagOf::CodeBlock(CodeBlockKindOf::Indented));
     let fenced = CodeBlockKindOf::Fenced(String::new(alloc));
-    let events = [
-        EventOf::Start(TagOf::CodeBlock(CodeBlockKindOf::Indented)),
-        EventOf::Start(TagOf::CodeBlock(fenced)),
-        EventOf::Start(TagOf::List(None)),
-        EventOf::Start(TagOf::List(Some(1))),
-        EventOf::Start(TagOf::List(Some(2))),
-        EventOf::Start(TagOf::FootnoteDefinition(a)),
-        EventOf::Start(TagOf::FootnoteDefinition(String::new(alloc))),
-        EventOf::Start(TagOf::Table(Vec::new(alloc))),
-        EventOf::Start(TagOf::Table(left)),
-        EventOf::Start(TagOf::Table(right)),
-        EventOf::Start(TagOf::BlockQuote(None)),
-        EventOf::Start(TagOf::Item),
-        EventOf::End(TagEnd::Item),
-    ];
-    check_distinct(&rt, alloc, &events)
+    check_differ(
+        &rt,
+        alloc,
+        &first,
+        &EventOf::Start(TagOf::CodeBlock(fenced)),
+    )?;
+    let first = text(alloc, "a")?;
+    check_differ(&rt, alloc, &first, &text(alloc, "b")?)?;
+    let code = EventOf::Code(String::from_str(alloc, "a")?);
+    check_differ(&rt, alloc, &first, &code)?;
+    check_differ(&rt, alloc, &EventOf::SoftBreak, &EventOf::HardBreak)?;
+    let checked = EventOf::TaskListMarker(true);
+    check_differ(&rt, alloc, &checked, &EventOf::TaskListMarker(false))
 }
 
 #[test]
-fn leaves_differ(rt: HostRuntime) -> Result<(), Fail> {
+fn lists_of_events_differ(rt: HostRuntime) -> Result<(), Fail> {
     let alloc = rt.alloc();
-    let events = [
-        text(alloc, "a")?,
-        text(alloc, "b")?,
-        text(alloc, "")?,
-        EventOf::Code(String::from_str(alloc, "a")?),
-        EventOf::InlineMath(String::from_str(alloc, "a")?),
-        EventOf::FootnoteReference(String::from_str(alloc, "a")?),
-        EventOf::SoftBreak,
-        EventOf::HardBreak,
-        EventOf::Rule,
-        EventOf::TaskListMarker(true),
-        EventOf::TaskListMarker(false),
-    ];
-    check_distinct(&rt, alloc, &events)?;
-    assert!(rt; same_events(&events, &events));
-    assert!(rt; !same_events(&events, &events[..10]));
-    assert!(rt; !same_events(&events[1..], &events[..10]));
-    assert!(rt; same_events(&events[..0], &events[11..]));
+    let one = [text(alloc, "a")?];
+    let soft = [text(alloc, "a")?, EventOf::SoftBreak];
+    let hard = [text(alloc, "a")?, EventOf::HardBreak];
+    assert!(rt; same_events(&soft, &soft));
+    assert!(rt; !same_events(&soft, &hard));
+    assert!(rt; !same_events(&soft, &one));
+    assert!(rt; !same_events(&one, &hard));
     Ok(())
 }
