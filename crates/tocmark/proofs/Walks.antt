@@ -10,7 +10,8 @@ use Rattle.tocmark_event.specs.declared.options.Error.{Error}
 use Rattle.tocmark_event.specs.declared.options.Error.TheVariants as error
 use Rattle.tocmark_spelling.specs.Buffered.{sourced}
 use Rattle.tocmark_event.specs.declared.event.flags.ParserOptions.{ParserOptions}
-use Rattle.tocmark_render.specs.Chosen.{DocumentView, Refuses, Gives}
+use Rattle.tocmark_render.specs.Document.{DocumentView}
+use Rattle.tocmark_render.specs.DocumentOf.{Refuses, Gives}
 use Rattle.tocmark.specs.StateView.{keeping}
 use Rattle.tocmark.specs.Ranges.{Pair, resolved, unranged}
 use Rattle.tocmark.specs.Walk.{Done, done, Kept, Rendering, Standing, Walk, go_on, stay, refuse, handed_text, hand_walk, nested, with_event, joins, flush_of, flushed, is_due, flushed_before, advance, step, walk, flushed_rest, ended_at, ended}

@@ -1,5 +1,5 @@
 -- What a state holds, as plain values.
-use Rattle.std.specs.Prelude.{◌≡◌, ℕ, ◌-◌, ◌^◌, ◌++◌, min, List, map, reverse, length, Result, Ok, Err, Option, string_bytes}
+use Rattle.std.specs.Prelude.{◌≡◌, ℕ, ◌-◌, ◌^◌, ◌++◌, min, List, map, reverse, length, Result, Ok, Err, Option, None, string_bytes}
 use Rattle.std.specs.Borrow.{Bor}
 use Rattle.std.specs.List.{sum_by}
 use Rattle.std.specs.Option.{option_map}
@@ -13,8 +13,13 @@ use Rattle.tocmark_event.specs.declared.event.flags.ParserOptions.{ParserOptions
 use Rattle.tocmark_event.specs.declared.event.text.CowStr.{CowStr}
 use Rattle.tocmark_event.specs.declared.options.Error.{Error}
 use Rattle.tocmark_spelling.specs.Buffered.{buffered_view, sourced}
-use Rattle.tocmark_render.specs.Chosen.{DocumentView, Refuses, document_view, document_flags, chosen, needs_placeholder, definitions}
-use Rattle.tocmark_render.specs.declared.render.Document.{Document}
+use Rattle.tocmark_spelling.specs.PlanOf.{setting_of}
+use Rattle.tocmark_render.specs.Definitions.{definitions_text}
+use Rattle.tocmark_render.specs.Document.{DocumentView}
+use Rattle.tocmark_render.specs.DocumentOf.{Refuses, document_view, document_flags}
+use Rattle.tocmark_render.specs.Spelled.{chosen_if_spelled}
+use Rattle.tocmark_render.specs.Units.{waits}
+use Rattle.tocmark_render.specs.declared.document.Document.{Document}
 use Rattle.tocmark.specs.declared.state.Progress.{Progress}
 use Rattle.tocmark.specs.declared.state.Held.{Held}
 use Rattle.tocmark.specs.declared.state.KeptOptions.{KeptOptions}
@@ -61,9 +66,9 @@ keeping flags (Err e) = Err e
 -- how units are written with these options and a reader with these readings
 abbrev pub rendering : OptionsView → (List ℕ → ParserOptions → ReadingView) → Rendering
 rendering options reading = record {
-  choice = λ kept unit next. keeping kept.flags (chosen (record { options = options; flags = kept.flags; reading = reading }) kept.document unit next);
-  waits = needs_placeholder;
-  definitions = λ kept. definitions kept.document;
+  choice = λ kept unit next. keeping kept.flags (chosen_if_spelled (setting_of options kept.flags reading None) kept.document unit next);
+  waits = waits;
+  definitions = λ kept. definitions_text kept.document.references kept.document.feeds;
 }
 
 -- a document with its flags

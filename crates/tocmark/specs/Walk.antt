@@ -6,7 +6,7 @@ use Rattle.tocmark_event.specs.declared.event.TagEnd.{TagEnd}
 use Rattle.tocmark_event.specs.declared.event.flags.ParserOptions.{ParserOptions}
 use Rattle.tocmark_event.specs.declared.options.Error.{Error}
 use Rattle.tocmark_event.specs.declared.options.Error.TheVariants as error
-use Rattle.tocmark_render.specs.Chosen.{DocumentView, new_document}
+use Rattle.tocmark_render.specs.Document.{DocumentView, first_document}
 use Rattle.tocmark.specs.Ranges.{Pair, resolved}
 
 -- a document: the parser's flags, and what earlier units left
@@ -137,7 +137,7 @@ beginning kept = record { pending = []; open_tags = []; document = kept; range_e
 
 -- what a new state stands at
 abbrev pub nothing_yet : ParserOptions → Standing
-nothing_yet flags = beginning (record { flags = flags; document = new_document })
+nothing_yet flags = beginning (record { flags = flags; document = first_document })
 
 -- all that is pending is written as one unit, if there is any
 abbrev pub flushed_rest : Rendering → List SourcedEvent → Standing → Walk Standing

@@ -9,7 +9,7 @@ ghost use Rattle.tocmark_event.specs.View.{event_view};
 ghost use Rattle.tocmark_event.specs.declared.event.EventOf.{EventOf};
 ghost use Rattle.tocmark_event.specs.declared.event.text.CowStr.{CowStr};
 ghost use Rattle.tocmark_spelling.specs.Buffered.{buffered_view, next_view, sourced};
-ghost use Rattle.tocmark_render.specs.Chosen.{Refuses};
+ghost use Rattle.tocmark_render.specs.DocumentOf.{Refuses};
 ghost use Rattle.tocmark.specs.Ranges.{Range, is_character_boundary, is_good_range, resolved_at, spelling_start};
 ghost use Rattle.tocmark.specs.Walk.{Standing, step, done, is_due, is_whole, nested, flushed, flushed_before, advance, joins, walk, hand_walk, flushed_rest, ended};
 ghost use Rattle.tocmark.specs.Writes.{Makes};
@@ -21,7 +21,8 @@ use std::fmt;
 use tocmark_event::event::{Event, EventOf, ParserOptions, TagEnd};
 use tocmark_event::options::{Error, Options};
 use tocmark_event::reader::Reader;
-use tocmark_render::render::{Document, needs_list_placeholder};
+use tocmark_render::document::Document;
+use tocmark_render::placeholder::needs_list_placeholder;
 use tocmark_spelling::same_events::end_number;
 use tocmark_spelling::spelling::BufferedEvent;
 
@@ -252,7 +253,8 @@ fn flush_before<R: Reader, W: Taker>(
     if !is_due_now(held) {
         return Ok(0);
     }
-    if needs_list_placeholder(&held.pending) {
+    let waits = needs_list_placeholder(tools.alloc, &held.pending)?;
+    if waits {
         held.is_deferred = true;
         return Ok(0);
     }

@@ -1,20 +1,19 @@
 -- What a reader found is compared with what it must find.
 use Rattle.std.proofs.Common.{◌≡◌, ℕ, Bool, true, false, List, [], ◌∷◌, map, refl, sym, ap, ◌∙◌, string_bytes}
-use Rattle.std.specs.Prelude.{◌&&◌, not, if◌then◌else◌, nat_eq, length, ◌++◌}
-use Rattle.std.proofs.lemmas.Bool.{false≢true, true≢false}
-use Rattle.tocmark_event.specs.declared.event.TagEnd.TheVariants as end
+use Rattle.std.specs.Prelude.{◌&&◌, not}
 use Rattle.std.specs.List.{list_any}
 use Rattle.tocmark_event.specs.Merged.{merged}
 use Rattle.tocmark_event.specs.Reading.{ReadingView, reading_view}
 use Rattle.tocmark_event.specs.Text.{text_of}
-use Rattle.tocmark_event.specs.View.{EventView, Start, End, Paragraph, SourcedEvent, event_view, unsourced}
+use Rattle.tocmark_event.specs.View.{EventView, SourcedEvent, event_view, unsourced}
 use Rattle.tocmark_event.specs.declared.event.EventOf.{EventOf}
+use Rattle.tocmark_event.specs.declared.event.flags.ParserOptions.{ParserOptions}
 use Rattle.tocmark_event.specs.declared.event.text.CowStr.{CowStr}
 use Rattle.tocmark_event.specs.declared.reader.Reading.{Reading}
 use Rattle.tocmark_spelling.specs.ById.{events_of}
 use Rattle.tocmark_spelling.specs.SameEvents.{same_events}
 use Rattle.tocmark_render.specs.Document.{is_among}
-use Rattle.tocmark_render.specs.ReadsBack.{in_paragraph, stands_alone}
+use Rattle.tocmark_render.specs.ReadsBack.{in_paragraph}
 
 -- a reader found these events in a reading, and no known label stays open
 abbrev pub finds : List (List ℕ) → List SourcedEvent → ReadingView → Bool
@@ -39,16 +38,7 @@ module _ (known : List (List ℕ)) (es : List SourcedEvent) (found expected : Li
       ap not (t ∙ ap (λ q. list_any (is_among known) q.unresolved) is_read)
       ∙ sym (ap (λ b. b && not (list_any (is_among known) q.unresolved)) (sym same ∙ h))
 
--- ---- inline events in a paragraph
-
-pub wrapped : (es : List EventView) → nat_eq (length es) 0 ≡ false → list_any stands_alone es ≡ false → in_paragraph es ≡ Start Paragraph ∷ es ++ End end.Paragraph ∷ []
-wrapped [] h a = absurd (true≢false h)
-wrapped (e ∷ es) h a = ap (λ b. if b then e ∷ es else Start Paragraph ∷ (e ∷ es) ++ End end.Paragraph ∷ []) a
-
-pub with-block : (es : List EventView) → list_any stands_alone es ≡ true → in_paragraph es ≡ es
-with-block [] a = refl
-with-block (e ∷ es) a = ap (λ b. if b then e ∷ es else Start Paragraph ∷ (e ∷ es) ++ End end.Paragraph ∷ []) a
-
-pub empty-paragraph : (es : List EventView) → nat_eq (length es) 0 ≡ true → in_paragraph es ≡ es
-empty-paragraph [] h = refl
-empty-paragraph (e ∷ es) h = absurd (false≢true h)
+-- what was asked of another name of the same text and flags
+pub finds-at : (known : List (List ℕ)) (es : List SourcedEvent) (reading : List ℕ → ParserOptions → ReadingView) (t text : List ℕ) (x flags : ParserOptions) (b asked : Bool) → t ≡ text → x ≡ flags → asked ≡ finds known es (reading t x) → asked ≡ b → finds known es (reading text flags) ≡ b
+finds-at known es reading t text x flags b asked et ex ea eb =
+    sym (ap (λ t. finds known es (reading t flags)) et) ∙ sym (ap (λ x. finds known es (reading t x)) ex) ∙ sym ea ∙ eb

@@ -12,7 +12,7 @@ ghost use Rattle.tocmark_render.specs.Waiting.{is_end, begins_empty_item, begins
 use crate::balance::are_balanced;
 use crate::read_back::is_inline_end;
 use std::alloc::{AllocError, Global};
-use tocmark_event::event::{EventOf, TagEnd, TagOf};
+use tocmark_event::event::{EventOf, TagOf};
 use tocmark_spelling::ends::matching_ends;
 use tocmark_spelling::spelling::BufferedEvent;
 

@@ -1,7 +1,7 @@
 use Rattle.std.proofs.Common.{◌≡◌, ap, [], ◌∙◌, sym, length, string_bytes, sum_by}
 use Rattle.std.proofs.lemmas.Result.{err_from_is_err_and, IfOk-weaker}
 use Rattle.tocmark_spelling.specs.Buffered.{next_view}
-use Rattle.tocmark_render.specs.Chosen.{document_view, document_flags}
+use Rattle.tocmark_render.specs.DocumentOf.{document_view, document_flags}
 use Rattle.tocmark.specs.Walk.{Walk, Standing, flushed, hand_walk}
 use Rattle.tocmark.specs.StateView.{standing_of, rendering_with, kept_of}
 use Rattle.tocmark.proofs.Walks.{flushed_ok, flushed_refused, keeping_ok, keeping_refused, sum_by-handed_text, Makes-at}

@@ -1,19 +1,16 @@
-use Rattle.std.proofs.Common.{◌≡◌, ◌∙◌, ap, sym, subst, map, string_bytes, None, [], Option, Some, true, false, refl, Ok, Result}
+use Rattle.std.proofs.Common.{◌∙◌, ap, sym, subst, map, string_bytes, None, [], refl, true, false, Ok}
 use Rattle.std.proofs.lemmas.Result.{err_from_is_err_and}
 use Rattle.tocmark_event.specs.Options.{options_view}
-use Rattle.tocmark_event.specs.View.{EventView}
-use Rattle.tocmark_spelling.specs.Buffered.{buffered_view, following_view, next_view}
+use Rattle.tocmark_spelling.specs.Buffered.{buffered_view, following_view}
 use Rattle.tocmark_spelling.specs.Machine.{around}
 use Rattle.tocmark_spelling.specs.Page.{Page}
 use Rattle.tocmark_spelling.specs.Plan.{Manner}
-use Rattle.tocmark_spelling.specs.PlanOf.{setting_of, manner_of}
+use Rattle.tocmark_spelling.specs.PlanOf.{setting_of}
 use Rattle.tocmark_spelling.specs.Rendered.{page_before, RenderedAt}
 use Rattle.tocmark_spelling.specs.Spelling.{spelling}
 use Rattle.tocmark_spelling.specs.WriterOf.{IsRefusal}
-use Rattle.tocmark_render.specs.Candidates.{preferred_manner}
-use Rattle.tocmark_render.specs.Choice.{Chosen, page_in}
-use Rattle.tocmark_render.specs.DocumentOf.{document_view, Refuses, Searches, Spells}
-use Rattle.tocmark_render.proofs.ReadBacks.{finds}
+use Rattle.tocmark_render.specs.DocumentOf.{document_view}
+use Rattle.tocmark_render.proofs.ReadBacks.{finds-at}
 use Rattle.tocmark_render.specs.ReadsBack.{flags_at}
 use Rattle.tocmark_render.proofs.SpelledUnits.{source_manner}
 use Rattle.tocmark_render.proofs.Documents.{source-unasked, source-refused, source-lost, source-found, kept-after}
@@ -48,9 +45,7 @@ returns-then-not-branch-clause-searched g c f spelled is =
     let Q : Page → Type 0 = λ p. RenderedAt text c.render_block.new.self (spelling s (source_manner s.options) f (around [] [] next) [] p) in
     (source-lost s d es f next is spelled text c.render_block.new.self refl (sym c.asks_source.ensures ∙ c.if-not-asks_source.false)
     (subst Q c.in_ok-renderer.ensures.page (subst P c.preferred_delimiters.ensures.sourced (c.in_ok-text.ensures.spelled None f spelled is)))
-    (sym (ap (λ t. finds d.known es (s.reading t (flags_at s d))) c.as_str.ensures.value)
-    ∙ sym (ap (λ x. finds d.known es (s.reading c.as_str.result.now x)) (c.reading_flags-flags.ensures s refl))
-    ∙ sym c.in_ok-reads_back.ensures ∙ c.if-not-branch.true), refl)
+    (finds-at d.known es s.reading c.as_str.result.now text c.reading_flags-flags.result (flags_at s d) true c.in_ok-reads_back.field-0 c.as_str.ensures.value (c.reading_flags-flags.ensures s refl) c.in_ok-reads_back.ensures c.if-not-branch.true), refl)
 
 pub returns-clause-searched : goal.returns-clause-searched
 returns-clause-searched g c f spelled is =
@@ -63,7 +58,5 @@ returns-clause-searched g c f spelled is =
     let Q : Page → Type 0 = λ p. RenderedAt text c.render_block.new.self (spelling s (source_manner s.options) f (around [] [] next) [] p) in
     source-found s d es f next is spelled text c.render_block.new.self refl (sym c.asks_source.ensures ∙ c.if-not-asks_source.false)
     (subst Q c.in_ok-renderer.ensures.page (subst P c.preferred_delimiters.ensures.sourced (c.in_ok-text.ensures.spelled None f spelled is)))
-    (sym (ap (λ t. finds d.known es (s.reading t (flags_at s d))) c.as_str.ensures.value)
-    ∙ sym (ap (λ x. finds d.known es (s.reading c.as_str.result.now x)) (c.reading_flags-flags.ensures s refl))
-    ∙ sym c.in_ok-reads_back.ensures ∙ c.if-not-branch.false)
+    (finds-at d.known es s.reading c.as_str.result.now text c.reading_flags-flags.result (flags_at s d) false c.in_ok-reads_back.field-0 c.as_str.ensures.value (c.reading_flags-flags.ensures s refl) c.in_ok-reads_back.ensures c.if-not-branch.false)
     ∙ sym (ap (λ v. Ok (text, v)) (c.in_ok-keep.ensures.kept ∙ kept-after s d c.render_block.new.self c.as_str-2.result.now text c.as_str-2.ensures.value))
