@@ -75,18 +75,73 @@ fn units_in_turn(rt: HostRuntime) -> Result<(), Fail> {
     Ok(())
 }
 
+/// A reader that takes each text for a paragraph with an `a`.
+#[derive(Clone, Copy, Debug)]
+struct OneLetter;
+
+impl Reader for OneLetter {
+    ghost reading = { λ _ _ _. record { events = (Start Paragraph, (0, 1)) ∷ (Leaf (Text (codes "a")), (0, 1)) ∷ (End TagEnd.Paragraph, (0, 1)) ∷ []; defined = []; unresolved = [] } };
+
+    fn read(
+        &self,
+        alloc: Global,
+        _text: &str,
+        _flags: ParserOptions,
+    ) -> Result<Reading, AllocError> {
+        let mut events = Vec::new(alloc);
+        events.push((Event::Start(TagOf::Paragraph), (0, 1)))?;
+        events.push((Event::Text(CowStr::Borrowed("a")), (0, 1)))?;
+        events.push((Event::End(TagEnd::Paragraph), (0, 1)))?;
+        Ok(Reading {
+            events,
+            defined: Vec::new(alloc),
+            unresolved: Vec::new(alloc),
+        })
+    }
+}
+
+/// What is written for a paragraph with this text, which is known in the source as `&#97;`.
+fn from_source(alloc: Global, text: &str, options: &Options<'_>) -> Result<String, Error> {
+    let source = Some(String::from_str(alloc, "&#97;")?);
+    let unit = paragraph(alloc, text, source)?;
+    let next: Option<&Event<'_>> = None;
+    let mut document = Document::new(alloc, ParserOptions(0));
+    document.block(alloc, &OneLetter, &unit, next, options)
+}
+
+#[test]
+fn texts_known_in_the_source(rt: HostRuntime) -> Result<(), Fail> {
+    let alloc = rt.alloc();
+    let read = from_source(alloc, "a", &Options::default())?;
+    assert_eq!(rt; read.as_str(), "&#97;");
+    let unread = from_source(alloc, "b", &Options::default())?;
+    assert_eq!(rt; unread.as_str(), "b");
+    let others = Options {
+        emphasis_token: '+',
+        ..Options::default()
+    };
+    let unchecked = from_source(alloc, "a", &others)?;
+    assert_eq!(rt; unchecked.as_str(), "a");
+    Ok(())
+}
+
+#[test]
+fn copies_of_a_document(rt: HostRuntime) -> Result<(), Fail> {
+    let alloc = rt.alloc();
+    let mut document = Document::new(alloc, ParserOptions(0));
+    let first = block(&mut document, alloc, &paragraph(alloc, "[a]", None)?)?;
+    assert_eq!(rt; first.as_str(), "\\[a\\]");
+    let mut copy = document.copied(alloc)?;
+    let second = block(&mut copy, alloc, &paragraph(alloc, "b", None)?)?;
+    assert_eq!(rt; second.as_str(), "\n\nb");
+    assert_eq!(rt; copy.finish(alloc)?.as_str(), "");
+    Ok(())
+}
+
 #[test]
 fn units_that_are_refused(rt: HostRuntime) -> Result<(), Fail> {
     let alloc = rt.alloc();
     let mut document = Document::new(alloc, ParserOptions(0));
-    let source = Some(String::from_str(alloc, "&#97;")?);
-    let known = paragraph(alloc, "a", source)?;
-    assert!(rt;
-        matches!(
-            block(&mut document, alloc, &known),
-            Err(Error::UnexpectedEvent)
-        )
-    );
     let rule = [unsourced(EventOf::Rule)];
     assert!(rt;
         matches!(

@@ -1,18 +1,10 @@
-use Rattle.std.proofs.Common.{◌≡◌, ◌∙◌, ap, sym, subst, map, string_bytes, None, [], Option, Some, true, false, refl, Ok, Result}
-use Rattle.std.proofs.lemmas.Result.{err_from_is_err_and}
+use Rattle.std.proofs.Common.{◌∙◌, sym, subst, map, None, Option}
 use Rattle.tocmark_event.specs.Options.{options_view}
 use Rattle.tocmark_event.specs.View.{EventView}
-use Rattle.tocmark_spelling.specs.Buffered.{buffered_view, following_view, next_view}
-use Rattle.tocmark_spelling.specs.Machine.{around}
-use Rattle.tocmark_spelling.specs.Page.{Page}
-use Rattle.tocmark_spelling.specs.Plan.{Manner}
-use Rattle.tocmark_spelling.specs.PlanOf.{setting_of, manner_of}
-use Rattle.tocmark_spelling.specs.Rendered.{page_before, RenderedAt}
-use Rattle.tocmark_spelling.specs.Spelling.{spelling}
-use Rattle.tocmark_spelling.specs.WriterOf.{IsRefusal}
-use Rattle.tocmark_render.specs.Candidates.{preferred_manner}
-use Rattle.tocmark_render.specs.Choice.{Chosen, choice, page_in}
-use Rattle.tocmark_render.specs.DocumentOf.{document_view, Refuses, Searches, Spells}
+use Rattle.tocmark_spelling.specs.Buffered.{buffered_view, next_view}
+use Rattle.tocmark_spelling.specs.PlanOf.{setting_of}
+use Rattle.tocmark_render.specs.Choice.{Chosen, choice}
+use Rattle.tocmark_render.specs.DocumentOf.{document_view, Spells}
 use Rattle.tocmark_render.proofs.Documents.{unspelled-refused, unbalanced-refused, by-forest}
 use Rattle.tocmark_render.proofs.document.Document.block.Goals as goal
 

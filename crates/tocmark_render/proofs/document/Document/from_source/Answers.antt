@@ -45,7 +45,7 @@ returns-then-not-branch-clause-searched g c f spelled is =
     let Q : Page → Type 0 = λ p. RenderedAt text c.render_block.new.self (spelling s (source_manner s.options) f (around [] [] next) [] p) in
     (source-lost s d es f next is spelled text c.render_block.new.self refl (sym c.asks_source.ensures ∙ c.if-not-asks_source.false)
     (subst Q c.in_ok-renderer.ensures.page (subst P c.preferred_delimiters.ensures.sourced (c.in_ok-text.ensures.spelled None f spelled is)))
-    (finds-at d.known es s.reading c.as_str.result.now text c.reading_flags-flags.result (flags_at s d) true c.in_ok-reads_back.field-0 c.as_str.ensures.value (c.reading_flags-flags.ensures s refl) c.in_ok-reads_back.ensures c.if-not-branch.true), refl)
+    (finds-at d.known es s.reading c.as_str.result.now text c.reading_flags-flags.result (flags_at s d) false c.in_ok-reads_back.field-0 c.as_str.ensures.value (c.reading_flags-flags.ensures s refl) c.in_ok-reads_back.ensures c.if-not-branch.true), refl)
 
 pub returns-clause-searched : goal.returns-clause-searched
 returns-clause-searched g c f spelled is =
@@ -58,5 +58,5 @@ returns-clause-searched g c f spelled is =
     let Q : Page → Type 0 = λ p. RenderedAt text c.render_block.new.self (spelling s (source_manner s.options) f (around [] [] next) [] p) in
     source-found s d es f next is spelled text c.render_block.new.self refl (sym c.asks_source.ensures ∙ c.if-not-asks_source.false)
     (subst Q c.in_ok-renderer.ensures.page (subst P c.preferred_delimiters.ensures.sourced (c.in_ok-text.ensures.spelled None f spelled is)))
-    (finds-at d.known es s.reading c.as_str.result.now text c.reading_flags-flags.result (flags_at s d) false c.in_ok-reads_back.field-0 c.as_str.ensures.value (c.reading_flags-flags.ensures s refl) c.in_ok-reads_back.ensures c.if-not-branch.false)
+    (finds-at d.known es s.reading c.as_str.result.now text c.reading_flags-flags.result (flags_at s d) true c.in_ok-reads_back.field-0 c.as_str.ensures.value (c.reading_flags-flags.ensures s refl) c.in_ok-reads_back.ensures c.if-not-branch.false)
     ∙ sym (ap (λ v. Ok (text, v)) (c.in_ok-keep.ensures.kept ∙ kept-after s d c.render_block.new.self c.as_str-2.result.now text c.as_str-2.ensures.value))
