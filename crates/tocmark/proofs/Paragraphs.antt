@@ -1,31 +1,38 @@
--- What is handed for a paragraph with one text.
-use Rattle.std.proofs.Common.{◌≡◌, ℕ, List, [], ◌∷◌, ◌++◌, None, Some, Ok, Bool, true, Result, refl, sym, ap, ◌∙◌, chars, append-nil}
+-- What is handed for a paragraph with one text or one code span.
+use Rattle.std.proofs.Common.{◌≡◌, ℕ, List, [], ◌∷◌, ◌++◌, if◌then◌else◌, None, Some, Ok, Bool, true, false, Result, refl, sym, ap, ◌∙◌, chars, append-nil, append_assoc}
+use Rattle.std.specs.Prelude.{◌&&◌, ◌<◌, length, nat_lt}
 use Rattle.std.specs.List.{concat}
 use Rattle.tocmark_event.specs.Forest.{empty, leaf, node, flat}
 use Rattle.tocmark_event.specs.Options.{OptionsView}
 use Rattle.tocmark_event.specs.Reading.{ReadingView}
-use Rattle.tocmark_event.specs.View.{Paragraph, Text}
+use Rattle.tocmark_event.specs.View.{Paragraph, LeafView, Text, Code, End}
+use Rattle.tocmark_event.specs.declared.event.TagEnd.TheVariants as end
 use Rattle.tocmark_event.specs.declared.event.flags.ParserOptions.{ParserOptions}
 use Rattle.tocmark_event.specs.declared.options.Error.{Error}
 use Rattle.tocmark_spelling.specs.Body.{Trees}
 use Rattle.tocmark_spelling.specs.Closing.{closing}
 use Rattle.tocmark_spelling.specs.Escape.{Place, escaped}
 use Rattle.tocmark_spelling.specs.Opening.{opening}
+use Rattle.tocmark_spelling.specs.ById.{by_id}
+use Rattle.tocmark_spelling.specs.Leaves.{code_span, unspan}
+use Rattle.tocmark_spelling.specs.Marker.{marker}
+use Rattle.tocmark_spelling.specs.Runs.{prefers_underscore}
+use Rattle.tocmark_spelling.specs.Page.{Sheet, laid, lead, put_byte}
 use Rattle.tocmark_spelling.specs.PlanOf.{setting_of}
-use Rattle.tocmark_spelling.specs.Spelled.{is_spelled_forest}
+use Rattle.tocmark_spelling.specs.Spelled.{is_spelled_leaf, is_spelled_forest}
 use Rattle.tocmark_spelling.specs.Spelling.{spelling}
 use Rattle.tocmark_spelling.specs.Stretch.{leaf_on}
 use Rattle.tocmark_spelling.specs.Unescape.{unescape}
 use Rattle.tocmark_render.specs.Choice.{choice, preferred, spelled, document_after}
 use Rattle.tocmark_render.specs.Definitions.{definitions_text}
 use Rattle.tocmark_render.specs.Document.{DocumentView, first_document}
-use Rattle.tocmark_render.specs.Spelled.{chosen_if_spelled}
+use Rattle.tocmark_render.specs.Spelled.{choice_if, chosen_if_spelled}
 use Rattle.tocmark_render.specs.Units.{waits}
 use Rattle.tocmark_render.proofs.Forests.{chosen-flat}
 use Rattle.tocmark_render.proofs.SpelledUnits.{choice-unasked}
-use Rattle.tocmark.specs.Paragraphs.{ReadsAs, paragraph_of}
-use Rattle.tocmark.specs.StateView.{rendering}
-use Rattle.tocmark.specs.Walk.{Kept, Standing, done, flush_of, handed_text, nothing_yet, script, joins, flushed, flushed_before, advance, step, ended}
+use Rattle.tocmark.specs.Paragraphs.{ReadsAs, ReadsAsSpan, paragraph_with, paragraph_of}
+use Rattle.tocmark.specs.StateView.{keeping, rendering}
+use Rattle.tocmark.specs.Walk.{Standing, Walk, Done, done, flush_of, go_on, hand_walk, handed_text, nothing_yet, script, joins, flushed, flushed_before, advance, step, ended}
 
 -- a text that is handed, and then none
 handed : (text : List ℕ) → concat (handed_text text ++ []) ≡ text
@@ -33,18 +40,94 @@ handed [] = refl
 handed (b ∷ bs) = append-nil (b ∷ bs)
 
 -- the unit
-abbrev unit : List ℕ → Trees
-unit text = node Paragraph (leaf (record { leaf = Text text; source = None }) empty) empty
+abbrev unit : LeafView → Trees
+unit l = node Paragraph (leaf (record { leaf = l; source = None }) empty) empty
+
+either-way : (b : Bool) (xs : List ℕ) → (if b then xs else xs) ≡ xs
+either-way true xs = refl
+either-way false xs = refl
+
+-- a text that is laid with no prefix
+laid-plain : (text : List ℕ) (s : Sheet) → (laid [] text s).text ≡ s.text ++ text
+laid-plain [] s = sym (append-nil s.text)
+laid-plain (b ∷ bs) s =
+    laid-plain bs (put_byte [] b s)
+    ∙ ap (λ x. ((s.text ++ x) ++ b ∷ []) ++ bs) (either-way (nat_lt 0 s.feeds) [])
+    ∙ ap (λ t. (t ++ b ∷ []) ++ bs) (append-nil s.text)
+    ∙ append_assoc s.text (b ∷ []) bs
+
+forest-spelled : (l : LeafView) → is_spelled_leaf l ≡ true → is_spelled_forest (unit l) ≡ true
+unfolding is_spelled_forest
+forest-spelled l h = ap (λ b. (b && true) && true) h
+
+-- the sheet on which the first unit begins
+abbrev blank : Sheet
+blank = record { text = []; feeds = 0 }
 
 module _ (o : OptionsView) (reading : List ℕ → ParserOptions → ReadingView) (flags : ParserOptions) where
-  -- the preferred spelling of it
-  pub written : (text : List ℕ) → (place : Place) × (place.token ≡ o.emphasis_token) × (d : DocumentView) × (definitions_text d.references d.feeds ≡ [])
-      × (preferred (setting_of o flags reading None) first_document (unit text) None ≡ Ok (escaped place text, d))
-  unfolding spelled spelling opening closing leaf_on document_after definitions_text
-  written text = (_, refl, _, refl, refl)
+  -- the place of the text
+  abbrev place_in : Place
+  place_in = record { flags = flags; token = o.emphasis_token; literal = false; first_encoded = false; last_encoded = false; at_front = true; in_table = false; in_heading = false; next = Some (End end.Paragraph) }
 
-  chosen-preferred : (text : List ℕ) → chosen_if_spelled (setting_of o flags reading None) first_document (flat (unit text)) None ≡ preferred (setting_of o flags reading None) first_document (unit text) None
-  unfolding is_spelled_forest
-  chosen-preferred text =
-      chosen-flat (setting_of o flags reading None) first_document (unit text) None
-      ∙ choice-unasked (setting_of o flags reading None) first_document (unit text) None refl refl
+  -- the preferred spelling of the unit is a text that is laid with no prefix, and leaves no definition
+  pub record IsWritten (l : LeafView) (text : List ℕ) : Type 0 where
+    pub document : DocumentView
+    pub undefined : definitions_text document.references document.feeds ≡ []
+    pub preferred_is : preferred (setting_of o flags reading None) first_document (unit l) None ≡ Ok ((laid [] text blank).text, document)
+
+  written-text : (text : List ℕ) → IsWritten (Text text) (escaped place_in text)
+  unfolding spelled spelling opening closing leaf_on document_after definitions_text prefers_underscore by_id marker
+  written-text text = record { document = _; undefined = refl; preferred_is = refl }
+
+  written-code : (text : List ℕ) → IsWritten (Code text) (code_span false text)
+  unfolding spelled spelling opening closing leaf_on document_after definitions_text prefers_underscore by_id marker
+  written-code text = record { document = _; undefined = refl; preferred_is = refl }
+
+  chosen-preferred : (l : LeafView) → is_spelled_leaf l ≡ true → chosen_if_spelled (setting_of o flags reading None) first_document (flat (unit l)) None ≡ preferred (setting_of o flags reading None) first_document (unit l) None
+  chosen-preferred l h =
+      let s = setting_of o flags reading None in
+      let is = forest-spelled l h in
+      chosen-flat s first_document (unit l) None ∙ ap (λ b. choice_if b s first_document (unit l) None) is ∙ choice-unasked s first_document (unit l) None is refl
+
+  -- where the unit waits
+  abbrev waiting : LeafView → Standing
+  waiting l = record { pending = flat (unit l); open_tags = []; document = record { flags = flags; document = first_document }; range_end = 0; is_deferred = false }
+
+  -- what the end comes to, by what is chosen for the unit
+  abbrev ended_as : LeafView → Result (List ℕ × DocumentView) Error → Walk Done
+  ended_as l r =
+      go_on (flush_of (waiting l) (keeping flags r)).texts (flush_of (waiting l) (keeping flags r)).outcome (λ t. hand_walk (definitions_text t.document.document.references t.document.document.feeds) done)
+
+  scripted : (source : List ℕ) (l : LeafView) → script (rendering o reading) source (nothing_yet flags) (paragraph_with l) ≡ ended_as l (chosen_if_spelled (setting_of o flags reading None) first_document (flat (unit l)) None)
+  unfolding joins flushed flushed_before advance step ended
+  scripted source l = refl
+
+  made : (source : List ℕ) (l : LeafView) (text : List ℕ) → is_spelled_leaf l ≡ true → IsWritten l text → script (rendering o reading) source (nothing_yet flags) (paragraph_with l) ≡ record { texts = handed_text text ++ []; outcome = Ok done }
+  made source l text h w =
+      scripted source l
+      ∙ ap (ended_as l) (chosen-preferred l h ∙ w.preferred_is ∙ ap (λ t. Ok (t, w.document)) (laid-plain text blank))
+      ∙ ap (λ defs. record { texts = handed_text text ++ handed_text defs; outcome = Ok done }) w.undefined
+
+  pub read_back : (source text : List ℕ)
+      → ((place : Place) → place.token ≡ o.emphasis_token → unescape (chars (escaped place text)) ≡ chars text)
+      → ReadsAs text (script (rendering o reading) source (nothing_yet flags) (paragraph_of text))
+  read_back source text law =
+      let m = made source (Text text) (escaped place_in text) refl (written-text text) in
+      let texts = ap (λ (w : Walk Done). concat w.texts) m ∙ handed (escaped place_in text) in
+      record {
+        ends_well = ap (λ (w : Walk Done). w.outcome) m;
+        place = place_in;
+        escape = texts;
+        read = ap (λ t. unescape (chars t)) texts ∙ law place_in refl;
+      }
+
+  pub span_read_back : (source text : List ℕ) → (0 < length text → unspan (code_span false text) ≡ Some text)
+      → ReadsAsSpan text (script (rendering o reading) source (nothing_yet flags) (paragraph_with (Code text)))
+  span_read_back source text law =
+      let m = made source (Code text) (code_span false text) refl (written-code text) in
+      let texts = ap (λ (w : Walk Done). concat w.texts) m ∙ handed (code_span false text) in
+      record {
+        ends_well = ap (λ (w : Walk Done). w.outcome) m;
+        span = texts;
+        read = λ h. ap unspan texts ∙ law h;
+      }

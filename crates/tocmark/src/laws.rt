@@ -4,15 +4,16 @@ ghost use Rattle.std.specs.Prelude.{◌≡◌, ◌≢◌, ◌++◌, All, IsTrue,
 ghost use Rattle.std.specs.Char.{char_set_contains};
 ghost use Rattle.tocmark_event.specs.Forest.{IsBalanced, IsReading};
 ghost use Rattle.tocmark_event.specs.Options.{OptionsView};
+ghost use Rattle.tocmark_event.specs.View.{Code};
 ghost use Rattle.tocmark_event.specs.Reading.{ReadingView};
 ghost use Rattle.tocmark_event.specs.declared.event.flags.ParserOptions.{ParserOptions};
-ghost use Rattle.tocmark.specs.Paragraphs.{ReadsAs, paragraph_of};
+ghost use Rattle.tocmark.specs.Paragraphs.{ReadsAs, ReadsAsSpan, paragraph_of, paragraph_with};
 ghost use Rattle.tocmark.specs.Ranges.{Pair};
 ghost use Rattle.tocmark.specs.Trees.{Trees, ranged, then_ranged, walk_trees};
 ghost use Rattle.tocmark.specs.StateView.{rendering};
 ghost use Rattle.tocmark.specs.Walk.{Kept, Rendering, Standing, beginning, go_on, nothing_yet, script, walk};
 
-use tocmark_spelling::laws::escapes_read_back;
+use tocmark_spelling::laws::{code_spans_read_back, escapes_read_back};
 
 /// What later events add depends on where the earlier ones stand alone, whatever a unit comes to.
 pub fn cuts_are_free()
@@ -44,4 +45,13 @@ pub fn a_paragraph_is_read_back()
         ReadsAs text (script (rendering options reading) source (nothing_yet flags) (paragraph_of text)) }
 {
     escapes_read_back();
+}
+
+/// For one paragraph with one code span, texts are handed that join to the span of its text, which is read
+/// as the text if that isn't empty: under all options and flags, over each reader.
+pub fn a_code_span_is_read_back()
+    ensures { (options : OptionsView) (reading : List ℕ → ParserOptions → ReadingView) (flags : ParserOptions) (source text : List ℕ) →
+        ReadsAsSpan text (script (rendering options reading) source (nothing_yet flags) (paragraph_with (Code text))) }
+{
+    code_spans_read_back();
 }

@@ -58,7 +58,7 @@ mod tests {
     use super::*;
     use std::process::Abort;
     use std::test::Fail;
-    use tocmark_event::event::TagOf;
+    use tocmark_event::event::{HeadingLevel, TagOf};
 
     /// Whether these events, as a unit, are balanced.
     fn balanced(alloc: Global, events: &[OwnedEvent]) -> Result<bool, AllocError> {

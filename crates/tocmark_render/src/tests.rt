@@ -1,13 +1,16 @@
 //! Units of a document, one after the other.
 
-ghost use Rattle.std.specs.Prelude.{[], ◌∷◌};
+ghost use Rattle.std.specs.Prelude.{[], ◌∷◌, codes};
+ghost use Rattle.tocmark_event.specs.View.{Start, End, Leaf, Paragraph, Text};
 
 use crate::document::Document;
 use crate::placeholder::needs_list_placeholder;
 use std::alloc::{AllocError, Global};
 use std::process::Abort;
 use std::test::Fail;
-use tocmark_event::event::{Event, EventOf, OwnedEvent, ParserOptions, TagEnd, TagOf};
+use tocmark_event::event::{
+    CowStr, Event, EventOf, OwnedEvent, ParserOptions, TagEnd, TagOf,
+};
 use tocmark_event::options::{Error, Options};
 use tocmark_event::reader::{Reader, Reading};
 use tocmark_spelling::spelling::BufferedEvent;
