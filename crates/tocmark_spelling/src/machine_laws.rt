@@ -3,6 +3,7 @@
 ghost use Rattle.std.specs.Prelude.{◌≡◌, [], Option, true};
 ghost use Rattle.tocmark_event.specs.View.{EventView};
 ghost use Rattle.tocmark_event.specs.Forest.{flat};
+ghost use Rattle.tocmark_spelling.specs.Ahead.{AreSeen};
 ghost use Rattle.tocmark_spelling.specs.Body.{Trees};
 ghost use Rattle.tocmark_spelling.specs.Plan.{Setting, Manner};
 ghost use Rattle.tocmark_spelling.specs.Page.{Page, Site, Around};
@@ -22,4 +23,10 @@ pub fn machine_follows_trees()
 /// A unit of paragraphs, headings, texts and soft breaks alone needs no definition.
 pub fn plain_units_need_no_definitions()
     ensures { (s : Setting) (m : Manner) (f : Trees) (a : Around) (p : Page) → is_spelled_forest f ≡ true → NeedsNone (spelling s m f a [] p) p }
+{}
+
+/// What the opening of a container is told of its children and of what stands round it is a function of
+/// the flat events before its Start and behind it.
+pub fn looks_are_of_the_list()
+    ensures { (s : Setting) (m : Manner) (next : Option EventView) (f : Trees) → AreSeen s m next f }
 {}

@@ -1,0 +1,100 @@
+-- What is asked of the events round a container, in trees and in the flat list.
+use Rattle.std.proofs.Common.{◌≡◌, ℕ, zero, suc, Option, List, [], ◌∷◌, ◌++◌, refl, sym, ap, ◌∙◌, take, drop, reverse, subst}
+use Rattle.std.proofs.lemmas.List.{reverse-append, append_assoc}
+use Rattle.tocmark_event.specs.View.{TagView, SourcedEvent, EventView, Start, End, Leaf, end_of}
+use Rattle.tocmark_event.specs.declared.event.TagEnd.{TagEnd}
+use Rattle.tocmark_event.specs.Forest.{empty, leaf, node, flat_onto, flat}
+use Rattle.tocmark_spelling.specs.Plan.{Setting, Manner}
+use Rattle.tocmark_spelling.specs.Body.{Trees, back_onto}
+use Rattle.tocmark_spelling.specs.Look.{look}
+use Rattle.tocmark_spelling.specs.Runs.{opening_run, closing_run, run_at, close_width, tag_width}
+use Rattle.tocmark_spelling.specs.Machine.{kids_of, around}
+use Rattle.tocmark_spelling.specs.Scans.{span}
+use Rattle.tocmark_spelling.specs.Ahead.{behind_body, up_to_end, IsNested, AreNested, opening_ahead, closing_ahead, AreSeen}
+use Rattle.tocmark_spelling.proofs.Follows.{kids-flat}
+
+-- behind a body
+
+drop-flat : (f : Trees) (d : ℕ) (r : List SourcedEvent) → drop (suc (span d (flat_onto f r))) (flat_onto f r) ≡ drop (suc (span d r)) r
+drop-flat empty d r = refl
+drop-flat (leaf l f) zero r = drop-flat f zero r
+drop-flat (leaf l f) (suc d) r = drop-flat f (suc d) r
+drop-flat (node t kids f) d r = drop-flat kids (suc d) (End (end_of t) ∷ flat_onto f r) ∙ drop-flat f d r
+
+pub behind-body : (kids : Trees) (k : TagEnd) (after : List SourcedEvent) → behind_body (flat_onto kids (End k ∷ after)) ≡ after
+behind-body kids k after = drop-flat kids 0 (End k ∷ after)
+
+reverse-cons : (e : SourcedEvent) (es before : List SourcedEvent) → reverse (e ∷ es) ++ before ≡ reverse es ++ e ∷ before
+reverse-cons e es before = ap (λ x. x ++ before) (reverse-append (e ∷ []) es) ∙ append_assoc (reverse es) (e ∷ []) before
+
+-- the events before the End at a depth
+abbrev front_part : ℕ → List SourcedEvent → List SourcedEvent
+front_part d es = take (span d es) es
+
+take-flat : (f : Trees) (d : ℕ) (r before : List SourcedEvent) → reverse (front_part d (flat_onto f r)) ++ before ≡ reverse (front_part d r) ++ back_onto f before
+take-flat empty d r before = refl
+take-flat (leaf l f) zero r before = reverse-cons (Leaf l) (front_part 0 (flat_onto f r)) before ∙ take-flat f zero r (Leaf l ∷ before)
+take-flat (leaf l f) (suc d) r before = reverse-cons (Leaf l) (front_part (suc d) (flat_onto f r)) before ∙ take-flat f (suc d) r (Leaf l ∷ before)
+take-flat (node t kids f) d r before =
+    let right : List SourcedEvent = flat_onto f r in
+    let within : List SourcedEvent = back_onto kids (Start t ∷ before) in
+    reverse-cons (Start t) (front_part (suc d) (flat_onto kids (End (end_of t) ∷ right))) before
+    ∙ take-flat kids (suc d) (End (end_of t) ∷ right) (Start t ∷ before)
+    ∙ reverse-cons (End (end_of t)) (front_part d right) within
+    ∙ take-flat f d r (End (end_of t) ∷ within)
+
+pub up-to-end : (kids : Trees) (k : TagEnd) (before after : List SourcedEvent) → up_to_end before (flat_onto kids (End k ∷ after)) ≡ back_onto kids before
+up-to-end kids k before after = take-flat kids 0 (End k ∷ after) before
+
+-- each Start of a forest's list is closed
+
+nested-flat : (t : TagView) (kids : Trees) (after : List SourcedEvent) → IsNested t (flat_onto kids (End (end_of t) ∷ after))
+nested-flat t kids after =
+    ap (λ es. flat_onto kids (End (end_of t) ∷ es)) (sym (behind-body kids (end_of t) after))
+    ∙ ap (λ k. flat_onto k (End (end_of t) ∷ behind_body (flat_onto kids (End (end_of t) ∷ after)))) (sym (kids-flat kids (end_of t) after))
+
+nested-onto : (f : Trees) (r : List SourcedEvent) → AreNested r → AreNested (flat_onto f r)
+nested-onto empty r h = h
+nested-onto (leaf l f) r h = nested-onto f r h
+nested-onto (node t kids f) r h = (nested-flat t kids (flat_onto f r), nested-onto kids (End (end_of t) ∷ flat_onto f r) (nested-onto f r h))
+
+nested-rest : (e : SourcedEvent) (es : List SourcedEvent) → AreNested (e ∷ es) → AreNested es
+nested-rest (Start t) es h = h.1
+nested-rest (End k) es h = h
+nested-rest (Leaf l) es h = h
+
+nested-drop : (es : List SourcedEvent) (i : ℕ) → AreNested es → AreNested (drop i es)
+nested-drop es zero h = h
+nested-drop [] (suc i) h = tt
+nested-drop (e ∷ es) (suc i) h = nested-drop es i (nested-rest e es h)
+
+-- at each place of a forest's list
+pub nested-at : (f : Trees) (i : ℕ) → AreNested (drop i (flat f))
+nested-at f i = nested-drop (flat f) i (nested-onto f [] tt)
+
+-- the runs
+
+opening-flat : (t : TagView) (kids : Trees) (before after : List SourcedEvent) (next : Option EventView) → opening_run t kids (around before after next) ≡ opening_ahead t before (flat_onto kids (End (end_of t) ∷ after))
+opening-flat t kids before after next = refl
+
+closing-flat : (t : TagView) (kids : Trees) (before after : List SourcedEvent) (next : Option EventView) → closing_run t kids (around before after next) ≡ closing_ahead t before (flat_onto kids (End (end_of t) ∷ after))
+closing-flat t kids before after next =
+    ap (λ b. run_at close_width (tag_width t) b after) (sym (up-to-end kids (end_of t) (Start t ∷ before) after))
+    ∙ ap (λ a. run_at close_width (tag_width t) (up_to_end (Start t ∷ before) (flat_onto kids (End (end_of t) ∷ after))) a) (sym (behind-body kids (end_of t) after))
+
+-- a container in the flat list
+module _ (s : Setting) (m : Manner) (t : TagView) (before rest : List SourcedEvent) (next : Option EventView) (nested : IsNested t rest) where
+  pub opening-look : (look s m t (kids_of rest) (around before (behind_body rest) next)).opening ≡ opening_ahead t before rest
+  opening-look = opening-flat t (kids_of rest) before (behind_body rest) next ∙ ap (λ es. opening_ahead t before es) (sym nested)
+
+  pub closing-look : (look s m t (kids_of rest) (around before (behind_body rest) next)).closing ≡ closing_ahead t before rest
+  closing-look = closing-flat t (kids_of rest) before (behind_body rest) next ∙ ap (λ es. closing_ahead t before es) (sym nested)
+
+nested-start : (t : TagView) (rest es : List SourcedEvent) → AreNested es → es ≡ Start t ∷ rest → IsNested t rest
+nested-start t rest es h e = (subst AreNested e h).0
+
+pub all-seen : (s : Setting) (m : Manner) (next : Option EventView) (f : Trees) → AreSeen s m next f
+all-seen s m next f i t rest e =
+    let before : List SourcedEvent = reverse (take i (flat f)) in
+    let nested : IsNested t rest = nested-start t rest (drop i (flat f)) (nested-at f i) e in
+    record { opening = opening-look s m t before rest next nested; closing = closing-look s m t before rest next nested }
