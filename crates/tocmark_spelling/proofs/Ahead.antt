@@ -1,16 +1,17 @@
 -- What is asked of the events round a container, in trees and in the flat list.
-use Rattle.std.proofs.Common.{◌≡◌, ℕ, zero, suc, Option, List, [], ◌∷◌, ◌++◌, refl, sym, ap, ◌∙◌, take, drop, reverse, subst}
+use Rattle.std.proofs.Common.{◌≡◌, if◌then◌else◌, ℕ, zero, suc, ◌+◌, false, Option, List, [], ◌∷◌, ◌++◌, refl, sym, ap, ◌∙◌, take, drop, reverse, subst}
 use Rattle.std.proofs.lemmas.List.{reverse-append, append_assoc}
 use Rattle.tocmark_event.specs.View.{TagView, SourcedEvent, EventView, Start, End, Leaf, end_of}
 use Rattle.tocmark_event.specs.declared.event.TagEnd.{TagEnd}
 use Rattle.tocmark_event.specs.Forest.{empty, leaf, node, flat_onto, flat}
 use Rattle.tocmark_spelling.specs.Plan.{Setting, Manner}
 use Rattle.tocmark_spelling.specs.Body.{Trees, back_onto}
+use Rattle.tocmark_spelling.specs.Kinds.{is_emphasis_or_strong}
 use Rattle.tocmark_spelling.specs.Look.{look}
-use Rattle.tocmark_spelling.specs.Runs.{opening_run, closing_run, run_at, close_width, tag_width}
-use Rattle.tocmark_spelling.specs.Machine.{kids_of, around}
+use Rattle.tocmark_spelling.specs.Runs.{opening_run, closing_run, run_at, close_width, tag_width, added_width, width_within}
+use Rattle.tocmark_spelling.specs.Machine.{layers, with_node, kids_of, around}
 use Rattle.tocmark_spelling.specs.Scans.{span}
-use Rattle.tocmark_spelling.specs.Ahead.{behind_body, up_to_end, IsNested, AreNested, opening_ahead, closing_ahead, AreSeen}
+use Rattle.tocmark_spelling.specs.Ahead.{behind_body, up_to_end, IsNested, AreNested, opening_ahead, closing_ahead, ends_here, first_width, width_in, width_ahead_of, AreSeen}
 use Rattle.tocmark_spelling.proofs.Follows.{kids-flat}
 
 -- behind a body
@@ -82,6 +83,65 @@ closing-flat t kids before after next =
     ap (λ b. run_at close_width (tag_width t) b after) (sym (up-to-end kids (end_of t) (Start t ∷ before) after))
     ∙ ap (λ a. run_at close_width (tag_width t) (up_to_end (Start t ∷ before) (flat_onto kids (End (end_of t) ∷ after))) a) (sym (behind-body kids (end_of t) after))
 
+-- the width
+
+-- what stands behind the innermost container's End, if it has one
+abbrev right_of : List Trees → Trees
+right_of [] = empty
+right_of (f ∷ fs) = f
+
+first-node : (t : TagView) (kids : Trees) (fs : List Trees) → (with_node t kids fs).inner ≡ node t kids (right_of fs)
+first-node t kids [] = refl
+first-node t kids (f ∷ fs) = refl
+
+-- the trees behind so many Ends
+abbrev outer_at : ℕ → List Trees → Trees
+outer_at d [] = empty
+outer_at zero (f ∷ fs) = f
+outer_at (suc d) (f ∷ fs) = outer_at d fs
+
+outer-node : (t : TagView) (d : ℕ) (kids : Trees) (fs : List Trees) → outer_at (suc d) fs ≡ outer_at d (with_node t kids fs).outer
+outer-node t d kids [] = refl
+outer-node t d kids (f ∷ fs) = refl
+
+outer-right : (fs : List Trees) → outer_at 0 fs ≡ right_of fs
+outer-right [] = refl
+outer-right (f ∷ fs) = refl
+
+outer-layers : (es : List SourcedEvent) (d : ℕ) → outer_at d (layers es).outer ≡ kids_of (drop (suc (span d es)) es)
+outer-layers [] zero = refl
+outer-layers [] (suc d) = refl
+outer-layers (Leaf l ∷ es) zero = outer-layers es zero
+outer-layers (Leaf l ∷ es) (suc d) = outer-layers es (suc d)
+outer-layers (Start t ∷ es) d = sym (outer-node t d (layers es).inner (layers es).outer) ∙ outer-layers es (suc d)
+outer-layers (End k ∷ es) zero = refl
+outer-layers (End k ∷ es) (suc d) = outer-layers es d
+
+-- a container that comes first is the first tree
+kids-start : (t : TagView) (es : List SourcedEvent) → kids_of (Start t ∷ es) ≡ node t (kids_of es) (kids_of (behind_body es))
+kids-start t es =
+    first-node t (kids_of es) (layers es).outer
+    ∙ ap (node t (kids_of es)) (sym (outer-right (layers es).outer) ∙ outer-layers es 0)
+
+added-node : (t t' : TagView) (kids : Trees) (fs : List Trees) (width : ℕ) → first_width t false width ≡ added_width t (with_node t' kids fs).inner width
+added-node t t' kids [] width = refl
+added-node t t' kids (f ∷ fs) width = refl
+
+added-first : (t : TagView) (es : List SourcedEvent) (width : ℕ) → first_width t (ends_here es) width ≡ added_width t (kids_of es) width
+added-first t [] width = refl
+added-first t (Leaf l ∷ es) width = refl
+added-first t (End k ∷ es) width = refl
+added-first t (Start t' ∷ es) width = added-node t t' (kids_of es) (layers es).outer width
+
+pub width-in : (es : List SourcedEvent) → width_in es ≡ width_within (kids_of es)
+width-in [] = refl
+width-in (Leaf l ∷ es) = refl
+width-in (End k ∷ es) = refl
+width-in (Start t ∷ es) =
+    ap (λ n. first_width t (ends_here (behind_body es)) (tag_width t + (if is_emphasis_or_strong t then n else 0))) (width-in es)
+    ∙ added-first t (behind_body es) (tag_width t + (if is_emphasis_or_strong t then width_within (kids_of es) else 0))
+    ∙ ap width_within (sym (kids-start t es))
+
 -- a container in the flat list
 module _ (s : Setting) (m : Manner) (t : TagView) (before rest : List SourcedEvent) (next : Option EventView) (nested : IsNested t rest) where
   pub opening-look : (look s m t (kids_of rest) (around before (behind_body rest) next)).opening ≡ opening_ahead t before rest
@@ -90,6 +150,9 @@ module _ (s : Setting) (m : Manner) (t : TagView) (before rest : List SourcedEve
   pub closing-look : (look s m t (kids_of rest) (around before (behind_body rest) next)).closing ≡ closing_ahead t before rest
   closing-look = closing-flat t (kids_of rest) before (behind_body rest) next ∙ ap (λ es. closing_ahead t before es) (sym nested)
 
+  pub width-look : (look s m t (kids_of rest) (around before (behind_body rest) next)).width ≡ width_ahead_of t rest
+  width-look = ap (λ n. tag_width t + n) (sym (width-in rest))
+
 nested-start : (t : TagView) (rest es : List SourcedEvent) → AreNested es → es ≡ Start t ∷ rest → IsNested t rest
 nested-start t rest es h e = (subst AreNested e h).0
 
@@ -97,4 +160,8 @@ pub all-seen : (s : Setting) (m : Manner) (next : Option EventView) (f : Trees) 
 all-seen s m next f i t rest e =
     let before : List SourcedEvent = reverse (take i (flat f)) in
     let nested : IsNested t rest = nested-start t rest (drop i (flat f)) (nested-at f i) e in
-    record { opening = opening-look s m t before rest next nested; closing = closing-look s m t before rest next nested }
+    record {
+      opening = opening-look s m t before rest next nested;
+      closing = closing-look s m t before rest next nested;
+      width = width-look s m t before rest next nested;
+    }
