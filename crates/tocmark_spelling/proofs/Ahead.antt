@@ -1,5 +1,7 @@
 -- What is asked of the events round a container, in trees and in the flat list.
-use Rattle.std.proofs.Common.{◌≡◌, if◌then◌else◌, ℕ, zero, suc, ◌+◌, false, Option, List, [], ◌∷◌, ◌++◌, refl, sym, ap, ◌∙◌, take, drop, reverse, subst}
+use Rattle.std.proofs.Common.{◌≡◌, if◌then◌else◌, ℕ, zero, suc, ◌+◌, Bool, true, false, Option, List, [], ◌∷◌, ◌++◌, refl, sym, ap, ◌∙◌, take, drop, reverse, subst}
+use Rattle.std.specs.Prelude.{not, ◌&&◌, ◌||◌}
+use Rattle.std.specs.List.{list_any}
 use Rattle.std.proofs.lemmas.List.{reverse-append, append_assoc}
 use Rattle.tocmark_event.specs.View.{TagView, SourcedEvent, EventView, Start, End, Leaf, end_of}
 use Rattle.tocmark_event.specs.declared.event.TagEnd.{TagEnd}
@@ -7,11 +9,12 @@ use Rattle.tocmark_event.specs.Forest.{empty, leaf, node, flat_onto, flat}
 use Rattle.tocmark_spelling.specs.Plan.{Setting, Manner}
 use Rattle.tocmark_spelling.specs.Body.{Trees, back_onto}
 use Rattle.tocmark_spelling.specs.Kinds.{is_emphasis_or_strong}
-use Rattle.tocmark_spelling.specs.Look.{look}
-use Rattle.tocmark_spelling.specs.Runs.{opening_run, closing_run, run_at, close_width, tag_width, added_width, width_within}
+use Rattle.tocmark_spelling.specs.Look.{look, is_preferred, prefers_if}
+use Rattle.tocmark_spelling.specs.Page.{Around}
+use Rattle.tocmark_spelling.specs.Runs.{opening_run, closing_run, run_at, start_width, close_width, tag_width, added_width, width_within, counts, disturbs_at, and_disturbs, prefers_underscore}
 use Rattle.tocmark_spelling.specs.Machine.{layers, with_node, kids_of, around}
 use Rattle.tocmark_spelling.specs.Scans.{span}
-use Rattle.tocmark_spelling.specs.Ahead.{behind_body, up_to_end, IsNested, AreNested, opening_ahead, closing_ahead, ends_here, first_width, width_in, width_ahead_of, AreSeen}
+use Rattle.tocmark_spelling.specs.Ahead.{behind_body, up_to_end, IsNested, AreNested, opening_ahead, closing_ahead, ends_here, first_width, width_in, width_ahead_of, character_before, character_after, starts_disturber, disturbers, is_disturbed, prefers_ahead, AreSeen}
 use Rattle.tocmark_spelling.proofs.Follows.{kids-flat}
 
 -- behind a body
@@ -142,6 +145,66 @@ width-in (Start t ∷ es) =
     ∙ added-first t (behind_body es) (tag_width t + (if is_emphasis_or_strong t then width_within (kids_of es) else 0))
     ∙ ap width_within (sym (kids-start t es))
 
+-- the preference
+
+or_false : (b : Bool) → b || false ≡ b
+or_false true = refl
+or_false false = refl
+
+and_if : (b : Bool) (s : Setting) (m : Manner) (t : TagView) (kids : Trees) (a : Around) → prefers_if b s m t kids a ≡ b && prefers_underscore s (not (is_preferred m.plan.layout)) kids a
+and_if true s m t kids a = refl
+and_if false s m t kids a = refl
+
+or-four : (a b c d : Bool) → a || (b || (c || d)) ≡ ((a || b) || c) || d
+or-four true b c d = refl
+or-four false true c d = refl
+or-four false false c d = refl
+
+module _ (s : Setting) (next : Option EventView) where
+  disturbs-there : (b runs : Bool) (t : TagView) (kids : Trees) (before after : List SourcedEvent)
+      → b && disturbs_at s (character_before runs before) (character_after runs start_width (flat_onto kids (End (end_of t) ∷ after))) (character_after runs close_width after)
+      ≡ and_disturbs b s runs t kids (around before after next)
+  disturbs-there true true t kids before after = refl
+  disturbs-there true false t kids before after = refl
+  disturbs-there false runs t kids before after = refl
+
+  starts-disturber : (runs : Bool) (t : TagView) (kids : Trees) (before after : List SourcedEvent)
+      → starts_disturber s runs before (Start t) (flat_onto kids (End (end_of t) ∷ after)) ≡ and_disturbs (counts runs t) s runs t kids (around before after next)
+  starts-disturber runs t kids before after =
+      ap (λ x. counts runs t && disturbs_at s (character_before runs before) (character_after runs start_width (flat_onto kids (End (end_of t) ∷ after))) (character_after runs close_width x)) (behind-body kids (end_of t) after)
+      ∙ disturbs-there (counts runs t) runs t kids before after
+
+  module _ (runs : Bool) where
+    -- whether a node before the End at a depth disturbs
+    abbrev some_disturber : ℕ → List SourcedEvent → List SourcedEvent → Bool
+    some_disturber d before es = list_any (λ b. b) (take (span d es) (disturbers s runs before es))
+
+    disturber-flat : (f : Trees) (d : ℕ) (r before : List SourcedEvent) → some_disturber d before (flat_onto f r) ≡ prefers_underscore s runs f (around before r next) || some_disturber d (back_onto f before) r
+    unfolding prefers_underscore
+    disturber-flat empty d r before = refl
+    disturber-flat (leaf l f) zero r before = disturber-flat f zero r (Leaf l ∷ before)
+    disturber-flat (leaf l f) (suc d) r before = disturber-flat f (suc d) r (Leaf l ∷ before)
+    disturber-flat (node t kids f) d r before =
+        let right : List SourcedEvent = flat_onto f r in
+        let within : List SourcedEvent = back_onto kids (Start t ∷ before) in
+        let own : Bool = and_disturbs (counts runs t) s runs t kids (around before right next) in
+        let below : Bool = prefers_underscore s runs kids (around (Start t ∷ before) (End (end_of t) ∷ right) next) in
+        let beside : Bool = prefers_underscore s runs f (around (End (end_of t) ∷ within) r next) in
+        let further : Bool = some_disturber d (back_onto f (End (end_of t) ∷ within)) r in
+        ap (λ b. b || some_disturber (suc d) (Start t ∷ before) (flat_onto kids (End (end_of t) ∷ right))) (starts-disturber runs t kids before right)
+        ∙ ap (λ b. own || b) (disturber-flat kids (suc d) (End (end_of t) ∷ right) (Start t ∷ before))
+        ∙ ap (λ b. own || (below || b)) (disturber-flat f d r (End (end_of t) ∷ within))
+        ∙ or-four own below beside further
+
+    is-disturbed : (kids : Trees) (k : TagEnd) (before after : List SourcedEvent) → is_disturbed s runs before (flat_onto kids (End k ∷ after)) ≡ prefers_underscore s runs kids (around before (End k ∷ after) next)
+    is-disturbed kids k before after = disturber-flat kids 0 (End k ∷ after) before ∙ or_false (prefers_underscore s runs kids (around before (End k ∷ after) next))
+
+prefers-flat : (s : Setting) (m : Manner) (t : TagView) (kids : Trees) (before after : List SourcedEvent) (next : Option EventView)
+    → (look s m t kids (around before after next)).prefers ≡ prefers_ahead s m t before (flat_onto kids (End (end_of t) ∷ after))
+prefers-flat s m t kids before after next =
+    and_if (is_emphasis_or_strong t) s m t kids (around (Start t ∷ before) (End (end_of t) ∷ after) next)
+    ∙ ap (λ b. is_emphasis_or_strong t && b) (sym (is-disturbed s next (not (is_preferred m.plan.layout)) kids (end_of t) (Start t ∷ before) after))
+
 -- a container in the flat list
 module _ (s : Setting) (m : Manner) (t : TagView) (before rest : List SourcedEvent) (next : Option EventView) (nested : IsNested t rest) where
   pub opening-look : (look s m t (kids_of rest) (around before (behind_body rest) next)).opening ≡ opening_ahead t before rest
@@ -152,6 +215,9 @@ module _ (s : Setting) (m : Manner) (t : TagView) (before rest : List SourcedEve
 
   pub width-look : (look s m t (kids_of rest) (around before (behind_body rest) next)).width ≡ width_ahead_of t rest
   width-look = ap (λ n. tag_width t + n) (sym (width-in rest))
+
+  pub prefers-look : (look s m t (kids_of rest) (around before (behind_body rest) next)).prefers ≡ prefers_ahead s m t before rest
+  prefers-look = prefers-flat s m t (kids_of rest) before (behind_body rest) next ∙ ap (λ es. prefers_ahead s m t before es) (sym nested)
 
 nested-start : (t : TagView) (rest es : List SourcedEvent) → AreNested es → es ≡ Start t ∷ rest → IsNested t rest
 nested-start t rest es h e = (subst AreNested e h).0
@@ -164,4 +230,5 @@ all-seen s m next f i t rest e =
       opening = opening-look s m t before rest next nested;
       closing = closing-look s m t before rest next nested;
       width = width-look s m t before rest next nested;
+      prefers = prefers-look s m t before rest next nested;
     }

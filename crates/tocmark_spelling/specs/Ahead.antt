@@ -1,14 +1,17 @@
 -- What the spelling of a container asks of the events round it, as functions of the flat list: of the events before its
 -- Start, the last one first, and of those behind it.
-use Rattle.std.specs.Prelude.{◌≡◌, ℕ, suc, ◌+◌, Bool, true, false, if◌then◌else◌, Option, List, [], ◌∷◌, ◌++◌, take, drop, reverse}
+use Rattle.std.specs.Prelude.{◌≡◌, ℕ, suc, ◌+◌, Bool, true, false, not, ◌&&◌, if◌then◌else◌, Option, List, [], ◌∷◌, ◌++◌, take, drop, reverse}
+use Rattle.std.specs.List.{list_any}
 use Rattle.tocmark_event.specs.View.{TagView, SourcedEvent, EventView, Start, End, end_of}
 use Rattle.tocmark_event.specs.Forest.{flat_onto, flat}
-use Rattle.tocmark_spelling.specs.Runs.{Run, run_at, tag_width, start_width, close_width}
+use Rattle.tocmark_spelling.specs.Runs.{Run, run_at, tag_width, start_width, close_width, run_before, run_after, counts, disturbs_at}
 use Rattle.tocmark_spelling.specs.Machine.{kids_of, around}
 use Rattle.tocmark_spelling.specs.Body.{Trees}
 use Rattle.tocmark_spelling.specs.Kinds.{is_emphasis, is_emphasis_or_strong}
 use Rattle.tocmark_spelling.specs.Plan.{Setting, Manner}
-use Rattle.tocmark_spelling.specs.Look.{Look, look}
+use Rattle.tocmark_spelling.specs.Look.{Look, look, is_preferred}
+use Rattle.tocmark_spelling.specs.Edges.{edge_before, edge_after}
+use Rattle.tocmark_spelling.specs.Page.{front}
 use Rattle.tocmark_spelling.specs.Scans.{span}
 
 -- the body of the container behind whose Start these events stand
@@ -62,14 +65,45 @@ width_in (e ∷ es) = 0
 abbrev pub width_ahead_of : TagView → List SourcedEvent → ℕ
 width_ahead_of t rest = tag_width t + width_in rest
 
+-- the character before an event: that before its run of Starts, or its neighbour alone
+abbrev pub character_before : Bool → List SourcedEvent → Option ℕ
+character_before true before = run_before start_width before
+character_before false before = edge_before (front before)
+
+-- the character behind an event likewise, its run that of Starts or of Ends
+abbrev pub character_after : Bool → (SourcedEvent → ℕ) → List SourcedEvent → Option ℕ
+character_after true width after = run_after width after
+character_after false width after = edge_after (front after)
+
+-- whether an event starts a node whose markers would have to be asterisks that could close the ones round it
+abbrev pub starts_disturber : Setting → Bool → List SourcedEvent → SourcedEvent → List SourcedEvent → Bool
+starts_disturber s runs before (Start t) rest =
+    counts runs t
+    && disturbs_at s (character_before runs before) (character_after runs start_width rest) (character_after runs close_width (behind_body rest))
+starts_disturber s runs before e rest = false
+
+-- for each event whether it starts such a node
+abbrev pub disturbers : Setting → Bool → List SourcedEvent → List SourcedEvent → List Bool
+disturbers s runs before [] = []
+disturbers s runs before (e ∷ es) = starts_disturber s runs before e es ∷ disturbers s runs (e ∷ before) es
+
+-- whether such a node is in a body
+abbrev pub is_disturbed : Setting → Bool → List SourcedEvent → List SourcedEvent → Bool
+is_disturbed s runs before rest = list_any (λ b. b) (take (span 0 rest) (disturbers s runs before rest))
+
+-- whether a container prefers the underscore
+abbrev pub prefers_ahead : Setting → Manner → TagView → List SourcedEvent → List SourcedEvent → Bool
+prefers_ahead s m t before rest = is_emphasis_or_strong t && is_disturbed s (not (is_preferred m.plan.layout)) (Start t ∷ before) rest
+
 -- what an opening is told is what stands in the flat list round its container
-pub record IsSeen (t : TagView) (before rest : List SourcedEvent) (l : Look) : Type 0 where
+pub record IsSeen (s : Setting) (m : Manner) (t : TagView) (before rest : List SourcedEvent) (l : Look) : Type 0 where
   pub opening : l.opening ≡ opening_ahead t before rest
   pub closing : l.closing ≡ closing_ahead t before rest
   pub width : l.width ≡ width_ahead_of t rest
+  pub prefers : l.prefers ≡ prefers_ahead s m t before rest
 
 -- so it is at each Start of a forest's list
 abbrev pub AreSeen : Setting → Manner → Option EventView → Trees → Type 0
 AreSeen s m next f =
     (i : ℕ) (t : TagView) (rest : List SourcedEvent) → drop i (flat f) ≡ Start t ∷ rest
-    → IsSeen t (reverse (take i (flat f))) rest (look s m t (kids_of rest) (around (reverse (take i (flat f))) (behind_body rest) next))
+    → IsSeen s m t (reverse (take i (flat f))) rest (look s m t (kids_of rest) (around (reverse (take i (flat f))) (behind_body rest) next))
