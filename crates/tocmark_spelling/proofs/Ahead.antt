@@ -1,8 +1,8 @@
 -- What is asked of the events round a container, in trees and in the flat list.
-use Rattle.std.proofs.Common.{◌≡◌, if◌then◌else◌, ℕ, zero, suc, ◌+◌, Bool, true, false, Option, List, [], ◌∷◌, ◌++◌, refl, sym, ap, ◌∙◌, take, drop, reverse, subst}
+use Rattle.std.proofs.Common.{◌≡◌, if◌then◌else◌, ℕ, zero, suc, ◌+◌, Bool, true, false, Option, List, [], ◌∷◌, ◌++◌, refl, sym, ap, ◌∙◌, take, drop, reverse, subst, length, slice_index, ◌<◌, ◌-◌, arith, get_or}
 use Rattle.std.specs.Prelude.{not, ◌&&◌, ◌||◌}
 use Rattle.std.specs.List.{list_any}
-use Rattle.std.proofs.lemmas.List.{reverse-append, append_assoc}
+use Rattle.std.proofs.lemmas.List.{reverse-append, append_assoc, append-nil, drop_more, take_more, length-drop}
 use Rattle.tocmark_event.specs.View.{TagView, SourcedEvent, EventView, Start, End, Leaf, end_of}
 use Rattle.tocmark_event.specs.declared.event.TagEnd.{TagEnd}
 use Rattle.tocmark_event.specs.Forest.{empty, leaf, node, flat_onto, flat}
@@ -13,8 +13,8 @@ use Rattle.tocmark_spelling.specs.Look.{look, is_preferred, prefers_if}
 use Rattle.tocmark_spelling.specs.Page.{Around}
 use Rattle.tocmark_spelling.specs.Runs.{opening_run, closing_run, run_at, start_width, close_width, tag_width, added_width, width_within, counts, disturbs_at, and_disturbs, prefers_underscore}
 use Rattle.tocmark_spelling.specs.Machine.{layers, with_node, kids_of, around}
-use Rattle.tocmark_spelling.specs.Scans.{span}
-use Rattle.tocmark_spelling.specs.Ahead.{behind_body, up_to_end, IsNested, AreNested, opening_ahead, closing_ahead, ends_here, first_width, width_in, width_ahead_of, character_before, character_after, starts_disturber, disturbers, is_disturbed, prefers_ahead, AreSeen}
+use Rattle.tocmark_spelling.specs.Scans.{span, AreEnds}
+use Rattle.tocmark_spelling.specs.Ahead.{behind_body, up_to_end, IsNested, AreNested, opening_ahead, closing_ahead, ends_here, first_width, width_in, width_ahead_of, character_before, character_after, starts_disturber, disturbers, is_disturbed, prefers_ahead, AreSeen, HoldMarks, AreDisturbed}
 use Rattle.tocmark_spelling.proofs.Follows.{kids-flat}
 
 -- behind a body
@@ -227,8 +227,51 @@ all-seen s m next f i t rest e =
     let before : List SourcedEvent = reverse (take i (flat f)) in
     let nested : IsNested t rest = nested-start t rest (drop i (flat f)) (nested-at f i) e in
     record {
+      previous = refl;
+      next_in_unit = refl;
+      next_is = refl;
       opening = opening-look s m t before rest next nested;
       closing = closing-look s m t before rest next nested;
       width = width-look s m t before rest next nested;
       prefers = prefers-look s m t before rest next nested;
     }
+
+-- the marks at a place
+disturbers-drop : (s : Setting) (runs : Bool) (i : ℕ) (es before : List SourcedEvent) → drop i (disturbers s runs before es) ≡ disturbers s runs (reverse (take i es) ++ before) (drop i es)
+disturbers-drop s runs zero es before = refl
+disturbers-drop s runs (suc i) [] before = refl
+disturbers-drop s runs (suc i) (e ∷ es) before =
+    disturbers-drop s runs i es (e ∷ before) ∙ ap (λ b. disturbers s runs b (drop i es)) (sym (reverse-cons e (take i es) before))
+
+disturbers-length : (s : Setting) (runs : Bool) (es before : List SourcedEvent) → length (disturbers s runs before es) ≡ length es
+disturbers-length s runs [] before = refl
+disturbers-length s runs (e ∷ es) before = ap suc (disturbers-length s runs es (e ∷ before))
+
+-- what stands at a place
+module _ (es rest : List SourcedEvent) (i : ℕ) (e : SourcedEvent) (at : drop i es ≡ e ∷ rest) where
+  place-within : i < length es
+  place-within = omega (arith, sym (length-drop i es) ∙ ap length at)
+
+  place-rest : drop (i + 1) es ≡ rest
+  place-rest = ap (drop 1) (sym (drop_more es i e place-within) ∙ at)
+
+  place-before : reverse (take (i + 1) es) ≡ e ∷ reverse (take i es)
+  place-before =
+      ap reverse (take_more es i e place-within)
+      ∙ reverse-append (take i es) (get_or es i e ∷ [])
+      ∙ ap (λ x. get_or x 0 e ∷ reverse (take i es)) (sym (drop_more es i e place-within) ∙ at)
+
+-- a column of marks gives that of the preferences
+pub are-disturbed : (s : Setting) (runs : Bool) (es : List SourcedEvent) (marks : List Bool) (ends : List ℕ) (found : List Bool)
+    → marks ≡ disturbers s runs [] es → AreEnds es ends → HoldMarks marks ends found → AreDisturbed s runs es found
+are-disturbed s runs es marks ends found e are hold i t rest at =
+    let lt : i < length es = place-within es rest i (Start t) at in
+    let within : i < length marks = omega (arith, lt, ap length e ∙ disturbers-length s runs es []) in
+    let width : slice_index ends i - (i + 1) ≡ span 0 (drop (i + 1) es) = omega (arith, are.at i lt) in
+    let marked : drop (i + 1) marks ≡ disturbers s runs (reverse (take (i + 1) es)) (drop (i + 1) es) =
+        ap (drop (i + 1)) e ∙ disturbers-drop s runs (i + 1) es [] ∙ ap (λ b. disturbers s runs b (drop (i + 1) es)) (append-nil (reverse (take (i + 1) es))) in
+    hold.at i within
+    ∙ ap (λ n. list_any (λ b. b) (take n (drop (i + 1) marks))) width
+    ∙ ap (λ ms. list_any (λ b. b) (take (span 0 (drop (i + 1) es)) ms)) marked
+    ∙ ap (λ b. is_disturbed s runs b (drop (i + 1) es)) (place-before es rest i (Start t) at)
+    ∙ ap (λ r. is_disturbed s runs (Start t ∷ reverse (take i es)) r) (place-rest es rest i (Start t) at)

@@ -1,6 +1,6 @@
 -- What the spelling of a container asks of the events round it, as functions of the flat list: of the events before its
 -- Start, the last one first, and of those behind it.
-use Rattle.std.specs.Prelude.{◌≡◌, ℕ, suc, ◌+◌, Bool, true, false, not, ◌&&◌, if◌then◌else◌, Option, List, [], ◌∷◌, ◌++◌, take, drop, reverse}
+use Rattle.std.specs.Prelude.{◌≡◌, ℕ, suc, ◌+◌, Bool, true, false, not, ◌&&◌, if◌then◌else◌, Option, List, [], ◌∷◌, ◌++◌, take, drop, reverse, length, nat_lt, slice_index, slice_index_or, ◌-◌, ◌<◌, None, Some}
 use Rattle.std.specs.List.{list_any}
 use Rattle.tocmark_event.specs.View.{TagView, SourcedEvent, EventView, Start, End, end_of}
 use Rattle.tocmark_event.specs.Forest.{flat_onto, flat}
@@ -12,6 +12,7 @@ use Rattle.tocmark_spelling.specs.Plan.{Setting, Manner}
 use Rattle.tocmark_spelling.specs.Look.{Look, look, is_preferred}
 use Rattle.tocmark_spelling.specs.Edges.{edge_before, edge_after}
 use Rattle.tocmark_spelling.specs.Page.{front}
+use Rattle.tocmark_spelling.specs.Words.{or_else}
 use Rattle.tocmark_spelling.specs.Scans.{span}
 
 -- the body of the container behind whose Start these events stand
@@ -96,7 +97,10 @@ abbrev pub prefers_ahead : Setting → Manner → TagView → List SourcedEvent 
 prefers_ahead s m t before rest = is_emphasis_or_strong t && is_disturbed s (not (is_preferred m.plan.layout)) (Start t ∷ before) rest
 
 -- what an opening is told is what stands in the flat list round its container
-pub record IsSeen (s : Setting) (m : Manner) (t : TagView) (before rest : List SourcedEvent) (l : Look) : Type 0 where
+pub record IsSeen (s : Setting) (m : Manner) (t : TagView) (before rest : List SourcedEvent) (next : Option EventView) (l : Look) : Type 0 where
+  pub previous : l.previous ≡ front before
+  pub next_in_unit : l.next_in_unit ≡ front (behind_body rest)
+  pub next_is : l.next ≡ or_else (front (behind_body rest)) next
   pub opening : l.opening ≡ opening_ahead t before rest
   pub closing : l.closing ≡ closing_ahead t before rest
   pub width : l.width ≡ width_ahead_of t rest
@@ -106,4 +110,24 @@ pub record IsSeen (s : Setting) (m : Manner) (t : TagView) (before rest : List S
 abbrev pub AreSeen : Setting → Manner → Option EventView → Trees → Type 0
 AreSeen s m next f =
     (i : ℕ) (t : TagView) (rest : List SourcedEvent) → drop i (flat f) ≡ Start t ∷ rest
-    → IsSeen s m t (reverse (take i (flat f))) rest (look s m t (kids_of rest) (around (reverse (take i (flat f))) (behind_body rest) next))
+    → IsSeen s m t (reverse (take i (flat f))) rest next (look s m t (kids_of rest) (around (reverse (take i (flat f))) (behind_body rest) next))
+
+-- the first place, from this one on, that is marked
+abbrev pub first_mark : ℕ → List Bool → Option ℕ
+first_mark i [] = None
+first_mark i (b ∷ bs) = if b then Some i else first_mark (i + 1) bs
+
+-- whether there is such a place and it comes before an end
+abbrev pub comes_before : Option ℕ → ℕ → Bool
+comes_before None end_place = false
+comes_before (Some place) end_place = nat_lt place end_place
+
+-- for each place whether one behind it and before its end is marked
+pub record HoldMarks (marks : List Bool) (ends : List ℕ) (found : List Bool) : Type 0 where
+  pub len : length found ≡ length marks
+  pub at : (i : ℕ) → i < length marks → slice_index_or found i false ≡ list_any (λ b. b) (take (slice_index ends i - (i + 1)) (drop (i + 1) marks))
+
+-- for each Start whether a node of its body disturbs
+abbrev pub AreDisturbed : Setting → Bool → List SourcedEvent → List Bool → Type 0
+AreDisturbed s runs es found =
+    (i : ℕ) (t : TagView) (rest : List SourcedEvent) → drop i es ≡ Start t ∷ rest → slice_index_or found i false ≡ is_disturbed s runs (Start t ∷ reverse (take i es)) rest

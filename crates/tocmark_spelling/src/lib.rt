@@ -10,6 +10,7 @@ pub mod gap;
 pub mod kinds;
 pub mod laws;
 pub mod machine_laws;
+pub mod marks;
 pub mod misplaced;
 pub mod opening;
 pub mod output;
