@@ -15,6 +15,7 @@ pub mod misplaced;
 pub mod opening;
 pub mod output;
 pub mod plan;
+pub mod sides;
 pub mod spelled;
 pub mod spelling;
 pub mod stretch;

@@ -1,0 +1,47 @@
+-- What stands beside a place, one event after the other: a run of delimiters, and the character beyond it.
+use Rattle.std.specs.Prelude.{◌≡◌, ℕ, ◌+◌, ◌<◌, Bool, true, false, ◌==◌, if◌then◌else◌, Option, Some, None, List, [], drop, take, reverse, length, slice_index_or}
+use Rattle.tocmark_event.specs.View.{SourcedEvent, EventView, unsourced}
+use Rattle.tocmark_spelling.specs.Edges.{edge, event_edge}
+use Rattle.tocmark_spelling.specs.Page.{front}
+use Rattle.tocmark_spelling.specs.Runs.{start_width, close_width, width_ahead, behind_run, marker_only, text_only}
+use Rattle.tocmark_spelling.specs.Words.{first_character, last_character}
+use Rattle.tocmark_spelling.specs.declared.sides.Side.{Side}
+
+-- the first character of a text, or its last
+abbrev pub picked : Bool → List ℕ → Option ℕ
+picked true = first_character
+picked false = last_character
+
+-- the width of the delimiter that an event opens, or that it closes
+abbrev pub width_of : Bool → SourcedEvent → ℕ
+width_of true = start_width
+width_of false = close_width
+
+-- the run that a list begins with: its width, the character beyond it, and that of a Text there if it is `*` or `_`
+abbrev pub side_at : Bool → (SourcedEvent → ℕ) → List SourcedEvent → Side
+side_at first width es = record {
+  character = edge (picked first) (front (behind_run width es));
+  literal = marker_only (edge (picked first) (text_only (front (behind_run width es))));
+  width = width_ahead width es;
+}
+
+-- the same with one event more in front
+abbrev pub side_with : Bool → (SourcedEvent → ℕ) → SourcedEvent → Side → Side
+side_with first width e side =
+    if width e == 0 then record {
+      character = event_edge (picked first) (unsourced e);
+      literal = marker_only (edge (picked first) (text_only (Some (unsourced e))));
+      width = 0;
+    } else record side { width = width e + side.width }
+
+-- nothing stands there
+abbrev pub no_side : Side
+no_side = record { character = None; literal = None; width = 0 }
+
+-- for each place what stands from there on
+abbrev pub AreAhead : (SourcedEvent → ℕ) → List SourcedEvent → List Side → Type 0
+AreAhead width es sides = (i : ℕ) → slice_index_or sides i no_side ≡ side_at true width (drop i es)
+
+-- for each event what stands before it
+abbrev pub AreBefore : (SourcedEvent → ℕ) → List SourcedEvent → List Side → Type 0
+AreBefore width es sides = (i : ℕ) → i < length es → slice_index_or sides i no_side ≡ side_at false width (reverse (take i es))
