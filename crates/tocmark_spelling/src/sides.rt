@@ -152,3 +152,54 @@ fn side_with(event: &BufferedEvent, side: Side, opening: bool, first: bool) -> S
         }
     }
 }
+
+fn no_side() -> Side
+    ensures { result ≡ no_side }
+{
+    Side {
+        character: None,
+        literal: None,
+        width: 0,
+    }
+}
+
+/// For each event the run of starts, or of ends, that begins with it, and what stands behind that run.
+///
+/// An `Err` says that memory ran out.
+pub fn sides_ahead(
+    alloc: Global,
+    events: &[BufferedEvent],
+    opening: bool,
+) -> Result<Vec<Side>, AllocError>
+    ensures { IfOk result (λ sides. AreAhead (width_of opening) (map buffered_view events.now) sides.items) }
+{
+    let mut sides = vec![in alloc; no_side(); events.len()]?;
+    let mut side = no_side();
+    let mut i = events.len();
+    while i > 0 {
+        i -= 1;
+        side = side_with(&events[i], side, opening, true);
+        sides[i] = side;
+    }
+    Ok(sides)
+}
+
+/// For each event the run of starts, or of ends, that ends just before it, and what stands before that
+/// run.
+///
+/// An `Err` says that memory ran out.
+pub fn sides_before(
+    alloc: Global,
+    events: &[BufferedEvent],
+    opening: bool,
+) -> Result<Vec<Side>, AllocError>
+    ensures { IfOk result (λ sides. AreBefore (width_of opening) (map buffered_view events.now) sides.items) }
+{
+    let mut sides = Vec::new(alloc);
+    let mut side = no_side();
+    for event in events {
+        sides.push(side)?;
+        side = side_with(event, side, opening, false);
+    }
+    Ok(sides)
+}
