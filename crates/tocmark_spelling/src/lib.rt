@@ -2,6 +2,7 @@
 #![tactic(auto)]
 
 pub mod block;
+pub mod boundary;
 pub mod closing;
 pub mod ends;
 pub mod escape;
