@@ -1,9 +1,11 @@
 -- What stands beside a place, one event after the other: a run of delimiters, and the character beyond it.
-use Rattle.std.specs.Prelude.{◌≡◌, ℕ, ◌+◌, ◌<◌, Bool, true, false, ◌==◌, if◌then◌else◌, Option, Some, None, List, [], drop, take, reverse, length, slice_index_or}
-use Rattle.tocmark_event.specs.View.{SourcedEvent, EventView, unsourced}
+use Rattle.std.specs.Prelude.{◌≡◌, ℕ, ◌+◌, ◌<◌, Bool, true, false, ◌==◌, not, ◌&&◌, ◌||◌, if◌then◌else◌, Option, Some, None, List, [], drop, take, reverse, length, slice_index_or}
+use Rattle.tocmark_event.specs.View.{SourcedEvent, Start, unsourced}
 use Rattle.tocmark_spelling.specs.Edges.{edge, event_edge}
 use Rattle.tocmark_spelling.specs.Page.{front}
-use Rattle.tocmark_spelling.specs.Runs.{start_width, close_width, width_ahead, behind_run, marker_only, text_only}
+use Rattle.tocmark_spelling.specs.Runs.{start_width, close_width, width_ahead, behind_run, marker_only, text_only, counts, disturbs_at}
+use Rattle.tocmark_spelling.specs.Characters.{is_white_space}
+use Rattle.tocmark_spelling.specs.Plan.{Setting}
 use Rattle.tocmark_spelling.specs.Words.{first_character, last_character}
 use Rattle.tocmark_spelling.specs.declared.sides.Side.{Side}
 
@@ -45,3 +47,13 @@ AreAhead width es sides = (i : ℕ) → slice_index_or sides i no_side ≡ side_
 -- for each event what stands before it
 abbrev pub AreBefore : (SourcedEvent → ℕ) → List SourcedEvent → List Side → Type 0
 AreBefore width es sides = (i : ℕ) → i < length es → slice_index_or sides i no_side ≡ side_at false width (reverse (take i es))
+
+-- an asterisk could close emphasis behind this character, given whether it and the one after are boundaries
+abbrev pub closes_at : Option ℕ → Bool → Bool → Bool
+closes_at None at_before at_first = false
+closes_at (Some c) at_before at_first = not (is_white_space c) && (not at_before || at_first)
+
+-- whether an event starts a node that disturbs, given the characters before its Start, behind it, and behind its End
+abbrev pub mark_of : Setting → Bool → SourcedEvent → Option ℕ → Option ℕ → Option ℕ → Bool
+mark_of s runs (Start t) before first after = counts runs t && disturbs_at s before first after
+mark_of s runs e before first after = false

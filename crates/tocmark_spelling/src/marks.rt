@@ -1,12 +1,87 @@
 //! What the spelling of a container looks ahead for.
 
-ghost use Rattle.std.specs.Prelude.{◌≡◌, if◌then◌else◌, Bool, List, [], Some, IfOk, length};
+ghost use Rattle.std.specs.Prelude.{◌≡◌, ℕ, not, ◌&&◌, ◌||◌, Option, None, string_bytes, if◌then◌else◌, Bool, List, [], Some, IfOk, length};
 ghost use Rattle.tocmark_spelling.specs.Ahead.{comes_before, disturbers, HoldMarks, AreDisturbed};
-ghost use Rattle.tocmark_event.specs.View.{SourcedEvent};
+ghost use Rattle.tocmark_event.specs.Options.{OptionsView};
+ghost use Rattle.tocmark_event.specs.View.{SourcedEvent, tag_view};
+ghost use Rattle.tocmark_event.specs.declared.event.flags.ParserOptions.{ParserOptions};
+ghost use Rattle.tocmark_spelling.specs.Buffered.{buffered_view};
+ghost use Rattle.tocmark_spelling.specs.PlanOf.{setting_of};
+ghost use Rattle.tocmark_spelling.specs.Runs.{counts, disturbs_at};
+ghost use Rattle.tocmark_spelling.specs.Sides.{closes_at, mark_of};
 ghost use Rattle.tocmark_spelling.specs.Plan.{Setting};
 ghost use Rattle.tocmark_spelling.specs.Scans.{AreEnds};
 
+use crate::boundary::is_boundary;
+use crate::spelling::BufferedEvent;
 use std::alloc::{AllocError, Global};
+use tocmark_event::event::{EventOf, TagOf};
+use tocmark_event::reader::Reader;
+
+/// Whether an asterisk is needed that could close emphasis, given which characters are boundaries.
+fn closes_between(before: Option<char>, at_before: bool, at_first: bool, at_after: bool) -> bool
+    ensures { result ≡ ((not at_before || not at_after) && closes_at before at_before at_first) }
+{
+    match before {
+        None => false,
+        Some(character) => {
+            (!at_before || !at_after) && !character.is_whitespace() && (!at_before || at_first)
+        }
+    }
+}
+
+/// Whether the markers between these characters would be asterisks that could close the emphasis round
+/// them. An `Err` says that memory ran out.
+fn disturbs_at<R: Reader>(
+    alloc: Global,
+    reader: &R,
+    before: Option<char>,
+    first: Option<char>,
+    after: Option<char>,
+) -> Result<bool, AllocError>
+    ensures { (o : OptionsView) (flags : ParserOptions) (label : Option (List ℕ)) → IfOk result (λ disturbs. disturbs ≡ disturbs_at (setting_of o flags (R.reading reader.now) label) before first after) }
+{
+    let at_before = is_boundary(alloc, reader, before)?;
+    let at_first = is_boundary(alloc, reader, first)?;
+    let at_after = is_boundary(alloc, reader, after)?;
+    Ok(closes_between(before, at_before, at_first, at_after))
+}
+
+/// By runs emphasis and strong emphasis count, else the former alone.
+fn counts(tag: &TagOf<String>, runs: bool) -> bool
+    ensures { result ≡ counts runs (tag_view string_bytes tag.now) }
+{
+    match tag {
+        TagOf::Emphasis => true,
+        TagOf::Strong => runs,
+        _ => false,
+    }
+}
+
+/// Whether an event starts a node that disturbs, given the characters before its start, behind it, and
+/// behind its end. An `Err` says that memory ran out.
+fn mark_of<R: Reader>(
+    alloc: Global,
+    reader: &R,
+    runs: bool,
+    event: &BufferedEvent,
+    before: Option<char>,
+    first: Option<char>,
+    after: Option<char>,
+) -> Result<bool, AllocError>
+    ensures { (o : OptionsView) (flags : ParserOptions) (label : Option (List ℕ)) → IfOk result (λ mark. mark ≡ mark_of (setting_of o flags (R.reading reader.now) label) runs (buffered_view event.now) before first after) }
+{
+    match &event.event {
+        EventOf::Start(tag) => {
+            if counts(tag, runs) {
+                disturbs_at(alloc, reader, before, first, after)
+            } else {
+                Ok(false)
+            }
+        }
+        _ => Ok(false),
+    }
+}
 
 fn comes_before(place: Option<usize>, end: usize) -> bool
     ensures { result ≡ comes_before place end }
