@@ -249,13 +249,13 @@ disturbers-length s runs (e ∷ es) before = ap suc (disturbers-length s runs es
 
 -- what stands at a place
 module _ (es rest : List SourcedEvent) (i : ℕ) (e : SourcedEvent) (at : drop i es ≡ e ∷ rest) where
-  place-within : i < length es
+  pub place-within : i < length es
   place-within = omega (arith, sym (length-drop i es) ∙ ap length at)
 
-  place-rest : drop (i + 1) es ≡ rest
+  pub place-rest : drop (i + 1) es ≡ rest
   place-rest = ap (drop 1) (sym (drop_more es i e place-within) ∙ at)
 
-  place-before : reverse (take (i + 1) es) ≡ e ∷ reverse (take i es)
+  pub place-before : reverse (take (i + 1) es) ≡ e ∷ reverse (take i es)
   place-before =
       ap reverse (take_more es i e place-within)
       ∙ reverse-append (take i es) (get_or es i e ∷ [])

@@ -1,6 +1,7 @@
 -- What stands beside a place, one event after the other: a run of delimiters, and the character beyond it.
 use Rattle.std.specs.Prelude.{◌≡◌, ℕ, ◌+◌, ◌<◌, Bool, true, false, ◌==◌, not, ◌&&◌, ◌||◌, if◌then◌else◌, Option, Some, None, List, [], drop, take, reverse, length, slice_index_or}
 use Rattle.tocmark_event.specs.View.{SourcedEvent, Start, unsourced}
+use Rattle.tocmark_spelling.specs.Ahead.{character_before, character_after}
 use Rattle.tocmark_spelling.specs.Edges.{edge, event_edge}
 use Rattle.tocmark_spelling.specs.Page.{front}
 use Rattle.tocmark_spelling.specs.Runs.{start_width, close_width, width_ahead, behind_run, marker_only, text_only, counts, disturbs_at}
@@ -57,3 +58,9 @@ closes_at (Some c) at_before at_first = not (is_white_space c) && (not at_before
 abbrev pub mark_of : Setting → Bool → SourcedEvent → Option ℕ → Option ℕ → Option ℕ → Bool
 mark_of s runs (Start t) before first after = counts runs t && disturbs_at s before first after
 mark_of s runs e before first after = false
+
+-- the characters beyond these sides are those that a mark asks for, by runs or by the neighbours alone
+pub record AreRound (runs : Bool) (es : List SourcedEvent) (befores starts_on ends_on : List Side) : Type 0 where
+  pub before : (i : ℕ) → i < length es → (slice_index_or befores i no_side).character ≡ character_before runs (reverse (take i es))
+  pub starts : (i : ℕ) → (slice_index_or starts_on i no_side).character ≡ character_after runs start_width (drop i es)
+  pub behind : (i : ℕ) → (slice_index_or ends_on i no_side).character ≡ character_after runs close_width (drop i es)

@@ -1,6 +1,6 @@
 //! What the spelling of a container looks ahead for.
 
-ghost use Rattle.std.specs.Prelude.{◌≡◌, ℕ, not, ◌&&◌, ◌||◌, Option, None, string_bytes, if◌then◌else◌, Bool, List, [], Some, IfOk, length};
+ghost use Rattle.std.specs.Prelude.{◌≡◌, ℕ, ◌+◌, map, slice_index_or, not, ◌&&◌, ◌||◌, Option, None, string_bytes, if◌then◌else◌, Bool, List, [], Some, IfOk, length};
 ghost use Rattle.tocmark_spelling.specs.Ahead.{comes_before, disturbers, HoldMarks, AreDisturbed};
 ghost use Rattle.tocmark_event.specs.Options.{OptionsView};
 ghost use Rattle.tocmark_event.specs.View.{SourcedEvent, tag_view};
@@ -8,11 +8,12 @@ ghost use Rattle.tocmark_event.specs.declared.event.flags.ParserOptions.{ParserO
 ghost use Rattle.tocmark_spelling.specs.Buffered.{buffered_view};
 ghost use Rattle.tocmark_spelling.specs.PlanOf.{setting_of};
 ghost use Rattle.tocmark_spelling.specs.Runs.{counts, disturbs_at};
-ghost use Rattle.tocmark_spelling.specs.Sides.{closes_at, mark_of};
+ghost use Rattle.tocmark_spelling.specs.Sides.{closes_at, mark_of, no_side, AreRound};
 ghost use Rattle.tocmark_spelling.specs.Plan.{Setting};
 ghost use Rattle.tocmark_spelling.specs.Scans.{AreEnds};
 
 use crate::boundary::is_boundary;
+use crate::sides::Side;
 use crate::spelling::BufferedEvent;
 use std::alloc::{AllocError, Global};
 use tocmark_event::event::{EventOf, TagOf};
@@ -81,6 +82,57 @@ fn mark_of<R: Reader>(
         }
         _ => Ok(false),
     }
+}
+
+fn character_at(sides: &[Side], place: usize) -> Option<char>
+    ensures { result ≡ (slice_index_or sides.now place no_side).character }
+{
+    if place < sides.len() {
+        sides[place].character
+    } else {
+        None
+    }
+}
+
+fn character_behind(sides: &[Side], place: usize) -> Option<char>
+    ensures { result ≡ (slice_index_or sides.now (place + 1) no_side).character }
+{
+    if place < sides.len() {
+        character_at(sides, place + 1)
+    } else {
+        None
+    }
+}
+
+/// For each event whether it starts a node whose markers would be asterisks that could close the
+/// emphasis round them.
+///
+/// `before`, `starts` and `behind` are the sides before each event, of the starts from each event on,
+/// and of the ends from each event on. An `Err` says that memory ran out.
+pub fn disturbers<R: Reader>(
+    alloc: Global,
+    reader: &R,
+    runs: bool,
+    events: &[BufferedEvent],
+    ends: &[usize],
+    before: &[Side],
+    starts: &[Side],
+    behind: &[Side],
+) -> Result<Vec<bool>, AllocError>
+    requires ends { AreEnds (map buffered_view events.now) ends.now }
+    requires round { AreRound runs (map buffered_view events.now) before.now starts.now behind.now }
+    ensures { (o : OptionsView) (flags : ParserOptions) (label : Option (List ℕ)) → IfOk result (λ marks. marks.items ≡ disturbers (setting_of o flags (R.reading reader.now) label) runs [] (map buffered_view events.now)) }
+{
+    let mut marks = Vec::new(alloc);
+    for event in events {
+        let i = marks.len();
+        let left = character_at(before, i);
+        let first = character_behind(starts, i);
+        let after = character_behind(behind, ends[i]);
+        let mark = mark_of(alloc, reader, runs, event, left, first, after)?;
+        marks.push(mark)?;
+    }
+    Ok(marks)
 }
 
 fn comes_before(place: Option<usize>, end: usize) -> bool
