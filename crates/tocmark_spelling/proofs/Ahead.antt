@@ -269,7 +269,7 @@ are-disturbed s runs es marks ends found e are hold i t rest at =
     let within : i < length marks = omega (arith, lt, ap length e ∙ disturbers-length s runs es []) in
     let width : slice_index ends i - (i + 1) ≡ span 0 (drop (i + 1) es) = omega (arith, are.at i lt) in
     let marked : drop (i + 1) marks ≡ disturbers s runs (reverse (take (i + 1) es)) (drop (i + 1) es) =
-        ap (drop (i + 1)) e ∙ disturbers-drop s runs (i + 1) es [] ∙ ap (λ b. disturbers s runs b (drop (i + 1) es)) (append-nil (reverse (take (i + 1) es))) in
+    ap (drop (i + 1)) e ∙ disturbers-drop s runs (i + 1) es [] ∙ ap (λ b. disturbers s runs b (drop (i + 1) es)) (append-nil (reverse (take (i + 1) es))) in
     hold.at i within
     ∙ ap (λ n. list_any (λ b. b) (take n (drop (i + 1) marks))) width
     ∙ ap (λ ms. list_any (λ b. b) (take (span 0 (drop (i + 1) es)) ms)) marked

@@ -1,5 +1,5 @@
 -- What delimiters border on, by what a reader finds.
-use Rattle.std.proofs.Common.{◌≡◌, ℕ, Bool, true, false, Some, List, [], ◌∷◌, refl, sym, ap, map, nat_lt}
+use Rattle.std.proofs.Common.{◌≡◌, ℕ, false, Some, List, [], ◌∷◌, refl, sym, ap, map, nat_lt}
 use Rattle.std.specs.Prelude.{◌||◌}
 use Rattle.std.specs.List.{list_any}
 use Rattle.tocmark_event.specs.Text.{text_of}

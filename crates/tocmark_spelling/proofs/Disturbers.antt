@@ -29,11 +29,11 @@ module _ (es rest : List SourcedEvent) (n : ℕ) (e : SourcedEvent) (at : drop n
       let next : drop (n + 1) es ≡ rest = place-rest es rest n e at in
       let place : slice_index ends n + 1 ≡ n + 1 + suc (span 0 (drop (n + 1) es)) = omega (arith, are.at n lt) in
       let beyond : drop (slice_index ends n + 1) es ≡ behind_body rest =
-          ap (λ k. drop k es) place ∙ sym (drop-drop (suc (span 0 (drop (n + 1) es))) (n + 1) es) ∙ ap behind_body next in
+      ap (λ k. drop k es) place ∙ sym (drop-drop (suc (span 0 (drop (n + 1) es))) (n + 1) es) ∙ ap behind_body next in
       is ∙ mark-is s runs e (reverse (take n es)) rest b f a
-          (p ∙ round.before n lt)
-          (q ∙ round.starts (n + 1) ∙ ap (character_after runs start_width) next)
-          (r ∙ round.behind (slice_index ends n + 1) ∙ ap (character_after runs close_width) beyond)
+      (p ∙ round.before n lt)
+      (q ∙ round.starts (n + 1) ∙ ap (character_after runs start_width) next)
+      (r ∙ round.behind (slice_index ends n + 1) ∙ ap (character_after runs close_width) beyond)
 
   -- one mark more
   pub marks-step : (s : Setting) (runs : Bool) (marks new whole : List Bool) (m : Bool) → new ≡ marks ++ m ∷ [] → m ≡ starts_disturber s runs (reverse (take n es)) e rest

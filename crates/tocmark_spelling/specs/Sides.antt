@@ -1,5 +1,5 @@
 -- What stands beside a place, one event after the other: a run of delimiters, and the character beyond it.
-use Rattle.std.specs.Prelude.{◌≡◌, ℕ, ◌+◌, ◌<◌, Bool, true, false, ◌==◌, not, ◌&&◌, ◌||◌, if◌then◌else◌, Option, Some, None, List, [], drop, take, reverse, length, slice_index_or}
+use Rattle.std.specs.Prelude.{◌≡◌, ℕ, ◌+◌, ◌<◌, Bool, true, false, ◌==◌, not, ◌&&◌, ◌||◌, if◌then◌else◌, Option, Some, None, List, drop, take, reverse, length, slice_index_or}
 use Rattle.tocmark_event.specs.View.{SourcedEvent, Start, unsourced}
 use Rattle.tocmark_spelling.specs.Ahead.{character_before, character_after}
 use Rattle.tocmark_spelling.specs.Edges.{edge, event_edge}
@@ -8,6 +8,8 @@ use Rattle.tocmark_spelling.specs.Runs.{start_width, close_width, width_ahead, b
 use Rattle.tocmark_spelling.specs.Characters.{is_white_space}
 use Rattle.tocmark_spelling.specs.Plan.{Setting}
 use Rattle.tocmark_spelling.specs.Words.{first_character, last_character}
+use Rattle.tocmark_spelling.specs.declared.sides.Counted.{Counted}
+use Rattle.tocmark_spelling.specs.declared.sides.Counted.TheVariants.{Starts, Ends, Nothing}
 use Rattle.tocmark_spelling.specs.declared.sides.Side.{Side}
 
 -- the first character of a text, or its last
@@ -15,10 +17,11 @@ abbrev pub picked : Bool → List ℕ → Option ℕ
 picked true = first_character
 picked false = last_character
 
--- the width of the delimiter that an event opens, or that it closes
-abbrev pub width_of : Bool → SourcedEvent → ℕ
-width_of true = start_width
-width_of false = close_width
+-- the width of the delimiter that an event opens, or that it closes; none counts where runs don't
+abbrev pub width_of : Counted → SourcedEvent → ℕ
+width_of Starts = start_width
+width_of Ends = close_width
+width_of Nothing = λ e. 0
 
 -- the run that a list begins with: its width, the character beyond it, and that of a Text there if it is `*` or `_`
 abbrev pub side_at : Bool → (SourcedEvent → ℕ) → List SourcedEvent → Side
@@ -64,3 +67,8 @@ pub record AreRound (runs : Bool) (es : List SourcedEvent) (befores starts_on en
   pub before : (i : ℕ) → i < length es → (slice_index_or befores i no_side).character ≡ character_before runs (reverse (take i es))
   pub starts : (i : ℕ) → (slice_index_or starts_on i no_side).character ≡ character_after runs start_width (drop i es)
   pub behind : (i : ℕ) → (slice_index_or ends_on i no_side).character ≡ character_after runs close_width (drop i es)
+
+-- by runs Starts (or Ends) count, else nothing does
+abbrev pub counted_if : Bool → Counted → Counted
+counted_if true counted = counted
+counted_if false counted = Nothing

@@ -8,12 +8,12 @@ ghost use Rattle.tocmark_event.specs.declared.event.flags.ParserOptions.{ParserO
 ghost use Rattle.tocmark_spelling.specs.Buffered.{buffered_view};
 ghost use Rattle.tocmark_spelling.specs.PlanOf.{setting_of};
 ghost use Rattle.tocmark_spelling.specs.Runs.{counts, disturbs_at};
-ghost use Rattle.tocmark_spelling.specs.Sides.{closes_at, mark_of, no_side, AreRound};
+ghost use Rattle.tocmark_spelling.specs.Sides.{closes_at, counted_if, mark_of, no_side, AreRound};
 ghost use Rattle.tocmark_spelling.specs.Plan.{Setting};
 ghost use Rattle.tocmark_spelling.specs.Scans.{AreEnds};
 
 use crate::boundary::is_boundary;
-use crate::sides::Side;
+use crate::sides::{Counted, Side, sides_ahead, sides_before};
 use crate::spelling::BufferedEvent;
 use std::alloc::{AllocError, Global};
 use tocmark_event::event::{EventOf, TagOf};
@@ -121,7 +121,8 @@ pub fn disturbers<R: Reader>(
 ) -> Result<Vec<bool>, AllocError>
     requires ends { AreEnds (map buffered_view events.now) ends.now }
     requires round { AreRound runs (map buffered_view events.now) before.now starts.now behind.now }
-    ensures { (o : OptionsView) (flags : ParserOptions) (label : Option (List ℕ)) → IfOk result (λ marks. marks.items ≡ disturbers (setting_of o flags (R.reading reader.now) label) runs [] (map buffered_view events.now)) }
+    ensures len { IfOk result (λ marks. length marks.items ≡ length events.now) }
+    ensures marks { (o : OptionsView) (flags : ParserOptions) (label : Option (List ℕ)) → IfOk result (λ marks. marks.items ≡ disturbers (setting_of o flags (R.reading reader.now) label) runs [] (map buffered_view events.now)) }
 {
     let mut marks = Vec::new(alloc);
     for event in events {
@@ -147,22 +148,14 @@ fn comes_before(place: Option<usize>, end: usize) -> bool
 fn nearer(is_marked: bool, place: usize, nearest: Option<usize>) -> Option<usize>
     ensures { result ≡ (if is_marked then Some place else nearest) }
 {
-    if is_marked {
-        Some(place)
-    } else {
-        nearest
-    }
+    if is_marked { Some(place) } else { nearest }
 }
 
 /// For each place whether one behind it and before its end is marked.
 ///
 /// Where the marks are at the starts that would need asterisks that could close what is round them, that
 /// is whether a container prefers the underscore. An `Err` says that memory ran out.
-pub fn marks_within(
-    alloc: Global,
-    marks: &[bool],
-    ends: &[usize],
-) -> Result<Vec<bool>, AllocError>
+pub fn marks_within(alloc: Global, marks: &[bool], ends: &[usize]) -> Result<Vec<bool>, AllocError>
     requires { length ends.now ≡ length marks.now }
     ensures marked { IfOk result (λ found. HoldMarks marks.now ends.now found.items) }
     ensures disturbed { (s : Setting) (runs : Bool) (es : List SourcedEvent) → marks.now ≡ disturbers s runs [] es → AreEnds es ends.now → IfOk result (λ found. AreDisturbed s runs es found.items) }
@@ -176,4 +169,33 @@ pub fn marks_within(
         nearest = nearer(marks[i], i, nearest);
     }
     Ok(found)
+}
+
+fn counted_if(runs: bool, counted: Counted) -> Counted
+    ensures { result ≡ counted_if runs counted }
+{
+    if runs { counted } else { Counted::Nothing }
+}
+
+/// For each start whether its body holds a node whose markers would be asterisks that could close the
+/// emphasis round them, so that a container there prefers the underscore; by runs, or by neighbours alone.
+///
+/// An `Err` says that memory ran out.
+pub fn preferences<R: Reader>(
+    alloc: Global,
+    reader: &R,
+    runs: bool,
+    events: &[BufferedEvent],
+    ends: &[usize],
+) -> Result<Vec<bool>, AllocError>
+    requires { AreEnds (map buffered_view events.now) ends.now }
+    ensures { (o : OptionsView) (flags : ParserOptions) (label : Option (List ℕ)) → IfOk result (λ found. AreDisturbed (setting_of o flags (R.reading reader.now) label) runs (map buffered_view events.now) found.items) }
+{
+    let starts_counted = counted_if(runs, Counted::Starts);
+    let ends_counted = counted_if(runs, Counted::Ends);
+    let before = sides_before(alloc, events, starts_counted)?;
+    let starts = sides_ahead(alloc, events, starts_counted)?;
+    let behind = sides_ahead(alloc, events, ends_counted)?;
+    let marks = disturbers(alloc, reader, runs, events, ends, &before, &starts, &behind)?;
+    marks_within(alloc, &marks, ends)
 }

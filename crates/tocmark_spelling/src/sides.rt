@@ -5,7 +5,7 @@ ghost use Rattle.tocmark_event.specs.View.{tag_view, event_view, unsourced};
 ghost use Rattle.tocmark_spelling.specs.Buffered.{buffered_view};
 ghost use Rattle.tocmark_spelling.specs.Edges.{edge, event_edge};
 ghost use Rattle.tocmark_spelling.specs.Kinds.{is_inline_end};
-ghost use Rattle.tocmark_spelling.specs.Runs.{tag_width, end_width, marker_only, text_only};
+ghost use Rattle.tocmark_spelling.specs.Runs.{tag_width, end_width, start_width, close_width, marker_only, text_only};
 ghost use Rattle.tocmark_spelling.specs.Sides.{picked, width_of, side_with, no_side, AreAhead, AreBefore};
 ghost use Rattle.tocmark_spelling.specs.Words.{asterisk, last_character};
 
@@ -13,6 +13,16 @@ use crate::kinds::is_inline_tag;
 use crate::spelling::BufferedEvent;
 use std::alloc::{AllocError, Global};
 use tocmark_event::event::{EventOf, TagEnd, TagOf};
+
+/// Which events make up a run.
+#[derive(Clone, Copy, Debug, PartialEq, Eq)]
+pub enum Counted {
+    /// Starts of emphasis and strong emphasis.
+    Starts,
+    /// Their ends.
+    Ends,
+    Nothing,
+}
 
 /// A run of delimiters on one side of a place.
 #[derive(Clone, Copy, Debug, PartialEq, Eq)]
@@ -121,23 +131,41 @@ fn end_width(end: TagEnd) -> usize
     }
 }
 
-/// The width of the delimiter that an event opens, or that it closes.
-fn width_of(event: &BufferedEvent, opening: bool) -> usize
-    ensures { result ≡ width_of opening (buffered_view event.now) }
+fn start_width(event: &BufferedEvent) -> usize
+    ensures { result ≡ start_width (buffered_view event.now) }
 {
     match &event.event {
-        EventOf::Start(tag) if opening => tag_width(tag),
-        EventOf::End(end) if !opening => end_width(*end),
+        EventOf::Start(tag) => tag_width(tag),
         _ => 0,
     }
 }
 
-/// The side with one event more in front.
-fn side_with(event: &BufferedEvent, side: Side, opening: bool, first: bool) -> Side
-    requires { side.width ≤ 18446744073709551613 }
-    ensures { result ≡ side_with first (width_of opening) (buffered_view event.now) side }
+fn close_width(event: &BufferedEvent) -> usize
+    ensures { result ≡ close_width (buffered_view event.now) }
 {
-    let width = width_of(event, opening);
+    match &event.event {
+        EventOf::End(end) => end_width(*end),
+        _ => 0,
+    }
+}
+
+/// The width that an event adds to a run.
+fn width_of(event: &BufferedEvent, counted: Counted) -> usize
+    ensures { result ≡ width_of counted (buffered_view event.now) }
+{
+    match counted {
+        Counted::Starts => start_width(event),
+        Counted::Ends => close_width(event),
+        Counted::Nothing => 0,
+    }
+}
+
+/// The side with one event more in front.
+fn side_with(event: &BufferedEvent, side: Side, counted: Counted, first: bool) -> Side
+    requires { side.width ≤ 18446744073709551613 }
+    ensures { result ≡ side_with first (width_of counted) (buffered_view event.now) side }
+{
+    let width = width_of(event, counted);
     if width == 0 {
         Side {
             character: edge(event, first),
@@ -163,43 +191,43 @@ fn no_side() -> Side
     }
 }
 
-/// For each event the run of starts, or of ends, that begins with it, and what stands behind that run.
+/// For each event the run of these events that begins with it, and what stands behind that run.
 ///
 /// An `Err` says that memory ran out.
 pub fn sides_ahead(
     alloc: Global,
     events: &[BufferedEvent],
-    opening: bool,
+    counted: Counted,
 ) -> Result<Vec<Side>, AllocError>
-    ensures { IfOk result (λ sides. AreAhead (width_of opening) (map buffered_view events.now) sides.items) }
+    ensures { IfOk result (λ sides. AreAhead (width_of counted) (map buffered_view events.now) sides.items) }
 {
     let mut sides = vec![in alloc; no_side(); events.len()]?;
     let mut side = no_side();
     let mut i = events.len();
     while i > 0 {
         i -= 1;
-        side = side_with(&events[i], side, opening, true);
+        side = side_with(&events[i], side, counted, true);
         sides[i] = side;
     }
     Ok(sides)
 }
 
-/// For each event the run of starts, or of ends, that ends just before it, and what stands before that
+/// For each event the run of these events that ends just before it, and what stands before that
 /// run.
 ///
 /// An `Err` says that memory ran out.
 pub fn sides_before(
     alloc: Global,
     events: &[BufferedEvent],
-    opening: bool,
+    counted: Counted,
 ) -> Result<Vec<Side>, AllocError>
-    ensures { IfOk result (λ sides. AreBefore (width_of opening) (map buffered_view events.now) sides.items) }
+    ensures { IfOk result (λ sides. AreBefore (width_of counted) (map buffered_view events.now) sides.items) }
 {
     let mut sides = Vec::new(alloc);
     let mut side = no_side();
     for event in events {
         sides.push(side)?;
-        side = side_with(event, side, opening, false);
+        side = side_with(event, side, counted, false);
     }
     Ok(sides)
 }

@@ -1,5 +1,5 @@
-use Rattle.std.proofs.Common.{◌≡◌, ◌∙◌, ap, sym, subst, Bool, IfOk, Some, rules, nat_lt, false}
-use Rattle.tocmark_spelling.specs.Edges.{opens_behind, is_boundary}
+use Rattle.std.proofs.Common.{◌≡◌, ◌∙◌, ap, sym, subst, Bool, IfOk, rules, nat_lt, false}
+use Rattle.tocmark_spelling.specs.Edges.{is_boundary}
 use Rattle.tocmark_spelling.specs.PlanOf.{setting_of}
 use Rattle.tocmark_spelling.proofs.Boundaries.{boundary-past}
 use Rattle.tocmark_spelling.proofs.boundary.is_boundary.Goals as goal

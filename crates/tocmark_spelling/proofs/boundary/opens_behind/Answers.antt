@@ -1,4 +1,4 @@
-use Rattle.std.proofs.Common.{◌≡◌, ◌∙◌, ◌++◌, ap, sym, encode_utf8, codes}
+use Rattle.std.proofs.Common.{◌≡◌, ◌∙◌, ◌++◌, ap, encode_utf8, codes}
 use Rattle.std.specs.List.{list_any}
 use Rattle.tocmark_event.specs.Text.{text_of}
 use Rattle.tocmark_event.specs.View.{event_view}
@@ -11,8 +11,8 @@ use Rattle.tocmark_spelling.proofs.boundary.opens_behind.Goals as goal
 pub returns : goal.returns
 returns g c = λ o flags label.
     let text : c.as_str.result.now ≡ encode_utf8 c.args.character ++ codes "_x_" =
-        c.as_str.ensures.value ∙ c.in_ok-push_str.ensures.bytes
-        ∙ ap (λ b. b ++ codes "_x_") (c.in_ok-push.ensures.bytes ∙ ap (λ b. b ++ encode_utf8 c.args.character) c.new-text.ensures.bytes) in
+    c.as_str.ensures.value ∙ c.in_ok-push_str.ensures.bytes
+    ∙ ap (λ b. b ++ codes "_x_") (c.in_ok-push.ensures.bytes ∙ ap (λ b. b ++ encode_utf8 c.args.character) c.new-text.ensures.bytes) in
     c.has_emphasis.ensures
     ∙ ap (list_any (λ e. starts is_emphasis (event_view text_of e.0))) c.deref.ensures.value
     ∙ any-events c.in_ok-found.found.events.items

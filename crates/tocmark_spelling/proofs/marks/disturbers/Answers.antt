@@ -1,4 +1,4 @@
-use Rattle.std.proofs.Common.{rules, ◌≡◌, ◌∙◌, ◌+◌, ◌<◌, ◌++◌, ◌∷◌, [], sym, ap, length, map, drop, take, reverse, arith, length-append, slice_index, slice_index_or}
+use Rattle.std.proofs.Common.{◌≡◌, ◌∙◌, ◌+◌, ◌++◌, ◌∷◌, [], sym, ap, length, map, drop, take, reverse, arith, length-append, slice_index, slice_index_or}
 use Rattle.std.proofs.lemmas.List.{append-nil, drop_all}
 use Rattle.tocmark_spelling.specs.Ahead.{disturbers}
 use Rattle.tocmark_spelling.specs.Buffered.{buffered_view}
@@ -35,8 +35,11 @@ loop-event-preserved g c =
           marks-step es rest n e at s a.runs c.loop-event.marks.items c.push.new.self.items (disturbers s a.runs [] es) c.in_ok-mark.mark c.in_ok-push.ensures.items is (c.loop-event.invariant.marks o flags label);
     }
 
-pub returns : goal.returns
-returns g c = λ o flags label.
+pub returns-clause-len : goal.returns-clause-len
+returns-clause-len g c = omega (arith, c.loop-event.invariant.len)
+
+pub returns-clause-marks : goal.returns-clause-marks
+returns-clause-marks g c = λ o flags label.
     let a = c.args in
     let n = c.loop-event.event-index in
     let es = map buffered_view a.events.now in

@@ -1,7 +1,7 @@
-use Rattle.std.proofs.Common.{◌≡◌, ◌∙◌, ap, sym, subst, Bool, true, IfOk, string_bytes}
+use Rattle.std.proofs.Common.{◌≡◌, ◌∙◌, ap, sym, subst, Bool, IfOk, string_bytes}
 use Rattle.std.specs.Prelude.{◌&&◌}
 use Rattle.std.specs.Option.{option_map}
-use Rattle.tocmark_event.specs.View.{event_view, tag_view}
+use Rattle.tocmark_event.specs.View.{event_view}
 use Rattle.tocmark_spelling.specs.Buffered.{buffered_view, sourced}
 use Rattle.tocmark_spelling.specs.PlanOf.{setting_of}
 use Rattle.tocmark_spelling.specs.Runs.{disturbs_at}
@@ -14,6 +14,6 @@ returns-then-counts g c = λ o flags label.
     let a = c.args in
     let P : Bool → Type 0 = λ x. IfOk c.disturbs_at.result (λ mark. mark ≡ x) in
     let found : mark_of s a.runs (buffered_view a.event.now) a.before a.first a.after ≡ disturbs_at s a.before a.first a.after =
-        ap (λ x. mark_of s a.runs (sourced (event_view string_bytes x) (option_map string_bytes a.event.now.source)) a.before a.first a.after) c.in-Start.is
-        ∙ ap (λ b. b && disturbs_at s a.before a.first a.after) (sym c.counts.ensures ∙ c.if-counts.true) in
+    ap (λ x. mark_of s a.runs (sourced (event_view string_bytes x) (option_map string_bytes a.event.now.source)) a.before a.first a.after) c.in-Start.is
+    ∙ ap (λ b. b && disturbs_at s a.before a.first a.after) (sym c.counts.ensures ∙ c.if-counts.true) in
     subst P (sym found) (c.disturbs_at.ensures o flags label)

@@ -1,4 +1,4 @@
-use Rattle.std.proofs.Common.{◌≡◌, ◌∙◌, ◌+◌, ◌-◌, ◌<◌, ◌≤◌, ℕ, Bool, false, true, sym, ap, take, drop, length, get_or, arith, subst, length-set, rules}
+use Rattle.std.proofs.Common.{◌≡◌, ◌+◌, ◌-◌, ◌<◌, ◌≤◌, ℕ, Bool, false, take, drop, length, get_or, arith, subst, length-set, rules}
 use Rattle.std.specs.List.{list_any}
 use Rattle.tocmark_spelling.proofs.Nearest.{nearest-step, nearest-none, found-at, found-step}
 use Rattle.tocmark_spelling.proofs.Ahead.{are-disturbed}

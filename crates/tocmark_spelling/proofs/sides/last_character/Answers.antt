@@ -1,4 +1,4 @@
-use Rattle.std.proofs.Common.{rules, ◌≡◌, ◌∙◌, sym, ap, length}
+use Rattle.std.proofs.Common.{rules, ◌∙◌, sym, ap, length}
 use Rattle.std.specs.Char.{IsScalar}
 use Rattle.tocmark_spelling.proofs.LastCharacter.{last-is, last-none}
 use Rattle.tocmark_spelling.proofs.sides.last_character.Goals as goal

@@ -15,14 +15,14 @@ loop-i-init c =
     record {
       within = omega arith;
       len = search rules;
-      side = c.no_side-side.ensures ∙ ap (side_at true (width_of c.args.opening)) (sym (drop-all evs len (omega (arith, count))));
-      sides = λ j le. column-end c.in_ok-sides.sides.items evs true c.args.opening len j (search rules) count le;
+      side = c.no_side-side.ensures ∙ ap (side_at true (width_of c.args.counted)) (sym (drop-all evs len (omega (arith, count))));
+      sides = λ j le. column-end c.in_ok-sides.sides.items evs true c.args.counted len j (search rules) count le;
     }
 
 pub side_with-side-requires : goal.side_with-side-requires
 side_with-side-requires c =
     let evs = map buffered_view c.args.events.now in
-    let bound = side-bound true c.args.opening (drop c.loop-i.i evs) c.loop-i.side c.loop-i.invariant.side in
+    let bound = side-bound true c.args.counted (drop c.loop-i.i evs) c.loop-i.side c.loop-i.invariant.side in
     room c.loop-i.side.width (length c.args.events.now) c.loop-i.i (length (drop c.loop-i.i evs)) bound (length-drop c.loop-i.i evs ∙ ap (λ n. n - c.loop-i.i) (length-events c.args.events.now)) c.loop-i-test.true (small c.loop-i.sides.len c.loop-i.sides.cap (length c.loop-i.sides.items) (length c.args.events.now) c.loop-i.sides.ok.0 c.loop-i.sides.ok.1 c.loop-i.sides.small c.loop-i.invariant.len)
 
 pub loop-i-preserved : goal.loop-i-preserved
@@ -32,8 +32,8 @@ loop-i-preserved c =
     let q : c.loop-i.i ≡ k + 1 = omega arith in
     let lt : k < length c.args.events.now = omega arith in
     let at = drop-event c.args.events.now k _ lt c.index-events-i.is in
-    let value : ℕ → Side = λ j. side_at true (width_of c.args.opening) (drop j evs) in
-    let next = side-ahead evs _ c.args.opening c.loop-i.side c.side_with-side.result c.loop-i.i k q at c.loop-i.invariant.side c.side_with-side.ensures in
+    let value : ℕ → Side = λ j. side_at true (width_of c.args.counted) (drop j evs) in
+    let next = side-ahead evs _ c.args.counted c.loop-i.side c.side_with-side.result c.loop-i.i k q at c.loop-i.invariant.side c.side_with-side.ensures in
     let P : ℕ → Type 0 = λ i. (j : ℕ) → i ≤ j → get_or c.loop-i.sides.items j no_side ≡ value j in
     record {
       within = omega arith;

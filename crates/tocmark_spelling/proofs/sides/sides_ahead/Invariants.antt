@@ -8,8 +8,8 @@ invariant-loop-i l =
     record {
       within : l.i ≤ length l.events;
       len : length l.sides.items ≡ length l.events;
-      side : l.side ≡ side_at true (width_of l.opening) (drop l.i (map buffered_view l.events));
-      sides : (j : ℕ) → l.i ≤ j → slice_index_or l.sides.items j no_side ≡ side_at true (width_of l.opening) (drop j (map buffered_view l.events));
+      side : l.side ≡ side_at true (width_of l.counted) (drop l.i (map buffered_view l.events));
+      sides : (j : ℕ) → l.i ≤ j → slice_index_or l.sides.items j no_side ≡ side_at true (width_of l.counted) (drop j (map buffered_view l.events));
     }
 
 abbrev pub decreases-loop-i : goal.decreases-loop-i

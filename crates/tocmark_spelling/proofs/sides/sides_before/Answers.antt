@@ -1,7 +1,7 @@
-use Rattle.std.proofs.Common.{rules, ◌≡◌, ◌∙◌, ◌+◌, ◌<◌, ℕ, false, sym, ap, length, length-append, ◌∷◌, [], map, take, reverse, get_or, arith}
+use Rattle.std.proofs.Common.{◌≡◌, ◌∙◌, ◌+◌, ℕ, false, ap, length, length-append, ◌∷◌, [], map, take, reverse, arith}
 use Rattle.std.proofs.lemmas.List.{length-reverse, length-take-le}
 use Rattle.tocmark_spelling.specs.Buffered.{buffered_view}
-use Rattle.tocmark_spelling.specs.Sides.{width_of, side_at, no_side}
+use Rattle.tocmark_spelling.specs.Sides.{width_of, side_at}
 use Rattle.tocmark_spelling.specs.declared.sides.Side.{Side}
 use Rattle.tocmark_spelling.proofs.SideLaws.{room_before, side-bound, side-before, column-more}
 use Rattle.tocmark_spelling.proofs.Steps.{events-take}
@@ -24,7 +24,7 @@ side_with-side-requires c =
     let new = c.push.new.self in
     let count = length-reverse before ∙ length-events (take n events) ∙ length-take-le n events (omega arith) in
     let more : length new.items ≡ n + 1 = omega (arith, ap length c.in_ok-push.ensures.items, length-append c.loop-event.sides.items (c.loop-event.side ∷ []), c.loop-event.invariant.len) in
-    room_before c.loop-event.side.width new.len new.cap (length new.items) n (length (reverse before)) (side-bound false c.args.opening (reverse before) c.loop-event.side c.loop-event.invariant.side) count new.ok.0 new.ok.1 new.small more
+    room_before c.loop-event.side.width new.len new.cap (length new.items) n (length (reverse before)) (side-bound false c.args.counted (reverse before) c.loop-event.side c.loop-event.invariant.side) count new.ok.0 new.ok.1 new.small more
 
 pub loop-event-preserved : goal.loop-event-preserved
 loop-event-preserved c =
@@ -32,14 +32,14 @@ loop-event-preserved c =
     let events = c.args.events.now in
     let sides = c.loop-event.sides.items in
     let before : ℕ → _ = λ j. reverse (map buffered_view (take j events)) in
-    let value : ℕ → Side = λ j. side_at false (width_of c.args.opening) (before j) in
+    let value : ℕ → Side = λ j. side_at false (width_of c.args.counted) (before j) in
     record {
       len = omega (arith, ap length c.in_ok-push.ensures.items, length-append sides (c.loop-event.side ∷ []), c.loop-event.invariant.len);
-      side = side-before (before n) (before (n + 1)) (buffered_view c.event-item.result) c.args.opening c.loop-event.side c.side_with-side.result (before-event events n _ (omega arith) c.event-item.is) c.loop-event.invariant.side c.side_with-side.ensures;
+      side = side-before (before n) (before (n + 1)) (buffered_view c.event-item.result) c.args.counted c.loop-event.side c.side_with-side.result (before-event events n _ (omega arith) c.event-item.is) c.loop-event.invariant.side c.side_with-side.ensures;
       sides = column-more sides c.push.new.self.items n c.loop-event.side value c.in_ok-push.ensures.items c.loop-event.invariant.len c.loop-event.invariant.side c.loop-event.invariant.sides;
     }
 
 pub returns : goal.returns
 returns c = λ i lt.
     c.loop-event.invariant.sides i (omega (arith, lt, length-events c.args.events.now))
-    ∙ ap (λ x. side_at false (width_of c.args.opening) (reverse x)) (events-take c.args.events.now i)
+    ∙ ap (λ x. side_at false (width_of c.args.counted) (reverse x)) (events-take c.args.events.now i)

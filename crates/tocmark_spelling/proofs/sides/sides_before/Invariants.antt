@@ -7,6 +7,6 @@ abbrev pub invariant-loop-event : goal.invariant-loop-event
 invariant-loop-event l =
     record {
       len : length l.sides.items ≡ l.event-index;
-      side : l.side ≡ side_at false (width_of l.opening) (reverse (map buffered_view (take l.event-index l.events)));
-      sides : (j : ℕ) → j < l.event-index → slice_index_or l.sides.items j no_side ≡ side_at false (width_of l.opening) (reverse (map buffered_view (take j l.events)));
+      side : l.side ≡ side_at false (width_of l.counted) (reverse (map buffered_view (take l.event-index l.events)));
+      sides : (j : ℕ) → j < l.event-index → slice_index_or l.sides.items j no_side ≡ side_at false (width_of l.counted) (reverse (map buffered_view (take j l.events)));
     }
