@@ -7,7 +7,7 @@ use Rattle.tocmark_event.specs.View.{TagView, SourcedEvent, EventView, Start, En
 use Rattle.tocmark_event.specs.declared.event.TagEnd.{TagEnd}
 use Rattle.tocmark_event.specs.Forest.{empty, leaf, node, flat_onto, flat}
 use Rattle.tocmark_spelling.specs.Plan.{Setting, Manner}
-use Rattle.tocmark_spelling.specs.Body.{Trees, back_onto}
+use Rattle.tocmark_spelling.specs.Body.{Trees, back_onto, breaks_line, text_of_leaf, html_of_leaf}
 use Rattle.tocmark_spelling.specs.Kinds.{is_emphasis_or_strong}
 use Rattle.tocmark_spelling.specs.Look.{look, is_preferred, prefers_if}
 use Rattle.tocmark_spelling.specs.Page.{Around}
@@ -15,6 +15,8 @@ use Rattle.tocmark_spelling.specs.Runs.{opening_run, closing_run, run_at, start_
 use Rattle.tocmark_spelling.specs.Machine.{layers, with_node, kids_of, around}
 use Rattle.tocmark_spelling.specs.Scans.{span, AreEnds}
 use Rattle.tocmark_spelling.specs.Ahead.{behind_body, up_to_end, IsNested, AreNested, opening_ahead, closing_ahead, ends_here, first_width, width_in, width_ahead_of, character_before, character_after, starts_disturber, disturbers, is_disturbed, prefers_ahead, AreSeen, HoldMarks, AreDisturbed}
+use Rattle.tocmark_spelling.proofs.Gathered.{empty-scan, begins-scan, joined-scan, first-scan}
+use Rattle.tocmark_spelling.proofs.Looks.{leaf-scan}
 use Rattle.tocmark_spelling.proofs.Follows.{kids-flat}
 
 -- behind a body
@@ -234,6 +236,12 @@ all-seen s m next f i t rest e =
       closing = closing-look s m t before rest next nested;
       width = width-look s m t before rest next nested;
       prefers = prefers-look s m t before rest next nested;
+      empty_body = sym (empty-scan rest);
+      begins_paragraph = sym (begins-scan rest);
+      broken = sym (leaf-scan breaks_line rest);
+      text = sym (joined-scan text_of_leaf rest);
+      first_html = sym (first-scan rest);
+      html = sym (joined-scan html_of_leaf rest);
     }
 
 -- the marks at a place

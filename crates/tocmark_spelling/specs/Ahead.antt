@@ -2,18 +2,18 @@
 -- Start, the last one first, and of those behind it.
 use Rattle.std.specs.Prelude.{◌≡◌, ℕ, suc, ◌+◌, Bool, true, false, not, ◌&&◌, if◌then◌else◌, Option, List, [], ◌∷◌, ◌++◌, take, drop, reverse, length, nat_lt, slice_index, slice_index_or, ◌-◌, ◌<◌, None, Some}
 use Rattle.std.specs.List.{list_any}
-use Rattle.tocmark_event.specs.View.{TagView, SourcedEvent, EventView, Start, End, end_of}
+use Rattle.tocmark_event.specs.View.{TagView, SourcedEvent, EventView, LeafView, Start, End, Leaf, end_of}
 use Rattle.tocmark_event.specs.Forest.{flat_onto, flat}
 use Rattle.tocmark_spelling.specs.Runs.{Run, run_at, tag_width, start_width, close_width, run_before, run_after, counts, disturbs_at}
 use Rattle.tocmark_spelling.specs.Machine.{kids_of, around}
-use Rattle.tocmark_spelling.specs.Body.{Trees}
-use Rattle.tocmark_spelling.specs.Kinds.{is_emphasis, is_emphasis_or_strong}
+use Rattle.tocmark_spelling.specs.Body.{Trees, breaks_line, text_of_leaf, html_in, html_of_leaf}
+use Rattle.tocmark_spelling.specs.Kinds.{is_paragraph, is_emphasis, is_emphasis_or_strong}
 use Rattle.tocmark_spelling.specs.Plan.{Setting, Manner}
 use Rattle.tocmark_spelling.specs.Look.{Look, look, is_preferred}
 use Rattle.tocmark_spelling.specs.Edges.{edge_before, edge_after}
 use Rattle.tocmark_spelling.specs.Page.{front}
 use Rattle.tocmark_spelling.specs.Words.{or_else}
-use Rattle.tocmark_spelling.specs.Scans.{span}
+use Rattle.tocmark_spelling.specs.Scans.{span, is_leaf}
 
 -- the body of the container behind whose Start these events stand
 abbrev pub body_in : List SourcedEvent → List SourcedEvent
@@ -96,6 +96,24 @@ is_disturbed s runs before rest = list_any (λ b. b) (take (span 0 rest) (distur
 abbrev pub prefers_ahead : Setting → Manner → TagView → List SourcedEvent → List SourcedEvent → Bool
 prefers_ahead s m t before rest = is_emphasis_or_strong t && is_disturbed s (not (is_preferred m.plan.layout)) (Start t ∷ before) rest
 
+-- whether a body begins with a Paragraph
+abbrev pub begins_with_paragraph : List SourcedEvent → Bool
+begins_with_paragraph [] = false
+begins_with_paragraph (Start t ∷ es) = is_paragraph t
+begins_with_paragraph (e ∷ es) = false
+
+-- the texts of the leaves joined
+abbrev pub texts_of : (LeafView → List ℕ) → List SourcedEvent → List ℕ
+texts_of text [] = []
+texts_of text (Leaf l ∷ es) = text l.leaf ++ texts_of text es
+texts_of text (e ∷ es) = texts_of text es
+
+-- the first text that a leaf has
+abbrev pub first_of : (LeafView → Option (List ℕ)) → List SourcedEvent → Option (List ℕ)
+first_of text [] = None
+first_of text (Leaf l ∷ es) = or_else (text l.leaf) (first_of text es)
+first_of text (e ∷ es) = first_of text es
+
 -- what an opening is told is what stands in the flat list round its container
 pub record IsSeen (s : Setting) (m : Manner) (t : TagView) (before rest : List SourcedEvent) (next : Option EventView) (l : Look) : Type 0 where
   pub previous : l.previous ≡ front before
@@ -105,6 +123,12 @@ pub record IsSeen (s : Setting) (m : Manner) (t : TagView) (before rest : List S
   pub closing : l.closing ≡ closing_ahead t before rest
   pub width : l.width ≡ width_ahead_of t rest
   pub prefers : l.prefers ≡ prefers_ahead s m t before rest
+  pub empty_body : l.empty_body ≡ ends_here rest
+  pub begins_paragraph : l.begins_paragraph ≡ begins_with_paragraph rest
+  pub broken : l.broken ≡ list_any (is_leaf breaks_line) (body_in rest)
+  pub text : l.text ≡ texts_of text_of_leaf (body_in rest)
+  pub first_html : l.first_html ≡ first_of html_in (body_in rest)
+  pub html : l.html ≡ texts_of html_of_leaf (body_in rest)
 
 -- so it is at each Start of a forest's list
 abbrev pub AreSeen : Setting → Manner → Option EventView → Trees → Type 0
