@@ -7,14 +7,14 @@ use Rattle.tocmark_event.specs.View.{TagView, SourcedEvent, EventView, Start, En
 use Rattle.tocmark_event.specs.declared.event.TagEnd.{TagEnd}
 use Rattle.tocmark_event.specs.Forest.{empty, leaf, node, flat_onto, flat}
 use Rattle.tocmark_spelling.specs.Plan.{Setting, Manner}
-use Rattle.tocmark_spelling.specs.Body.{Trees, back_onto, breaks_line, text_of_leaf, html_of_leaf}
-use Rattle.tocmark_spelling.specs.Kinds.{is_emphasis_or_strong}
+use Rattle.tocmark_spelling.specs.Body.{Trees, back_onto, has_tag, breaks_line, text_of_leaf, html_of_leaf}
+use Rattle.tocmark_spelling.specs.Kinds.{is_paragraph, is_emphasis_or_strong}
 use Rattle.tocmark_spelling.specs.Look.{look, is_preferred, prefers_if}
 use Rattle.tocmark_spelling.specs.Page.{Around}
 use Rattle.tocmark_spelling.specs.Runs.{opening_run, closing_run, run_at, start_width, close_width, tag_width, added_width, width_within, counts, disturbs_at, and_disturbs, prefers_underscore}
-use Rattle.tocmark_spelling.specs.Machine.{layers, with_node, kids_of, around}
+use Rattle.tocmark_spelling.specs.Machine.{Layers, layers, with_node, kids_of, around}
 use Rattle.tocmark_spelling.specs.Scans.{span, AreEnds}
-use Rattle.tocmark_spelling.specs.Ahead.{behind_body, up_to_end, IsNested, AreNested, opening_ahead, closing_ahead, ends_here, first_width, width_in, width_ahead_of, character_before, character_after, starts_disturber, disturbers, is_disturbed, prefers_ahead, AreSeen, HoldMarks, AreDisturbed}
+use Rattle.tocmark_spelling.specs.Ahead.{behind_body, up_to_end, IsNested, AreNested, opening_ahead, closing_ahead, ends_here, first_width, width_in, width_ahead_of, character_before, character_after, starts_disturber, disturbers, is_disturbed, prefers_ahead, has_start, AreSeen, HoldMarks, AreDisturbed}
 use Rattle.tocmark_spelling.proofs.Gathered.{empty-scan, begins-scan, joined-scan, first-scan}
 use Rattle.tocmark_spelling.proofs.Looks.{leaf-scan}
 use Rattle.tocmark_spelling.proofs.Follows.{kids-flat}
@@ -128,6 +128,25 @@ kids-start t es =
     first-node t (kids_of es) (layers es).outer
     ∙ ap (node t (kids_of es)) (sym (outer-right (layers es).outer) ∙ outer-layers es 0)
 
+-- a container with such a tag in a body
+
+abbrev at_depth : ℕ → Layers → Trees
+at_depth zero x = x.inner
+at_depth (suc d) x = outer_at d x.outer
+
+has-layers : (test : TagView → Bool) (es : List SourcedEvent) (d : ℕ) → has_start test d es ≡ has_tag test (at_depth d (layers es))
+has-layers test [] zero = refl
+has-layers test [] (suc d) = refl
+has-layers test (Leaf l ∷ es) zero = has-layers test es zero
+has-layers test (Leaf l ∷ es) (suc d) = has-layers test es (suc d)
+has-layers test (Start t ∷ es) zero =
+    ap (λ b. test t || b) (has-layers test es 1 ∙ ap (has_tag test) (outer-right (layers es).outer))
+    ∙ ap (has_tag test) (sym (first-node t (layers es).inner (layers es).outer))
+has-layers test (Start t ∷ es) (suc d) = has-layers test es (suc (suc d)) ∙ ap (has_tag test) (outer-node t d (layers es).inner (layers es).outer)
+has-layers test (End k ∷ es) zero = refl
+has-layers test (End k ∷ es) (suc zero) = has-layers test es zero
+has-layers test (End k ∷ es) (suc (suc d)) = has-layers test es (suc d)
+
 added-node : (t t' : TagView) (kids : Trees) (fs : List Trees) (width : ℕ) → first_width t false width ≡ added_width t (with_node t' kids fs).inner width
 added-node t t' kids [] width = refl
 added-node t t' kids (f ∷ fs) width = refl
@@ -238,6 +257,7 @@ all-seen s m next f i t rest e =
       prefers = prefers-look s m t before rest next nested;
       empty_body = sym (empty-scan rest);
       begins_paragraph = sym (begins-scan rest);
+      has_paragraph = sym (has-layers is_paragraph rest 0);
       broken = sym (leaf-scan breaks_line rest);
       text = sym (joined-scan text_of_leaf rest);
       first_html = sym (first-scan rest);

@@ -1,8 +1,7 @@
 -- What the leaves of a body come to, in trees and in the flat list.
-use Rattle.std.proofs.Common.{◌≡◌, ℕ, zero, suc, Bool, true, false, Option, Some, None, List, [], ◌∷◌, ◌++◌, refl, sym, ap, ◌∙◌, take}
+use Rattle.std.proofs.Common.{◌≡◌, ℕ, zero, suc, false, Option, Some, None, List, [], ◌∷◌, ◌++◌, refl, sym, ap, ◌∙◌, take}
 use Rattle.std.proofs.lemmas.List.{append_assoc, append-nil}
 use Rattle.tocmark_event.specs.View.{TagView, SourcedEvent, LeafView, Start, End, Leaf}
-use Rattle.tocmark_event.specs.Forest.{empty, leaf, node}
 use Rattle.tocmark_spelling.specs.Ahead.{ends_here, begins_with_paragraph, texts_of, first_of}
 use Rattle.tocmark_spelling.specs.Body.{Trees, is_empty, begins_paragraph, joined_by, first_html, html_in}
 use Rattle.tocmark_spelling.specs.Kinds.{is_paragraph}

@@ -1,6 +1,6 @@
 -- What the spelling of a container asks of the events round it, as functions of the flat list: of the events before its
 -- Start, the last one first, and of those behind it.
-use Rattle.std.specs.Prelude.{◌≡◌, ℕ, suc, ◌+◌, Bool, true, false, not, ◌&&◌, if◌then◌else◌, Option, List, [], ◌∷◌, ◌++◌, take, drop, reverse, length, nat_lt, slice_index, slice_index_or, ◌-◌, ◌<◌, None, Some}
+use Rattle.std.specs.Prelude.{◌≡◌, ℕ, zero, suc, ◌+◌, Bool, true, false, not, ◌&&◌, ◌||◌, if◌then◌else◌, Option, List, [], ◌∷◌, ◌++◌, take, drop, reverse, length, nat_lt, slice_index, slice_index_or, ◌-◌, ◌<◌, None, Some}
 use Rattle.std.specs.List.{list_any}
 use Rattle.tocmark_event.specs.View.{TagView, SourcedEvent, EventView, LeafView, Start, End, Leaf, end_of}
 use Rattle.tocmark_event.specs.Forest.{flat_onto, flat}
@@ -102,6 +102,15 @@ begins_with_paragraph [] = false
 begins_with_paragraph (Start t ∷ es) = is_paragraph t
 begins_with_paragraph (e ∷ es) = false
 
+-- whether a container with such a tag stands directly in the container that is open with so many others inside it
+abbrev pub has_start : (TagView → Bool) → ℕ → List SourcedEvent → Bool
+has_start test d [] = false
+has_start test d (Leaf l ∷ es) = has_start test d es
+has_start test zero (Start t ∷ es) = test t || has_start test 1 es
+has_start test (suc d) (Start t ∷ es) = has_start test (suc (suc d)) es
+has_start test zero (End k ∷ es) = false
+has_start test (suc d) (End k ∷ es) = has_start test d es
+
 -- the texts of the leaves joined
 abbrev pub texts_of : (LeafView → List ℕ) → List SourcedEvent → List ℕ
 texts_of text [] = []
@@ -125,6 +134,7 @@ pub record IsSeen (s : Setting) (m : Manner) (t : TagView) (before rest : List S
   pub prefers : l.prefers ≡ prefers_ahead s m t before rest
   pub empty_body : l.empty_body ≡ ends_here rest
   pub begins_paragraph : l.begins_paragraph ≡ begins_with_paragraph rest
+  pub has_paragraph : l.has_paragraph ≡ has_start is_paragraph 0 rest
   pub broken : l.broken ≡ list_any (is_leaf breaks_line) (body_in rest)
   pub text : l.text ≡ texts_of text_of_leaf (body_in rest)
   pub first_html : l.first_html ≡ first_of html_in (body_in rest)

@@ -4,7 +4,7 @@ use Rattle.tocmark_event.specs.View.{SourcedEvent, Start, unsourced}
 use Rattle.tocmark_spelling.specs.Ahead.{character_before, character_after}
 use Rattle.tocmark_spelling.specs.Edges.{edge, event_edge}
 use Rattle.tocmark_spelling.specs.Page.{front}
-use Rattle.tocmark_spelling.specs.Runs.{start_width, close_width, width_ahead, behind_run, marker_only, text_only, counts, disturbs_at}
+use Rattle.tocmark_spelling.specs.Runs.{Run, start_width, close_width, width_ahead, behind_run, marker_only, text_only, counts, disturbs_at}
 use Rattle.tocmark_spelling.specs.Characters.{is_white_space}
 use Rattle.tocmark_spelling.specs.Plan.{Setting}
 use Rattle.tocmark_spelling.specs.Words.{first_character, last_character}
@@ -72,3 +72,13 @@ pub record AreRound (runs : Bool) (es : List SourcedEvent) (befores starts_on en
 abbrev pub counted_if : Bool → Counted → Counted
 counted_if true counted = counted
 counted_if false counted = Nothing
+
+-- the run of this width between two sides
+abbrev pub run_of : ℕ → Side → Side → Run
+run_of own before after = record {
+  before = before.character;
+  after = after.character;
+  literal_before = before.literal;
+  literal_after = after.literal;
+  width = before.width + own + after.width;
+}
