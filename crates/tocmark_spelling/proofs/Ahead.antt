@@ -7,14 +7,14 @@ use Rattle.tocmark_event.specs.View.{TagView, SourcedEvent, EventView, Start, En
 use Rattle.tocmark_event.specs.declared.event.TagEnd.{TagEnd}
 use Rattle.tocmark_event.specs.Forest.{empty, leaf, node, flat_onto, flat}
 use Rattle.tocmark_spelling.specs.Plan.{Setting, Manner}
-use Rattle.tocmark_spelling.specs.Body.{Trees, back_onto, has_tag, breaks_line, text_of_leaf, html_of_leaf}
-use Rattle.tocmark_spelling.specs.Kinds.{is_paragraph, is_emphasis_or_strong}
+use Rattle.tocmark_spelling.specs.Body.{Trees, back_onto, is_inline_leaf, has_inline, is_tight, some_child, has_tag, breaks_line, text_of_leaf, html_of_leaf}
+use Rattle.tocmark_spelling.specs.Kinds.{is_inline_tag, is_paragraph, is_emphasis_or_strong}
 use Rattle.tocmark_spelling.specs.Look.{look, is_preferred, prefers_if}
 use Rattle.tocmark_spelling.specs.Page.{Around}
 use Rattle.tocmark_spelling.specs.Runs.{opening_run, closing_run, run_at, start_width, close_width, tag_width, added_width, width_within, counts, disturbs_at, and_disturbs, prefers_underscore}
 use Rattle.tocmark_spelling.specs.Machine.{Layers, layers, with_node, kids_of, around}
 use Rattle.tocmark_spelling.specs.Scans.{span, AreEnds}
-use Rattle.tocmark_spelling.specs.Ahead.{behind_body, up_to_end, IsNested, AreNested, opening_ahead, closing_ahead, ends_here, first_width, width_in, width_ahead_of, character_before, character_after, starts_disturber, disturbers, is_disturbed, prefers_ahead, has_start, AreSeen, HoldMarks, AreDisturbed}
+use Rattle.tocmark_spelling.specs.Ahead.{behind_body, up_to_end, IsNested, AreNested, opening_ahead, closing_ahead, ends_here, first_width, width_in, width_ahead_of, character_before, character_after, starts_disturber, disturbers, is_disturbed, prefers_ahead, has_start, has_inline_event, some_start, is_tight_body, AreSeen, HoldMarks, AreDisturbed}
 use Rattle.tocmark_spelling.proofs.Gathered.{empty-scan, begins-scan, joined-scan, first-scan}
 use Rattle.tocmark_spelling.proofs.Looks.{leaf-scan}
 use Rattle.tocmark_spelling.proofs.Follows.{kids-flat}
@@ -147,6 +147,40 @@ has-layers test (End k ∷ es) zero = refl
 has-layers test (End k ∷ es) (suc zero) = has-layers test es zero
 has-layers test (End k ∷ es) (suc (suc d)) = has-layers test es (suc d)
 
+inline-layers : (es : List SourcedEvent) (d : ℕ) → has_inline_event d es ≡ has_inline (at_depth d (layers es))
+inline-layers [] zero = refl
+inline-layers [] (suc d) = refl
+inline-layers (Leaf l ∷ es) zero = ap (λ b. is_inline_leaf l.leaf || b) (inline-layers es zero)
+inline-layers (Leaf l ∷ es) (suc d) = inline-layers es (suc d)
+inline-layers (Start t ∷ es) zero =
+    ap (λ b. is_inline_tag t || b) (inline-layers es 1 ∙ ap has_inline (outer-right (layers es).outer))
+    ∙ ap has_inline (sym (first-node t (layers es).inner (layers es).outer))
+inline-layers (Start t ∷ es) (suc d) = inline-layers es (suc (suc d)) ∙ ap has_inline (outer-node t d (layers es).inner (layers es).outer)
+inline-layers (End k ∷ es) zero = refl
+inline-layers (End k ∷ es) (suc zero) = inline-layers es zero
+inline-layers (End k ∷ es) (suc (suc d)) = inline-layers es (suc d)
+
+-- what the children of a body pass
+module _ (test : Trees → Bool) (scan : List SourcedEvent → Bool) (is : (es : List SourcedEvent) → scan es ≡ test (kids_of es)) where
+  child-layers : (es : List SourcedEvent) (d : ℕ) → some_start scan d es ≡ some_child test (at_depth d (layers es))
+  child-layers [] zero = refl
+  child-layers [] (suc d) = refl
+  child-layers (Leaf l ∷ es) zero = child-layers es zero
+  child-layers (Leaf l ∷ es) (suc d) = child-layers es (suc d)
+  child-layers (Start t ∷ es) zero =
+      ap (λ b. b || some_start scan 1 es) (is es)
+      ∙ ap (λ b. test (kids_of es) || b) (child-layers es 1 ∙ ap (some_child test) (outer-right (layers es).outer))
+      ∙ ap (some_child test) (sym (first-node t (layers es).inner (layers es).outer))
+  child-layers (Start t ∷ es) (suc d) = child-layers es (suc (suc d)) ∙ ap (some_child test) (outer-node t d (layers es).inner (layers es).outer)
+  child-layers (End k ∷ es) zero = refl
+  child-layers (End k ∷ es) (suc zero) = child-layers es zero
+  child-layers (End k ∷ es) (suc (suc d)) = child-layers es (suc d)
+
+tight-scan : (es : List SourcedEvent) → is_tight_body es ≡ is_tight (kids_of es)
+tight-scan es =
+    ap (λ b. b && not (some_start (has_start is_paragraph 0) 0 es)) (child-layers has_inline (has_inline_event 0) (λ x. inline-layers x 0) es 0)
+    ∙ ap (λ b. some_child has_inline (kids_of es) && not b) (child-layers (has_tag is_paragraph) (has_start is_paragraph 0) (λ x. has-layers is_paragraph x 0) es 0)
+
 added-node : (t t' : TagView) (kids : Trees) (fs : List Trees) (width : ℕ) → first_width t false width ≡ added_width t (with_node t' kids fs).inner width
 added-node t t' kids [] width = refl
 added-node t t' kids (f ∷ fs) width = refl
@@ -258,6 +292,7 @@ all-seen s m next f i t rest e =
       empty_body = sym (empty-scan rest);
       begins_paragraph = sym (begins-scan rest);
       has_paragraph = sym (has-layers is_paragraph rest 0);
+      tight = sym (tight-scan rest);
       broken = sym (leaf-scan breaks_line rest);
       text = sym (joined-scan text_of_leaf rest);
       first_html = sym (first-scan rest);

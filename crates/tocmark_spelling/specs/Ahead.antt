@@ -6,8 +6,8 @@ use Rattle.tocmark_event.specs.View.{TagView, SourcedEvent, EventView, LeafView,
 use Rattle.tocmark_event.specs.Forest.{flat_onto, flat}
 use Rattle.tocmark_spelling.specs.Runs.{Run, run_at, tag_width, start_width, close_width, run_before, run_after, counts, disturbs_at}
 use Rattle.tocmark_spelling.specs.Machine.{kids_of, around}
-use Rattle.tocmark_spelling.specs.Body.{Trees, breaks_line, text_of_leaf, html_in, html_of_leaf}
-use Rattle.tocmark_spelling.specs.Kinds.{is_paragraph, is_emphasis, is_emphasis_or_strong}
+use Rattle.tocmark_spelling.specs.Body.{Trees, is_inline_leaf, breaks_line, text_of_leaf, html_in, html_of_leaf}
+use Rattle.tocmark_spelling.specs.Kinds.{is_inline_tag, is_paragraph, is_emphasis, is_emphasis_or_strong}
 use Rattle.tocmark_spelling.specs.Plan.{Setting, Manner}
 use Rattle.tocmark_spelling.specs.Look.{Look, look, is_preferred}
 use Rattle.tocmark_spelling.specs.Edges.{edge_before, edge_after}
@@ -111,6 +111,29 @@ has_start test (suc d) (Start t ∷ es) = has_start test (suc (suc d)) es
 has_start test zero (End k ∷ es) = false
 has_start test (suc d) (End k ∷ es) = has_start test d es
 
+-- whether something inline stands directly in the container that is open with so many others inside it
+abbrev pub has_inline_event : ℕ → List SourcedEvent → Bool
+has_inline_event d [] = false
+has_inline_event zero (Leaf l ∷ es) = is_inline_leaf l.leaf || has_inline_event 0 es
+has_inline_event (suc d) (Leaf l ∷ es) = has_inline_event (suc d) es
+has_inline_event zero (Start t ∷ es) = is_inline_tag t || has_inline_event 1 es
+has_inline_event (suc d) (Start t ∷ es) = has_inline_event (suc (suc d)) es
+has_inline_event zero (End k ∷ es) = false
+has_inline_event (suc d) (End k ∷ es) = has_inline_event d es
+
+-- whether what follows some Start that stands directly in that container passes a test
+abbrev pub some_start : (List SourcedEvent → Bool) → ℕ → List SourcedEvent → Bool
+some_start test d [] = false
+some_start test d (Leaf l ∷ es) = some_start test d es
+some_start test zero (Start t ∷ es) = test es || some_start test 1 es
+some_start test (suc d) (Start t ∷ es) = some_start test (suc (suc d)) es
+some_start test zero (End k ∷ es) = false
+some_start test (suc d) (End k ∷ es) = some_start test d es
+
+-- whether a list with this body is tight
+abbrev pub is_tight_body : List SourcedEvent → Bool
+is_tight_body rest = some_start (has_inline_event 0) 0 rest && not (some_start (has_start is_paragraph 0) 0 rest)
+
 -- the texts of the leaves joined
 abbrev pub texts_of : (LeafView → List ℕ) → List SourcedEvent → List ℕ
 texts_of text [] = []
@@ -135,6 +158,7 @@ pub record IsSeen (s : Setting) (m : Manner) (t : TagView) (before rest : List S
   pub empty_body : l.empty_body ≡ ends_here rest
   pub begins_paragraph : l.begins_paragraph ≡ begins_with_paragraph rest
   pub has_paragraph : l.has_paragraph ≡ has_start is_paragraph 0 rest
+  pub tight : l.tight ≡ is_tight_body rest
   pub broken : l.broken ≡ list_any (is_leaf breaks_line) (body_in rest)
   pub text : l.text ≡ texts_of text_of_leaf (body_in rest)
   pub first_html : l.first_html ≡ first_of html_in (body_in rest)
