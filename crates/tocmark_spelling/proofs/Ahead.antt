@@ -1,20 +1,20 @@
 -- What is asked of the events round a container, in trees and in the flat list.
 use Rattle.std.proofs.Common.{◌≡◌, if◌then◌else◌, ℕ, zero, suc, ◌+◌, Bool, true, false, Option, List, [], ◌∷◌, ◌++◌, refl, sym, ap, ◌∙◌, take, drop, reverse, subst, length, slice_index, ◌<◌, ◌-◌, arith, get_or}
-use Rattle.std.specs.Prelude.{not, ◌&&◌, ◌||◌}
+use Rattle.std.specs.Prelude.{◌==◌, not, ◌&&◌, ◌||◌}
 use Rattle.std.specs.List.{list_any}
 use Rattle.std.proofs.lemmas.List.{reverse-append, append_assoc, append-nil, drop_more, take_more, length-drop}
-use Rattle.tocmark_event.specs.View.{TagView, SourcedEvent, EventView, Start, End, Leaf, end_of}
+use Rattle.tocmark_event.specs.View.{TagView, SourcedEvent, SourcedLeaf, EventView, Start, End, Leaf, end_of}
 use Rattle.tocmark_event.specs.declared.event.TagEnd.{TagEnd}
 use Rattle.tocmark_event.specs.Forest.{empty, leaf, node, flat_onto, flat}
 use Rattle.tocmark_spelling.specs.Plan.{Setting, Manner}
-use Rattle.tocmark_spelling.specs.Body.{Trees, back_onto, is_inline_leaf, has_inline, is_tight, some_child, has_tag, breaks_line, text_of_leaf, html_of_leaf}
-use Rattle.tocmark_spelling.specs.Kinds.{is_inline_tag, is_paragraph, is_emphasis_or_strong}
+use Rattle.tocmark_spelling.specs.Body.{Trees, back_onto, is_inline_leaf, has_inline, is_tight, some_child, count_tags, count_children, has_lone_paragraph, has_tag, breaks_line, text_of_leaf, html_of_leaf}
+use Rattle.tocmark_spelling.specs.Kinds.{is_inline_tag, is_item, is_paragraph, is_emphasis_or_strong}
 use Rattle.tocmark_spelling.specs.Look.{look, is_preferred, prefers_if}
 use Rattle.tocmark_spelling.specs.Page.{Around}
 use Rattle.tocmark_spelling.specs.Runs.{opening_run, closing_run, run_at, start_width, close_width, tag_width, added_width, width_within, counts, disturbs_at, and_disturbs, prefers_underscore}
 use Rattle.tocmark_spelling.specs.Machine.{Layers, layers, with_node, kids_of, around}
 use Rattle.tocmark_spelling.specs.Scans.{span, AreEnds}
-use Rattle.tocmark_spelling.specs.Ahead.{behind_body, up_to_end, IsNested, AreNested, opening_ahead, closing_ahead, ends_here, first_width, width_in, width_ahead_of, character_before, character_after, starts_disturber, disturbers, is_disturbed, prefers_ahead, has_start, has_inline_event, some_start, is_tight_body, AreSeen, HoldMarks, AreDisturbed}
+use Rattle.tocmark_spelling.specs.Ahead.{behind_body, up_to_end, IsNested, AreNested, opening_ahead, closing_ahead, ends_here, first_width, width_in, width_ahead_of, character_before, character_after, starts_disturber, disturbers, is_disturbed, prefers_ahead, has_start, has_inline_event, some_start, is_tight_body, sum_starts, count_starts, is_lone_paragraph, AreSeen, HoldMarks, AreDisturbed}
 use Rattle.tocmark_spelling.proofs.Gathered.{empty-scan, begins-scan, joined-scan, first-scan}
 use Rattle.tocmark_spelling.proofs.Looks.{leaf-scan}
 use Rattle.tocmark_spelling.proofs.Follows.{kids-flat}
@@ -181,6 +181,35 @@ tight-scan es =
     ap (λ b. b && not (some_start (has_start is_paragraph 0) 0 es)) (child-layers has_inline (has_inline_event 0) (λ x. inline-layers x 0) es 0)
     ∙ ap (λ b. some_child has_inline (kids_of es) && not b) (child-layers (has_tag is_paragraph) (has_start is_paragraph 0) (λ x. has-layers is_paragraph x 0) es 0)
 
+-- a number for each tree
+module _ (count : TagView → List SourcedEvent → ℕ) (sum : Trees → ℕ) (none : 0 ≡ sum empty) (one : (l : SourcedLeaf) (f : Trees) → sum f ≡ sum (leaf l f)) (more : (t : TagView) (es : List SourcedEvent) (f : Trees) → count t es + sum f ≡ sum (node t (kids_of es) f)) where
+  sum-layers : (es : List SourcedEvent) (d : ℕ) → sum_starts count d es ≡ sum (at_depth d (layers es))
+  sum-layers [] zero = none
+  sum-layers [] (suc d) = none
+  sum-layers (Leaf l ∷ es) zero = sum-layers es zero ∙ one l (kids_of es)
+  sum-layers (Leaf l ∷ es) (suc d) = sum-layers es (suc d)
+  sum-layers (Start t ∷ es) zero =
+      ap (λ n. count t es + n) (sum-layers es 1 ∙ ap sum (outer-right (layers es).outer))
+      ∙ more t es (right_of (layers es).outer)
+      ∙ ap sum (sym (first-node t (layers es).inner (layers es).outer))
+  sum-layers (Start t ∷ es) (suc d) = sum-layers es (suc (suc d)) ∙ ap sum (outer-node t d (layers es).inner (layers es).outer)
+  sum-layers (End k ∷ es) zero = none
+  sum-layers (End k ∷ es) (suc zero) = sum-layers es zero
+  sum-layers (End k ∷ es) (suc (suc d)) = sum-layers es (suc d)
+
+count-scan : (test : TagView → Bool) (es : List SourcedEvent) → count_starts test es ≡ count_tags test (kids_of es)
+count-scan test es = sum-layers (λ t rest. if test t then 1 else 0) (count_tags test) refl (λ l f. refl) (λ t es f. refl) es 0
+
+blocks-scan : (test : TagView → Bool) (es : List SourcedEvent) → sum_starts (λ t rest. count_starts test rest) 0 es ≡ count_children (count_tags test) (kids_of es)
+blocks-scan test es = sum-layers (λ t rest. count_starts test rest) (count_children (count_tags test)) refl (λ l f. refl) (λ t es f. ap (λ n. n + count_children (count_tags test) f) (count-scan test es)) es 0
+
+lone-scan : (es : List SourcedEvent) → is_lone_paragraph es ≡ has_lone_paragraph (kids_of es)
+lone-scan es =
+    let blocks : TagView → Bool = λ t. not (is_inline_tag t) in
+    ap (λ n. (n == 1) && (sum_starts (λ t rest. count_starts blocks rest) 0 es == 1) && some_start (has_start is_paragraph 0) 0 es) (count-scan is_item es)
+    ∙ ap (λ n. (count_tags is_item (kids_of es) == 1) && (n == 1) && some_start (has_start is_paragraph 0) 0 es) (blocks-scan blocks es)
+    ∙ ap (λ b. (count_tags is_item (kids_of es) == 1) && (count_children (count_tags blocks) (kids_of es) == 1) && b) (child-layers (has_tag is_paragraph) (has_start is_paragraph 0) (λ x. has-layers is_paragraph x 0) es 0)
+
 added-node : (t t' : TagView) (kids : Trees) (fs : List Trees) (width : ℕ) → first_width t false width ≡ added_width t (with_node t' kids fs).inner width
 added-node t t' kids [] width = refl
 added-node t t' kids (f ∷ fs) width = refl
@@ -293,6 +322,7 @@ all-seen s m next f i t rest e =
       begins_paragraph = sym (begins-scan rest);
       has_paragraph = sym (has-layers is_paragraph rest 0);
       tight = sym (tight-scan rest);
+      lone_paragraph = sym (lone-scan rest);
       broken = sym (leaf-scan breaks_line rest);
       text = sym (joined-scan text_of_leaf rest);
       first_html = sym (first-scan rest);

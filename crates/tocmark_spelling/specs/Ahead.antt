@@ -1,13 +1,13 @@
 -- What the spelling of a container asks of the events round it, as functions of the flat list: of the events before its
 -- Start, the last one first, and of those behind it.
-use Rattle.std.specs.Prelude.{◌≡◌, ℕ, zero, suc, ◌+◌, Bool, true, false, not, ◌&&◌, ◌||◌, if◌then◌else◌, Option, List, [], ◌∷◌, ◌++◌, take, drop, reverse, length, nat_lt, slice_index, slice_index_or, ◌-◌, ◌<◌, None, Some}
+use Rattle.std.specs.Prelude.{◌≡◌, ℕ, zero, suc, ◌+◌, ◌==◌, Bool, true, false, not, ◌&&◌, ◌||◌, if◌then◌else◌, Option, List, [], ◌∷◌, ◌++◌, take, drop, reverse, length, nat_lt, slice_index, slice_index_or, ◌-◌, ◌<◌, None, Some}
 use Rattle.std.specs.List.{list_any}
 use Rattle.tocmark_event.specs.View.{TagView, SourcedEvent, EventView, LeafView, Start, End, Leaf, end_of}
 use Rattle.tocmark_event.specs.Forest.{flat_onto, flat}
 use Rattle.tocmark_spelling.specs.Runs.{Run, run_at, tag_width, start_width, close_width, run_before, run_after, counts, disturbs_at}
 use Rattle.tocmark_spelling.specs.Machine.{kids_of, around}
 use Rattle.tocmark_spelling.specs.Body.{Trees, is_inline_leaf, breaks_line, text_of_leaf, html_in, html_of_leaf}
-use Rattle.tocmark_spelling.specs.Kinds.{is_inline_tag, is_paragraph, is_emphasis, is_emphasis_or_strong}
+use Rattle.tocmark_spelling.specs.Kinds.{is_inline_tag, is_item, is_paragraph, is_emphasis, is_emphasis_or_strong}
 use Rattle.tocmark_spelling.specs.Plan.{Setting, Manner}
 use Rattle.tocmark_spelling.specs.Look.{Look, look, is_preferred}
 use Rattle.tocmark_spelling.specs.Edges.{edge_before, edge_after}
@@ -134,6 +134,25 @@ some_start test (suc d) (End k ∷ es) = some_start test d es
 abbrev pub is_tight_body : List SourcedEvent → Bool
 is_tight_body rest = some_start (has_inline_event 0) 0 rest && not (some_start (has_start is_paragraph 0) 0 rest)
 
+-- a number for each Start that stands directly in that container, by its tag and what follows it, added up
+abbrev pub sum_starts : (TagView → List SourcedEvent → ℕ) → ℕ → List SourcedEvent → ℕ
+sum_starts count d [] = 0
+sum_starts count d (Leaf l ∷ es) = sum_starts count d es
+sum_starts count zero (Start t ∷ es) = count t es + sum_starts count 1 es
+sum_starts count (suc d) (Start t ∷ es) = sum_starts count (suc (suc d)) es
+sum_starts count zero (End k ∷ es) = 0
+sum_starts count (suc d) (End k ∷ es) = sum_starts count d es
+
+-- how many containers with such a tag stand directly in a body
+abbrev pub count_starts : (TagView → Bool) → List SourcedEvent → ℕ
+count_starts test es = sum_starts (λ t rest. if test t then 1 else 0) 0 es
+
+-- whether a list with this body has one Item, in which stands one block, a Paragraph
+abbrev pub is_lone_paragraph : List SourcedEvent → Bool
+is_lone_paragraph rest =
+    (count_starts is_item rest == 1) && (sum_starts (λ t es. count_starts (λ t. not (is_inline_tag t)) es) 0 rest == 1)
+    && some_start (has_start is_paragraph 0) 0 rest
+
 -- the texts of the leaves joined
 abbrev pub texts_of : (LeafView → List ℕ) → List SourcedEvent → List ℕ
 texts_of text [] = []
@@ -159,6 +178,7 @@ pub record IsSeen (s : Setting) (m : Manner) (t : TagView) (before rest : List S
   pub begins_paragraph : l.begins_paragraph ≡ begins_with_paragraph rest
   pub has_paragraph : l.has_paragraph ≡ has_start is_paragraph 0 rest
   pub tight : l.tight ≡ is_tight_body rest
+  pub lone_paragraph : l.lone_paragraph ≡ is_lone_paragraph rest
   pub broken : l.broken ≡ list_any (is_leaf breaks_line) (body_in rest)
   pub text : l.text ≡ texts_of text_of_leaf (body_in rest)
   pub first_html : l.first_html ≡ first_of html_in (body_in rest)
