@@ -27,6 +27,8 @@ pub mod Spelled
 pub mod PlanOf
 pub mod WriterOf
 pub mod Scans
+pub mod Ahead
+pub mod Sides
 pub mod Turn
 pub mod Rendered
 pub mod Buffered

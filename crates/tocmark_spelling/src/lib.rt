@@ -2,6 +2,7 @@
 #![tactic(auto)]
 
 pub mod block;
+pub mod boundary;
 pub mod closing;
 pub mod ends;
 pub mod escape;
@@ -10,11 +11,13 @@ pub mod gap;
 pub mod kinds;
 pub mod laws;
 pub mod machine_laws;
+pub mod marks;
 pub mod misplaced;
 pub mod opening;
 pub mod output;
 pub mod plan;
 pub mod same_events;
+pub mod sides;
 pub mod special;
 pub mod spelled;
 pub mod spelling;
