@@ -113,11 +113,7 @@ impl Gathering<'static> {
     }
 
     /// Takes so many copies of an event.
-    fn take_copies(
-        &mut self,
-        event: &RangedEvent<'static>,
-        times: usize,
-    ) -> Result<(), LineFault> {
+    fn take_copies(&mut self, event: &RangedEvent<'static>, times: usize) -> Result<(), LineFault> {
         for _ in 0..times {
             self.take_copy(event)?;
         }

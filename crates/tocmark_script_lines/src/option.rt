@@ -9,8 +9,7 @@ use tocmark_event::options::Options;
 
 const A_VALUE: &str = "a number, max, imax, true, false or a string in double quotes";
 
-const AN_OPTION: LineFault =
-    LineFault::Expected("the name of an option, and a value of its kind");
+const AN_OPTION: LineFault = LineFault::Expected("the name of an option, and a value of its kind");
 
 /// An option that is a number of line feeds or of fence characters.
 #[derive(Clone, Copy, Debug)]
@@ -68,7 +67,10 @@ const SIZES: [(&str, SizeOption); 11] = [
 ];
 
 const CHOICES: [(&str, ChoiceOption); 2] = [
-    ("increment_ordered_list_bullets", ChoiceOption::IncrementBullets),
+    (
+        "increment_ordered_list_bullets",
+        ChoiceOption::IncrementBullets,
+    ),
     ("use_html_for_super_sub_script", ChoiceOption::HtmlScripts),
 ];
 

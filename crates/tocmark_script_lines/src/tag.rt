@@ -85,7 +85,10 @@ const TAGS: [(&str, TagEnd); 23] = [
     ("Subscript", TagEnd::Subscript),
     ("Link", TagEnd::Link),
     ("Image", TagEnd::Image),
-    ("MetadataBlock", TagEnd::MetadataBlock(MetadataBlockKind::YamlStyle)),
+    (
+        "MetadataBlock",
+        TagEnd::MetadataBlock(MetadataBlockKind::YamlStyle),
+    ),
 ];
 
 fn level(cursor: &mut Cursor<'_>) -> Result<HeadingLevel, LineFault> {
@@ -233,11 +236,7 @@ fn metadata(cursor: &mut Cursor<'_>) -> Result<Tag<'static>, LineFault> {
 }
 
 /// A tag with this end, up to the parts of both, which come next.
-fn tag_of(
-    alloc: Global,
-    end: TagEnd,
-    cursor: &mut Cursor<'_>,
-) -> Result<Tag<'static>, LineFault> {
+fn tag_of(alloc: Global, end: TagEnd, cursor: &mut Cursor<'_>) -> Result<Tag<'static>, LineFault> {
     match end {
         TagEnd::Paragraph => Ok(Tag::Paragraph),
         TagEnd::Heading(_) => heading(alloc, cursor),
