@@ -3,6 +3,7 @@
 ghost use Rattle.std.specs.Prelude.{[], ◌∷◌};
 
 use crate::document::Document;
+use crate::labels::Labels;
 use std::alloc::{AllocError, Global};
 use std::process::Abort;
 use std::test::Fail;
@@ -61,6 +62,19 @@ fn paragraph(
 fn block(document: &mut Document, alloc: Global, unit: &[BufferedEvent]) -> Result<String, Error> {
     let next: Option<&Event<'_>> = None;
     document.block(alloc, &OneLabel, unit, next, &Options::default())
+}
+
+/// Labels are kept where memory is there.
+#[test]
+fn labels_are_kept(rt: HostRuntime) -> Result<(), Fail> {
+    let alloc = rt.alloc();
+    let mut labels = Labels::new(alloc);
+    labels.add(alloc, "Straße")?;
+    let mut more = Vec::new(alloc);
+    more.push(String::from_str(alloc, "STRASSE")?)?;
+    more.push(String::from_str(alloc, "b")?)?;
+    labels.add_all(alloc, &more)?;
+    Ok(())
 }
 
 #[test]
