@@ -4,6 +4,7 @@ ghost use Rattle.std.specs.Prelude.{[], ◌∷◌, codes};
 ghost use Rattle.tocmark_event.specs.View.{Start, End, Leaf, Paragraph, Text};
 
 use crate::document::Document;
+use crate::labels::Labels;
 use crate::placeholder::needs_list_placeholder;
 use std::alloc::{AllocError, Global};
 use std::process::Abort;
@@ -65,6 +66,19 @@ fn paragraph(
 fn block(document: &mut Document, alloc: Global, unit: &[BufferedEvent]) -> Result<String, Error> {
     let next: Option<&Event<'_>> = None;
     document.block(alloc, &OneLabel, unit, next, &Options::default())
+}
+
+/// Labels are kept where memory is there.
+#[test]
+fn labels_are_kept(rt: HostRuntime) -> Result<(), Fail> {
+    let alloc = rt.alloc();
+    let mut labels = Labels::new(alloc);
+    labels.add(alloc, "Straße")?;
+    let mut more = Vec::new(alloc);
+    more.push(String::from_str(alloc, "STRASSE")?)?;
+    more.push(String::from_str(alloc, "b")?)?;
+    labels.add_all(alloc, &more)?;
+    Ok(())
 }
 
 #[test]

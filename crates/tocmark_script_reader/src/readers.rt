@@ -1,13 +1,13 @@
 //! The reader of a script.
 
 ghost use Rattle.std.specs.Prelude.{◌≡◌, IfOk, map};
-ghost use Rattle.tocmark_script.specs.Readers.{ranged_view};
+ghost use Rattle.tocmark_script_reader.specs.Readers.{ranged_view};
 
 use std::alloc::{AllocError, Global};
 use std::collections::HashMap;
-use tocmark::core_reader::CoreReader;
-use tocmark::event::{Event, ParserOptions};
-use tocmark::reader::{Reader, Reading};
+use tocmark_core_reader::CoreReader;
+use tocmark_event::event::{Event, ParserOptions};
+use tocmark_event::reader::{Reader, Reading};
 
 /// The events that a text is read as, each with its range in bytes.
 pub type ReadEvents<'a> = Vec<(Event<'a>, (usize, usize))>;
@@ -41,7 +41,7 @@ fn copied_events(
 
 impl<'a> Table<'a> {
     ghost use Rattle.tocmark_event.specs.Reading.{reading_view};
-    ghost use Rattle.tocmark_script.specs.Readers.{table_events, table_reading};
+    ghost use Rattle.tocmark_script_reader.specs.Readers.{table_events, table_reading};
 
     /// A table without readings.
     pub fn new(alloc: Global) -> Table<'a> {
@@ -70,7 +70,7 @@ impl<'a> Table<'a> {
 
 /// The core reader has its reading of a text, and a table the events that it has for it.
 impl Reader for ScriptReader<'_> {
-    ghost use Rattle.tocmark_script.specs.Readers.{script_reading};
+    ghost use Rattle.tocmark_script_reader.specs.Readers.{script_reading};
 
     ghost reading = { λ r text _. script_reading r text };
 

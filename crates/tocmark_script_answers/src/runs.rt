@@ -1,12 +1,12 @@
 //! Runs of a script.
 
-use crate::event::{Events, RangedEvent, RangedEvents};
-use crate::readers::ScriptReader;
-use crate::script::{Call, Script};
-use crate::string::Quoted;
 use std::alloc::{AllocError, Global};
 use std::fmt;
 use tocmark::{Error, Progress, State};
+use tocmark_script_lines::event::{Events, RangedEvent, RangedEvents};
+use tocmark_script_lines::script::{Call, Script};
+use tocmark_script_lines::string::Quoted;
+use tocmark_script_reader::readers::ScriptReader;
 
 /// Writes each text that it takes as a line of an answer, and refuses one.
 #[derive(Drop)]
@@ -104,9 +104,10 @@ fn write_outcome(answer: &mut String, outcome: &Result<Progress, Error>) -> Resu
 fn run_in_calls(
     state: &mut State<&ScriptReader<'_>>,
     script: &Script<'_>,
+    calls: &[Call],
     tape: &mut Tape,
 ) -> Result<(), AllocError> {
-    for call in &script.calls {
+    for call in calls {
         let outcome = make(state, script, *call, tape);
         let name = call_name(*call);
         write!(tape.answer, "{name} ")?;
@@ -119,10 +120,11 @@ fn run_in_calls(
 fn run_whole(
     state: &mut State<&ScriptReader<'_>>,
     script: &Script<'_>,
+    calls: &[Call],
     tape: &mut Tape,
 ) -> Result<Progress, Error> {
     let mut total = Progress::default();
-    for call in &script.calls {
+    for call in calls {
         let progress = make(state, script, *call, tape)?;
         total.events_consumed = total
             .events_consumed
@@ -132,8 +134,14 @@ fn run_whole(
     Ok(total)
 }
 
-/// What a script without questions is answered. An `Err` says that memory ran out for the answer.
-pub fn run(alloc: Global, script: &Script<'_>) -> Result<String, AllocError> {
+/// What a script without questions is answered where these calls are made, with a line for each call or
+/// one at the end. An `Err` says that memory ran out for the answer.
+pub fn run(
+    alloc: Global,
+    script: &Script<'_>,
+    calls: &[Call],
+    shows_calls: bool,
+) -> Result<String, AllocError> {
     let mut tape = Tape {
         answer: String::new(alloc),
         texts: 0,
@@ -141,9 +149,9 @@ pub fn run(alloc: Global, script: &Script<'_>) -> Result<String, AllocError> {
         is_full: false,
     };
     match State::new(alloc, &script.reader, script.flags, script.options()) {
-        Ok(mut state) if script.shows_calls => run_in_calls(&mut state, script, &mut tape)?,
+        Ok(mut state) if shows_calls => run_in_calls(&mut state, script, calls, &mut tape)?,
         Ok(mut state) => {
-            let outcome = run_whole(&mut state, script, &mut tape);
+            let outcome = run_whole(&mut state, script, calls, &mut tape);
             write_outcome(&mut tape.answer, &outcome)?;
         }
         Err(error) => write_outcome(&mut tape.answer, &Err(error))?,

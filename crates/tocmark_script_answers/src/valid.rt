@@ -1,13 +1,12 @@
 //! Which options can be used with which flags, counted.
 
-use std::process::Abort;
-use std::test::Fail;
+use std::alloc::AllocError;
 use tocmark::event::ParserOptions;
 use tocmark::{Options, OptionsError};
 
 /// How often options were accepted, refused for their flags, refused for HTML scripts, and refused for
 /// anything else.
-#[derive(Clone, Copy, Debug, PartialEq, Eq)]
+#[derive(Clone, Copy, Debug)]
 struct Counts {
     accepted: u32,
     flags: u32,
@@ -63,8 +62,9 @@ fn with_all_flags(before: Counts, options: &Options<'_>) -> Counts {
     counts
 }
 
-#[test]
-fn all_flags_and_tokens(rt: HostRuntime) -> Result<(), Fail> {
+/// Writes how often options are valid, over all patterns of the known flags and all choices of standard
+/// tokens and truth values.
+pub fn write_valid_count(answer: &mut String) -> Result<(), AllocError> {
     let mut counts = Counts {
         accepted: 0,
         flags: 0,
@@ -74,12 +74,14 @@ fn all_flags_and_tokens(rt: HostRuntime) -> Result<(), Fail> {
     for choice in 0u32..192 {
         counts = with_all_flags(counts, &options_of(choice));
     }
-    let expected = Counts {
-        accepted: 491_520,
-        flags: 5_505_024,
-        scripts: 294_912,
-        others: 0,
-    };
-    assert_eq!(rt; counts, expected);
-    Ok(())
+    let Counts {
+        accepted,
+        flags,
+        scripts,
+        others,
+    } = counts;
+    writeln!(answer, "Ok {accepted}")?;
+    writeln!(answer, "UnsupportedParserOptions {flags}")?;
+    writeln!(answer, "HtmlSuperSubscript {scripts}")?;
+    writeln!(answer, "others {others}")
 }

@@ -8,9 +8,9 @@ use Rattle.tocmark_event.specs.Reading.{ReadingView}
 use Rattle.tocmark_event.specs.declared.event.EventOf.{EventOf}
 use Rattle.tocmark_event.specs.declared.event.text.CowStr.{CowStr}
 use Rattle.tocmark_core_reader.specs.Reading.{core_reading}
-use Rattle.tocmark_script.specs.declared.readers.Table.{Table as ReadingTable}
-use Rattle.tocmark_script.specs.declared.readers.ScriptReader.{ScriptReader}
-use Rattle.tocmark_script.specs.declared.readers.ScriptReader.TheVariants.{Core, Table}
+use Rattle.tocmark_script_reader.specs.declared.readers.Table.{Table as ReadingTable}
+use Rattle.tocmark_script_reader.specs.declared.readers.ScriptReader.{ScriptReader}
+use Rattle.tocmark_script_reader.specs.declared.readers.ScriptReader.TheVariants.{Core, Table}
 
 -- an event with its range, as a plain value
 abbrev pub ranged_view : EventOf CowStr × (ℕ × ℕ) → EventView × (ℕ × ℕ)

@@ -1,16 +1,19 @@
 //! Questions of a script, and their answers.
 
-use crate::event::{Events, RangedEvent, RangedEvents};
-use crate::line::EventLine;
+use crate::events::{merged, write_events_answer};
+use crate::faults::write_fault;
 use crate::runs::error_name;
-use crate::script::{Question, Script};
-use crate::string::Quoted;
+use crate::valid::write_valid_count;
 use std::alloc::{AllocError, Global};
 use std::fmt;
 use tocmark::core_reader::CoreReader;
-use tocmark::event::{Event, LinkType, merge_texts};
+use tocmark::event::{Event, LinkType};
 use tocmark::reader::{Reader, Reading};
-use tocmark::{Error, OptionsError, State, calculate_code_block_token_count};
+use tocmark::{Error, OptionsError, State};
+use tocmark_script_lines::event::{Events, RangedEvent, RangedEvents};
+use tocmark_script_lines::line::EventLine;
+use tocmark_script_lines::script::{Question, Script};
+use tocmark_script_lines::string::Quoted;
 use tocmark_spelling::text_modifications::{
     EscapeDestination, EscapeLinkTitle, close_link, max_consecutive_chars,
 };
@@ -80,18 +83,6 @@ fn write_special_characters(
     write_text(answer, text.as_str())
 }
 
-fn write_token_count(
-    answer: &mut String,
-    script: &Script<'_>,
-    events: usize,
-) -> Result<(), AllocError> {
-    let first = script.events.get(..events).unwrap_or(&[]);
-    match calculate_code_block_token_count(Events(first.iter())) {
-        None => writeln!(answer, "None"),
-        Some(count) => writeln!(answer, "Some({count})"),
-    }
-}
-
 fn write_closing(
     alloc: Global,
     answer: &mut String,
@@ -148,18 +139,6 @@ fn write_reading(answer: &mut String, reading: &Reading) -> Result<(), AllocErro
         writeln!(answer, "{line} {start}..{end}")?;
     }
     write_all_labels(answer, &reading.defined, &reading.unresolved)
-}
-
-/// The events of a reading, with each stretch of texts as one.
-fn merged(
-    alloc: Global,
-    events: &[(Event<'_>, (usize, usize))],
-) -> Result<Vec<Event<'static>>, AllocError> {
-    let mut plain = Vec::new(alloc);
-    for (event, _) in events {
-        plain.push(event.to_static(alloc)?)?;
-    }
-    merge_texts(alloc, &plain)
 }
 
 fn write_merged(alloc: Global, answer: &mut String, reading: &Reading) -> Result<(), AllocError> {
@@ -235,7 +214,12 @@ fn write_answer(
     match question {
         Question::Validate => write_validation(alloc, answer, script),
         Question::SpecialCharacters => write_special_characters(alloc, answer, script),
-        Question::CountTokens { events } => write_token_count(answer, script, *events),
+        Question::CountValid => write_valid_count(answer),
+        Question::OfEvents { question, events } => {
+            let first = script.events.get(..*events).unwrap_or(&[]);
+            write_events_answer(alloc, answer, *question, first)
+        }
+        Question::Fault(text) => write_fault(alloc, answer, text.as_str()),
         Question::EscapeDestination(text) => {
             write_shown(alloc, answer, &EscapeDestination(text.as_str()))
         }

@@ -2,7 +2,7 @@
 
 use crate::string::Quoted;
 use std::fmt;
-use tocmark::event::{
+use tocmark_event::event::{
     Alignment, BlockQuoteKind, CodeBlockKindOf, CowStr, Event, EventOf, HeadingLevel, LinkType,
     MetadataBlockKind, Tag, TagEnd, TagOf,
 };

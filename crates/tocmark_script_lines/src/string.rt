@@ -22,18 +22,33 @@ impl fmt::Display for Quoted<'_> {
     }
 }
 
-fn write_character<W: fmt::Write>(f: &mut fmt::Formatter<W>, c: char) -> fmt::Result {
-    match c {
-        '"' | '\\' => write!(f, "\\{c}"),
-        '\n' => f.write_str("\\n"),
-        '\r' => f.write_str("\\r"),
-        '\t' => f.write_str("\\t"),
-        '\0'..='\x1f' | '\x7f' => {
-            let code = u32::from(c);
-            write!(f, "\\u{code:04x}")
+/// The characters that have an escape of their own.
+const ESCAPES: [(char, &str); 5] = [
+    ('"', "\\\""),
+    ('\\', "\\\\"),
+    ('\n', "\\n"),
+    ('\r', "\\r"),
+    ('\t', "\\t"),
+];
+
+fn escape_of(c: char) -> Option<&'static str> {
+    for (escaped, escape) in &ESCAPES {
+        if *escaped == c {
+            return Some(*escape);
         }
-        _ => f.write_char(c),
     }
+    None
+}
+
+fn write_character<W: fmt::Write>(f: &mut fmt::Formatter<W>, c: char) -> fmt::Result {
+    if let Some(escape) = escape_of(c) {
+        return f.write_str(escape);
+    }
+    if c.is_ascii_control() {
+        let code = u32::from(c);
+        return write!(f, "\\u{code:04x}");
+    }
+    f.write_char(c)
 }
 
 /// The string literal at the front of a text, and what stands behind it.

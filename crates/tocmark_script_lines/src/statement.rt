@@ -3,50 +3,52 @@
 use crate::cursor::Cursor;
 use crate::event::{RangedEvent, event_in_line};
 use crate::fault::LineFault;
-use crate::number::size;
-use crate::option::{OptionValue, only_character, option_value};
-use crate::script::Question;
+use crate::names::known;
+use crate::number::{hexadecimal, size};
+use crate::option::{only_character, option_setting};
+use crate::script::{EventsQuestion, Question, Setting};
 use crate::tag::link_type;
 use std::alloc::Global;
-use tocmark::event::ParserOptions;
+use tocmark_event::event::ParserOptions;
 
 const FLAGS: &str = "parser flags, in at most eight hexadecimal digits";
 
-const A_STATEMENT: &str = "an event, a statement or a question";
+const A_TEXT: &str = "the number of a text, from 1";
+
+/// What is asked of the events so far, by its name.
+const EVENTS_QUESTIONS: [(&str, EventsQuestion); 4] = [
+    ("Count", EventsQuestion::CountTokens),
+    ("Events", EventsQuestion::Show),
+    ("Merged", EventsQuestion::ShowMerged),
+    ("Copies", EventsQuestion::CountCopies),
+];
 
 /// What a line says.
 #[derive(Drop)]
-pub enum Statement<'l> {
+pub enum Statement {
     Nothing,
-    Event {
+    Event(RangedEvent<'static>),
+    /// An event so many times.
+    Repeat {
         event: RangedEvent<'static>,
         times: usize,
     },
-    Flags(ParserOptions),
-    Option {
-        name: &'l str,
-        value: OptionValue,
-    },
-    Source(String),
+    Set(Setting),
     Cut,
     ReaderNothing,
     /// A reading begins, of this text or of any other.
     Reads(Option<String>),
     EndOfReading,
     Finish,
-    Calls,
-    FailAt(usize),
-    /// Asks about the events so far.
-    Count,
+    /// Asks of the events so far.
+    AskOfEvents(EventsQuestion),
     Ask(Question),
 }
 
-fn flags(cursor: &mut Cursor<'_>) -> Result<ParserOptions, LineFault> {
-    let word = cursor.expect_word(FLAGS)?;
-    let is_hexadecimal = word.as_bytes().iter().all(|byte| byte.is_ascii_hexdigit());
-    match u32::from_str_radix(word, 16) {
-        Ok(bits) if is_hexadecimal => Ok(ParserOptions(bits)),
-        _ => Err(LineFault::Expected(FLAGS)),
+fn flags(cursor: &mut Cursor<'_>) -> Result<Setting, LineFault> {
+    match hexadecimal(cursor.expect_word(FLAGS)?) {
+        Some(bits) => Ok(Setting::Flags(ParserOptions(bits))),
+        None => Err(LineFault::Expected(FLAGS)),
     }
 }
 
@@ -57,22 +59,22 @@ fn number(cursor: &mut Cursor<'_>, expected: &'static str) -> Result<usize, Line
     }
 }
 
-fn repeat(alloc: Global, cursor: &mut Cursor<'_>) -> Result<Statement<'static>, LineFault> {
+fn repeat(alloc: Global, cursor: &mut Cursor<'_>) -> Result<Statement, LineFault> {
     let times = number(cursor, "how often the event comes")?;
     match event_in_line(alloc, cursor.rest().unwrap_or(""))? {
-        Some(event) => Ok(Statement::Event { event, times }),
+        Some(event) => Ok(Statement::Repeat { event, times }),
         None => Err(LineFault::Expected("an event")),
     }
 }
 
-fn reader(cursor: &mut Cursor<'_>) -> Result<Statement<'static>, LineFault> {
+fn reader(cursor: &mut Cursor<'_>) -> Result<Statement, LineFault> {
     match cursor.word() {
         Some("nothing") => Ok(Statement::ReaderNothing),
         _ => Err(LineFault::Expected("nothing")),
     }
 }
 
-fn reads(alloc: Global, cursor: &mut Cursor<'_>) -> Result<Statement<'static>, LineFault> {
+fn reads(alloc: Global, cursor: &mut Cursor<'_>) -> Result<Statement, LineFault> {
     if cursor.is_at_string() {
         return Ok(Statement::Reads(Some(cursor.string(alloc)?)));
     }
@@ -82,17 +84,11 @@ fn reads(alloc: Global, cursor: &mut Cursor<'_>) -> Result<Statement<'static>, L
     }
 }
 
-fn fail_at(cursor: &mut Cursor<'_>) -> Result<Statement<'static>, LineFault> {
-    match number(cursor, "the number of a text, from 1")? {
-        0 => Err(LineFault::Expected("the number of a text, from 1")),
-        place => Ok(Statement::FailAt(place)),
+fn fail_at(cursor: &mut Cursor<'_>) -> Result<Setting, LineFault> {
+    match number(cursor, A_TEXT)? {
+        0 => Err(LineFault::Expected(A_TEXT)),
+        place => Ok(Setting::FailAt(place)),
     }
-}
-
-fn option<'l>(alloc: Global, cursor: &mut Cursor<'l>) -> Result<Statement<'l>, LineFault> {
-    let name = cursor.expect_word("the name of an option")?;
-    let value = option_value(alloc, cursor)?;
-    Ok(Statement::Option { name, value })
 }
 
 fn escape(alloc: Global, cursor: &mut Cursor<'_>) -> Result<Question, LineFault> {
@@ -136,7 +132,9 @@ fn joined_strings(alloc: Global, cursor: &mut Cursor<'_>) -> Result<String, Line
 fn question(alloc: Global, name: &str, cursor: &mut Cursor<'_>) -> Result<Question, LineFault> {
     match name {
         "Validate" => Ok(Question::Validate),
+        "Count_valid" => Ok(Question::CountValid),
         "Special" => Ok(Question::SpecialCharacters),
+        "Fault" => Ok(Question::Fault(cursor.string(alloc)?)),
         "Escape" => escape(alloc, cursor),
         "Close" => close(alloc, cursor),
         "Longest" => longest(alloc, cursor),
@@ -146,46 +144,83 @@ fn question(alloc: Global, name: &str, cursor: &mut Cursor<'_>) -> Result<Questi
         "Count_read" => Ok(Question::CountRead(joined_strings(alloc, cursor)?)),
         "Roundtrip" => Ok(Question::Roundtrip(cursor.string(alloc)?)),
         "RoundtripSource" => Ok(Question::RoundtripSource(cursor.string(alloc)?)),
-        _ => Err(LineFault::Expected(A_STATEMENT)),
+        _ => Err(LineFault::Expected("an event, a statement or a question")),
+    }
+}
+
+/// The setting of this name, or nothing where it is none.
+fn setting(
+    alloc: Global,
+    name: &str,
+    cursor: &mut Cursor<'_>,
+) -> Result<Option<Setting>, LineFault> {
+    match name {
+        "Flags" => Ok(Some(flags(cursor)?)),
+        "Option" => Ok(Some(Setting::Option(option_setting(alloc, cursor)?))),
+        "Source" => Ok(Some(Setting::Source(cursor.string(alloc)?))),
+        "Calls" => Ok(Some(Setting::Calls)),
+        "Cuts" => Ok(Some(Setting::Cuts)),
+        "FailAt" => Ok(Some(fail_at(cursor)?)),
+        _ => Ok(None),
+    }
+}
+
+/// The setting or question of this name.
+fn setting_or_question(
+    alloc: Global,
+    name: &str,
+    cursor: &mut Cursor<'_>,
+) -> Result<Statement, LineFault> {
+    if let Some(question) = known(&EVENTS_QUESTIONS, name) {
+        return Ok(Statement::AskOfEvents(question));
+    }
+    match setting(alloc, name, cursor)? {
+        Some(setting) => Ok(Statement::Set(setting)),
+        None => Ok(Statement::Ask(question(alloc, name, cursor)?)),
     }
 }
 
 /// The statement of this name, which is no event.
-fn statement_of_parts<'l>(
+fn statement_of_parts(
     alloc: Global,
     name: &str,
-    cursor: &mut Cursor<'l>,
-) -> Result<Statement<'l>, LineFault> {
+    cursor: &mut Cursor<'_>,
+) -> Result<Statement, LineFault> {
     match name {
-        "Flags" => Ok(Statement::Flags(flags(cursor)?)),
-        "Option" => option(alloc, cursor),
-        "Source" => Ok(Statement::Source(cursor.string(alloc)?)),
         "Cut" => Ok(Statement::Cut),
+        "Finish" => Ok(Statement::Finish),
         "Reader" => reader(cursor),
         "Reads" => reads(alloc, cursor),
-        "Finish" => Ok(Statement::Finish),
-        "Calls" => Ok(Statement::Calls),
-        "FailAt" => fail_at(cursor),
         "Repeat" => repeat(alloc, cursor),
-        "Count" => Ok(Statement::Count),
-        _ => Ok(Statement::Ask(question(alloc, name, cursor)?)),
+        _ => setting_or_question(alloc, name, cursor),
     }
 }
 
+/// The statement, unless something stands behind it.
+fn ended(statement: Statement, cursor: &Cursor<'_>) -> Result<Statement, LineFault> {
+    match cursor.end() {
+        Ok(()) => Ok(statement),
+        Err(fault) => Err(fault),
+    }
+}
+
+/// What a line says that is no event.
+fn statement_without_event(alloc: Global, line: &str) -> Result<Statement, LineFault> {
+    let mut cursor = Cursor::new(line);
+    let name = cursor.word().unwrap_or("");
+    ended(statement_of_parts(alloc, name, &mut cursor)?, &cursor)
+}
+
 /// What a line says.
-pub fn statement_in_line(alloc: Global, line: &str) -> Result<Statement<'_>, LineFault> {
+pub fn statement_in_line(alloc: Global, line: &str) -> Result<Statement, LineFault> {
     if line.is_empty() || line.starts_with('#') || line.starts_with('>') {
         return Ok(Statement::Nothing);
     }
     if line == "End of reading" {
         return Ok(Statement::EndOfReading);
     }
-    if let Some(event) = event_in_line(alloc, line)? {
-        return Ok(Statement::Event { event, times: 1 });
+    match event_in_line(alloc, line)? {
+        Some(event) => Ok(Statement::Event(event)),
+        None => statement_without_event(alloc, line),
     }
-    let mut cursor = Cursor::new(line);
-    let name = cursor.word().unwrap_or("");
-    let statement = statement_of_parts(alloc, name, &mut cursor)?;
-    cursor.end()?;
-    Ok(statement)
 }

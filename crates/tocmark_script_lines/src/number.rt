@@ -3,7 +3,30 @@
 use crate::fault::LineFault;
 
 fn is_decimal(word: &str) -> bool {
-    !word.is_empty() && word.as_bytes().iter().all(|byte| byte.is_ascii_digit())
+    for byte in word.as_bytes() {
+        if !byte.is_ascii_digit() {
+            return false;
+        }
+    }
+    !word.is_empty()
+}
+
+fn is_hexadecimal(word: &str) -> bool {
+    for byte in word.as_bytes() {
+        if !byte.is_ascii_hexdigit() {
+            return false;
+        }
+    }
+    true
+}
+
+/// A number below 2^32 in hexadecimal digits, or nothing where the word is none or is too large.
+pub fn hexadecimal(word: &str) -> Option<u32> {
+    if is_hexadecimal(word) {
+        u32::from_str_radix(word, 16).ok()
+    } else {
+        None
+    }
 }
 
 /// A number in decimal digits, or nothing where the word is none or is too large.

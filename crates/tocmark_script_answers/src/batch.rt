@@ -1,12 +1,15 @@
 //! Batches of scripts.
 
-use crate::fault::{Fault, LineFault};
+use crate::cuts::write_cuts;
+use crate::fault::Fault;
 use crate::question::answers;
 use crate::runs::run;
-use crate::script::{Gathering, Script};
-use crate::statement::statement_in_line;
 use std::alloc::{AllocError, Global};
 use std::io::Write;
+use tocmark_script_lines::fault::LineFault;
+use tocmark_script_lines::gathering::Gathering;
+use tocmark_script_lines::script::Script;
+use tocmark_script_lines::statement::statement_in_line;
 
 /// Scripts whose lines come one after the other.
 #[derive(Drop)]
@@ -22,11 +25,14 @@ pub struct Batch {
 
 /// The answer of a whole script.
 fn answer(alloc: Global, script: &Script<'_>) -> Result<String, AllocError> {
-    if script.questions.is_empty() {
-        run(alloc, script)
-    } else {
-        answers(alloc, script)
+    if !script.questions.is_empty() {
+        return answers(alloc, script);
     }
+    let mut answer = run(alloc, script, &script.calls, script.shows_calls)?;
+    if script.compares_cuts {
+        write_cuts(alloc, &mut answer, script)?;
+    }
+    Ok(answer)
 }
 
 fn write_out<O: Write>(output: &mut O, text: &str) -> Result<(), Fault> {

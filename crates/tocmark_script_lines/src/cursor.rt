@@ -1,6 +1,7 @@
 //! A line, word by word.
 
 use crate::fault::LineFault;
+use crate::names::known;
 use crate::string::string_at_front;
 use std::alloc::Global;
 
@@ -69,6 +70,18 @@ impl<'a> Cursor<'a> {
     pub fn expect_word(&mut self, expected: &'static str) -> Result<&'a str, LineFault> {
         match self.word() {
             Some(word) => Ok(word),
+            None => Err(LineFault::Expected(expected)),
+        }
+    }
+
+    /// What a table has for the next word, which has to be one of its names.
+    pub fn expect_known<T: Copy>(
+        &mut self,
+        table: &[(&'static str, T)],
+        expected: &'static str,
+    ) -> Result<T, LineFault> {
+        match known(table, self.expect_word(expected)?) {
+            Some(value) => Ok(value),
             None => Err(LineFault::Expected(expected)),
         }
     }

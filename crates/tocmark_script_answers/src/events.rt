@@ -1,0 +1,143 @@
+//! Questions about the events of a script, and their answers.
+
+use std::alloc::{AllocError, Global};
+use tocmark::calculate_code_block_token_count;
+use tocmark::event::{CowStr, Event, EventOf, OwnedEvent, Tag, merge_all, merge_texts};
+use tocmark_script_lines::event::{Events, RangedEvent};
+use tocmark_script_lines::line::EventLine;
+use tocmark_script_lines::script::EventsQuestion;
+
+fn write_token_count(answer: &mut String, events: &[RangedEvent<'_>]) -> Result<(), AllocError> {
+    match calculate_code_block_token_count(Events(events.iter())) {
+        None => writeln!(answer, "None"),
+        Some(count) => writeln!(answer, "Some({count})"),
+    }
+}
+
+fn write_line(
+    answer: &mut String,
+    event: &Event<'_>,
+    range: Option<(usize, usize)>,
+) -> Result<(), AllocError> {
+    let line = EventLine(event);
+    match range {
+        Some((start, end)) => writeln!(answer, "{line} {start}..{end}"),
+        None => writeln!(answer, "{line}"),
+    }
+}
+
+fn write_lines(answer: &mut String, events: &[RangedEvent<'_>]) -> Result<(), AllocError> {
+    for (event, range) in events {
+        write_line(answer, event, *range)?;
+    }
+    Ok(())
+}
+
+/// Copies of the events, without what stands beside them.
+fn plain<R>(alloc: Global, events: &[(Event<'_>, R)]) -> Result<Vec<Event<'static>>, AllocError> {
+    let mut plain = Vec::new(alloc);
+    for (event, _) in events {
+        plain.push(event.to_static(alloc)?)?;
+    }
+    Ok(plain)
+}
+
+/// The events, with each stretch of texts as one.
+pub fn merged<R>(
+    alloc: Global,
+    events: &[(Event<'_>, R)],
+) -> Result<Vec<Event<'static>>, AllocError> {
+    merge_texts(alloc, &plain(alloc, events)?)
+}
+
+/// Writes the lines of the merged events, and how many of them there are where each owns its texts.
+fn write_merged(
+    alloc: Global,
+    answer: &mut String,
+    events: &[RangedEvent<'_>],
+) -> Result<(), AllocError> {
+    for event in &merged(alloc, events)? {
+        write_line(answer, event, None)?;
+    }
+    let owned: Vec<OwnedEvent> = merge_all(alloc, &plain(alloc, events)?)?;
+    let count = owned.len();
+    writeln!(answer, "{count} events")
+}
+
+/// Whether a text is equal to its copy, lent and owned.
+fn text_has_copies(alloc: Global, text: &CowStr<'_>) -> Result<bool, AllocError> {
+    let lent = CowStr::Borrowed(text.as_str());
+    let copy = lent.to_static(alloc)?;
+    let again = copy.clone()?;
+    Ok(again == lent)
+}
+
+fn tag_has_copy(alloc: Global, tag: &Tag<'_>) -> Result<bool, AllocError> {
+    let copy: Tag<'static> = tag.copied(alloc)?;
+    Ok(copy == *tag)
+}
+
+/// Whether the tag or the text of an event is equal to its copies.
+fn part_has_copies(alloc: Global, event: &Event<'_>) -> Result<bool, AllocError> {
+    match event {
+        EventOf::Start(tag) => tag_has_copy(alloc, tag),
+        EventOf::Text(text) => text_has_copies(alloc, text),
+        _ => Ok(true),
+    }
+}
+
+fn has_static_copy(alloc: Global, event: &Event<'_>) -> Result<bool, AllocError> {
+    let copy = event.to_static(alloc)?;
+    Ok(copy == *event)
+}
+
+fn has_clone(event: &Event<'_>) -> Result<bool, AllocError> {
+    let copy = event.clone()?;
+    Ok(copy == *event)
+}
+
+fn has_copy_of(alloc: Global, owned: &OwnedEvent, event: &Event<'_>) -> Result<bool, AllocError> {
+    let copy: Event<'static> = owned.copied(alloc)?;
+    Ok(copy == *event)
+}
+
+fn has_owned_copy(alloc: Global, event: &Event<'_>) -> Result<bool, AllocError> {
+    let owned: OwnedEvent = event.copied(alloc)?;
+    has_copy_of(alloc, &owned, event)
+}
+
+/// Whether an event is equal to each of its copies.
+fn has_copies(alloc: Global, event: &Event<'_>) -> Result<bool, AllocError> {
+    let is_copied = has_static_copy(alloc, event)? && has_owned_copy(alloc, event)?;
+    Ok(is_copied && has_clone(event)? && part_has_copies(alloc, event)?)
+}
+
+fn write_copies(
+    alloc: Global,
+    answer: &mut String,
+    events: &[RangedEvent<'_>],
+) -> Result<(), AllocError> {
+    let all = events.len();
+    let mut same = 0usize;
+    for (event, _) in events {
+        if has_copies(alloc, event)? {
+            same = same.saturating_add(1);
+        }
+    }
+    writeln!(answer, "{same} of {all}")
+}
+
+/// Writes what is answered about these events.
+pub fn write_events_answer(
+    alloc: Global,
+    answer: &mut String,
+    question: EventsQuestion,
+    events: &[RangedEvent<'_>],
+) -> Result<(), AllocError> {
+    match question {
+        EventsQuestion::CountTokens => write_token_count(answer, events),
+        EventsQuestion::Show => write_lines(answer, events),
+        EventsQuestion::ShowMerged => write_merged(alloc, answer, events),
+        EventsQuestion::CountCopies => write_copies(alloc, answer, events),
+    }
+}

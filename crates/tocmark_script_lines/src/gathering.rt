@@ -1,0 +1,194 @@
+//! Scripts whose lines are being read.
+
+use crate::event::RangedEvent;
+use crate::fault::LineFault;
+use crate::script::{Call, EventsQuestion, Question, Script};
+use crate::statement::Statement;
+use std::alloc::Global;
+use tocmark_script_reader::readers::{ReadEvents, ScriptReader, Table};
+
+/// The reading of a table whose events are being read.
+#[derive(Drop)]
+struct OpenReading<'a> {
+    /// The text, or nothing for any other text.
+    text: Option<String>,
+    events: ReadEvents<'a>,
+}
+
+/// A script whose lines are being read.
+#[derive(Drop)]
+pub struct Gathering<'a> {
+    alloc: Global,
+    script: Script<'a>,
+    /// How many events are taken by the calls so far.
+    called: usize,
+    /// The table of readings, if the script gives one.
+    table: Option<Table<'a>>,
+    reading: Option<OpenReading<'a>>,
+    has_finish: bool,
+    /// Whether some line said something.
+    has_statement: bool,
+}
+
+impl Gathering<'static> {
+    /// No line yet.
+    pub fn new(alloc: Global) -> Gathering<'static> {
+        Gathering {
+            alloc,
+            script: Script::new(alloc),
+            called: 0,
+            table: None,
+            reading: None,
+            has_finish: false,
+            has_statement: false,
+        }
+    }
+
+    /// Whether no line said anything.
+    pub fn is_empty(&self) -> bool {
+        !self.has_statement
+    }
+
+    /// A call that takes the events since the last one.
+    fn process(&mut self) -> Result<(), LineFault> {
+        let start = self.called;
+        let end = self.script.events.len();
+        self.script.calls.push(Call::Process { start, end })?;
+        self.called = end;
+        Ok(())
+    }
+
+    fn process_waiting(&mut self) -> Result<(), LineFault> {
+        if self.called == self.script.events.len() {
+            Ok(())
+        } else {
+            self.process()
+        }
+    }
+
+    fn finish(&mut self) -> Result<(), LineFault> {
+        self.process_waiting()?;
+        self.has_finish = true;
+        self.script.calls.push(Call::Finish)?;
+        Ok(())
+    }
+
+    /// The table of readings so far, or one without readings.
+    fn take_table(&mut self) -> Table<'static> {
+        match self.table.take() {
+            Some(table) => table,
+            None => Table::new(self.alloc),
+        }
+    }
+
+    fn end_reading(&mut self) -> Result<(), LineFault> {
+        let Some(OpenReading { text, events }) = self.reading.take() else {
+            return Err(LineFault::Expected("a line that begins with Reads, before"));
+        };
+        let mut table = self.take_table();
+        match text {
+            None => table.otherwise = events,
+            Some(text) => {
+                table.readings.insert(text, events)?;
+            }
+        }
+        self.table = Some(table);
+        Ok(())
+    }
+
+    /// Takes an event, into the open reading if there is one.
+    fn take_event(&mut self, event: RangedEvent<'static>) -> Result<(), LineFault> {
+        let Some(reading) = &mut self.reading else {
+            self.script.events.push(event)?;
+            return Ok(());
+        };
+        let (event, range) = event;
+        reading.events.push((event, range.unwrap_or((0, 0))))?;
+        Ok(())
+    }
+
+    fn take_copy(&mut self, event: &RangedEvent<'static>) -> Result<(), LineFault> {
+        let (event, range) = event;
+        self.take_event((event.to_static(self.alloc)?, *range))
+    }
+
+    /// Takes so many copies of an event.
+    fn take_copies(&mut self, event: &RangedEvent<'static>, times: usize) -> Result<(), LineFault> {
+        for _ in 0..times {
+            self.take_copy(event)?;
+        }
+        Ok(())
+    }
+
+    fn open_reading(&mut self, text: Option<String>) {
+        self.reading = Some(OpenReading {
+            text,
+            events: Vec::new(self.alloc),
+        });
+    }
+
+    fn ask(&mut self, question: Question) -> Result<(), LineFault> {
+        self.script.questions.push(question)?;
+        Ok(())
+    }
+
+    /// Asks of the events so far.
+    fn ask_of_events(&mut self, question: EventsQuestion) -> Result<(), LineFault> {
+        let events = self.script.events.len();
+        self.ask(Question::OfEvents { question, events })
+    }
+
+    /// Takes a statement that stands outside of readings.
+    fn take_outside(&mut self, statement: Statement) -> Result<(), LineFault> {
+        match statement {
+            Statement::Set(setting) => self.script.set(setting),
+            Statement::Cut => self.process()?,
+            Statement::Finish => self.finish()?,
+            Statement::ReaderNothing => self.table = Some(self.take_table()),
+            Statement::Reads(text) => self.open_reading(text),
+            Statement::AskOfEvents(question) => self.ask_of_events(question)?,
+            Statement::Ask(question) => self.ask(question)?,
+            _other => {}
+        }
+        Ok(())
+    }
+
+    /// Takes what a line says.
+    pub fn take(&mut self, statement: Statement) -> Result<(), LineFault> {
+        if let Statement::Nothing = statement {
+            return Ok(());
+        }
+        self.has_statement = true;
+        match statement {
+            Statement::Event(event) => self.take_event(event),
+            Statement::Repeat { event, times } => self.take_copies(&event, times),
+            Statement::EndOfReading => self.end_reading(),
+            _ if self.reading.is_some() => Err(LineFault::Expected("an event, or End of reading")),
+            _ => self.take_outside(statement),
+        }
+    }
+
+    /// Makes the calls behind the last line, and takes the table as the reader.
+    fn complete(&mut self) -> Result<(), LineFault> {
+        if self.reading.is_some() {
+            return Err(LineFault::Expected("End of reading"));
+        }
+        self.process_waiting()?;
+        if !self.has_finish {
+            self.finish()?;
+        }
+        if let Some(table) = self.table.take() {
+            self.script.reader = ScriptReader::Table(table);
+        }
+        Ok(())
+    }
+
+    /// The whole script, behind its last line.
+    pub fn end(self) -> Result<Script<'static>, LineFault> {
+        let mut whole = self;
+        match whole.complete() {
+            Ok(()) => Ok(whole.script),
+            Err(fault) => Err(fault),
+        }
+    }
+}

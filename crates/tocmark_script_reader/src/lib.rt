@@ -1,0 +1,4 @@
+//! The reader of a script: the core reader, or a table of readings.
+#![tactic(auto)]
+
+pub mod readers;
