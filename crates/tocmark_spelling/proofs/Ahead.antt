@@ -1,20 +1,21 @@
 -- What is asked of the events round a container, in trees and in the flat list.
 use Rattle.std.proofs.Common.{◌≡◌, if◌then◌else◌, ℕ, zero, suc, ◌+◌, Bool, true, false, Option, List, [], ◌∷◌, ◌++◌, refl, sym, ap, ◌∙◌, take, drop, reverse, subst, length, slice_index, ◌<◌, ◌-◌, arith, get_or}
-use Rattle.std.specs.Prelude.{◌==◌, not, ◌&&◌, ◌||◌}
+use Rattle.std.specs.Prelude.{codes, ◌==◌, not, ◌&&◌, ◌||◌}
 use Rattle.std.specs.List.{list_any}
 use Rattle.std.proofs.lemmas.List.{reverse-append, append_assoc, append-nil, drop_more, take_more, length-drop}
-use Rattle.tocmark_event.specs.View.{TagView, SourcedEvent, SourcedLeaf, EventView, Start, End, Leaf, end_of}
+use Rattle.tocmark_event.specs.View.{TagView, Link, Image, SourcedEvent, SourcedLeaf, EventView, Start, End, Leaf, end_of}
 use Rattle.tocmark_event.specs.declared.event.TagEnd.{TagEnd}
 use Rattle.tocmark_event.specs.Forest.{empty, leaf, node, flat_onto, flat}
 use Rattle.tocmark_spelling.specs.Plan.{Setting, Manner}
 use Rattle.tocmark_spelling.specs.Body.{Trees, back_onto, is_inline_leaf, has_inline, is_tight, some_child, count_tags, count_children, has_lone_paragraph, has_tag, breaks_line, text_of_leaf, html_of_leaf}
+use Rattle.tocmark_spelling.specs.ById.{by_id, by_id_of, goes_by_id}
 use Rattle.tocmark_spelling.specs.Kinds.{is_inline_tag, is_item, is_paragraph, is_emphasis_or_strong}
 use Rattle.tocmark_spelling.specs.Look.{look, is_preferred, prefers_if}
 use Rattle.tocmark_spelling.specs.Page.{Around}
 use Rattle.tocmark_spelling.specs.Runs.{opening_run, closing_run, run_at, start_width, close_width, tag_width, added_width, width_within, counts, disturbs_at, and_disturbs, prefers_underscore}
 use Rattle.tocmark_spelling.specs.Machine.{Layers, layers, with_node, kids_of, around}
 use Rattle.tocmark_spelling.specs.Scans.{span, AreEnds}
-use Rattle.tocmark_spelling.specs.Ahead.{behind_body, up_to_end, IsNested, AreNested, opening_ahead, closing_ahead, ends_here, first_width, width_in, width_ahead_of, character_before, character_after, starts_disturber, disturbers, is_disturbed, prefers_ahead, has_start, has_inline_event, some_start, is_tight_body, sum_starts, count_starts, is_lone_paragraph, AreSeen, HoldMarks, AreDisturbed}
+use Rattle.tocmark_spelling.specs.Ahead.{body_in, reads_back, is_named_by_id, behind_body, up_to_end, IsNested, AreNested, opening_ahead, closing_ahead, ends_here, first_width, width_in, width_ahead_of, character_before, character_after, starts_disturber, disturbers, is_disturbed, prefers_ahead, has_start, has_inline_event, some_start, is_tight_body, sum_starts, count_starts, is_lone_paragraph, AreSeen, HoldMarks, AreDisturbed}
 use Rattle.tocmark_spelling.proofs.Gathered.{empty-scan, begins-scan, joined-scan, first-scan}
 use Rattle.tocmark_spelling.proofs.Looks.{leaf-scan}
 use Rattle.tocmark_spelling.proofs.Follows.{kids-flat}
@@ -289,6 +290,30 @@ prefers-flat s m t kids before after next =
     and_if (is_emphasis_or_strong t) s m t kids (around (Start t ∷ before) (End (end_of t) ∷ after) next)
     ∙ ap (λ b. is_emphasis_or_strong t && b) (sym (is-disturbed s next (not (is_preferred m.plan.layout)) kids (end_of t) (Start t ∷ before) after))
 
+-- the name
+
+body-flat : (f : Trees) (d : ℕ) (r : List SourcedEvent) → take (span d (flat_onto f r)) (flat_onto f r) ≡ flat_onto f (take (span d r) r)
+body-flat empty d r = refl
+body-flat (leaf l f) zero r = ap (λ x. Leaf l ∷ x) (body-flat f zero r)
+body-flat (leaf l f) (suc d) r = ap (λ x. Leaf l ∷ x) (body-flat f (suc d) r)
+body-flat (node t kids f) d r =
+    ap (λ x. Start t ∷ x) (body-flat kids (suc d) (End (end_of t) ∷ flat_onto f r))
+    ∙ ap (λ x. Start t ∷ flat_onto kids (End (end_of t) ∷ x)) (body-flat f d r)
+
+by-reading : (b : Bool) (s : Setting) (mark : List ℕ) (t : TagView) (id : List ℕ) (kids : Trees) → by_id_of b s mark t id kids ≡ b && reads_back s mark t id (flat kids)
+by-reading true s mark t id kids = refl
+by-reading false s mark t id kids = refl
+
+named-flat : (s : Setting) (t : TagView) (kids : Trees) → by_id s t kids ≡ is_named_by_id s t (flat kids)
+unfolding by_id
+named-flat s (Link k d t i) kids = by-reading (goes_by_id k) s [] (Link k d t i) i kids
+named-flat s (Image k d t i) kids = by-reading (goes_by_id k) s (codes "!") (Image k d t i) i kids
+named-flat s t kids = refl
+
+nested-body : (t : TagView) (rest : List SourcedEvent) → IsNested t rest → flat (kids_of rest) ≡ body_in rest
+nested-body t rest nested =
+    sym (body-flat (kids_of rest) 0 (End (end_of t) ∷ behind_body rest)) ∙ ap (λ x. body_in x) (sym nested)
+
 -- a container in the flat list
 module _ (s : Setting) (m : Manner) (t : TagView) (before rest : List SourcedEvent) (next : Option EventView) (nested : IsNested t rest) where
   pub opening-look : (look s m t (kids_of rest) (around before (behind_body rest) next)).opening ≡ opening_ahead t before rest
@@ -318,6 +343,7 @@ all-seen s m next f i t rest e =
       closing = closing-look s m t before rest next nested;
       width = width-look s m t before rest next nested;
       prefers = prefers-look s m t before rest next nested;
+      named = named-flat s t (kids_of rest) ∙ ap (is_named_by_id s t) (nested-body t rest nested);
       empty_body = sym (empty-scan rest);
       begins_paragraph = sym (begins-scan rest);
       has_paragraph = sym (has-layers is_paragraph rest 0);

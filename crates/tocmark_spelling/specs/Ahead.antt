@@ -1,9 +1,11 @@
 -- What the spelling of a container asks of the events round it, as functions of the flat list: of the events before its
 -- Start, the last one first, and of those behind it.
-use Rattle.std.specs.Prelude.{◌≡◌, ℕ, zero, suc, ◌+◌, ◌==◌, Bool, true, false, not, ◌&&◌, ◌||◌, if◌then◌else◌, Option, List, [], ◌∷◌, ◌++◌, take, drop, reverse, length, nat_lt, slice_index, slice_index_or, ◌-◌, ◌<◌, None, Some}
+use Rattle.std.specs.Prelude.{◌≡◌, ℕ, zero, suc, ◌+◌, ◌==◌, Bool, true, false, not, ◌&&◌, ◌||◌, if◌then◌else◌, Option, List, [], ◌∷◌, ◌++◌, map, codes, take, drop, reverse, length, nat_lt, slice_index, slice_index_or, ◌-◌, ◌<◌, None, Some}
 use Rattle.std.specs.List.{list_any}
-use Rattle.tocmark_event.specs.View.{TagView, SourcedEvent, EventView, LeafView, Start, End, Leaf, end_of}
+use Rattle.tocmark_event.specs.View.{TagView, Link, Image, unsourced, SourcedEvent, EventView, LeafView, Start, End, Leaf, end_of}
 use Rattle.tocmark_event.specs.Forest.{flat_onto, flat}
+use Rattle.tocmark_event.specs.Merged.{merged}
+use Rattle.tocmark_spelling.specs.ById.{events_of, goes_by_id, is_one_link}
 use Rattle.tocmark_spelling.specs.Runs.{Run, run_at, tag_width, start_width, close_width, run_before, run_after, counts, disturbs_at}
 use Rattle.tocmark_spelling.specs.Machine.{kids_of, around}
 use Rattle.tocmark_spelling.specs.Body.{Trees, is_inline_leaf, breaks_line, text_of_leaf, html_in, html_of_leaf}
@@ -165,6 +167,17 @@ first_of text [] = None
 first_of text (Leaf l ∷ es) = or_else (text l.leaf) (first_of text es)
 first_of text (e ∷ es) = first_of text es
 
+-- whether the reader finds just these events in `[id](cmark-label)`, with `!` in front for an image
+abbrev pub reads_back : Setting → List ℕ → TagView → List ℕ → List SourcedEvent → Bool
+reads_back s mark t id body =
+    is_one_link t (merged (map unsourced body)) (merged (events_of (s.reading (mark ++ codes "[" ++ id ++ codes "](cmark-label)") s.flags)))
+
+-- whether a container is a Collapsed or Shortcut link or image whose id stands in place of this body
+abbrev pub is_named_by_id : Setting → TagView → List SourcedEvent → Bool
+is_named_by_id s (Link k d t i) body = goes_by_id k && reads_back s [] (Link k d t i) i body
+is_named_by_id s (Image k d t i) body = goes_by_id k && reads_back s (codes "!") (Image k d t i) i body
+is_named_by_id s t body = false
+
 -- what an opening is told is what stands in the flat list round its container
 pub record IsSeen (s : Setting) (m : Manner) (t : TagView) (before rest : List SourcedEvent) (next : Option EventView) (l : Look) : Type 0 where
   pub previous : l.previous ≡ front before
@@ -174,6 +187,7 @@ pub record IsSeen (s : Setting) (m : Manner) (t : TagView) (before rest : List S
   pub closing : l.closing ≡ closing_ahead t before rest
   pub width : l.width ≡ width_ahead_of t rest
   pub prefers : l.prefers ≡ prefers_ahead s m t before rest
+  pub named : l.named ≡ is_named_by_id s t (body_in rest)
   pub empty_body : l.empty_body ≡ ends_here rest
   pub begins_paragraph : l.begins_paragraph ≡ begins_with_paragraph rest
   pub has_paragraph : l.has_paragraph ≡ has_start is_paragraph 0 rest
