@@ -17,17 +17,16 @@ use Rattle.tocmark_spelling.specs.ById.{by_id}
 use Rattle.tocmark_spelling.specs.Leaves.{code_span, unspan}
 use Rattle.tocmark_spelling.specs.Marker.{marker}
 use Rattle.tocmark_spelling.specs.Runs.{prefers_underscore}
-use Rattle.tocmark_spelling.specs.Page.{Sheet, laid, lead, put_byte}
+use Rattle.tocmark_spelling.specs.Page.{Sheet, laid, put_byte}
 use Rattle.tocmark_spelling.specs.PlanOf.{setting_of}
 use Rattle.tocmark_spelling.specs.Spelled.{is_spelled_leaf, is_spelled_forest}
 use Rattle.tocmark_spelling.specs.Spelling.{spelling}
 use Rattle.tocmark_spelling.specs.Stretch.{leaf_on}
 use Rattle.tocmark_spelling.specs.Unescape.{unescape}
-use Rattle.tocmark_render.specs.Choice.{choice, preferred, spelled, document_after}
+use Rattle.tocmark_render.specs.Choice.{preferred, spelled, document_after}
 use Rattle.tocmark_render.specs.Definitions.{definitions_text}
 use Rattle.tocmark_render.specs.Document.{DocumentView, first_document}
 use Rattle.tocmark_render.specs.Spelled.{choice_if, chosen_if_spelled}
-use Rattle.tocmark_render.specs.Units.{waits}
 use Rattle.tocmark_render.proofs.Forests.{chosen-flat}
 use Rattle.tocmark_render.proofs.SpelledUnits.{choice-unasked}
 use Rattle.tocmark.specs.Paragraphs.{ReadsAs, ReadsAsSpan, paragraph_with, paragraph_of}

@@ -9,9 +9,7 @@ use crate::placeholder::needs_list_placeholder;
 use std::alloc::{AllocError, Global};
 use std::process::Abort;
 use std::test::Fail;
-use tocmark_event::event::{
-    CowStr, Event, EventOf, OwnedEvent, ParserOptions, TagEnd, TagOf,
-};
+use tocmark_event::event::{CowStr, Event, EventOf, OwnedEvent, ParserOptions, TagEnd, TagOf};
 use tocmark_event::options::{Error, Options};
 use tocmark_event::reader::{Reader, Reading};
 use tocmark_spelling::spelling::BufferedEvent;

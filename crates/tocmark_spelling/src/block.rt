@@ -50,10 +50,7 @@ fn copied_reference(alloc: Global, reference: &Reference) -> Result<Reference, A
     })
 }
 
-fn copied_references(
-    alloc: Global,
-    references: &[Reference],
-) -> Result<Vec<Reference>, AllocError>
+fn copied_references(alloc: Global, references: &[Reference]) -> Result<Vec<Reference>, AllocError>
     ensures { IfOk result (λ copies. map reference_view copies.items ≡ map reference_view references.now) }
 {
     let mut copies = Vec::new(alloc);

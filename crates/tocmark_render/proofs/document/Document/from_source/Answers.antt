@@ -42,10 +42,12 @@ returns-then-not-branch-clause-searched g c f spelled is =
     let next = following_view c.args.next in
     let text = string_bytes c.in_ok-text.text in
     let P : Manner → Type 0 = λ m. RenderedAt text c.render_block.new.self (spelling s m f (around [] [] next) [] (page_before c.in_ok-renderer.renderer)) in
-    let Q : Page → Type 0 = λ p. RenderedAt text c.render_block.new.self (spelling s (source_manner s.options) f (around [] [] next) [] p) in
-    (source-lost s d es f next is spelled text c.render_block.new.self refl (sym c.asks_source.ensures ∙ c.if-not-asks_source.false)
-    (subst Q c.in_ok-renderer.ensures.page (subst P c.preferred_delimiters.ensures.sourced (c.in_ok-text.ensures.spelled None f spelled is)))
-    (finds-at d.known es s.reading c.as_str.result.now text c.reading_flags-flags.result (flags_at s d) false c.in_ok-reads_back.field-0 c.as_str.ensures.value (c.reading_flags-flags.ensures s refl) c.in_ok-reads_back.ensures c.if-not-branch.true), refl)
+    let Q : Page → Type 0 = λ p. RenderedAt text c.render_block.new.self (spelling s (source_manner s.options) f (around [] [] next) [] p) in (
+      source-lost s d es f next is spelled text c.render_block.new.self refl (sym c.asks_source.ensures ∙ c.if-not-asks_source.false)
+          (subst Q c.in_ok-renderer.ensures.page (subst P c.preferred_delimiters.ensures.sourced (c.in_ok-text.ensures.spelled None f spelled is)))
+          (finds-at d.known es s.reading c.as_str.result.now text c.reading_flags-flags.result (flags_at s d) false c.in_ok-reads_back.field-0 c.as_str.ensures.value (c.reading_flags-flags.ensures s refl) c.in_ok-reads_back.ensures c.if-not-branch.true),
+      refl,
+    )
 
 pub returns-clause-searched : goal.returns-clause-searched
 returns-clause-searched g c f spelled is =
