@@ -10,11 +10,12 @@ ghost use Rattle.tocmark_render.specs.Units.{waits};
 ghost use Rattle.tocmark_render.specs.Waiting.{is_end, begins_empty_item, begins_three_ends, begins_only_item, from_end, starts_ambiguous_list, has_ambiguous_list};
 
 use crate::balance::are_balanced;
-use crate::read_back::is_inline_end;
 use std::alloc::{AllocError, Global};
 use tocmark_event::event::{EventOf, TagOf};
 use tocmark_spelling::ends::matching_ends;
+use tocmark_spelling::kinds::is_inline_end;
 use tocmark_spelling::spelling::BufferedEvent;
+use tocmark_spelling::turn::rest_of;
 
 /// Whether inline content stands before what follows the event.
 fn is_inline_end_or_leaf(event: &BufferedEvent) -> bool
@@ -97,17 +98,6 @@ fn starts_ambiguous_list(
 {
     starts_list(event)
         && ((begins_empty_item(rest) && behind_inline) || begins_only_item(rest, behind))
-}
-
-/// What follows a place of a unit.
-fn rest_of(events: &[BufferedEvent], start: usize) -> &[BufferedEvent]
-    ensures { result.now ≡ drop start events.now }
-{
-    if start <= events.len() {
-        &events[start..]
-    } else {
-        &[]
-    }
 }
 
 /// Where the container ends that is innermost behind the second event after a place, if there are so

@@ -8,7 +8,6 @@ ghost use Rattle.tocmark_event.specs.Text.{text_of};
 ghost use Rattle.tocmark_event.specs.View.{event_view, unsourced};
 ghost use Rattle.tocmark_spelling.specs.Buffered.{buffered_view};
 ghost use Rattle.tocmark_spelling.specs.ById.{events_of};
-ghost use Rattle.tocmark_spelling.specs.Kinds.{is_inline_end};
 ghost use Rattle.tocmark_spelling.specs.SameEvents.{same_events};
 ghost use Rattle.tocmark_render.specs.Document.{is_among};
 ghost use Rattle.tocmark_render.specs.LabelsOf.{labels_of};
@@ -18,25 +17,9 @@ use crate::labels::Labels;
 use std::alloc::{AllocError, Global};
 use tocmark_event::event::{Event, EventOf, OwnedEvent, ParserOptions, TagEnd, TagOf, merge_all};
 use tocmark_event::reader::{Reader, Reading};
-use tocmark_spelling::kinds::is_inline_tag;
+use tocmark_spelling::kinds::{is_inline_end, is_inline_tag};
 use tocmark_spelling::same_events::same_events;
 use tocmark_spelling::spelling::BufferedEvent;
-
-/// Whether it is the End of an inline container; all others are blocks.
-pub fn is_inline_end(end: TagEnd) -> bool
-    ensures { result ≡ is_inline_end end }
-{
-    match end {
-        TagEnd::Emphasis => true,
-        TagEnd::Strong => true,
-        TagEnd::Strikethrough => true,
-        TagEnd::Superscript => true,
-        TagEnd::Subscript => true,
-        TagEnd::Link => true,
-        TagEnd::Image => true,
-        _ => false,
-    }
-}
 
 /// Whether an event is of a block: the Start or End of one, a thematic break or a line of HTML.
 fn stands_alone(event: &OwnedEvent) -> bool

@@ -2,11 +2,11 @@
 
 ghost use Rattle.std.specs.Prelude.{◌≡◌, string_bytes};
 ghost use Rattle.tocmark_event.specs.View.{event_view, tag_view};
-ghost use Rattle.tocmark_spelling.specs.Kinds.{is_inline_tag, is_paragraph, is_heading, is_quote, is_indented_code, is_list, is_item, is_definition_list, is_definition_title, is_table, starts, is_rule, is_break, is_text, begins_block};
+ghost use Rattle.tocmark_spelling.specs.Kinds.{is_inline_tag, is_inline_end, is_paragraph, is_heading, is_quote, is_indented_code, is_list, is_item, is_definition_list, is_definition_title, is_table, starts, is_rule, is_break, is_text, begins_block};
 ghost use Rattle.tocmark_spelling.specs.Places.{is_raw_tag, is_raw_link};
 ghost use Rattle.tocmark_spelling.specs.Gap.{could_continue};
 
-use tocmark_event::event::{CodeBlockKindOf, EventOf, LinkType, OwnedEvent, TagOf};
+use tocmark_event::event::{CodeBlockKindOf, EventOf, LinkType, OwnedEvent, TagEnd, TagOf};
 
 /// Whether a container is inline; all others are blocks.
 pub fn is_inline_tag(tag: &TagOf<String>) -> bool
@@ -20,6 +20,22 @@ pub fn is_inline_tag(tag: &TagOf<String>) -> bool
         TagOf::Subscript => true,
         TagOf::Link { .. } => true,
         TagOf::Image { .. } => true,
+        _ => false,
+    }
+}
+
+/// Whether it is the End of an inline container; all others are blocks.
+pub fn is_inline_end(end: TagEnd) -> bool
+    ensures { result ≡ is_inline_end end }
+{
+    match end {
+        TagEnd::Emphasis => true,
+        TagEnd::Strong => true,
+        TagEnd::Strikethrough => true,
+        TagEnd::Superscript => true,
+        TagEnd::Subscript => true,
+        TagEnd::Link => true,
+        TagEnd::Image => true,
         _ => false,
     }
 }

@@ -10,6 +10,8 @@ pub mod frame;
 pub mod gap;
 pub mod kinds;
 pub mod laws;
+#[cfg(test)]
+mod look_tests;
 pub mod machine_laws;
 pub mod marks;
 pub mod misplaced;

@@ -4,12 +4,11 @@ ghost use Rattle.std.specs.Prelude.{◌≡◌, ◌≤◌, if◌then◌else◌, �
 ghost use Rattle.tocmark_event.specs.View.{tag_view, event_view, unsourced};
 ghost use Rattle.tocmark_spelling.specs.Buffered.{buffered_view};
 ghost use Rattle.tocmark_spelling.specs.Edges.{edge, event_edge};
-ghost use Rattle.tocmark_spelling.specs.Kinds.{is_inline_end};
 ghost use Rattle.tocmark_spelling.specs.Runs.{tag_width, end_width, start_width, close_width, marker_only, text_only};
 ghost use Rattle.tocmark_spelling.specs.Sides.{picked, width_of, side_with, no_side, AreAhead, AreBefore};
 ghost use Rattle.tocmark_spelling.specs.Words.{asterisk, last_character};
 
-use crate::kinds::is_inline_tag;
+use crate::kinds::{is_inline_end, is_inline_tag};
 use crate::spelling::BufferedEvent;
 use std::alloc::{AllocError, Global};
 use tocmark_event::event::{EventOf, TagEnd, TagOf};
@@ -52,21 +51,6 @@ fn picked(text: &str, first: bool) -> Option<char>
         text.chars().next()
     } else {
         last_character(text)
-    }
-}
-
-fn is_inline_end(end: TagEnd) -> bool
-    ensures { result ≡ is_inline_end end }
-{
-    match end {
-        TagEnd::Emphasis => true,
-        TagEnd::Strong => true,
-        TagEnd::Strikethrough => true,
-        TagEnd::Superscript => true,
-        TagEnd::Subscript => true,
-        TagEnd::Link => true,
-        TagEnd::Image => true,
-        _ => false,
     }
 }
 

@@ -210,7 +210,7 @@ impl<'a> Writer<'a> {
 }
 
 /// What follows a place of a unit.
-fn rest_of(events: &[BufferedEvent], start: usize) -> &[BufferedEvent]
+pub fn rest_of(events: &[BufferedEvent], start: usize) -> &[BufferedEvent]
     ensures { result.now ≡ drop start events.now }
 {
     if start <= events.len() {
