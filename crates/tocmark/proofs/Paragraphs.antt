@@ -26,15 +26,16 @@ use Rattle.tocmark_spelling.specs.Unescape.{unescape}
 use Rattle.tocmark_render.specs.Choice.{preferred, spelled, document_after}
 use Rattle.tocmark_render.specs.Definitions.{definitions_text}
 use Rattle.tocmark_render.specs.Document.{DocumentView, first_document}
+use Rattle.tocmark_render.specs.Ending.{last_texts, holds_raw_block}
 use Rattle.tocmark_render.specs.Spelled.{choice_if, chosen_if_spelled}
 use Rattle.tocmark_render.proofs.Forests.{chosen-flat}
 use Rattle.tocmark_render.proofs.SpelledUnits.{choice-unasked}
 use Rattle.tocmark.specs.Paragraphs.{ReadsAs, ReadsAsSpan, paragraph_with, paragraph_of}
 use Rattle.tocmark.specs.StateView.{keeping, rendering}
-use Rattle.tocmark.specs.Walk.{Standing, Walk, Done, done, flush_of, go_on, hand_walk, handed_text, nothing_yet, script, joins, flushed, flushed_before, advance, step, ended}
+use Rattle.tocmark.specs.Walk.{Walk, Done, done, finished_of, handed_text, nothing_yet, script, joins, flushed, flushed_before, advance, step, ended}
 
--- a text that is handed, and then none
-handed : (text : List ℕ) → concat (handed_text text ++ []) ≡ text
+-- a text that is handed
+handed : (text : List ℕ) → concat (handed_text text) ≡ text
 handed [] = refl
 handed (b ∷ bs) = append-nil (b ∷ bs)
 
@@ -88,24 +89,19 @@ module _ (o : OptionsView) (reading : List ℕ → ParserOptions → ReadingView
       let is = forest-spelled l h in
       chosen-flat s first_document (unit l) None ∙ ap (λ b. choice_if b s first_document (unit l) None) is ∙ choice-unasked s first_document (unit l) None is refl
 
-  -- where the unit waits
-  abbrev waiting : LeafView → Standing
-  waiting l = record { pending = flat (unit l); open_tags = []; document = record { flags = flags; document = first_document }; range_end = 0; is_deferred = false }
-
   -- what the end comes to, by what is chosen for the unit
   abbrev ended_as : LeafView → Result (List ℕ × DocumentView) Error → Walk Done
-  ended_as l r =
-      go_on (flush_of (waiting l) (keeping flags r)).texts (flush_of (waiting l) (keeping flags r)).outcome (λ t. hand_walk (definitions_text t.document.document.references t.document.document.feeds) done)
+  ended_as l r = finished_of (rendering o reading) (flat (unit l)) (keeping flags r)
 
   scripted : (source : List ℕ) (l : LeafView) → script (rendering o reading) source (nothing_yet flags) (paragraph_with l) ≡ ended_as l (chosen_if_spelled (setting_of o flags reading None) first_document (flat (unit l)) None)
   unfolding joins flushed flushed_before advance step ended
   scripted source l = refl
 
-  made : (source : List ℕ) (l : LeafView) (text : List ℕ) → is_spelled_leaf l ≡ true → IsWritten l text → script (rendering o reading) source (nothing_yet flags) (paragraph_with l) ≡ record { texts = handed_text text ++ []; outcome = Ok done }
+  made : (source : List ℕ) (l : LeafView) (text : List ℕ) → is_spelled_leaf l ≡ true → IsWritten l text → script (rendering o reading) source (nothing_yet flags) (paragraph_with l) ≡ record { texts = handed_text text; outcome = Ok done }
   made source l text h w =
       scripted source l
       ∙ ap (ended_as l) (chosen-preferred l h ∙ w.preferred_is ∙ ap (λ t. Ok (t, w.document)) (laid-plain text blank))
-      ∙ ap (λ defs. record { texts = handed_text text ++ handed_text defs; outcome = Ok done }) w.undefined
+      ∙ ap (λ (defs : List ℕ). record { texts = last_texts (holds_raw_block (flat (unit l))) defs text; outcome = Ok done }) w.undefined
 
   pub read_back : (source text : List ℕ)
       → ((place : Place) → place.token ≡ o.emphasis_token → unescape (chars (escaped place text)) ≡ chars text)

@@ -1,5 +1,5 @@
 -- Laws of `go_on`, of what a call did with a writer, and of the steps of a walk.
-use Rattle.std.proofs.Common.{◌≡◌, ℕ, List, [], ◌∷◌, ◌++◌, Result, Ok, Err, Option, Some, None, true, false, refl, ap, sym, ◌∙◌, append_assoc, arith, length, ◌==◌, sum_by, ◌+◌, reverse}
+use Rattle.std.proofs.Common.{◌≡◌, ℕ, List, [], ◌∷◌, ◌++◌, Result, Ok, Err, Option, Some, None, true, false, refl, ap, sym, ◌∙◌, append_assoc, append-nil, arith, length, ◌==◌, sum_by, ◌+◌, reverse}
 use Rattle.std.proofs.lemmas.List.{append-nil, length-reverse}
 use Rattle.std.proofs.lemmas.List.Sums.{sum_by-append}
 use Rattle.std.proofs.lemmas.Bool.Decides.{nat_tests}
@@ -11,10 +11,11 @@ use Rattle.tocmark_event.specs.declared.options.Error.TheVariants as error
 use Rattle.tocmark_spelling.specs.Buffered.{sourced}
 use Rattle.tocmark_event.specs.declared.event.flags.ParserOptions.{ParserOptions}
 use Rattle.tocmark_render.specs.Document.{DocumentView}
+use Rattle.tocmark_render.specs.Ending.{last_texts}
 use Rattle.tocmark_render.specs.DocumentOf.{Refuses, Gives}
 use Rattle.tocmark.specs.StateView.{keeping}
 use Rattle.tocmark.specs.Ranges.{Pair, resolved, unranged}
-use Rattle.tocmark.specs.Walk.{Done, done, Kept, Rendering, Standing, Walk, go_on, stay, refuse, handed_text, hand_walk, nested, with_event, joins, flush_of, flushed, is_due, flushed_before, advance, step, walk, flushed_rest, ended_at, ended}
+use Rattle.tocmark.specs.Walk.{Done, done, Kept, Rendering, Standing, Walk, go_on, stay, refuse, handed_text, hand_walk, finished, finished_of, nested, with_event, joins, flush_of, flushed, is_due, flushed_before, advance, step, walk, flushed_rest, ended_at, ended}
 use Rattle.tocmark.specs.Writes.{Makes, RefusesAt}
 
 ok_err : {A : Type 0} (s : A) (e : Error) → Ok s ≡ Err e → ⊥
@@ -213,16 +214,37 @@ pub ended_open : (how : Rendering) (s : Standing) (os : List TagEnd) → s.open_
 unfolding ended
 ended_open how s os e h = ended-at_open how s.open_tags s (rw e (reversed_open os h))
 
-pub ended_closed : (how : Rendering) (s : Standing) (os : List TagEnd) → s.open_tags ≡ reverse os → (length os == 0) ≡ true → ended how s ≡ go_on (flushed_rest how s.pending s).texts (flushed_rest how s.pending s).outcome (λ t. hand_walk (how.definitions t.document) done)
+-- no definition is left when what is pending is written
+abbrev pub LeavesNone : Rendering → Standing → Type 0
+LeavesNone how s = (t : Standing) → (flushed_rest how s.pending s).outcome ≡ Ok t → how.definitions t.document ≡ []
+
+finished-of-plain : (how : Rendering) (unit : List SourcedEvent) (s : Standing) (r : Result (List ℕ × Kept) Error) → ((t : Standing) → (flush_of s r).outcome ≡ Ok t → how.definitions t.document ≡ [])
+    → finished_of how unit r ≡ go_on (flush_of s r).texts (flush_of s r).outcome (λ t. hand_walk (how.definitions t.document) done)
+finished-of-plain how unit s (Err e) h = refl
+finished-of-plain how unit s (Ok x) h =
+    let none = h (record s { pending = []; document = x.1 }) refl in
+    ap (λ (defs : List ℕ). record { texts = last_texts (how.holds_raw unit) defs x.0; outcome = Ok done }) none
+    ∙ sym (ap (λ (ts : List (List ℕ)). record { texts = ts; outcome = Ok done }) (ap (λ (defs : List ℕ). handed_text x.0 ++ handed_text defs) none ∙ append-nil (handed_text x.0)))
+
+finished-plain : (how : Rendering) (unit : List SourcedEvent) (s : Standing) → unit ≡ s.pending → ((t : Standing) → (flushed_rest how unit s).outcome ≡ Ok t → how.definitions t.document ≡ [])
+    → finished how unit s.document ≡ go_on (flushed_rest how unit s).texts (flushed_rest how unit s).outcome (λ t. hand_walk (how.definitions t.document) done)
+unfolding flushed
+finished-plain how [] s e h = refl
+finished-plain how (x ∷ xs) s e h =
+    let now : flush_of s (how.choice s.document (x ∷ xs) None) ≡ flush_of s (how.choice s.document s.pending None) = ap (λ (unit : List SourcedEvent). flush_of s (how.choice s.document unit None)) e in
+    finished-of-plain how (x ∷ xs) s (how.choice s.document (x ∷ xs) None) (λ t k. h t (ap (λ (w : Walk Standing). w.outcome) (sym now) ∙ k))
+    ∙ ap (λ (w : Walk Standing). go_on w.texts w.outcome (λ t. hand_walk (how.definitions t.document) done)) now
+
+pub ended_closed : (how : Rendering) (s : Standing) (os : List TagEnd) → s.open_tags ≡ reverse os → (length os == 0) ≡ true → LeavesNone how s → ended how s ≡ go_on (flushed_rest how s.pending s).texts (flushed_rest how s.pending s).outcome (λ t. hand_walk (how.definitions t.document) done)
 unfolding ended
-ended_closed how s os e h = ended-at_closed how s.open_tags s (rw e (reversed_closed os h))
+ended_closed how s os e h n = ended-at_closed how s.open_tags s (rw e (reversed_closed os h)) ∙ finished-plain how s.pending s refl n
 
-pub ended_after : (how : Rendering) (s t : Standing) (os : List TagEnd) → s.open_tags ≡ reverse os → (length os == 0) ≡ true → (flushed_rest how s.pending s).outcome ≡ Ok t → ended how s ≡ go_on (flushed_rest how s.pending s).texts (Ok t) (λ u. hand_walk (how.definitions u.document) done)
-ended_after how s t os e h k = ended_closed how s os e h ∙ ap (λ o. go_on (flushed_rest how s.pending s).texts o (λ u. hand_walk (how.definitions u.document) done)) k
+pub ended_after : (how : Rendering) (s t : Standing) (os : List TagEnd) → s.open_tags ≡ reverse os → (length os == 0) ≡ true → LeavesNone how s → (flushed_rest how s.pending s).outcome ≡ Ok t → ended how s ≡ go_on (flushed_rest how s.pending s).texts (Ok t) (λ u. hand_walk (how.definitions u.document) done)
+ended_after how s t os e h n k = ended_closed how s os e h n ∙ ap (λ o. go_on (flushed_rest how s.pending s).texts o (λ u. hand_walk (how.definitions u.document) done)) k
 
-pub ended_bytes : (how : Rendering) (s t : Standing) (os : List TagEnd) → s.open_tags ≡ reverse os → (length os == 0) ≡ true → (flushed_rest how s.pending s).outcome ≡ Ok t → sum_by length (ended how s).texts ≡ sum_by length (flushed_rest how s.pending s).texts + length (how.definitions t.document)
-ended_bytes how s t os e h k =
-    ap (λ (w : Walk Done). sum_by length w.texts) (ended_after how s t os e h k)
+pub ended_bytes : (how : Rendering) (s t : Standing) (os : List TagEnd) → s.open_tags ≡ reverse os → (length os == 0) ≡ true → LeavesNone how s → (flushed_rest how s.pending s).outcome ≡ Ok t → sum_by length (ended how s).texts ≡ sum_by length (flushed_rest how s.pending s).texts + length (how.definitions t.document)
+ended_bytes how s t os e h n k =
+    ap (λ (w : Walk Done). sum_by length w.texts) (ended_after how s t os e h n k)
     ∙ (sum_by-append length (flushed_rest how s.pending s).texts (handed_text (how.definitions t.document))
     ∙ ap (λ n. sum_by length (flushed_rest how s.pending s).texts + n) (sum_by-handed_text (how.definitions t.document)))
 

@@ -17,6 +17,7 @@ use Rattle.tocmark_spelling.specs.PlanOf.{setting_of}
 use Rattle.tocmark_render.specs.Definitions.{definitions_text}
 use Rattle.tocmark_render.specs.Document.{DocumentView}
 use Rattle.tocmark_render.specs.DocumentOf.{Refuses, document_view, document_flags}
+use Rattle.tocmark_render.specs.Ending.{holds_raw_block}
 use Rattle.tocmark_render.specs.Spelled.{chosen_if_spelled}
 use Rattle.tocmark_render.specs.Units.{waits}
 use Rattle.tocmark_render.specs.declared.document.Document.{Document}
@@ -69,6 +70,7 @@ rendering options reading = record {
   choice = λ kept unit next. keeping kept.flags (chosen_if_spelled (setting_of options kept.flags reading None) kept.document unit next);
   waits = waits;
   definitions = λ kept. definitions_text kept.document.references kept.document.feeds;
+  holds_raw = holds_raw_block;
 }
 
 -- a document with its flags

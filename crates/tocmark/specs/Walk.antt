@@ -7,6 +7,7 @@ use Rattle.tocmark_event.specs.declared.event.flags.ParserOptions.{ParserOptions
 use Rattle.tocmark_event.specs.declared.options.Error.{Error}
 use Rattle.tocmark_event.specs.declared.options.Error.TheVariants as error
 use Rattle.tocmark_render.specs.Document.{DocumentView, first_document}
+use Rattle.tocmark_render.specs.Ending.{unless_empty, last_texts}
 use Rattle.tocmark.specs.Ranges.{Pair, resolved}
 
 -- a document: the parser's flags, and what earlier units left
@@ -22,6 +23,8 @@ pub record Rendering : Type 0 where
   pub waits : List SourcedEvent → Bool
   -- the definitions that are left at the end
   pub definitions : Kept → List ℕ
+  -- whether a unit holds raw text, which nothing can follow
+  pub holds_raw : List SourcedEvent → Bool
 
 -- where a list of events stands
 pub record Standing : Type 0 where
@@ -59,8 +62,7 @@ refuse e = record { texts = []; outcome = Err e }
 
 -- an empty text isn't handed
 abbrev pub handed_text : List ℕ → List (List ℕ)
-handed_text [] = []
-handed_text (b ∷ bs) = (b ∷ bs) ∷ []
+handed_text text = unless_empty text
 
 -- one text
 abbrev pub hand_walk : {S : Type 0} → List ℕ → S → Walk S
@@ -144,12 +146,22 @@ abbrev pub flushed_rest : Rendering → List SourcedEvent → Standing → Walk 
 flushed_rest how [] s = stay s
 flushed_rest how (e ∷ es) s = flushed how None s
 
+-- the texts of the last unit and of the definitions that are left, or the refusal of that unit
+abbrev pub finished_of : Rendering → List SourcedEvent → Result (List ℕ × Kept) Error → Walk Done
+finished_of how unit (Ok x) = record { texts = last_texts (how.holds_raw unit) (how.definitions x.1) x.0; outcome = Ok done }
+finished_of how unit (Err e) = refuse e
+
+-- the last unit is what is pending, if anything is
+abbrev pub finished : Rendering → List SourcedEvent → Kept → Walk Done
+finished how [] kept = hand_walk (how.definitions kept) done
+finished how (e ∷ es) kept = finished_of how (e ∷ es) (how.choice kept (e ∷ es) None)
+
 -- an open container is refused
 abbrev pub ended_at : Rendering → List TagEnd → Standing → Walk Done
-ended_at how [] s = go_on (flushed_rest how s.pending s).texts (flushed_rest how s.pending s).outcome (λ t. hand_walk (how.definitions t.document) done)
+ended_at how [] s = finished how s.pending s.document
 ended_at how (o ∷ os) s = refuse error.UnexpectedEvent
 
--- the end of the events: what is pending is written, and then the definitions that are left
+-- the end of the events: what is pending is written, and the definitions that are left
 unfoldable pub ended : Rendering → Standing → Walk Done
 ended how s = ended_at how s.open_tags s
 

@@ -1,10 +1,9 @@
 -- What a whole list of trees is written as, each tree a unit of its own.
-use Rattle.std.specs.Prelude.{◌≡◌, ℕ, Bool, true, false, ◌||◌, ◌==◌, if◌then◌else◌, Option, Some, None, Ok, Err, List, [], ◌∷◌, ◌++◌, drop, take, bytes_eq, codes, map}
-use Rattle.std.specs.List.{prefix_len}
+use Rattle.std.specs.Prelude.{◌≡◌, ℕ, Bool, true, false, ◌||◌, if◌then◌else◌, Option, Some, None, Ok, Err, List, [], ◌∷◌, bytes_eq, map}
 use Rattle.tocmark_event.specs.Forest.{empty, leaf, node, flat}
 use Rattle.tocmark_event.specs.Options.{OptionsView}
 use Rattle.tocmark_event.specs.Reading.{ReadingView}
-use Rattle.tocmark_event.specs.View.{TagView, CodeBlock, HtmlBlock, LeafView, Text, EventView}
+use Rattle.tocmark_event.specs.View.{LeafView, Text, EventView}
 use Rattle.tocmark_event.specs.declared.options.Error.{Error}
 use Rattle.tocmark_event.specs.declared.event.flags.ParserOptions.{ParserOptions}
 use Rattle.tocmark_spelling.specs.Plan.{Setting}
@@ -13,6 +12,7 @@ use Rattle.tocmark_spelling.specs.Page.{front}
 use Rattle.tocmark_render.specs.Candidates.{some_tag}
 use Rattle.tocmark_render.specs.Choice.{Chosen, choice}
 use Rattle.tocmark_render.specs.Definitions.{definitions_text}
+use Rattle.tocmark_render.specs.Ending.{is_raw_block, last_texts}
 use Rattle.tocmark_render.specs.Document.{DocumentView, first_document}
 use Rattle.tocmark_render.specs.Placeholder.{needs_placeholder, reserved_label}
 
@@ -29,27 +29,9 @@ abbrev pub then_texts : List ℕ → Outcome → Outcome
 then_texts [] o = o
 then_texts (b ∷ text) o = record o { texts = (b ∷ text) ∷ o.texts }
 
-abbrev pub is_raw_block : TagView → Bool
-is_raw_block (CodeBlock kind) = true
-is_raw_block HtmlBlock = true
-is_raw_block t = false
-
-abbrev pub leading_feeds : List ℕ → ℕ
-leading_feeds text = prefix_len (λ b. b == 10) text
-
--- definitions in front of a last unit that holds raw text, which they couldn't follow
-abbrev pub with_definitions_in_front : List ℕ → List ℕ → List ℕ
-with_definitions_in_front defs text =
-    take (leading_feeds text) text ++ drop (leading_feeds defs) defs ++ codes "\n\n" ++ drop (leading_feeds text) text
-
-abbrev pub last_texts : Bool → List ℕ → List ℕ → Outcome
-last_texts raw [] text = then_texts text (wrote [])
-last_texts true (b ∷ defs) text = then_texts (with_definitions_in_front (b ∷ defs) text) (wrote [])
-last_texts false (b ∷ defs) text = then_texts text (then_texts (b ∷ defs) (wrote []))
-
 abbrev pub after_last : Trees → Chosen → Outcome
 after_last f (Err e) = record { texts = []; error = Some e }
-after_last f (Ok c) = last_texts (some_tag is_raw_block f) (definitions_text c.1.references c.1.feeds) c.0
+after_last f (Ok c) = wrote (last_texts (some_tag is_raw_block f) (definitions_text c.1.references c.1.feeds) c.0)
 
 abbrev pub label_for : Bool → DocumentView → Trees → Option (List ℕ)
 label_for true d f = Some (reserved_label d (flat f))

@@ -1,23 +1,27 @@
 -- What is chosen for a unit of which each event is spelled: its spelling from the source, if some text is known there and
 -- that reads back, else its preferred spelling.
-use Rattle.std.proofs.Common.{◌≡◌, Bool, true, false, ◌||◌, ◌&&◌, if◌then◌else◌, Option, Some, None, Err, List, [], ◌∷◌, ◌++◌, refl, sym, ap, ◌∙◌}
+use Rattle.std.proofs.Common.{◌≡◌, Bool, true, false, ◌||◌, ◌&&◌, if◌then◌else◌, Option, Some, None, Ok, Err, List, [], ◌∷◌, ◌++◌, refl, sym, ap, ◌∙◌, subst}
 use Rattle.std.specs.Prelude.{is_none, ◌↔◌}
 use Rattle.std.proofs.lemmas.Bool.{true≢false}
 use Rattle.tocmark_event.specs.Forest.{empty, leaf, node}
 use Rattle.tocmark_event.specs.Options.{OptionsView}
-use Rattle.tocmark_event.specs.View.{TagView, Paragraph, Heading, EventView, LeafView, Text, Code, InlineHtml, SoftBreak, HardBreak}
+use Rattle.tocmark_event.specs.View.{SourcedEvent, TagView, Paragraph, Heading, EventView, LeafView, Text, Code, InlineHtml, SoftBreak, HardBreak}
 use Rattle.tocmark_event.specs.declared.options.Error.TheVariants.{UnexpectedEvent, Unrepresentable}
 use Rattle.tocmark_spelling.specs.Body.{Trees, some_leaf}
 use Rattle.tocmark_spelling.specs.Page.{Page, Site}
+use Rattle.tocmark_spelling.specs.Rendered.{NeedsNone}
 use Rattle.tocmark_spelling.specs.Plan.{Setting, Manner}
 use Rattle.tocmark_spelling.specs.Spelling.{spelling, is_misplaced}
 use Rattle.tocmark_render.specs.Candidates.{candidates, has_source, is_delimiter_tag, is_math, is_delimiter_block, some_tag, preferred_manner, source_manners, delimiter_manners}
-use Rattle.tocmark_render.specs.Choice.{Chosen, choice, preferred, spelled, accepted, accepted_if, page_of, page_in, page_read_back, if_read_back, definitions_of, by_markers, unless_misplaced, searched, first_or, first_that_reads_back, without_spelling, has_standard_markers}
+use Rattle.tocmark_render.specs.Choice.{Chosen, choice, preferred, spelled, accepted, accepted_if, page_of, page_in, page_read_back, if_read_back, definitions_of, document_after, by_markers, unless_misplaced, searched, first_or, first_that_reads_back, without_spelling, has_standard_markers}
 use Rattle.tocmark_render.specs.Document.{DocumentView}
 use Rattle.tocmark_render.specs.Placeholder.{whole}
 use Rattle.tocmark_render.specs.ReadsBack.{reads_back}
 use Rattle.tocmark_spelling.specs.Spelled.{is_spelled_tag, is_spelled_leaf, is_spelled_forest}
+use Rattle.tocmark_render.specs.Spelled.{choice_if, choice_if_spelled, chosen_if_spelled}
+use Rattle.tocmark_render.specs.Units.{trees_of}
 use Rattle.tocmark_render.specs.Validates.{validates}
+use Rattle.tocmark_spelling.proofs.NoReferences.{plain-needs-none}
 use Rattle.tocmark_spelling.proofs.Refusals.{none-misplaced}
 
 -- a truth that says that there is nothing is the test of it
@@ -202,3 +206,57 @@ module _ (s : Setting) (d : DocumentView) (f : Trees) (next : Option EventView) 
   -- there is none
   pub choice-refused : site (source_manner s.options) ≡ None → choice s d f next ≡ Err UnexpectedEvent
   choice-refused e = choice-misplaced (misplaced-site (source_manner s.options) ∙ ap is_none e)
+
+-- a choice adds no reference to those of the document
+abbrev pub AddsNone : DocumentView → Chosen → Type 0
+AddsNone d (Ok x) = x.1.references ≡ d.references ++ []
+AddsNone d (Err e) = Unit {0}
+
+module _ (s : Setting) (d : DocumentView) (f : Trees) (next : Option EventView) where
+  page-adds-none : (p : Page) → p.references ≡ [] → AddsNone d (accepted s d p)
+  unfolding document_after
+  page-adds-none p e = ap (λ rs. d.references ++ rs) e
+
+  preferred-adds-none : (o : Option Site) → NeedsNone o (page_in d) → AddsNone d (accepted_if s d (page_of o))
+  preferred-adds-none None h = tt
+  preferred-adds-none (Some here) h = page-adds-none here.page h
+
+  read-adds-none : (b : Bool) (p : Page) → p.references ≡ [] → AddsNone d (preferred s d f next) → AddsNone d (found_or s d f next (if_read_back b p))
+  read-adds-none true p e h = page-adds-none p e
+  read-adds-none false p e h = h
+
+  found-adds-none : (o : Option Site) → NeedsNone o (page_in d) → AddsNone d (preferred s d f next) → AddsNone d (found_or s d f next (page_read_back s d f (page_of o)))
+  found-adds-none None e h = h
+  found-adds-none (Some here) e h = read-adds-none (reads_back s d f (definitions_of here.page) here.page.sheet.text) here.page e h
+
+  asked-adds-none : (b : Bool) → AddsNone d (preferred s d f next) → AddsNone d (found_or s d f next (found s d f next)) → AddsNone d (found_or s d f next (found_if s d f next b))
+  asked-adds-none true h k = k
+  asked-adds-none false h k = h
+
+  placed-adds-none : (b : Bool) → is_misplaced s [] f ≡ b → is_spelled_forest f ≡ true → AddsNone d (choice s d f next)
+  unfolding spelled
+  placed-adds-none true e h = subst (AddsNone d) (sym (choice-misplaced s d f next e)) tt
+  placed-adds-none false e h =
+      let preferred-none = preferred-adds-none (site s d f next (preferred_manner s.options)) (plain-needs-none s (preferred_manner s.options) f (whole next) (page_in d) h) in
+      let found-none = found-adds-none (site s d f next (source_manner s.options)) (plain-needs-none s (source_manner s.options) f (whole next) (page_in d) h) preferred-none in
+      subst (AddsNone d) (sym (choice-placed s d f next h e)) (asked-adds-none (is_asked s d f next) preferred-none found-none)
+
+  -- a unit of which each event is spelled leaves no definition
+  pub choice-adds-none : is_spelled_forest f ≡ true → AddsNone d (choice s d f next)
+  choice-adds-none h = placed-adds-none (is_misplaced s [] f) refl h
+
+  choice-if-adds-none : (b : Bool) → is_spelled_forest f ≡ b → AddsNone d (choice_if b s d f next)
+  choice-if-adds-none true e = choice-adds-none e
+  choice-if-adds-none false e = tt
+
+  pub forest-adds-none : AddsNone d (choice_if (is_spelled_forest f) s d f next)
+  forest-adds-none = choice-if-adds-none (is_spelled_forest f) refl
+
+-- so does what is chosen for a unit that is given as its events
+pub chosen-adds-none : (s : Setting) (d : DocumentView) (es : List SourcedEvent) (next : Option EventView) → AddsNone d (chosen_if_spelled s d es next)
+unfolding chosen_if_spelled
+chosen-adds-none s d es next = go (trees_of es)
+  where
+    go : (o : Option Trees) → AddsNone d (choice_if_spelled s d o next)
+    go None = tt
+    go (Some f) = forest-adds-none s d f next

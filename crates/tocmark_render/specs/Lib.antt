@@ -1,4 +1,5 @@
 pub mod Definitions
+pub mod Ending
 pub mod Document
 pub mod Validates
 pub mod LabelsOf
