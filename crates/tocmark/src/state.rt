@@ -537,10 +537,11 @@ impl<R: Reader + Drop> State<R> {
         }
     }
 
-    /// Takes events with their byte ranges in a source, as `process` does. A text whose spelling in the
-    /// source reads back as that text is written as it stands there, with a backslash just before it
-    /// that no earlier range holds. All calls on a state are to name the same source, which needn't
-    /// outlive a call.
+    /// Takes events with their byte ranges in a source, as `process` does. A unit in which some text has
+    /// a range is written with such texts as they stand in the source, each with a backslash just before
+    /// it that no earlier range holds, if the reader finds the unit in that and the options have markers
+    /// that Markdown reads. All calls on a state are to name the same source, which needn't outlive a
+    /// call.
     ///
     /// An `Err` is as in `process`, or `InvalidSourceRange`, before anything else is looked at: a range
     /// is reversed, ends past the source or isn't on character boundaries.
