@@ -2,6 +2,7 @@
 
 ghost use Rattle.std.specs.Prelude.{[], ◌∷◌, codes};
 ghost use Rattle.tocmark_event.specs.View.{Start, End, Leaf, Paragraph, Text};
+ghost use Rattle.tocmark_event.specs.declared.event.TagEnd.TheVariants as end;
 
 use crate::document::Document;
 use crate::labels::Labels;
@@ -95,7 +96,7 @@ fn units_in_turn(rt: HostRuntime) -> Result<(), Fail> {
 struct OneLetter;
 
 impl Reader for OneLetter {
-    ghost reading = { λ _ _ _. record { events = (Start Paragraph, (0, 1)) ∷ (Leaf (Text (codes "a")), (0, 1)) ∷ (End TagEnd.Paragraph, (0, 1)) ∷ []; defined = []; unresolved = [] } };
+    ghost reading = { λ _ _ _. record { events = (Start Paragraph, (0, 1)) ∷ (Leaf (Text (codes "a")), (0, 1)) ∷ (End end.Paragraph, (0, 1)) ∷ []; defined = []; unresolved = [] } };
 
     fn read(
         &self,
