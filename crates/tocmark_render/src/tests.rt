@@ -7,12 +7,15 @@ ghost use Rattle.tocmark_event.specs.declared.event.TagEnd.TheVariants as end;
 use crate::document::Document;
 use crate::labels::Labels;
 use crate::placeholder::needs_list_placeholder;
+use crate::read_back::reads_back;
 use std::alloc::{AllocError, Global};
 use std::process::Abort;
 use std::test::Fail;
 use tocmark_event::event::{CowStr, Event, EventOf, OwnedEvent, ParserOptions, TagEnd, TagOf};
 use tocmark_event::options::{Error, Options};
 use tocmark_event::reader::{Reader, Reading};
+use tocmark_spelling::block::UnitRenderer;
+use tocmark_spelling::frame::Reference;
 use tocmark_spelling::spelling::BufferedEvent;
 
 /// A reader that takes each text for a label that nothing defines.
@@ -138,6 +141,52 @@ fn texts_known_in_the_source(rt: HostRuntime) -> Result<(), Fail> {
     };
     let unchecked = from_source(alloc, "a", &others)?;
     assert_eq!(rt; unchecked.as_str(), "a");
+    Ok(())
+}
+
+#[test]
+fn texts_at_the_top_known_in_the_source(rt: HostRuntime) -> Result<(), Fail> {
+    let alloc = rt.alloc();
+    let source = Some(String::from_str(alloc, "&#97;")?);
+    let event = EventOf::Text(String::from_str(alloc, "a")?);
+    let unit = [BufferedEvent { event, source }];
+    let next: Option<&Event<'_>> = None;
+    let mut document = Document::new(alloc, ParserOptions(0));
+    let text = document.block(alloc, &OneLetter, &unit, next, &Options::default())?;
+    assert_eq!(rt; text.as_str(), "&#97;");
+    Ok(())
+}
+
+#[test]
+fn labels_that_a_text_leaves_open(rt: HostRuntime) -> Result<(), Fail> {
+    let alloc = rt.alloc();
+    let (flags, none) = (ParserOptions(0), Vec::new(alloc));
+    let mut known = Labels::new(alloc);
+    assert!(rt; !reads_back(alloc, &OneLetter, flags, &known, &none, "A")?);
+    let unread = OneLabel.read(alloc, "A", flags)?;
+    assert!(rt; !known.contains_any(alloc, &unread.unresolved)?);
+    assert!(rt; reads_back(alloc, &OneLabel, flags, &known, &none, "A")?);
+    known.add(alloc, "a")?;
+    assert!(rt; known.contains(alloc, "A")?);
+    assert!(rt; known.contains_any(alloc, &unread.unresolved)?);
+    assert!(rt; !reads_back(alloc, &OneLabel, flags, &known, &none, "A")?);
+    Ok(())
+}
+
+#[test]
+fn copies_of_a_renderer(rt: HostRuntime) -> Result<(), Fail> {
+    let alloc = rt.alloc();
+    let mut renderer = UnitRenderer::new(alloc);
+    renderer.trail.quote_line = Some(String::from_str(alloc, "> ")?);
+    renderer.references.push(Reference {
+        label: String::from_str(alloc, "a")?,
+        destination: String::from_str(alloc, "/u")?,
+        title: String::new(alloc),
+    })?;
+    let copy = renderer.copied(alloc)?;
+    assert_eq!(rt; copy.references.len(), 1);
+    assert_eq!(rt; copy.references[0].destination.as_str(), "/u");
+    assert!(rt; copy.trail.quote_line.is_some());
     Ok(())
 }
 
