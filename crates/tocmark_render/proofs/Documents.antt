@@ -23,10 +23,10 @@ use Rattle.tocmark_spelling.specs.WriterOf.{IsRefusal}
 use Rattle.tocmark_spelling.specs.declared.block.UnitRenderer.{UnitRenderer}
 use Rattle.tocmark_spelling.proofs.NoReferences.{plain-needs-none}
 use Rattle.tocmark_render.specs.Candidates.{has_source, is_sourced, preferred_manner}
-use Rattle.tocmark_render.specs.Choice.{Chosen, choice, preferred, spelled as spelled_page, accepted, accepted_if, definitions_of, page_of, page_in, document_after, literal_if, literal_after, has_standard_markers}
+use Rattle.tocmark_render.specs.Choice.{Chosen, choice, preferred, spelled as spelled_page, accepted, accepted_if, definitions_of, page_of, page_in, document_after, literal_after, has_standard_markers}
 use Rattle.tocmark_render.specs.Definitions.{definitions_text}
-use Rattle.tocmark_render.specs.Document.{DocumentView, is_among, with_labels}
-use Rattle.tocmark_render.specs.DocumentOf.{Refuses, Spells, is_sourced_event, literal_in}
+use Rattle.tocmark_render.specs.Document.{DocumentView, is_among, literal_in}
+use Rattle.tocmark_render.specs.DocumentOf.{Refuses, Spells, is_sourced_event}
 use Rattle.tocmark_render.specs.Placeholder.{whole}
 use Rattle.tocmark_render.specs.ReadsBack.{flags_at, in_paragraph, is_label, is_read_back, is_taken, reads_back}
 use Rattle.tocmark_render.specs.Spelled.{choice_if, choice_if_spelled, chosen_if_spelled}
@@ -83,14 +83,6 @@ source-flat es f e = sym (or-false (has_source f)) ∙ sym (source-onto f []) �
 
 -- ---- labels
 
-literal-if : (b : Bool) (s : Setting) (d : DocumentView) (text : List ℕ) → (if b then with_labels d.literal (s.reading text s.flags).unresolved else d.literal) ≡ literal_if b s d text
-literal-if true s d text = refl
-literal-if false s d text = refl
-
--- the labels that stay open
-pub literal-same : (s : Setting) (d : DocumentView) (text : List ℕ) → literal_in s.reading s.flags d.literal text ≡ literal_after s d text
-literal-same s d text = literal-if (list_any (λ b. b == 91) text) s d text
-
 taken-known : (s : Setting) (d : DocumentView) (labels : List (List ℕ)) → s.label ≡ None → list_any (is_taken s d) labels ≡ list_any (is_among d.known) labels
 taken-known s d [] e = refl
 taken-known s d (l ∷ ls) e =
@@ -122,7 +114,7 @@ accepted-page s d text new p h n =
 
 -- what a document holds that kept what a unit leaves
 pub kept-after : (s : Setting) (d : DocumentView) (new : UnitRenderer) (t text : List ℕ) → t ≡ text → record { trail = trail_view new.trail; feeds = new.newlines; references = d.references ++ []; known = d.known; literal = literal_in s.reading s.flags d.literal t; flushed = true } ≡ after d new (literal_after s d text)
-kept-after s d new t text e = ap (after d new) (ap (literal_in s.reading s.flags d.literal) e ∙ literal-same s d text)
+kept-after s d new t text e = ap (after d new) (ap (literal_in s.reading s.flags d.literal) e)
 
 -- the preferred spelling after a search that found none
 pub then-preferred : (s now : Setting) (d kept new : DocumentView) (f : Trees) (next : Option EventView) (result : Result (String Global) Error) → now ≡ s → kept ≡ d → choice s d f next ≡ preferred s d f next → Spells new result (preferred now kept f next) → Spells new result (choice s d f next)

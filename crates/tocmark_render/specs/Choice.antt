@@ -10,7 +10,7 @@ use Rattle.tocmark_spelling.specs.Body.{Trees}
 use Rattle.tocmark_spelling.specs.Page.{Page, Site}
 use Rattle.tocmark_spelling.specs.Spelling.{spelling, is_misplaced}
 use Rattle.tocmark_render.specs.Definitions.{definitions_text}
-use Rattle.tocmark_render.specs.Document.{DocumentView, with_labels}
+use Rattle.tocmark_render.specs.Document.{DocumentView, literal_in, with_labels}
 use Rattle.tocmark_render.specs.Candidates.{candidates, preferred_manner, is_delimiter_block}
 use Rattle.tocmark_render.specs.ReadsBack.{reads_back}
 use Rattle.tocmark_render.specs.Placeholder.{whole}
@@ -54,14 +54,9 @@ abbrev pub known_after : Setting → DocumentView → List ℕ → List (List �
 known_after s d [] = d.known
 known_after s d (b ∷ defs) = with_labels d.known (s.reading (b ∷ defs) s.flags).defined
 
--- the labels that a reader looks up in vain in a text become literal, if it is read at all
-abbrev pub literal_if : Bool → Setting → DocumentView → List ℕ → List (List ℕ)
-literal_if true s d text = with_labels d.literal (s.reading text s.flags).unresolved
-literal_if false s d text = d.literal
-
--- the labels that stay open in a text with a bracket become literal
+-- the literal labels after a unit with this text
 abbrev pub literal_after : Setting → DocumentView → List ℕ → List (List ℕ)
-literal_after s d text = literal_if (list_any (λ b. b == 91) text) s d text
+literal_after s d text = literal_in s.reading s.flags d.literal text
 
 -- the document that a unit with this page leaves
 unfoldable pub document_after : Setting → DocumentView → Page → DocumentView

@@ -1,7 +1,9 @@
 -- The document so far, as plain values.
-use Rattle.std.specs.Prelude.{ℕ, Bool, false, if◌then◌else◌, List, [], ◌∷◌, ◌++◌, bytes_eq, chars, encode_utf8_all}
+use Rattle.std.specs.Prelude.{ℕ, ◌==◌, Bool, false, if◌then◌else◌, List, [], ◌∷◌, ◌++◌, bytes_eq, chars, encode_utf8_all}
 use Rattle.std.specs.List.{list_any}
 use Rattle.caseless.specs.Caseless.{default_case_fold}
+use Rattle.tocmark_event.specs.Reading.{ReadingView}
+use Rattle.tocmark_event.specs.declared.event.flags.ParserOptions.{ParserOptions}
 use Rattle.tocmark_spelling.specs.Page.{Trail, first_trail, Reference}
 
 -- the trail, how many line feeds end what was written, the references so far, the folded labels that are defined by
@@ -34,3 +36,7 @@ with_label labels l = if is_among labels l then labels else labels ++ folded l �
 abbrev pub with_labels : List (List ℕ) → List (List ℕ) → List (List ℕ)
 with_labels labels [] = labels
 with_labels labels (l ∷ ls) = with_labels (with_label labels l) ls
+
+-- the labels that a reader looks up in vain in a text with a bracket become literal
+abbrev pub literal_in : (List ℕ → ParserOptions → ReadingView) → ParserOptions → List (List ℕ) → List ℕ → List (List ℕ)
+literal_in reading flags literal text = if list_any (λ b. b == 91) text then with_labels literal (reading text flags).unresolved else literal

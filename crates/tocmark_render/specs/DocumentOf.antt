@@ -37,10 +37,6 @@ abbrev pub kept_view : Option (EventOf (String Global)) → Option EventView
 kept_view None = None
 kept_view (Some e) = Some (event_view string_bytes e)
 
--- the labels that stay open in a text with a bracket become literal
-abbrev pub literal_in : (List ℕ → ParserOptions → ReadingView) → ParserOptions → List (List ℕ) → List ℕ → List (List ℕ)
-literal_in reading flags literal text = if list_any (λ b. b == 91) text then with_labels literal (reading text flags).unresolved else literal
-
 -- an error is that of the definition, unless memory ran out
 abbrev pub Refuses : {Y : Type 0} → Error → Result Y Error → Type 0
 Refuses error.OutOfMemory answer = Unit {0}
