@@ -1,7 +1,12 @@
-"""Markdown that is meant to make a reader slow: each input is a name, a size and a text of that size."""
+"""Markdown that is meant to make a reader slow: each input is a name, a size and a text of that size. Beside it stand two
+large texts as people write them."""
+import glob
+import os
+import shutil
 
 SIZE = 100_000
 DEPTH = 10_000
+LARGE_SIZE = 3_000_000
 
 
 def repeated(word):
@@ -231,5 +236,33 @@ INLINES = [
     ("\u00e9*", SIZE, repeated("\u00e9*")),
     ("U+00A0", SIZE, repeated("\u00a0*")),
 ]
+
+
+
+def guides():
+    """The toolchain's guides one after the other, as whole files in the order of their names, from the first again behind
+    the last, up to 3 MB; nothing where the toolchain isn't there."""
+    command = shutil.which("rt")
+    kit = os.path.dirname(os.path.dirname(os.path.realpath(command))) if command else ""
+    files = sorted(glob.glob(f"{kit}/**/*.md", recursive=True)) if kit else []
+    texts = []
+    while files and sum(map(len, texts)) < LARGE_SIZE:
+        with open(files[len(texts) % len(files)], encoding="utf-8") as file:
+            texts.append(file.read())
+    return "".join(texts)
+
+
+def plain_paragraphs():
+    """3 MB of paragraphs of two lines in which nothing is marked."""
+    lines = [
+        "Words that mean no more than they say stand in this long line",
+        "and a second line of them ends what is one short paragraph",
+    ]
+    paragraph = "\n".join(lines) + "\n\n"
+    return paragraph * (LARGE_SIZE // len(paragraph))
+
+
+# large texts, as people write them: a name and what makes the text
+LARGE = [("guides", guides), ("plain paragraphs", plain_paragraphs)]
 
 GROUPS = {"named": NAMED, "blocks": BLOCKS, "inlines": INLINES}

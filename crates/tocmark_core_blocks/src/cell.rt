@@ -49,9 +49,10 @@ fn fill(cells: &mut Vec<Cell>, byte: u8, at: usize) -> Result<(), AllocError>
 pub fn cells(alloc: Global, text: &[u8], line: Line) -> Result<Vec<Cell>, AllocError>
     ensures { IfOk result (λ v. v.items ≡ cells_of [] line.start (piece text.now line.start line.end)) }
 {
-    let mut cells = Vec::new(alloc);
+    let bytes = piece(text, line.start, line.end);
+    let mut cells = Vec::with_capacity(alloc, bytes.len())?;
     let mut at = line.start;
-    for byte in piece(text, line.start, line.end) {
+    for byte in bytes {
         fill(&mut cells, *byte, at)?;
         at = plus(at, 1);
     }

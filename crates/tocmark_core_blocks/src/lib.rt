@@ -12,8 +12,6 @@ mod leaf;
 mod line;
 mod mark;
 mod page;
-#[cfg(test)]
-mod tests;
 
 pub use block::{Blocks, read_blocks};
 pub use definition::{LinkDefinition, Piece};

@@ -110,9 +110,12 @@ pub fn fence_at(cells: &[Cell], cursor: Cursor) -> Option<Fence>
     ensures { result ≡ fence_at cells.now cursor }
 {
     let byte = cell_byte(cells, cursor.ink);
+    if !is_fence_byte(byte) {
+        return None;
+    }
     let count = run_of(cells, cursor.ink, byte);
     let more = count_of(cells, plus(cursor.ink, count), b'`');
-    let fits = is_fence_byte(byte) && 3 <= count && !(byte == b'`' && 0 < more);
+    let fits = 3 <= count && !(byte == b'`' && 0 < more);
     if fits {
         Some(Fence {
             byte,

@@ -1,1 +1,7 @@
 pub mod Search
+pub mod PlainInlines
+pub mod PlainPasses
+pub mod PlainNodes
+pub mod PlainParts
+pub mod PlainLeaf
+pub mod PlainNeighbours

@@ -1,5 +1,6 @@
 -- The first pass over a leaf's text: what each byte is (CommonMark 6, and the algorithm of its appendix).
 use Rattle.std.specs.Prelude.{ℕ, Bool, true, false, not, ◌-◌, ◌==◌, ◌&&◌, ◌||◌, min, nat_lt, nat_le, if◌then◌else◌, List, [], ◌∷◌, ◌++◌, length, take, drop, fold, codes, slice_get, slice_set, Option, Some, None}
+use Rattle.std.specs.List.{list_any}
 use Rattle.tocmark_core_scan.specs.Basic.{plus, byte_at, piece, starts_at}
 use Rattle.tocmark_core_scan.specs.Class.{run_end}
 use Rattle.tocmark_core_scan.specs.Repeat.{iterated}
@@ -65,6 +66,20 @@ pub record Known : Type 0 where
 -- what is known as lists
 abbrev pub ahead_view : Ahead → Known
 ahead_view a = record { ends = a.ends; ticks = a.ticks.items }
+
+-- the ends of raw HTML, where one can begin
+unfoldable pub ends_of : List ℕ → LastEnds
+ends_of bytes =
+    if list_any (λ b. b == 60) bytes then last_ends bytes
+    else record { comment = 0; instruction = 0; cdata = 0; declaration = 0 }
+
+-- the runs of backticks, where there are some
+unfoldable pub ticks_of : List ℕ → List ℕ
+ticks_of bytes = if list_any (λ b. b == 96) bytes then last_ticks bytes else []
+
+-- what is known of a text before it is read
+abbrev pub ahead_of : List ℕ → Known
+ahead_of bytes = record { ends = ends_of bytes; ticks = ticks_of bytes }
 
 -- a stretch by its two places
 abbrev pub stretch : ℕ → ℕ → Stretch
@@ -325,6 +340,11 @@ looked bytes ahead definitions b s =
     else (if b == 60 then angled bytes ahead.ends s
     else looked_mark bytes ahead.ticks b s)))
 
+-- a byte that can be more than one of a text
+unfoldable pub is_mark : ℕ → Bool
+is_mark b =
+    (b == 91) || (b == 33) || (b == 93) || (b == 60) || (b == 96) || (b == 42) || (b == 95) || (b == 92) || (b == 38) || (b == 10)
+
 -- the next place
 abbrev pub next_place : State → State
 next_place s = record s { place = plus s.place 1 }
@@ -332,7 +352,7 @@ next_place s = record s { place = plus s.place 1 }
 -- one byte further
 unfoldable pub scan_step : List ℕ → Known → (List ℕ → Option Entry) → State → ℕ → State
 scan_step bytes ahead definitions s b =
-    next_place (if nat_le s.resume s.place then looked bytes ahead definitions b s else s)
+    next_place (if is_mark b && nat_le s.resume s.place then looked bytes ahead definitions b s else s)
 
 -- all bytes are read
 abbrev pub ran : List ℕ → Known → (List ℕ → Option Entry) → State → State
@@ -340,4 +360,4 @@ ran bytes ahead definitions s = fold (scan_step bytes ahead definitions) s bytes
 
 -- all bytes of a text
 unfoldable pub scanned : List ℕ → (List ℕ → Option Entry) → State → State
-scanned bytes definitions s = settled 0 (ran bytes (record { ends = last_ends bytes; ticks = last_ticks bytes }) definitions s)
+scanned bytes definitions s = settled 0 (ran bytes (ahead_of bytes) definitions s)

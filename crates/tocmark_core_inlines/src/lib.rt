@@ -8,7 +8,5 @@ pub mod link;
 pub mod role;
 pub mod run;
 pub mod scan;
-#[cfg(test)]
-mod tests;
 pub mod tick;
 pub mod write;

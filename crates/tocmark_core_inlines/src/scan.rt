@@ -3,7 +3,7 @@
 ghost use Rattle.std.specs.Prelude.{◌≡◌, IfOk, OnOk, length, drop};
 ghost use Rattle.tocmark_core_scan.specs.Repeat.{iterated};
 ghost use Rattle.tocmark_core_inlines.specs.Definitions.{entry_of};
-ghost use Rattle.tocmark_core_inlines.specs.Scan.{before_space, scan, ahead_view, stretch, kept, kept_code, kept_resolved, targeted, put_leaf, escaped, referred, code_put, coded, run_taken, marked, opened, imaged, addressed, html_put, tagged, mailed, angled, line_ended, spanned, settled, linked, closed_inline, missing, looked_up, closed_by_label, closed_active, popped, closed, looked_mark, looked, scan_step, ran, scanned};
+ghost use Rattle.tocmark_core_inlines.specs.Scan.{before_space, scan, ahead_view, ends_of, ticks_of, stretch, kept, kept_code, kept_resolved, targeted, put_leaf, escaped, referred, code_put, coded, run_taken, marked, opened, imaged, addressed, html_put, tagged, mailed, angled, line_ended, spanned, settled, linked, closed_inline, missing, looked_up, closed_by_label, closed_active, popped, closed, looked_mark, looked, is_mark, scan_step, ran, scanned};
 
 use crate::definitions::Definitions;
 use crate::emphasis::emphasize;
@@ -78,6 +78,46 @@ fn runs_from(runs: &[Run], count: usize) -> &[Run]
     } else {
         &[]
     }
+}
+
+/// What to know of a text before raw HTML is looked for in it: nothing is where no `<` stands.
+#[tactic(auto, unfolding(crate::specs::Scan::ends_of))]
+fn ends_of(bytes: &[u8]) -> LastEnds
+    ensures { result ≡ ends_of bytes.now }
+{
+    if bytes.contains(&b'<') {
+        last_ends(bytes)
+    } else {
+        LastEnds {
+            comment: 0,
+            instruction: 0,
+            cdata: 0,
+            declaration: 0,
+        }
+    }
+}
+
+/// For each number of backticks where the last run of so many begins: no entry where no backtick
+/// stands. An `Err` says that memory ran out.
+#[tactic(auto, unfolding(crate::specs::Scan::ticks_of))]
+fn ticks_of(alloc: Global, bytes: &[u8]) -> Result<Vec<usize>, AllocError>
+    ensures { IfOk result (λ v. v.items ≡ ticks_of bytes.now) }
+{
+    if bytes.contains(&b'`') {
+        last_ticks(alloc, bytes)
+    } else {
+        Ok(Vec::new(alloc))
+    }
+}
+
+/// Whether a byte can be more than one of a text.
+#[tactic(auto, unfolding(crate::specs::Scan::is_mark))]
+fn is_mark(byte: u8) -> bool
+    ensures { result ≡ is_mark byte }
+{
+    let bracket = byte == b'[' || byte == b'!' || byte == b']' || byte == b'<';
+    let delimiter = byte == b'`' || byte == b'*' || byte == b'_';
+    bracket || delimiter || byte == b'\\' || byte == b'&' || byte == b'\n'
 }
 
 fn empty() -> Stretch
@@ -587,7 +627,7 @@ impl Scanner {
     ) -> Result<(), AllocError>
         ensures { OnOk result (scan self.new ≡ scan_step bytes.now (ahead_view ahead.now) (entry_of definitions.now) (scan self.old) byte) }
     {
-        if self.resume <= self.place {
+        if is_mark(byte) && self.resume <= self.place {
             self.look(alloc, bytes, ahead, definitions, byte)?;
         }
         self.place = plus(self.place, 1);
@@ -621,8 +661,8 @@ impl Scanner {
         ensures { OnOk result (scan self.new ≡ scanned bytes.now (entry_of definitions.now) (scan self.old)) }
     {
         let ahead = Ahead {
-            ends: last_ends(bytes),
-            ticks: last_ticks(alloc, bytes)?,
+            ends: ends_of(bytes),
+            ticks: ticks_of(alloc, bytes)?,
         };
         self.run(alloc, bytes, &ahead, definitions)?;
         self.settle(alloc, 0)

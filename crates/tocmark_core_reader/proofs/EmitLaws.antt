@@ -8,12 +8,10 @@ use Rattle.std.proofs.lemmas.Bool.{leb-true}
 use Rattle.std.proofs.lemmas.Bool.Decides.{nat_tests}
 use Rattle.std.specs.Str.{IsUtf8, IsCharBoundary}
 use Rattle.std.proofs.lemmas.Str.{IsCharBoundary-start}
-use Rattle.tocmark_event.specs.Text.{text_of}
+use Rattle.tocmark_event.specs.Text.{ParserEvent, text_of}
 use Rattle.tocmark_event.specs.View.{EventView, Start, End, Leaf, TagView, LeafView, event_view, end_of}
 use Rattle.tocmark_event.specs.Forest.{Forest, empty, leaf, node, flat_onto, flat, IsBalanced}
 use Rattle.tocmark_event.specs.declared.event.TagEnd.{TagEnd}
-use Rattle.tocmark_event.specs.declared.event.EventOf.{EventOf}
-use Rattle.tocmark_event.specs.declared.event.text.CowStr.{CowStr}
 use Rattle.tocmark_core_reader.specs.Emitted.{ItemView, Container, Source, Given, NodeView, shown, end_event, closings, step, put, closed, emitted, Writing}
 use Rattle.tocmark_core_reader.specs.Range.{is_cut, snapped, IsGoodRange, HasGoodRanges}
 use Rattle.tocmark_core_reader.specs.declared.emit.Open.{Open}
@@ -99,11 +97,11 @@ emitted_balanced text nodes =
     levels [] (emitted text nodes) (leads_closed 0 (fold (step text) start nodes) (leads_fold text nodes start refl))
 
 -- the events of a reading are those that it shows
-unplaced_shown : (es : List (EventOf CowStr × (ℕ × ℕ))) → unplaced (map shown es) ≡ map (λ e. event_view text_of e.0) es
+unplaced_shown : (es : List (ParserEvent × (ℕ × ℕ))) → unplaced (map shown es) ≡ map (λ e. event_view text_of e.0) es
 unplaced_shown [] = refl
 unplaced_shown (e ∷ es) = ap (λ x. event_view text_of e.0 ∷ x) (unplaced_shown es)
 
-pub shown_balanced : (es : List (EventOf CowStr × (ℕ × ℕ))) (text : List ℕ) (nodes : List NodeView) → map shown es ≡ emitted text nodes → IsBalanced (map (λ e. event_view text_of e.0) es)
+pub shown_balanced : (es : List (ParserEvent × (ℕ × ℕ))) (text : List ℕ) (nodes : List NodeView) → map shown es ≡ emitted text nodes → IsBalanced (map (λ e. event_view text_of e.0) es)
 shown_balanced es text nodes h =
     subst (λ (x : List EventView). IsBalanced x) (sym (ap unplaced h) ∙ unplaced_shown es) (emitted_balanced text nodes)
 
@@ -170,10 +168,10 @@ emitted_good text nodes utf8 =
     let start : Writing = record { events = []; stack = [] } in
     (fine_closed text 0 (fold (step text) start nodes) (fine_fold text utf8 nodes start (record { events = tt; stack = tt }))).events
 
-good_shown : (text : List ℕ) (es : List (EventOf CowStr × (ℕ × ℕ))) → HasGoodRanges text (map shown es) → HasGoodRanges text es
+good_shown : (text : List ℕ) (es : List (ParserEvent × (ℕ × ℕ))) → HasGoodRanges text (map shown es) → HasGoodRanges text es
 good_shown text [] h = tt
 good_shown text (e ∷ es) h = (h.0, good_shown text es (h.1))
 
-pub shown_good : (es : List (EventOf CowStr × (ℕ × ℕ))) (text : List ℕ) (nodes : List NodeView) → IsUtf8 text → map shown es ≡ emitted text nodes → HasGoodRanges text es
+pub shown_good : (es : List (ParserEvent × (ℕ × ℕ))) (text : List ℕ) (nodes : List NodeView) → IsUtf8 text → map shown es ≡ emitted text nodes → HasGoodRanges text es
 shown_good es text nodes utf8 h =
     good_shown text es (subst (λ (x : List Marked). HasGoodRanges text x) (sym h) (emitted_good text nodes utf8))

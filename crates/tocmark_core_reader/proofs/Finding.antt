@@ -1,5 +1,5 @@
 -- Look-ups in a map are those in the list that it was made of.
-use Rattle.std.proofs.Common.{◌≡◌, ℕ, List, Option, ap}
+use Rattle.std.proofs.Common.{◌≡◌, ℕ, List, ap}
 use Rattle.std.specs.HashMap.{get_by_text}
 use mathlib.Core.Path.{fun_ext}
 use Rattle.tocmark_core_scan.specs.Label.{first_place}

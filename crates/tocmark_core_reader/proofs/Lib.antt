@@ -1,2 +1,9 @@
 pub mod EmitLaws
 pub mod Finding
+pub mod PlainEvents
+pub mod PlainSources
+pub mod PlainLeaves
+pub mod PlainReading
+pub mod PlainTests
+pub mod PlainDecided
+pub mod PlainRanges

@@ -3,10 +3,8 @@ use Rattle.std.specs.Prelude.{ℕ, false, List, [], ◌∷◌, ◌++◌, map, re
 use Rattle.std.specs.List.{fold}
 use Rattle.tocmark_core_scan.specs.Basic.{piece}
 use Rattle.tocmark_core_reader.specs.Words.{cleaned}
-use Rattle.tocmark_event.specs.Text.{text_of}
+use Rattle.tocmark_event.specs.Text.{ParserEvent, text_of}
 use Rattle.tocmark_event.specs.View.{EventView, Start, End, Leaf, TagView, LeafView, Text, Code, Html, InlineHtml, SoftBreak, HardBreak, Rule, tag_view, event_view, end_of}
-use Rattle.tocmark_event.specs.declared.event.EventOf.{EventOf}
-use Rattle.tocmark_event.specs.declared.event.text.CowStr.{CowStr}
 use Rattle.tocmark_core_reader.specs.Range.{snapped}
 use Rattle.tocmark_core_reader.specs.declared.emit.Item.{Item}
 use Rattle.tocmark_core_reader.specs.declared.emit.Item.TheVariants as item
@@ -43,7 +41,7 @@ abbrev pub node_view : Node → NodeView
 node_view n = record { depth = n.depth; item = item_view n.item; start = n.start; end = n.end }
 
 -- an event with its range, as a reading shows it
-abbrev pub shown : EventOf CowStr × (ℕ × ℕ) → EventView × (ℕ × ℕ)
+abbrev pub shown : ParserEvent × (ℕ × ℕ) → EventView × (ℕ × ℕ)
 shown e = (event_view text_of e.0, e.1)
 
 -- the events so far, and the containers that are open, the outermost first

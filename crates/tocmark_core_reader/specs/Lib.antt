@@ -4,3 +4,4 @@ pub mod Words
 pub mod Inlines
 pub mod Pages
 pub mod Reading
+pub mod PlainTexts

@@ -1,7 +1,7 @@
 -- From blocks to nodes.
-use Rattle.std.specs.Prelude.{ℕ, ◌-◌, Bool, true, false, not, ◌&&◌, nat_lt, nat_le, if◌then◌else◌, List, [], ◌∷◌, ◌++◌, length, map, slice_get, slice_range, Option, Some, None}
+use Rattle.std.specs.Prelude.{ℕ, ◌-◌, Bool, true, false, not, ◌&&◌, nat_lt, nat_le, if◌then◌else◌, List, [], ◌∷◌, ◌++◌, length, map, slice_get, slice_range, Option, None}
 use Rattle.std.specs.List.{fold, flat_map}
-use Rattle.std.specs.Option.{option_map_or, option_and_then}
+use Rattle.std.specs.Option.{option_map_or}
 use Rattle.tocmark_event.specs.View as view
 use Rattle.tocmark_core_scan.specs.Basic.{plus, piece}
 use Rattle.tocmark_core_scan.specs.Content as content

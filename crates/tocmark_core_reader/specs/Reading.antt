@@ -1,5 +1,5 @@
 -- The reading of a text.
-use Rattle.std.specs.Prelude.{ℕ, List, [], Option, map, string_bytes}
+use Rattle.std.specs.Prelude.{ℕ, List, Option, map, string_bytes}
 use Rattle.std.specs.List.{fold}
 use Rattle.tocmark_event.specs.Reading.{ReadingView}
 use Rattle.tocmark_core_scan.specs.Label.{first_place}

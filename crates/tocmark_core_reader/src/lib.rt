@@ -3,10 +3,9 @@
 
 mod emit;
 mod inline;
+mod laws;
 mod page;
 mod reader;
-#[cfg(test)]
-mod tests;
 mod words;
 
 pub use reader::CoreReader;

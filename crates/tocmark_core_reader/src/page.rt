@@ -42,7 +42,7 @@ fn content_line(line: Piece) -> Line
 fn content_lines(alloc: Global, pieces: &[Piece]) -> Result<Vec<Line>, AllocError>
     ensures { IfOk result (λ v. v.items ≡ map content_line pieces.now) }
 {
-    let mut lines = Vec::new(alloc);
+    let mut lines = Vec::with_capacity(alloc, pieces.len())?;
     for line in pieces {
         lines.push(content_line(*line))?;
     }

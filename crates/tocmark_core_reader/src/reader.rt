@@ -89,10 +89,13 @@ fn find(alloc: Global, text: &[u8]) -> Result<Found, AllocError>
 }
 
 impl Reader for CoreReader {
+    ghost use Rattle.std.specs.Prelude.{IsTrue, List};
     ghost use Rattle.tocmark_event.specs.Forest.{IsBalanced};
     ghost use Rattle.tocmark_event.specs.Reading.{reading_view};
     ghost use Rattle.tocmark_event.specs.Text.{text_of};
     ghost use Rattle.tocmark_event.specs.View.{event_view};
+    ghost use Rattle.tocmark_core_scan.specs.PlainParts.{Part, meant, spelled};
+    ghost use Rattle.tocmark_core_reader.specs.PlainTexts.{IsReadAs, is_plain_text, lines_paragraph, text_parts};
     ghost use Rattle.tocmark_core_reader.specs.Range.{HasGoodRanges};
     ghost use Rattle.tocmark_core_reader.specs.Reading.{core_reading};
 
@@ -104,6 +107,8 @@ impl Reader for CoreReader {
         ensures reading { IfOk result (λ found. reading_view found ≡ core_reading text.now) }
         ensures balanced { IfOk result (λ found. IsBalanced (map (λ e. event_view text_of e.0) found.events.items)) }
         ensures ranges { IfOk result (λ found. HasGoodRanges text.now found.events.items) }
+        ensures plain { (l : List Part) (ms : List (List Part)) → IsTrue (is_plain_text l ms) → text.now ≡ spelled (text_parts l ms) →
+            IfOk result (λ found. IsReadAs (reading_view found) (lines_paragraph (meant l) (map meant ms))) }
     {
         let found = find(alloc, text.as_bytes())?;
         Ok(Reading {

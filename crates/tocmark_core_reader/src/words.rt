@@ -9,7 +9,7 @@ ghost use Rattle.tocmark_core_reader.specs.Words.{feed_if, cleaned, info_text, s
 
 use std::alloc::{AllocError, Global};
 use tocmark_core_inlines::role::Stretch;
-use tocmark_core_scan::basic::piece;
+use tocmark_core_scan::basic::{piece, plus};
 use tocmark_core_scan::reference::unescaped;
 
 #[tactic(auto, unfolding(tocmark_core_blocks::specs::Definitions::replaced))]
@@ -29,7 +29,7 @@ fn push_byte(out: &mut Vec<u8>, byte: u8) -> Result<(), AllocError>
 fn replaced_bytes(alloc: Global, bytes: &[u8]) -> Result<Vec<u8>, AllocError>
     ensures { IfOk result (λ v. v.items ≡ flat_map replaced bytes.now) }
 {
-    let mut out = Vec::new(alloc);
+    let mut out = Vec::with_capacity(alloc, plus(bytes.len(), 1))?;
     for byte in bytes {
         push_byte(&mut out, *byte)?;
     }

@@ -35,6 +35,10 @@ put_bytes start s (b ∷ bs) = put_bytes (plus start 1) (put_byte b start s) bs
 unfoldable pub put_line : List ℕ → State → Line → State
 put_line source s line = put 10 line.end line.next (put_bytes line.start s (piece source line.start line.end))
 
+-- the bytes of lines and a line feed for each
+abbrev pub room_of : List Line → ℕ
+room_of lines = fold (λ room (l : Line). plus room (plus (l.end - l.start) 1)) 0 lines
+
 -- the lines one after the other
 abbrev pub joined : List ℕ → List Line → State
 joined source lines = fold (put_line source) (record { bytes = []; places = [] }) lines

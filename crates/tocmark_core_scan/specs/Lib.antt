@@ -8,3 +8,4 @@ pub mod Reference
 pub mod Side
 pub mod Label
 pub mod Content
+pub mod PlainParts

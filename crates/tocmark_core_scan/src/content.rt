@@ -2,7 +2,7 @@
 
 ghost use Rattle.std.specs.Prelude.{◌≡◌, OnOk, IfOk, length};
 ghost use Rattle.tocmark_core_scan.specs.Repeat.{iterated};
-ghost use Rattle.tocmark_core_scan.specs.Content.{content_view, put, put_byte, put_bytes, put_line, before_white, joined, content_of};
+ghost use Rattle.tocmark_core_scan.specs.Content.{content_view, put, put_byte, put_bytes, put_line, before_white, room_of, joined, content_of};
 
 use crate::basic::{byte_at, minus, piece, plus};
 use crate::class::{Class, is_in};
@@ -96,13 +96,25 @@ fn ink_end(bytes: &[u8]) -> usize
     place
 }
 
+/// The number of bytes that lines have with a line feed each.
+fn room_of(lines: &[Line]) -> usize
+    ensures { result ≡ room_of lines.now }
+{
+    let mut room = 0usize;
+    for line in lines {
+        room = plus(room, plus(minus(line.end, line.start), 1));
+    }
+    room
+}
+
 /// The lines written one after the other.
 fn joined(alloc: Global, source: &[u8], lines: &[Line]) -> Result<Content, AllocError>
     ensures { IfOk result (λ c. content_view c ≡ joined source.now lines.now) }
 {
+    let room = room_of(lines);
     let mut content = Content {
-        bytes: Vec::new(alloc),
-        places: Vec::new(alloc),
+        bytes: Vec::with_capacity(alloc, room)?,
+        places: Vec::with_capacity(alloc, room)?,
     };
     for line in lines {
         content.put_line(source, *line)?;

@@ -10,6 +10,4 @@ pub mod html;
 pub mod label;
 pub mod reference;
 pub mod side;
-#[cfg(test)]
-mod tests;
 pub mod word;

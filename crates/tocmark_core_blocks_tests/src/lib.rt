@@ -1,0 +1,5 @@
+//! Tests of the blocks of texts.
+#![tactic(auto)]
+
+#[cfg(test)]
+mod tests;
