@@ -4,6 +4,7 @@ pub mod Ends
 pub mod Merged
 pub mod Forest
 pub mod Reading
+pub mod Flags
 pub mod ErrorText
 pub mod Options
 pub mod Validation

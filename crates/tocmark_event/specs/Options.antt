@@ -1,31 +1,16 @@
 -- The options.
-use Rattle.std.specs.Prelude.{◌≡◌, ℕ, List, Bool, false, codes}
-use Rattle.tocmark_event.specs.declared.options.Options.{Options}
+use Rattle.std.specs.Prelude.{◌≡◌, ℕ, List, false, codes, String, string_bytes}
+use Rattle.std.specs.Borrow.{Bor}
+use Rattle.std.specs.Global.{Global}
+use Rattle.tocmark_event.specs.declared.options.OptionsOf.{OptionsOf}
 
 -- the options as plain values: tokens are characters, the strong token its bytes
-pub record OptionsView : Type 0 where
-  pub newlines_after_headline : ℕ
-  pub newlines_after_paragraph : ℕ
-  pub newlines_after_codeblock : ℕ
-  pub newlines_after_htmlblock : ℕ
-  pub newlines_after_table : ℕ
-  pub newlines_after_rule : ℕ
-  pub newlines_after_list : ℕ
-  pub newlines_after_blockquote : ℕ
-  pub newlines_after_rest : ℕ
-  pub newlines_after_metadata : ℕ
-  pub code_block_token_count : ℕ
-  pub code_block_token : ℕ
-  pub list_token : ℕ
-  pub ordered_list_token : ℕ
-  pub increment_ordered_list_bullets : Bool
-  pub emphasis_token : ℕ
-  pub strong_token : List ℕ
-  pub use_html_for_super_sub_script : Bool
+abbrev pub OptionsView : Type 0
+OptionsView = OptionsOf (List ℕ)
 
--- options as plain values
-abbrev pub options_view : Options → OptionsView
-options_view o = record {
+-- the same options with another strong token
+abbrev pub with_token : {T U : Type 0} → U → OptionsOf T → OptionsOf U
+with_token token o = record {
   newlines_after_headline = o.newlines_after_headline;
   newlines_after_paragraph = o.newlines_after_paragraph;
   newlines_after_codeblock = o.newlines_after_codeblock;
@@ -42,9 +27,17 @@ options_view o = record {
   ordered_list_token = o.ordered_list_token;
   increment_ordered_list_bullets = o.increment_ordered_list_bullets;
   emphasis_token = o.emphasis_token;
-  strong_token = o.strong_token.now;
+  strong_token = token;
   use_html_for_super_sub_script = o.use_html_for_super_sub_script;
 }
+
+-- options as plain values
+abbrev pub options_view : OptionsOf (Bor (List ℕ)) → OptionsView
+options_view o = with_token o.strong_token.now o
+
+-- options that own their strong token, as plain values
+abbrev pub owned_options_view : OptionsOf (String Global) → OptionsView
+owned_options_view o = with_token (string_bytes o.strong_token) o
 
 -- what `Options::default` gives
 abbrev pub default_options : OptionsView
@@ -70,5 +63,5 @@ default_options = record {
 }
 
 -- two line feeds behind most blocks, fences of four backticks, and `*` wherever there is a choice
-abbrev pub IsDefault : Options → Type 0
+abbrev pub IsDefault : OptionsOf (Bor (List ℕ)) → Type 0
 IsDefault o = options_view o ≡ default_options

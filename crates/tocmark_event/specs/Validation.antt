@@ -3,6 +3,7 @@ use Rattle.std.specs.Prelude.{ℕ, ◌-◌, ◌^◌, Bool, true, false, not, ◌
 use Rattle.std.specs.Borrow.{Bor}
 use Rattle.std.specs.Cmp.Lexicographic.{pointwise}
 use Rattle.std.specs.Fmt.{digits}
+use Rattle.tocmark_event.specs.Flags.{script_flags, supported_flags, union_of, without}
 use Rattle.tocmark_event.specs.Options.{OptionsView}
 use Rattle.tocmark_event.specs.declared.event.flags.ParserOptions.{ParserOptions}
 use Rattle.tocmark_event.specs.declared.options.OptionsError.{OptionsError}
@@ -39,7 +40,7 @@ first_fault None later = later
 
 -- bits outside those that are supported
 abbrev pub unsupported : ParserOptions → ℕ
-unsupported flags = bit_and flags.0 (2 ^ 32 - 1 - 0x7DDE)
+unsupported flags = (without flags (union_of supported_flags)).0
 
 -- flags that are not supported
 unfoldable pub flags_fault : ParserOptions → Option OptionsFault
@@ -65,7 +66,7 @@ tokens_fault o = first_fault
 
 -- HTML scripts where superscripts or subscripts are read as symbols
 unfoldable pub scripts_fault : OptionsView → ParserOptions → Option OptionsFault
-scripts_fault o flags = fault_unless (not (o.use_html_for_super_sub_script && not (bit_and flags.0 0x6000 == 0))) Scripts
+scripts_fault o flags = fault_unless (not (o.use_html_for_super_sub_script && not (bit_and flags.0 (union_of script_flags) == 0))) Scripts
 
 -- a size has to be below the greatest number of bytes of an output string
 unfoldable pub size_fault : ℕ → List ℕ → Option OptionsFault

@@ -17,37 +17,54 @@ pub use text::{CowStr, OwnedWords, Words};
 /// The level of a heading, 1 to 6.
 #[derive(Clone, Copy, Debug, PartialEq, Eq)]
 pub enum HeadingLevel {
+    /// `#`
     H1,
+    /// `##`
     H2,
+    /// `###`
     H3,
+    /// `####`
     H4,
+    /// `#####`
     H5,
+    /// `######`
     H6,
 }
 
 /// The kind of a block quote, as `[!NOTE]` names it.
 #[derive(Clone, Copy, Debug, PartialEq, Eq)]
 pub enum BlockQuoteKind {
+    /// `[!NOTE]`
     Note,
+    /// `[!TIP]`
     Tip,
+    /// `[!IMPORTANT]`
     Important,
+    /// `[!WARNING]`
     Warning,
+    /// `[!CAUTION]`
     Caution,
 }
 
 /// The alignment of a table's column.
 #[derive(Clone, Copy, Debug, PartialEq, Eq)]
 pub enum Alignment {
+    /// `---`
     None,
+    /// `:--`
     Left,
+    /// `:-:`
     Center,
+    /// `--:`
     Right,
 }
 
 /// The delimiters of a metadata block: `---` or `+++`.
 #[derive(Clone, Copy, Debug, PartialEq, Eq)]
 pub enum MetadataBlockKind {
+    /// Between lines of `---`.
     YamlStyle,
+    /// Between lines of `+++`.
     PlusesStyle,
 }
 
@@ -73,7 +90,10 @@ pub enum LinkType {
     /// `<me@example.org>`
     Email,
     /// `[[page]]`, or with a pothole `[[page|text]]`
-    WikiLink { has_pothole: bool },
+    WikiLink {
+        /// Whether a text stands behind a bar.
+        has_pothole: bool,
+    },
 }
 
 /// The kind of a code block, with texts of type `T`.
@@ -88,97 +108,158 @@ pub enum CodeBlockKindOf<T> {
 /// A container's start, with texts of type `T`.
 #[derive(Clone, Debug, Drop, PartialEq, Eq)]
 pub enum TagOf<T> {
+    /// A paragraph of inline events.
     Paragraph,
+    /// A heading of inline events.
     Heading {
+        /// How many `#` stand before it.
         level: HeadingLevel,
+        /// Its `{#id}`, if it has one.
         id: Option<T>,
+        /// Its `{.class}`es.
         classes: Vec<T>,
         /// Each with its value, if it has one.
         attrs: Vec<(T, Option<T>)>,
     },
+    /// A block quote, of a kind if it begins with a line like `[!NOTE]`.
     BlockQuote(Option<BlockQuoteKind>),
+    /// A code block, whose code is its Texts.
     CodeBlock(CodeBlockKindOf<T>),
+    /// An HTML block, whose lines are Html events.
     HtmlBlock,
     /// A list with its first number, or none for bullets.
     List(Option<u64>),
+    /// An item of a list.
     Item,
     /// A footnote's definition with its label.
     FootnoteDefinition(T),
+    /// A list of titles with their definitions.
     DefinitionList,
+    /// A title in a definition list.
     DefinitionListTitle,
+    /// A definition in a definition list.
     DefinitionListDefinition,
     /// A table with the alignments of its columns.
     Table(Vec<Alignment>),
+    /// The first row of a table, with its headers.
     TableHead,
+    /// A further row of a table.
     TableRow,
+    /// A cell of a row.
     TableCell,
+    /// `*text*`
     Emphasis,
+    /// `**text**`
     Strong,
+    /// `~~text~~`
     Strikethrough,
+    /// `^text^`
     Superscript,
+    /// `~text~`
     Subscript,
+    /// A link, whose text is its events.
     Link {
+        /// How it was written.
         link_type: LinkType,
+        /// Where it leads.
         dest_url: T,
+        /// Its title; empty where there is none.
         title: T,
         /// The label, as it was written; empty where there is none.
         id: T,
     },
+    /// An image, whose description is its events.
     Image {
+        /// How it was written.
         link_type: LinkType,
+        /// Where it lies.
         dest_url: T,
+        /// Its title; empty where there is none.
         title: T,
         /// The label, as it was written; empty where there is none.
         id: T,
     },
+    /// A block of metadata at a document's beginning, whose lines are its Texts.
     MetadataBlock(MetadataBlockKind),
 }
 
-/// A container's end.
+/// A container's end: of the variant that its Start has.
 #[derive(Clone, Copy, Debug, PartialEq, Eq)]
 pub enum TagEnd {
+    /// The end of a paragraph.
     Paragraph,
+    /// The end of a heading of this level.
     Heading(HeadingLevel),
+    /// The end of a block quote of this kind.
     BlockQuote(Option<BlockQuoteKind>),
+    /// The end of a code block.
     CodeBlock,
+    /// The end of an HTML block.
     HtmlBlock,
-    /// True where the list is ordered.
+    /// The end of a list: true where it is ordered.
     List(bool),
+    /// The end of an item.
     Item,
+    /// The end of a footnote's definition.
     FootnoteDefinition,
+    /// The end of a definition list.
     DefinitionList,
+    /// The end of a definition list's title.
     DefinitionListTitle,
+    /// The end of a definition list's definition.
     DefinitionListDefinition,
+    /// The end of a table.
     Table,
+    /// The end of a table's first row.
     TableHead,
+    /// The end of a further row.
     TableRow,
+    /// The end of a cell.
     TableCell,
+    /// The end of emphasis.
     Emphasis,
+    /// The end of strong emphasis.
     Strong,
+    /// The end of a strikethrough.
     Strikethrough,
+    /// The end of a superscript.
     Superscript,
+    /// The end of a subscript.
     Subscript,
+    /// The end of a link.
     Link,
+    /// The end of an image.
     Image,
+    /// The end of a block of metadata.
     MetadataBlock(MetadataBlockKind),
 }
 
 /// An event, with texts of type `T`.
 #[derive(Clone, Debug, Drop, PartialEq, Eq)]
 pub enum EventOf<T> {
+    /// A container begins.
     Start(TagOf<T>),
+    /// The innermost open container ends.
     End(TagEnd),
+    /// A text, as it is read and not as it is escaped.
     Text(T),
+    /// A code span.
     Code(T),
+    /// `$text$`
     InlineMath(T),
+    /// `$$text$$`
     DisplayMath(T),
     /// A line of an HTML block.
     Html(T),
+    /// HTML within a line.
     InlineHtml(T),
     /// A reference to a footnote, with its label.
     FootnoteReference(T),
+    /// An end of a line that is no break.
     SoftBreak,
+    /// An end of a line that is a break.
     HardBreak,
+    /// A thematic break.
     Rule,
     /// A task list's box; true where it is checked.
     TaskListMarker(bool),
@@ -192,8 +273,8 @@ pub type Tag<'a> = TagOf<CowStr<'a>>;
 
 /// An event of a parser.
 ///
-/// `Event::Text(CowStr::Borrowed("a"))` is a text, `Event::Start(Tag::Paragraph)` opens a paragraph
-/// and `Event::End(TagEnd::Paragraph)` ends it.
+/// `Event::Text("a".into())` is a text, `Event::Start(Tag::Paragraph)` opens a paragraph and
+/// `Event::End(TagEnd::Paragraph)` ends it.
 pub type Event<'a> = EventOf<CowStr<'a>>;
 
 /// A container's start that owns its texts as strings.

@@ -1,7 +1,7 @@
 //! Options, and the errors of what writes events.
 
 ghost use Rattle.std.specs.Prelude.{◌≡◌, true, map, IfOk, IsOk};
-ghost use Rattle.tocmark_event.specs.Options.{options_view};
+ghost use Rattle.tocmark_event.specs.Options.{options_view, with_token};
 ghost use Rattle.tocmark_event.specs.Text.{text_of};
 ghost use Rattle.tocmark_event.specs.Special.{has_default_tokens, special_characters};
 ghost use Rattle.tocmark_event.specs.Validation.{fault_in, fault_of, fault_unless, flags_fault, size_fault, lists_fault, emphasis_fault, tokens_fault, scripts_fault, named_size, sizes_fault, named_sizes, validation};
@@ -17,13 +17,32 @@ pub const DEFAULT_CODE_BLOCK_TOKEN_COUNT: usize = 3;
 
 /// The parser flags under which events can be written back: all known ones but smart punctuation, old
 /// footnotes and wikilinks.
-pub const SUPPORTED_PARSER_OPTIONS: ParserOptions = ParserOptions(0x7DDE);
+pub const SUPPORTED_PARSER_OPTIONS: ParserOptions = ParserOptions(
+    ParserOptions::ENABLE_TABLES.0
+        | ParserOptions::ENABLE_FOOTNOTES.0
+        | ParserOptions::ENABLE_STRIKETHROUGH.0
+        | ParserOptions::ENABLE_TASKLISTS.0
+        | ParserOptions::ENABLE_HEADING_ATTRIBUTES.0
+        | ParserOptions::ENABLE_YAML_STYLE_METADATA_BLOCKS.0
+        | ParserOptions::ENABLE_PLUSES_DELIMITED_METADATA_BLOCKS.0
+        | ParserOptions::ENABLE_MATH.0
+        | ParserOptions::ENABLE_GFM.0
+        | ParserOptions::ENABLE_DEFINITION_LIST.0
+        | ParserOptions::ENABLE_SUPERSCRIPT.0
+        | ParserOptions::ENABLE_SUBSCRIPT.0,
+);
 
-/// How events are written. Newlines and the count are numbers of characters.
+/// Superscripts and subscripts, written as symbols.
+const SCRIPTS: ParserOptions = ParserOptions(
+    ParserOptions::ENABLE_SUPERSCRIPT.0 | ParserOptions::ENABLE_SUBSCRIPT.0,
+);
+
+/// How events are written, with a strong token of type `T`. Newlines and the count are numbers of
+/// characters.
 ///
 /// Equality, order and hash are those of the fields, in the order in which they stand here.
 #[derive(Clone, Copy, Debug, PartialEq, Eq, PartialOrd, Ord, Hash)]
-pub struct Options<'a> {
+pub struct OptionsOf<T> {
     /// Line feeds after a heading.
     pub newlines_after_headline: usize,
     /// Line feeds after a paragraph.
@@ -57,10 +76,13 @@ pub struct Options<'a> {
     /// The marker of emphasis: `*` or `_`.
     pub emphasis_token: char,
     /// The marker of strong emphasis: `**` or `__`.
-    pub strong_token: &'a str,
+    pub strong_token: T,
     /// Whether superscripts and subscripts are written as HTML.
     pub use_html_for_super_sub_script: bool,
 }
+
+/// How events are written. `Options { list_token: '-', ..Options::default() }` changes one field.
+pub type Options<'a> = OptionsOf<&'a str>;
 
 impl<'a> Default for Options<'a> {
     ghost use Rattle.tocmark_event.specs.Options.{IsDefault};
@@ -87,6 +109,34 @@ impl<'a> Default for Options<'a> {
             emphasis_token: '*',
             strong_token: "**",
             use_html_for_super_sub_script: false,
+        }
+    }
+}
+
+impl<T> OptionsOf<T> {
+    /// The same options with another strong token.
+    pub fn with_token<U>(&self, strong_token: U) -> OptionsOf<U>
+        ensures { result ≡ with_token strong_token self.now }
+    {
+        OptionsOf {
+            newlines_after_headline: self.newlines_after_headline,
+            newlines_after_paragraph: self.newlines_after_paragraph,
+            newlines_after_codeblock: self.newlines_after_codeblock,
+            newlines_after_htmlblock: self.newlines_after_htmlblock,
+            newlines_after_table: self.newlines_after_table,
+            newlines_after_rule: self.newlines_after_rule,
+            newlines_after_list: self.newlines_after_list,
+            newlines_after_blockquote: self.newlines_after_blockquote,
+            newlines_after_rest: self.newlines_after_rest,
+            newlines_after_metadata: self.newlines_after_metadata,
+            code_block_token_count: self.code_block_token_count,
+            code_block_token: self.code_block_token,
+            list_token: self.list_token,
+            ordered_list_token: self.ordered_list_token,
+            increment_ordered_list_bullets: self.increment_ordered_list_bullets,
+            emphasis_token: self.emphasis_token,
+            strong_token,
+            use_html_for_super_sub_script: self.use_html_for_super_sub_script,
         }
     }
 }
@@ -222,7 +272,7 @@ impl<'a> Options<'a> {
     fn checked_scripts(&self, flags: ParserOptions) -> Result<(), OptionsError>
         ensures { fault_in result ≡ scripts_fault (options_view self.now) flags }
     {
-        let symbolic = flags.0 & 0x6000 != 0;
+        let symbolic = flags.0 & SCRIPTS.0 != 0;
         checked(
             !(self.use_html_for_super_sub_script && symbolic),
             OptionsError::HtmlSuperSubscript,

@@ -14,32 +14,9 @@ use std::io::{Read, Write};
 use std::process::ExitCode;
 use std::{env, io};
 use tocmark::core_reader::CoreReader;
-use tocmark::event::{Event, ParserOptions};
+use tocmark::event::ParserOptions;
 use tocmark::reader::Reader;
 use tocmark::{Error, cmark};
-
-/// The events of a reading, without their ranges.
-#[derive(Drop)]
-struct Events<'a>(std::slice::Iter<'a, (Event<'a>, (usize, usize))>);
-
-impl<'a> Iterator for Events<'a> {
-    type Item = &'a Event<'a>;
-
-    ghost use Rattle.std.specs.Slice.Iter.{iter_rest};
-    ghost use Rattle.std.specs.Iterator.{item_count, YieldsFirstBy};
-    ghost use Rattle.tocmark_program.specs.Events.{lent_pair, pairs_left};
-
-    ghost next_gives = { YieldsFirstBy lent_pair (λ s. pairs_left (iter_rest s.0)) };
-
-    ghost remaining = { item_count (λ s. pairs_left (iter_rest s.0)) };
-
-    fn next(&mut self) -> Option<&'a Event<'a>> {
-        match self.0.next() {
-            Some(pair) => Some(&pair.0),
-            None => None,
-        }
-    }
-}
 
 /// Whether the arguments are those of a call: none.
 fn are_right(words: &[String]) -> bool
@@ -52,16 +29,10 @@ fn are_right(words: &[String]) -> bool
 fn rewritten(alloc: Global, text: &str) -> Result<String, Error>
     ensures { IfOk result (λ output. IsRewritten text.now (string_bytes output)) }
 {
-    let flags = ParserOptions(0);
+    let flags = ParserOptions::empty();
     let reading = CoreReader.read(alloc, text, flags)?;
     let mut output = String::new(alloc);
-    let state = cmark(
-        alloc,
-        Events(reading.events.iter()),
-        &mut output,
-        CoreReader,
-        flags,
-    )?;
+    let state = cmark(alloc, reading.events(), &mut output, CoreReader, flags)?;
     drop(state);
     Ok(output)
 }
