@@ -13,7 +13,7 @@ use Rattle.tocmark_spelling.specs.Page.{Around, front}
 use Rattle.tocmark_spelling.specs.Runs.{inside, beyond, past, ahead_of}
 use Rattle.tocmark_spelling.specs.Buffered.{buffered_view}
 use Rattle.tocmark_spelling.specs.Scans.{span, AreEnds}
-use Rattle.tocmark_spelling.specs.declared.spelling.BufferedEvent.{BufferedEvent}
+use Rattle.tocmark_spelling.specs.declared.buffered.BufferedEvent.{BufferedEvent}
 use Rattle.tocmark_spelling.proofs.Turns.{events-drop, drop-event, drop-all}
 use Rattle.tocmark_render.specs.Placeholder.{is_inline_end_or_leaf, begins_with_empty_item, is_only_item, is_ambiguous_list, needs_placeholder_at, needs_placeholder, whole}
 use Rattle.tocmark_render.specs.Units.{placeholder_in, trees_of, waits}

@@ -13,7 +13,7 @@ use Rattle.tocmark_event.specs.declared.event.TagEnd.{TagEnd}
 use Rattle.tocmark_event.specs.declared.event.TagEnd.TheVariants as end
 use Rattle.tocmark_spelling.specs.Body.{Trees}
 use Rattle.tocmark_spelling.specs.Buffered.{buffered_view, event_of, sourced}
-use Rattle.tocmark_spelling.specs.declared.spelling.BufferedEvent.{BufferedEvent}
+use Rattle.tocmark_spelling.specs.declared.buffered.BufferedEvent.{BufferedEvent}
 use Rattle.tocmark_spelling.proofs.Turns.{drop-all, drop-event, length-events}
 use Rattle.tocmark_render.specs.Balanced.{left_open, open_after, if_fits}
 use Rattle.tocmark_render.specs.Units.{if_closed, trees_read, trees_of}

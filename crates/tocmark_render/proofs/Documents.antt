@@ -14,14 +14,14 @@ use Rattle.tocmark_spelling.specs.Body.{Trees}
 use Rattle.tocmark_spelling.specs.ById.{events_of}
 use Rattle.tocmark_spelling.specs.Page.{Page, Site}
 use Rattle.tocmark_spelling.specs.Plan.{Setting, Manner}
-use Rattle.tocmark_spelling.specs.Rendered.{Rendered, RenderedAt, NeedsNone}
+use Rattle.tocmark_renderer.specs.Rendered.{Rendered, RenderedAt, NeedsNone}
 use Rattle.tocmark_spelling.specs.SameEvents.{same_events}
-use Rattle.tocmark_spelling.specs.Spelled.{are_spelled, is_spelled_tag, is_spelled_leaf, is_spelled_forest}
+use Rattle.tocmark_renderer.specs.Spelled.{are_spelled, is_spelled_tag, is_spelled_leaf, is_spelled_forest}
 use Rattle.tocmark_spelling.specs.Spelling.{spelling}
 use Rattle.tocmark_spelling.specs.TrailOf.{trail_view}
-use Rattle.tocmark_spelling.specs.WriterOf.{IsRefusal}
-use Rattle.tocmark_spelling.specs.declared.block.UnitRenderer.{UnitRenderer}
-use Rattle.tocmark_spelling.proofs.NoReferences.{plain-needs-none}
+use Rattle.tocmark_renderer.specs.WriterOf.{IsRefusal}
+use Rattle.tocmark_renderer.specs.declared.block.UnitRenderer.{UnitRenderer}
+use Rattle.tocmark_renderer.proofs.NoReferences.{plain-needs-none}
 use Rattle.tocmark_render.specs.Candidates.{has_source, is_sourced, preferred_manner}
 use Rattle.tocmark_render.specs.Choice.{Chosen, choice, preferred, spelled as spelled_page, accepted, accepted_if, definitions_of, page_of, page_in, document_after, literal_after, has_standard_markers}
 use Rattle.tocmark_render.specs.Definitions.{definitions_text}

@@ -5,7 +5,7 @@ use Rattle.tocmark_event.specs.Forest.{empty, leaf, node, flat_onto, flat, joine
 use Rattle.tocmark_event.specs.View.{SourcedEvent, SourcedLeaf, TagView, EventView, end_of}
 use Rattle.tocmark_spelling.specs.Body.{Trees}
 use Rattle.tocmark_spelling.specs.Plan.{Setting}
-use Rattle.tocmark_spelling.specs.Spelled.{is_spelled_forest}
+use Rattle.tocmark_renderer.specs.Spelled.{is_spelled_forest}
 use Rattle.tocmark_render.specs.Document.{DocumentView}
 use Rattle.tocmark_render.specs.Spelled.{choice_if, choice_if_spelled, chosen_if_spelled}
 use Rattle.tocmark_render.specs.Units.{trees_of, trees_read}

@@ -4,11 +4,9 @@ use Rattle.std.specs.Prelude.{◌&&◌, not}
 use Rattle.std.specs.List.{list_any}
 use Rattle.tocmark_event.specs.Merged.{merged}
 use Rattle.tocmark_event.specs.Reading.{ReadingView, reading_view}
-use Rattle.tocmark_event.specs.Text.{text_of}
+use Rattle.tocmark_event.specs.Text.{ParserEvent, text_of}
 use Rattle.tocmark_event.specs.View.{EventView, SourcedEvent, event_view, unsourced}
-use Rattle.tocmark_event.specs.declared.event.EventOf.{EventOf}
 use Rattle.tocmark_event.specs.declared.event.flags.ParserOptions.{ParserOptions}
-use Rattle.tocmark_event.specs.declared.event.text.CowStr.{CowStr}
 use Rattle.tocmark_event.specs.declared.reader.Reading.{Reading}
 use Rattle.tocmark_spelling.specs.ById.{events_of}
 use Rattle.tocmark_spelling.specs.SameEvents.{same_events}
@@ -19,7 +17,7 @@ use Rattle.tocmark_render.specs.ReadsBack.{in_paragraph}
 abbrev pub finds : List (List ℕ) → List SourcedEvent → ReadingView → Bool
 finds known es r = same_events (merged (events_of r)) (in_paragraph (merged (map unsourced es))) && not (list_any (is_among known) r.unresolved)
 
-events-found : (xs : List (EventOf CowStr × (ℕ × ℕ))) → map (λ e. event_view text_of e.0) xs ≡ map (λ (e : EventView × (ℕ × ℕ)). e.0) (map (λ e. (event_view text_of e.0, e.1)) xs)
+events-found : (xs : List (ParserEvent × (ℕ × ℕ))) → map (λ e. event_view text_of e.0) xs ≡ map (λ (e : EventView × (ℕ × ℕ)). e.0) (map (λ e. (event_view text_of e.0, e.1)) xs)
 events-found [] = refl
 events-found (x ∷ xs) = ap (λ es. event_view text_of x.0 ∷ es) (events-found xs)
 

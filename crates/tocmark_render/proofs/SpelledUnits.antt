@@ -9,7 +9,7 @@ use Rattle.tocmark_event.specs.View.{SourcedEvent, TagView, Paragraph, Heading, 
 use Rattle.tocmark_event.specs.declared.options.Error.TheVariants.{UnexpectedEvent, Unrepresentable}
 use Rattle.tocmark_spelling.specs.Body.{Trees, some_leaf}
 use Rattle.tocmark_spelling.specs.Page.{Page, Site}
-use Rattle.tocmark_spelling.specs.Rendered.{NeedsNone}
+use Rattle.tocmark_renderer.specs.Rendered.{NeedsNone}
 use Rattle.tocmark_spelling.specs.Plan.{Setting, Manner}
 use Rattle.tocmark_spelling.specs.Spelling.{spelling, is_misplaced}
 use Rattle.tocmark_render.specs.Candidates.{candidates, has_source, is_delimiter_tag, is_math, is_delimiter_block, some_tag, preferred_manner, source_manners, delimiter_manners}
@@ -17,11 +17,11 @@ use Rattle.tocmark_render.specs.Choice.{Chosen, choice, preferred, spelled, acce
 use Rattle.tocmark_render.specs.Document.{DocumentView}
 use Rattle.tocmark_render.specs.Placeholder.{whole}
 use Rattle.tocmark_render.specs.ReadsBack.{reads_back}
-use Rattle.tocmark_spelling.specs.Spelled.{is_spelled_tag, is_spelled_leaf, is_spelled_forest}
+use Rattle.tocmark_renderer.specs.Spelled.{is_spelled_tag, is_spelled_leaf, is_spelled_forest}
 use Rattle.tocmark_render.specs.Spelled.{choice_if, choice_if_spelled, chosen_if_spelled}
 use Rattle.tocmark_render.specs.Units.{trees_of}
 use Rattle.tocmark_render.specs.Validates.{validates}
-use Rattle.tocmark_spelling.proofs.NoReferences.{plain-needs-none}
+use Rattle.tocmark_renderer.proofs.NoReferences.{plain-needs-none}
 use Rattle.tocmark_spelling.proofs.Refusals.{none-misplaced}
 
 -- a truth that says that there is nothing is the test of it

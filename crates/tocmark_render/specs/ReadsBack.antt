@@ -2,6 +2,7 @@
 use Rattle.std.specs.Prelude.{◌≡◌, ℕ, ◌-◌, Bool, true, false, not, ◌&&◌, ◌||◌, if◌then◌else◌, Option, Some, None, List, [], ◌∷◌, ◌++◌, bit_and, bytes_eq, codes}
 use Rattle.std.specs.List.{list_any}
 use Rattle.tocmark_event.specs.View.{Paragraph, Html, Rule, EventView, Start, End, Leaf}
+use Rattle.tocmark_event.specs.Flags.{metadata_flags, union_of, without}
 use Rattle.tocmark_event.specs.Merged.{merged}
 use Rattle.tocmark_event.specs.Reading.{ReadingView}
 use Rattle.tocmark_event.specs.declared.event.flags.ParserOptions.{ParserOptions}
@@ -15,7 +16,7 @@ use Rattle.tocmark_render.specs.Document.{DocumentView, folded, is_among}
 
 -- the flags under which a unit is read: metadata stands only at a document's beginning
 abbrev pub flags_at : Setting → DocumentView → ParserOptions
-flags_at s d = if d.flushed then record { 0 = bit_and s.flags.0 (4294967295 - 0x180) } else s.flags
+flags_at s d = if d.flushed then without s.flags (union_of metadata_flags) else s.flags
 
 -- what is read: the definitions and a blank line before the text
 abbrev pub whole_text : List ℕ → List ℕ → List ℕ

@@ -3,7 +3,7 @@ use Rattle.std.specs.Prelude.{Bool, true, false, Option, Some, None, Err, List}
 use Rattle.tocmark_event.specs.View.{EventView, SourcedEvent}
 use Rattle.tocmark_event.specs.declared.options.Error.TheVariants.{UnexpectedEvent}
 use Rattle.tocmark_spelling.specs.Body.{Trees}
-use Rattle.tocmark_spelling.specs.Spelled.{is_spelled_forest}
+use Rattle.tocmark_renderer.specs.Spelled.{is_spelled_forest}
 use Rattle.tocmark_spelling.specs.Plan.{Setting}
 use Rattle.tocmark_render.specs.Choice.{Chosen, choice}
 use Rattle.tocmark_render.specs.Document.{DocumentView}

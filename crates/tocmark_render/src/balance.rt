@@ -7,9 +7,9 @@ ghost use Rattle.tocmark_render.specs.Balanced.{if_fits, left_open, open_after};
 ghost use Rattle.tocmark_render.specs.Units.{trees_of};
 
 use std::alloc::{AllocError, Global};
+use tocmark_ahead::same_events::end_number;
 use tocmark_event::event::{EventOf, OwnedEvent, TagEnd};
-use tocmark_spelling::same_events::end_number;
-use tocmark_spelling::spelling::BufferedEvent;
+use tocmark_spelling::buffered::BufferedEvent;
 
 /// Takes off the innermost container that is open, and tells whether this is its end.
 fn ends_innermost(awaited: &mut Vec<TagEnd>, end: TagEnd) -> bool
@@ -51,86 +51,4 @@ pub fn are_balanced(alloc: Global, events: &[BufferedEvent]) -> Result<bool, All
         }
     }
     Ok(awaited.is_empty())
-}
-
-#[cfg(test)]
-mod tests {
-    use super::*;
-    use std::process::Abort;
-    use std::test::Fail;
-    use tocmark_event::event::{HeadingLevel, TagOf};
-
-    /// Whether these events, as a unit, are balanced.
-    fn balanced(alloc: Global, events: &[OwnedEvent]) -> Result<bool, AllocError> {
-        let mut unit: Vec<BufferedEvent> = Vec::new(alloc);
-        for event in events {
-            let event = event.copied(alloc)?;
-            unit.push(BufferedEvent {
-                event,
-                source: None,
-            })?;
-        }
-        are_balanced(alloc, &unit)
-    }
-
-    #[test]
-    fn balanced_units(rt: HostRuntime) -> Result<(), Fail> {
-        let unit = [
-            EventOf::Start(TagOf::BlockQuote(None)),
-            EventOf::Start(TagOf::Paragraph),
-            EventOf::SoftBreak,
-            EventOf::End(TagEnd::Paragraph),
-            EventOf::End(TagEnd::BlockQuote(None)),
-            EventOf::Rule,
-        ];
-        assert!(rt; balanced(rt.alloc(), &unit)?);
-        let none: [OwnedEvent; 0] = [];
-        assert!(rt; balanced(rt.alloc(), &none)?);
-        Ok(())
-    }
-
-    #[test]
-    fn ends_too_many(rt: HostRuntime) -> Result<(), Fail> {
-        let behind = [
-            EventOf::Start(TagOf::Paragraph),
-            EventOf::End(TagEnd::Paragraph),
-            EventOf::End(TagEnd::Paragraph),
-        ];
-        assert!(rt; !balanced(rt.alloc(), &behind)?);
-        let alone = [
-            EventOf::Rule,
-            EventOf::End(TagEnd::Heading(HeadingLevel::H2)),
-        ];
-        assert!(rt; !balanced(rt.alloc(), &alone)?);
-        Ok(())
-    }
-
-    #[test]
-    fn containers_left_open(rt: HostRuntime) -> Result<(), Fail> {
-        let unit = [
-            EventOf::Start(TagOf::BlockQuote(None)),
-            EventOf::Start(TagOf::Paragraph),
-            EventOf::SoftBreak,
-            EventOf::End(TagEnd::Paragraph),
-        ];
-        assert!(rt; !balanced(rt.alloc(), &unit)?);
-        Ok(())
-    }
-
-    #[test]
-    fn wrong_ends(rt: HostRuntime) -> Result<(), Fail> {
-        let other = [
-            EventOf::Start(TagOf::List(Some(3))),
-            EventOf::End(TagEnd::List(false)),
-        ];
-        assert!(rt; !balanced(rt.alloc(), &other)?);
-        let crossed = [
-            EventOf::Start(TagOf::Emphasis),
-            EventOf::Start(TagOf::Strong),
-            EventOf::End(TagEnd::Emphasis),
-            EventOf::End(TagEnd::Strong),
-        ];
-        assert!(rt; !balanced(rt.alloc(), &crossed)?);
-        Ok(())
-    }
 }

@@ -8,7 +8,7 @@ ghost use Rattle.tocmark_spelling.specs.Body.{Trees};
 ghost use Rattle.tocmark_spelling.specs.Buffered.{buffered_view, following_view, next_view};
 ghost use Rattle.tocmark_spelling.specs.Plan.{Setting};
 ghost use Rattle.tocmark_spelling.specs.PlanOf.{setting_of, manner_of};
-ghost use Rattle.tocmark_spelling.specs.Spelled.{are_spelled};
+ghost use Rattle.tocmark_renderer.specs.Spelled.{are_spelled};
 ghost use Rattle.tocmark_render.specs.Candidates.{preferred_manner};
 ghost use Rattle.tocmark_render.specs.Choice.{choice, has_standard_markers, preferred};
 ghost use Rattle.tocmark_render.specs.Definitions.{definitions_text};
@@ -25,16 +25,20 @@ use std::alloc::{AllocError, Global};
 use tocmark_event::event::{Event, EventOf, OwnedEvent, ParserOptions};
 use tocmark_event::options::{Error, Options};
 use tocmark_event::reader::Reader;
-use tocmark_spelling::block::UnitRenderer;
+use tocmark_renderer::block::UnitRenderer;
+use tocmark_renderer::job::{Job, Manner};
+use tocmark_renderer::spelled::are_spelled;
+use tocmark_spelling::buffered::BufferedEvent;
 use tocmark_spelling::plan::{Delimiters, Layout, TextSpelling};
-use tocmark_spelling::spelled::are_spelled;
-use tocmark_spelling::spelling::BufferedEvent;
 
 /// The flags of both kinds of metadata blocks, which stand only at a document's beginning.
-const METADATA_BLOCKS: u32 = 0x180;
+const METADATA_BLOCKS: ParserOptions = ParserOptions(
+    ParserOptions::ENABLE_YAML_STYLE_METADATA_BLOCKS.0
+        | ParserOptions::ENABLE_PLUSES_DELIMITED_METADATA_BLOCKS.0,
+);
 
 /// What earlier units leave to later ones.
-#[derive(Debug, Drop)]
+#[derive(Drop)]
 pub struct Document {
     flags: ParserOptions,
     renderer: UnitRenderer,
@@ -174,7 +178,7 @@ impl Document {
         ensures { (s : Setting) → s.flags ≡ document_flags self.now → result ≡ flags_at s (document_view self.now) }
     {
         if self.flushed {
-            ParserOptions(self.flags.0 & !METADATA_BLOCKS)
+            ParserOptions(self.flags.0 & !METADATA_BLOCKS.0)
         } else {
             self.flags
         }
@@ -208,16 +212,16 @@ impl Document {
             return Ok(None);
         }
         let mut renderer = self.renderer.copied(alloc)?;
-        let text = renderer.render_block(
+        let job = Job {
             alloc,
-            reader,
-            unit,
-            next,
             options,
-            self.flags,
-            true,
-            preferred_delimiters(options),
-        )?;
+            flags: self.flags,
+        };
+        let manner = Manner {
+            delimiters: preferred_delimiters(options),
+            source: true,
+        };
+        let text = renderer.render_block(job, reader, unit, next, manner)?;
         let flags = self.reading_flags();
         if !reads_back(alloc, reader, flags, &self.known, unit, text.as_str())? {
             return Ok(None);
@@ -239,16 +243,16 @@ impl Document {
         ensures chosen { (f : Trees) → are_spelled (map buffered_view unit.now) ≡ true → flat f ≡ map buffered_view unit.now → Spells (document_view self.new) result (preferred (setting_of (options_view options.now) (document_flags self.old) (R.reading reader.now) None) (document_view self.old) f (following_view next.entry)) }
         ensures flags { document_flags self.new ≡ document_flags self.old }
     {
-        let text = self.renderer.render_block(
+        let job = Job {
             alloc,
-            reader,
-            unit,
-            next,
             options,
-            self.flags,
-            false,
-            preferred_delimiters(options),
-        )?;
+            flags: self.flags,
+        };
+        let manner = Manner {
+            delimiters: preferred_delimiters(options),
+            source: false,
+        };
+        let text = self.renderer.render_block(job, reader, unit, next, manner)?;
         self.keep(alloc, reader, text.as_str())?;
         Ok(text)
     }

@@ -10,7 +10,7 @@ use indexmap::IndexSet;
 use std::alloc::{AllocError, Global};
 
 /// Labels as Markdown compares them, in full case folding: each once, in order of arrival.
-#[derive(Debug, Drop)]
+#[derive(Drop)]
 pub struct Labels {
     folded: IndexSet<String>,
 }

@@ -7,7 +7,7 @@ ghost use Rattle.tocmark_spelling.specs.Body.{Trees};
 ghost use Rattle.tocmark_spelling.specs.Page.{Around, Page};
 ghost use Rattle.tocmark_spelling.specs.Plan.{Setting, Manner};
 ghost use Rattle.tocmark_spelling.specs.Spelling.{spelling, is_misplaced};
-ghost use Rattle.tocmark_spelling.specs.Spelled.{is_spelled_forest};
+ghost use Rattle.tocmark_renderer.specs.Spelled.{is_spelled_forest};
 ghost use Rattle.tocmark_render.specs.Candidates.{has_source};
 ghost use Rattle.tocmark_render.specs.Choice.{choice, has_standard_markers, preferred};
 ghost use Rattle.tocmark_render.specs.Document.{DocumentView};

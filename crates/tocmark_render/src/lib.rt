@@ -7,5 +7,3 @@ pub mod labels;
 pub mod laws;
 pub mod placeholder;
 pub mod read_back;
-#[cfg(test)]
-mod tests;

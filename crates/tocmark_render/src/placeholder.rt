@@ -11,11 +11,11 @@ ghost use Rattle.tocmark_render.specs.Waiting.{is_end, begins_empty_item, begins
 
 use crate::balance::are_balanced;
 use std::alloc::{AllocError, Global};
+use tocmark_ahead::ends::matching_ends;
 use tocmark_event::event::{EventOf, TagOf};
-use tocmark_spelling::ends::matching_ends;
+use tocmark_renderer::turn::rest_of;
+use tocmark_spelling::buffered::BufferedEvent;
 use tocmark_spelling::kinds::is_inline_end;
-use tocmark_spelling::spelling::BufferedEvent;
-use tocmark_spelling::turn::rest_of;
 
 /// Whether inline content stands before what follows the event.
 fn is_inline_end_or_leaf(event: &BufferedEvent) -> bool

@@ -15,11 +15,11 @@ ghost use Rattle.tocmark_render.specs.ReadsBack.{in_paragraph, stands_alone};
 
 use crate::labels::Labels;
 use std::alloc::{AllocError, Global};
+use tocmark_ahead::same_events::same_events;
 use tocmark_event::event::{Event, EventOf, OwnedEvent, ParserOptions, TagEnd, TagOf, merge_all};
 use tocmark_event::reader::{Reader, Reading};
+use tocmark_spelling::buffered::BufferedEvent;
 use tocmark_spelling::kinds::{is_inline_end, is_inline_tag};
-use tocmark_spelling::same_events::same_events;
-use tocmark_spelling::spelling::BufferedEvent;
 
 /// Whether an event is of a block: the Start or End of one, a thematic break or a line of HTML.
 fn stands_alone(event: &OwnedEvent) -> bool

@@ -4,7 +4,7 @@ use Rattle.std.proofs.Math.ListN.{drop_of_length-le}
 use Rattle.std.proofs.lemmas.List.{at_drop_more, reverse-append, take_more, map-append}
 use Rattle.tocmark_event.specs.View.{SourcedEvent}
 use Rattle.tocmark_spelling.specs.Buffered.{buffered_view}
-use Rattle.tocmark_spelling.specs.declared.spelling.BufferedEvent.{BufferedEvent}
+use Rattle.tocmark_spelling.specs.declared.buffered.BufferedEvent.{BufferedEvent}
 
 pub length-events : (es : List BufferedEvent) → length (map buffered_view es) ≡ length es
 length-events [] = refl
@@ -29,3 +29,8 @@ before-event es i e h q =
     ∙ ap reverse (map-append buffered_view (take i es) (get_or es i e ∷ []))
     ∙ reverse-append (map buffered_view (take i es)) (buffered_view (get_or es i e) ∷ [])
     ∙ ap (λ x. buffered_view x ∷ reverse (map buffered_view (take i es))) (sym q)
+
+pub events-take : (es : List BufferedEvent) (n : ℕ) → map buffered_view (take n es) ≡ take n (map buffered_view es)
+events-take es zero = refl
+events-take [] (suc n) = refl
+events-take (e ∷ es) (suc n) = ap (λ x. buffered_view e ∷ x) (events-take es n)

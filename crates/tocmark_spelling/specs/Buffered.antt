@@ -3,11 +3,10 @@ use Rattle.std.specs.Prelude.{ℕ, List, Option, Some, None, string_bytes, Strin
 use Rattle.std.specs.Option.{option_map}
 use Rattle.std.specs.Borrow.{Bor}
 use Rattle.tocmark_event.specs.View.{EventView, Start, End, Leaf, SourcedEvent, event_view}
-use Rattle.tocmark_event.specs.Text.{text_of}
+use Rattle.tocmark_event.specs.Text.{ParserEvent, text_of}
 use Rattle.tocmark_event.specs.declared.event.EventOf.{EventOf}
-use Rattle.tocmark_event.specs.declared.event.text.CowStr.{CowStr}
 use Rattle.std.specs.Global.{Global}
-use Rattle.tocmark_spelling.specs.declared.spelling.BufferedEvent.{BufferedEvent}
+use Rattle.tocmark_spelling.specs.declared.buffered.BufferedEvent.{BufferedEvent}
 
 -- an event with its spelling in the source, which only a leaf has
 abbrev pub sourced : EventView → Option (List ℕ) → SourcedEvent
@@ -28,6 +27,6 @@ abbrev pub following_view : Option (Bor (EventOf (String Global))) → Option Ev
 following_view next = option_map (λ e. event_view string_bytes e.now) next
 
 -- the same of an event that a caller lends
-abbrev pub next_view : Option (Bor (EventOf CowStr)) → Option EventView
+abbrev pub next_view : Option (Bor ParserEvent) → Option EventView
 next_view None = None
 next_view (Some e) = Some (event_view text_of e.now)

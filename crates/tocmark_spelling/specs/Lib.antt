@@ -1,8 +1,3 @@
-pub mod Characters
-pub mod Escape
-pub mod Unescape
-pub mod Leaves
-pub mod Destination
 pub mod Words
 pub mod Plan
 pub mod Page
@@ -23,12 +18,6 @@ pub mod Stretch
 pub mod Spelling
 pub mod Machine
 pub mod TrailOf
-pub mod Spelled
 pub mod PlanOf
-pub mod WriterOf
 pub mod Scans
-pub mod Ahead
-pub mod Sides
-pub mod Turn
-pub mod Rendered
 pub mod Buffered

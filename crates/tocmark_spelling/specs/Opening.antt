@@ -12,8 +12,8 @@ use Rattle.tocmark_event.specs.declared.event.MetadataBlockKind.TheVariants as m
 use Rattle.tocmark_event.specs.declared.event.LinkType.{LinkType}
 use Rattle.tocmark_event.specs.declared.event.flags.ParserOptions.{ParserOptions}
 use Rattle.std.specs.Prelude.{bit_and}
-use Rattle.tocmark_spelling.specs.Characters.{hash, space, ampersand, backslash, backtick}
-use Rattle.tocmark_spelling.specs.Leaves.{longest_run}
+use Rattle.tocmark_escape.specs.Characters.{hash, space, ampersand, backslash, backtick}
+use Rattle.tocmark_escape.specs.Leaves.{longest_run}
 use Rattle.tocmark_spelling.specs.Words.{asterisk, hyphen, or_else, same_truth}
 use Rattle.tocmark_spelling.specs.Plan.{Layout, Uniform, Setting, Manner}
 use Rattle.tocmark_spelling.specs.Kinds.{is_heading, is_list, is_table, is_strikethrough, is_indented_code, starts, and_is}

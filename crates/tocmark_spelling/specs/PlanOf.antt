@@ -1,7 +1,7 @@
 -- What the fields of a request mean.
 use Rattle.std.specs.Prelude.{ℕ, List, Bool, Option, ◌&&◌, if◌then◌else◌}
 use Rattle.tocmark_event.specs.View.{EventView}
-use Rattle.tocmark_spelling.specs.Escape.{Place}
+use Rattle.tocmark_escape.specs.Escape.{Place}
 use Rattle.tocmark_spelling.specs.Kinds.{is_table, is_heading, is_emphasis_or_strong, starts, and_is}
 use Rattle.tocmark_spelling.specs.Page.{Held, Path, Page, Inline, with_last, written}
 use Rattle.tocmark_spelling.specs.Places.{is_in, is_raw}

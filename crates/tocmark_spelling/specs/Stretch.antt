@@ -1,8 +1,8 @@
 -- The leaves: each with its gap, and a stretch of texts as one.
 use Rattle.std.specs.Prelude.{ℕ, ◌+◌, Bool, true, false, ◌&&◌, ◌||◌, ◌==◌, if◌then◌else◌, nat_lt, Option, Some, None, is_none, List, [], ◌∷◌, ◌++◌, length, max, codes, chars}
 use Rattle.tocmark_event.specs.View.{LeafView, Text, Code, InlineMath, DisplayMath, Html, InlineHtml, FootnoteReference, SoftBreak, HardBreak, Rule, TaskListMarker, SourcedLeaf, EventView, Leaf}
-use Rattle.tocmark_spelling.specs.Escape.{Place, escaped}
-use Rattle.tocmark_spelling.specs.Leaves.{code_span, inline_math, display_math, task_marker, footnote_reference}
+use Rattle.tocmark_escape.specs.Escape.{Place, escaped}
+use Rattle.tocmark_escape.specs.Leaves.{code_span, inline_math, display_math, task_marker, footnote_reference}
 use Rattle.tocmark_spelling.specs.Plan.{TextSpelling, Literal, Entities, LiteralEntities, Setting, Manner}
 use Rattle.tocmark_spelling.specs.Kinds.{is_table, is_heading, is_emphasis_or_strong, starts, is_text, and_is}
 use Rattle.tocmark_spelling.specs.Page.{Last, Other, Inline, Content, Listed, Path, Page, Site, Held, Around, front, following, written, with_last, with_owed}

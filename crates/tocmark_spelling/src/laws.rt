@@ -1,9 +1,6 @@
 //! Laws of the definitions: functions that do nothing, whose contracts say what holds.
 
-ghost use Rattle.std.specs.Prelude.{◌≡◌, ℕ, ◌<◌, false, List, Some, length, chars, IsUtf8};
-ghost use Rattle.tocmark_spelling.specs.Unescape.{unescape, EscapesReadBack, EscapedTextsReadBack};
-ghost use Rattle.tocmark_spelling.specs.Destination.{destination_text, title_text};
-ghost use Rattle.tocmark_spelling.specs.Leaves.{code_span, unspan};
+ghost use Rattle.std.specs.Prelude.{◌≡◌, List};
 ghost use Rattle.tocmark_event.specs.View.{EventView, LeafView, SourcedLeaf};
 ghost use Rattle.tocmark_event.specs.Merged.{merged};
 ghost use Rattle.tocmark_event.specs.Forest.{Forest, flat};
@@ -17,28 +14,4 @@ pub fn merging_is_idempotent()
 pub fn forests_are_unique()
     ensures plain { (f g : Forest LeafView) → flat f ≡ flat g → f ≡ g }
     ensures sourced { (f g : Forest SourcedLeaf) → flat f ≡ flat g → f ≡ g }
-{}
-
-/// An escaped stretch is read as the stretch: with `*` or `_` for emphasis, wherever it stands, each text
-/// of characters other than NUL.
-pub fn escapes_read_back()
-    ensures characters { EscapesReadBack }
-    ensures texts { EscapedTextsReadBack }
-{}
-
-/// What stands in an escaped destination is read as the destination.
-pub fn destinations_read_back()
-    ensures characters { (text : List ℕ) → unescape (destination_text text) ≡ text }
-    ensures texts { (text : List ℕ) → IsUtf8 text → unescape (chars (destination_text text)) ≡ chars text }
-{}
-
-/// What stands between the quotes of an escaped title is read as the title.
-pub fn titles_read_back()
-    ensures characters { (text : List ℕ) → unescape (title_text text) ≡ text }
-    ensures texts { (text : List ℕ) → IsUtf8 text → unescape (chars (title_text text)) ≡ chars text }
-{}
-
-/// A code span outside a table is read as its text, if that isn't empty.
-pub fn code_spans_read_back()
-    ensures { (text : List ℕ) → 0 < length text → unspan (code_span false text) ≡ Some text }
 {}

@@ -1,6 +1,6 @@
 //! What a finished tree leaves to its right neighbour.
 
-ghost use Rattle.std.specs.Prelude.{◌≡◌, string_bytes, max, ◌&&◌, not, if◌then◌else◌};
+ghost use Rattle.std.specs.Prelude.{◌≡◌, string_bytes, IfOk, max, ◌&&◌, not, if◌then◌else◌};
 ghost use Rattle.tocmark_event.specs.View.{event_view};
 ghost use Rattle.tocmark_spelling.specs.Page.{first_trail, raised};
 ghost use Rattle.tocmark_spelling.specs.Kinds.{starts, is_list};
@@ -12,6 +12,7 @@ use crate::kinds::{
     begins_block, could_continue, starts_definition_list, starts_indented_code, starts_item,
     starts_list, starts_paragraph, starts_quote, starts_table, starts_title,
 };
+use std::alloc::{AllocError, Global};
 use tocmark_event::event::{OwnedEvent, TagEnd};
 
 /// What the last child of an item was.
@@ -244,5 +245,31 @@ impl Trail {
             self.owed = 1;
             self.open_html = false;
         }
+    }
+}
+
+/// An equal text, if there is one. An `Err` says that memory ran out.
+pub fn copied_text(alloc: Global, text: &Option<String>) -> Result<Option<String>, AllocError>
+    ensures { IfOk result (λ copy. option_map string_bytes copy ≡ option_map string_bytes text.now) }
+{
+    match text {
+        None => Ok(None),
+        Some(text) => Ok(Some(String::from_str(alloc, text.as_str())?)),
+    }
+}
+
+impl Trail {
+    /// An equal trail. An `Err` says that memory ran out.
+    pub fn copied(&self, alloc: Global) -> Result<Trail, AllocError>
+        ensures { IfOk result (λ copy. trail_view copy ≡ trail_view self.now) }
+    {
+        Ok(Trail {
+            owed: self.owed,
+            last: self.last,
+            last_list: self.last_list,
+            quote_line: copied_text(alloc, &self.quote_line)?,
+            raw_end: self.raw_end,
+            open_html: self.open_html,
+        })
     }
 }

@@ -6,9 +6,9 @@ use Rattle.tocmark_spelling.specs.Machine.{around}
 use Rattle.tocmark_spelling.specs.Page.{Page}
 use Rattle.tocmark_spelling.specs.Plan.{Manner}
 use Rattle.tocmark_spelling.specs.PlanOf.{setting_of}
-use Rattle.tocmark_spelling.specs.Rendered.{page_before, RenderedAt}
+use Rattle.tocmark_renderer.specs.Rendered.{page_before, RenderedAt}
 use Rattle.tocmark_spelling.specs.Spelling.{spelling}
-use Rattle.tocmark_spelling.specs.WriterOf.{IsRefusal}
+use Rattle.tocmark_renderer.specs.WriterOf.{IsRefusal}
 use Rattle.tocmark_render.specs.DocumentOf.{document_view}
 use Rattle.tocmark_render.proofs.ReadBacks.{finds-at}
 use Rattle.tocmark_render.specs.ReadsBack.{flags_at}

@@ -5,9 +5,9 @@ use Rattle.tocmark_spelling.specs.Buffered.{buffered_view, following_view}
 use Rattle.tocmark_spelling.specs.Machine.{around}
 use Rattle.tocmark_spelling.specs.Plan.{Manner}
 use Rattle.tocmark_spelling.specs.PlanOf.{setting_of}
-use Rattle.tocmark_spelling.specs.Rendered.{RenderedAt}
+use Rattle.tocmark_renderer.specs.Rendered.{RenderedAt}
 use Rattle.tocmark_spelling.specs.Spelling.{spelling}
-use Rattle.tocmark_spelling.specs.WriterOf.{IsRefusal}
+use Rattle.tocmark_renderer.specs.WriterOf.{IsRefusal}
 use Rattle.tocmark_render.specs.Choice.{page_in}
 use Rattle.tocmark_render.specs.DocumentOf.{document_view}
 use Rattle.tocmark_render.proofs.Documents.{preferred-refused, preferred-written, kept-after}

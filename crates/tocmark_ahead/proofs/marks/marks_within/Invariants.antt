@@ -1,0 +1,16 @@
+use Rattle.std.proofs.Common.{◌≡◌, length, ℕ, ◌+◌, ◌-◌, ◌<◌, ◌≤◌, false, take, drop, slice_index, slice_index_or}
+use Rattle.std.specs.List.{list_any}
+use Rattle.tocmark_ahead.specs.Ahead.{first_mark}
+use Rattle.tocmark_ahead.proofs.marks.marks_within.Given as goal
+
+abbrev pub invariant-loop-i : goal.invariant-loop-i
+invariant-loop-i l =
+    record {
+      within : l.i ≤ length l.marks;
+      len : length l.found.items ≡ length l.marks;
+      nearest : l.nearest ≡ first_mark l.i (drop l.i l.marks);
+      found : (j : ℕ) → l.i ≤ j → j < length l.marks → slice_index_or l.found.items j false ≡ list_any (λ b. b) (take (slice_index l.ends j - (j + 1)) (drop (j + 1) l.marks));
+    }
+
+abbrev pub decreases-loop-i : goal.decreases-loop-i
+decreases-loop-i l = l.i

@@ -1,0 +1,7 @@
+pub mod CharacterLemmas
+pub mod EscapeLemmas
+pub mod SpanLemmas
+pub mod ReadBack
+pub mod SpanReads
+pub mod TextLaws
+mod Rows

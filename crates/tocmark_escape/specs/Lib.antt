@@ -1,0 +1,5 @@
+pub mod Characters
+pub mod Escape
+pub mod Unescape
+pub mod Leaves
+pub mod Destination

@@ -1,0 +1,389 @@
+//! How a stretch of text is written, so that it is read back as that text.
+
+ghost use Rattle.std.specs.Prelude.{◌≡◌, ◌++◌, ◌&&◌, chars, encode_utf8_all, string_bytes, false, IfOk, OnOk};
+ghost use Rattle.std.specs.Char.{is_ascii_digit};
+ghost use Rattle.tocmark_event.specs.View.{event_view};
+ghost use Rattle.std.specs.Option.{option_map, option_map_or};
+ghost use Rattle.tocmark_escape.specs.Characters.{is_alphanumeric};
+ghost use Rattle.tocmark_escape.specs.Escape.{place_of, has, spot_from, escaped, written, reference, coded, with_backslash, needs_backslash, is_read_as_marker, is_literal, is_encoded, is_marker, is_alone, ends_line, goes_on_marker, doubles_backslash, opens_superscript, opens_emphasis, opens_cell, opens_heading, opens_label, is_own_token};
+
+use bitflags::Flags;
+use std::alloc::{AllocError, Global};
+use std::fmt::Write;
+use tocmark_event::event::{EventOf, OwnedEvent, ParserOptions, TagOf};
+use ucd_category::{GeneralCategory, GeneralCategoryGroup};
+use ucd_derived::is_alphabetic;
+
+/// Where a stretch of text stands, and what stands round it.
+#[derive(Clone, Copy, Debug)]
+pub struct EscapePlace<'a> {
+    /// The extensions that are read.
+    pub flags: ParserOptions,
+    /// The marker of emphasis.
+    pub token: char,
+    /// Whether `*`, `_`, `~`, `^` and `$` stay as they are.
+    pub literal: bool,
+    /// Whether the first character is written as a reference, if it is no white space.
+    pub first_encoded: bool,
+    /// Whether the last character is written as a reference, if it is no white space.
+    pub last_encoded: bool,
+    /// Whether the stretch stands at the front of a line or of a container.
+    pub at_front: bool,
+    /// Whether it stands in a table.
+    pub in_table: bool,
+    /// Whether it stands in a heading.
+    pub in_heading: bool,
+    /// The event after it.
+    pub next: Option<&'a OwnedEvent>,
+}
+
+/// A character of a stretch, and what stands round it there.
+#[derive(Clone, Copy)]
+struct Spot {
+    character: char,
+    /// The character before it; none at the first.
+    before: Option<char>,
+    /// Whether ASCII digits, one or more, and nothing else stand before it.
+    after_digits: bool,
+    /// The character after it; none at the last.
+    after: Option<char>,
+    /// Whether at most one character stands after it.
+    before_last: bool,
+}
+
+/// Whether a character is an ASCII letter or digit, or past ASCII alphabetic or a number.
+#[tactic(auto, unfolding(crate::specs::Characters::is_alphanumeric))]
+pub fn is_alphanumeric(c: char) -> bool
+    ensures { result ≡ is_alphanumeric c }
+{
+    if c.is_ascii() {
+        c.is_ascii_alphanumeric()
+    } else {
+        is_alphabetic(c) || GeneralCategoryGroup::Number.contains(GeneralCategory::for_char(c))
+    }
+}
+
+fn spot_from(before: Option<char>, only_digits: bool, character: char, after: &str) -> Spot
+    ensures { result ≡ spot_from before only_digits character (chars after.now) }
+{
+    let mut rest = after.chars();
+    let next = rest.next();
+    let before_last = rest.next().is_none();
+    Spot {
+        character,
+        before,
+        after_digits: before.is_some() && only_digits,
+        after: next,
+        before_last,
+    }
+}
+
+/// Whether nothing more of the line follows a stretch before this event.
+#[tactic(auto, unfolding(crate::specs::Escape::ends_line))]
+fn ends_line(next: Option<&OwnedEvent>) -> bool
+    ensures { result ≡ ends_line (option_map (λ e. event_view string_bytes e.now) next.entry) }
+{
+    match next {
+        None => true,
+        Some(EventOf::End(_)) => true,
+        Some(EventOf::SoftBreak) => true,
+        Some(EventOf::HardBreak) => true,
+        Some(_) => false,
+    }
+}
+
+/// Whether this event begins with a bracket.
+#[tactic(auto, unfolding(crate::specs::Escape::opens_label))]
+fn opens_label(next: Option<&OwnedEvent>) -> bool
+    ensures { result ≡ opens_label (option_map (λ e. event_view string_bytes e.now) next.entry) }
+{
+    match next {
+        Some(EventOf::Start(TagOf::Link { .. })) => true,
+        Some(EventOf::Start(TagOf::Image { .. })) => true,
+        Some(EventOf::FootnoteReference(_)) => true,
+        _ => false,
+    }
+}
+
+/// Whether a character may stand after the marker of a block.
+fn goes_on_marker(c: char) -> bool
+    ensures { result ≡ goes_on_marker c }
+{
+    c.is_ascii_whitespace() || matches!(c, '-' | '+' | '=')
+}
+
+/// Whether the marker of a block could be read at this character.
+#[tactic(auto, unfolding(crate::specs::Escape::is_marker))]
+fn is_marker(place: &EscapePlace<'_>, spot: Spot) -> bool
+    ensures { result ≡ is_marker (place_of place.now) spot }
+{
+    let begins_block = spot.before.is_none() && place.at_front && !place.in_table;
+    let is_alone = match spot.after {
+        Some(c) => goes_on_marker(c),
+        None => ends_line(place.next),
+    };
+    begins_block && is_alone
+}
+
+#[tactic(auto, unfolding(crate::specs::Escape::doubles_backslash))]
+fn doubles_backslash(place: &EscapePlace<'_>, spot: Spot) -> bool
+    ensures { result ≡ doubles_backslash (place_of place.now) spot }
+{
+    match spot.after {
+        None => true,
+        Some(c) => {
+            let is_encoded = spot.before_last && place.last_encoded && !c.is_whitespace();
+            c.is_ascii_punctuation() || c == '\n' || c == '\r' || is_encoded
+        }
+    }
+}
+
+fn is_alphanumeric_at(c: Option<char>) -> bool
+    ensures { result ≡ option_map_or is_alphanumeric c false }
+{
+    match c {
+        Some(c) => is_alphanumeric(c),
+        None => false,
+    }
+}
+
+/// Whether Markdown could read the character as a marker.
+#[tactic(auto, unfolding(crate::specs::Escape::is_read_as_marker))]
+fn is_read_as_marker(place: &EscapePlace<'_>, spot: Spot) -> bool
+    ensures { result ≡ is_read_as_marker (place_of place.now) spot }
+{
+    let is_first = spot.before.is_none();
+    match spot.character {
+        '*' | '[' | ']' | '<' | '~' | '`' => true,
+        '\\' => doubles_backslash(place, spot),
+        '>' => is_first && !place.in_table,
+        '^' => {
+            place.flags.contains(ParserOptions::ENABLE_SUPERSCRIPT)
+                || !is_alphanumeric_at(spot.before)
+        }
+        '$' => place.flags.contains(ParserOptions::ENABLE_MATH),
+        ':' => {
+            is_marker(place, spot) && place.flags.contains(ParserOptions::ENABLE_DEFINITION_LIST)
+        }
+        '{' => {
+            place.in_heading
+                && place
+                    .flags
+                    .contains(ParserOptions::ENABLE_HEADING_ATTRIBUTES)
+        }
+        '_' => !(is_alphanumeric_at(spot.before) && is_alphanumeric_at(spot.after)),
+        '|' => is_first || place.in_table || place.flags.contains(ParserOptions::ENABLE_TABLES),
+        '#' => (is_first && !place.in_table) || place.in_heading,
+        '-' | '+' | '=' => is_marker(place, spot),
+        '.' | ')' => !place.in_table && spot.after_digits,
+        '!' => spot.after.is_none() && opens_label(place.next),
+        _ => false,
+    }
+}
+
+#[tactic(auto, unfolding(crate::specs::Escape::needs_backslash))]
+fn needs_backslash(place: &EscapePlace<'_>, spot: Spot) -> bool
+    ensures { result ≡ needs_backslash (place_of place.now) spot }
+{
+    let c = spot.character;
+    is_read_as_marker(place, spot) || (c == place.token && !matches!(c, '*' | '_'))
+}
+
+fn is_literal(place: &EscapePlace<'_>, c: char) -> bool
+    ensures { result ≡ is_literal (place_of place.now) c }
+{
+    place.literal && matches!(c, '*' | '_' | '~' | '^' | '$')
+}
+
+fn is_encoded(place: &EscapePlace<'_>, spot: Spot) -> bool
+    ensures { result ≡ is_encoded (place_of place.now) spot }
+{
+    let is_first = spot.before.is_none() && place.first_encoded;
+    let is_last = spot.after.is_none() && place.last_encoded;
+    (is_first || is_last) && !spot.character.is_whitespace()
+}
+
+/// The reference that stands for a line ending, an ampersand, or a blank at the front.
+#[tactic(auto, unfolding(crate::specs::Escape::reference))]
+fn reference(place: &EscapePlace<'_>, spot: Spot) -> Option<&'static str>
+    ensures { option_map (λ r. r.now) result ≡ reference (place_of place.now) spot }
+{
+    let is_front = spot.before.is_none() && place.at_front;
+    match spot.character {
+        '\n' => Some("&#10;"),
+        '\r' => Some("&#13;"),
+        '&' => Some("&amp;"),
+        ' ' if is_front => Some("&#32;"),
+        '\t' if is_front => Some("&#9;"),
+        _ => None,
+    }
+}
+
+/// Whether all is digits, with one more character.
+fn is_digits(only_digits: bool, c: char) -> bool
+    ensures { result ≡ (is_ascii_digit c && only_digits) }
+{
+    c.is_ascii_digit() && only_digits
+}
+
+#[tactic(auto, using(crate::proofs::EscapeLemmas::encoded_code), unfolding(crate::specs::Escape::coded))]
+fn push_code(to: &mut String, c: char) -> Result<(), AllocError>
+    ensures { OnOk result (string_bytes to.new ≡ string_bytes to.old ++ encode_utf8_all (coded c)) }
+{
+    let code = u32::from(c);
+    write!(to, "&#{code};")
+}
+
+#[tactic(auto, using(crate::proofs::EscapeLemmas::encoded_one, crate::proofs::EscapeLemmas::encoded_two), unfolding(crate::specs::Escape::with_backslash))]
+fn push_with_backslash(
+    to: &mut String,
+    place: &EscapePlace<'_>,
+    spot: Spot,
+) -> Result<(), AllocError>
+    ensures { OnOk result (string_bytes to.new ≡ string_bytes to.old ++ encode_utf8_all (with_backslash (place_of place.now) spot)) }
+{
+    if needs_backslash(place, spot) {
+        to.push('\\')?;
+    }
+    to.push(spot.character)
+}
+
+/// Writes one character by the first rule that applies.
+#[tactic(auto, using(crate::proofs::EscapeLemmas::encoded_one), unfolding(crate::specs::Escape::written))]
+fn push_character(to: &mut String, place: &EscapePlace<'_>, spot: Spot) -> Result<(), AllocError>
+    ensures { OnOk result (string_bytes to.new ≡ string_bytes to.old ++ encode_utf8_all (written (place_of place.now) spot)) }
+{
+    if is_literal(place, spot.character) {
+        return to.push(spot.character);
+    }
+    if is_encoded(place, spot) {
+        return push_code(to, spot.character);
+    }
+    match reference(place, spot) {
+        Some(reference) => to.push_str(reference),
+        None => push_with_backslash(to, place, spot),
+    }
+}
+
+/// A stretch of text as it is written at its place, so that it is read back as that text.
+///
+/// Line endings and ampersands become references, and so do a blank at the front and, where the place
+/// asks for it, the first and the last character. What could be read as a marker there has a backslash
+/// before it. An `Err` says that memory ran out.
+pub fn escape_text(alloc: Global, text: &str, place: &EscapePlace<'_>) -> Result<String, AllocError>
+    ensures { IfOk result (λ s. string_bytes s ≡ escaped (place_of place.now) text.now) }
+{
+    let mut escaped = String::new(alloc);
+    let mut before = None;
+    let mut only_digits = true;
+    let mut rest = text.chars();
+    while let Some(character) = rest.next() {
+        let spot = spot_from(before, only_digits, character, rest.as_str());
+        push_character(&mut escaped, place, spot)?;
+        only_digits = is_digits(only_digits, character);
+        before = Some(character);
+    }
+    Ok(escaped)
+}
+
+#[cfg(test)]
+mod tests {
+    use super::*;
+    use std::process::Abort;
+    use std::test::Fail;
+
+    const PLAIN: EscapePlace<'static> = EscapePlace {
+        flags: ParserOptions(0),
+        token: '*',
+        literal: false,
+        first_encoded: false,
+        last_encoded: false,
+        at_front: false,
+        in_table: false,
+        in_heading: false,
+        next: None,
+    };
+
+    fn check(
+        rt: &impl Abort,
+        alloc: Global,
+        place: &EscapePlace<'_>,
+        rows: &[(&str, &str)],
+    ) -> Result<(), Fail> {
+        for (text, expected) in rows {
+            let escaped = escape_text(alloc, *text, place)?;
+            assert_eq!(rt; escaped.as_str(), *expected);
+        }
+        Ok(())
+    }
+
+    #[test]
+    fn fronts_and_lines(rt: HostRuntime) -> Result<(), Fail> {
+        let at_front = EscapePlace {
+            at_front: true,
+            ..PLAIN
+        };
+        let rows = [
+            ("1", "1"),
+            (". a", ". a"),
+            ("1. a", "1\\. a"),
+            ("1a. b", "1a. b"),
+            ("a\\\nb", "a\\\\&#10;b"),
+            ("a\\b\\", "a\\b\\\\"),
+            ("# a", "\\# a"),
+            ("- b", "\\- b"),
+            ("-b", "-b"),
+            ("=", "\\="),
+            ("a & b", "a &amp; b"),
+            (" a", "&#32;a"),
+            ("é_é _a", "é_é \\_a"),
+            ("a^b ^", "a^b \\^"),
+            ("|a|$", "\\|a|$"),
+            ("*[x]`<~", "\\*\\[x\\]\\`\\<\\~"),
+        ];
+        check(&rt, rt.alloc(), &at_front, &rows)?;
+        let rows = [("- b", "- b"), (" a", " a"), ("> a", "\\> a")];
+        check(&rt, rt.alloc(), &PLAIN, &rows)
+    }
+
+    #[test]
+    fn other_places(rt: HostRuntime) -> Result<(), Fail> {
+        let alloc = rt.alloc();
+        let in_table = EscapePlace {
+            at_front: true,
+            in_table: true,
+            ..PLAIN
+        };
+        let rows = [("- a|b", "- a\\|b"), ("# a", "# a"), ("1. a", "1. a")];
+        check(&rt, alloc, &in_table, &rows)?;
+        let in_heading = EscapePlace {
+            flags: ParserOptions::ENABLE_HEADING_ATTRIBUTES,
+            in_heading: true,
+            ..PLAIN
+        };
+        check(&rt, alloc, &in_heading, &[("a # {", "a \\# \\{")])?;
+        let encoded = EscapePlace {
+            first_encoded: true,
+            last_encoded: true,
+            ..PLAIN
+        };
+        check(
+            &rt,
+            alloc,
+            &encoded,
+            &[("a\\b", "&#97;\\\\&#98;"), (" ", " ")],
+        )?;
+        let literal = EscapePlace {
+            literal: true,
+            ..PLAIN
+        };
+        check(&rt, alloc, &literal, &[("*_~^$[", "*_~^$\\[")])?;
+        let footnote = EventOf::FootnoteReference(String::new(alloc));
+        let before_footnote = EscapePlace {
+            token: '+',
+            next: Some(&footnote),
+            ..PLAIN
+        };
+        check(&rt, alloc, &before_footnote, &[("a+!", "a\\+\\!")])
+    }
+}

@@ -1,0 +1,30 @@
+-- What is asked of the writer of a unit, as plain values.
+use Rattle.std.specs.Prelude.{ℕ, List, Option}
+use Rattle.tocmark_event.specs.Options.{options_view, OptionsView}
+use Rattle.tocmark_event.specs.Reading.{ReadingView}
+use Rattle.tocmark_event.specs.declared.event.flags.ParserOptions.{ParserOptions}
+use Rattle.tocmark_spelling.specs.Plan as plan
+use Rattle.tocmark_spelling.specs.Plan.{Setting}
+use Rattle.tocmark_spelling.specs.PlanOf.{setting_of, manner_of, text_spelling_view}
+use Rattle.tocmark_renderer.specs.declared.job.Job.{Job}
+use Rattle.tocmark_renderer.specs.declared.job.Manner.{Manner}
+
+-- what a reader finds in a text, under these flags
+abbrev pub Reading : Type 0
+Reading = List ℕ → ParserOptions → ReadingView
+
+-- the options of a job
+abbrev pub options_in : Job → OptionsView
+options_in job = options_view job.options.now
+
+-- a job with this reader, and with the reserved label if there is one
+abbrev pub setting_in : Job → Reading → Option (List ℕ) → Setting
+setting_in job reading label = setting_of (options_in job) job.flags reading label
+
+-- how one spelling is written
+abbrev pub manner_view : Manner → plan.Manner
+manner_view manner = manner_of manner.delimiters manner.source
+
+-- how its texts are written
+abbrev pub text_in : Manner → plan.TextSpelling
+text_in manner = text_spelling_view manner.delimiters.text
