@@ -11,18 +11,18 @@ use Rattle.tocmark_event.specs.declared.event.flags.ParserOptions.{ParserOptions
 use Rattle.tocmark_event.specs.declared.options.Error.{Error}
 use Rattle.tocmark_spelling.specs.Body.{Trees}
 use Rattle.tocmark_spelling.specs.Closing.{closing}
-use Rattle.tocmark_spelling.specs.Escape.{Place, escaped}
+use Rattle.tocmark_escape.specs.Escape.{Place, escaped}
 use Rattle.tocmark_spelling.specs.Opening.{opening}
 use Rattle.tocmark_spelling.specs.ById.{by_id}
-use Rattle.tocmark_spelling.specs.Leaves.{code_span, unspan}
+use Rattle.tocmark_escape.specs.Leaves.{code_span, unspan}
 use Rattle.tocmark_spelling.specs.Marker.{marker}
 use Rattle.tocmark_spelling.specs.Runs.{prefers_underscore}
 use Rattle.tocmark_spelling.specs.Page.{Sheet, laid, put_byte}
 use Rattle.tocmark_spelling.specs.PlanOf.{setting_of}
-use Rattle.tocmark_spelling.specs.Spelled.{is_spelled_leaf, is_spelled_forest}
+use Rattle.tocmark_renderer.specs.Spelled.{is_spelled_leaf, is_spelled_forest}
 use Rattle.tocmark_spelling.specs.Spelling.{spelling}
 use Rattle.tocmark_spelling.specs.Stretch.{leaf_on}
-use Rattle.tocmark_spelling.specs.Unescape.{unescape}
+use Rattle.tocmark_escape.specs.Unescape.{unescape}
 use Rattle.tocmark_render.specs.Choice.{preferred, spelled, document_after}
 use Rattle.tocmark_render.specs.Definitions.{definitions_text}
 use Rattle.tocmark_render.specs.Document.{DocumentView, first_document}

@@ -1,6 +1,6 @@
 -- Runs of a token, when more is seen.
 use Rattle.std.proofs.Common.{◌≡◌, ℕ, ◌+◌, ◌≤◌, max, ne_eqb, List, [], ◌∷◌, arith}
-use Rattle.tocmark_spelling.specs.Leaves.{run_length, longest_run}
+use Rattle.tocmark_escape.specs.Leaves.{run_length, longest_run}
 use Rattle.tocmark.specs.StateView.{at_most}
 use Rattle.tocmark.specs.TokenCount.{longest_token_run}
 

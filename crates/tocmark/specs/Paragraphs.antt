@@ -3,9 +3,9 @@ use Rattle.std.specs.Prelude.{◌≡◌, ℕ, ◌<◌, false, List, [], ◌∷�
 use Rattle.std.specs.List.{concat}
 use Rattle.tocmark_event.specs.View.{Start, End, Leaf, LeafView, Paragraph, Text}
 use Rattle.tocmark_event.specs.declared.event.TagEnd.TheVariants as end
-use Rattle.tocmark_spelling.specs.Escape.{Place, escaped}
-use Rattle.tocmark_spelling.specs.Leaves.{code_span, unspan}
-use Rattle.tocmark_spelling.specs.Unescape.{unescape}
+use Rattle.tocmark_escape.specs.Escape.{Place, escaped}
+use Rattle.tocmark_escape.specs.Leaves.{code_span, unspan}
+use Rattle.tocmark_escape.specs.Unescape.{unescape}
 use Rattle.tocmark.specs.Ranges.{Pair, unranged}
 use Rattle.tocmark.specs.Walk.{Walk, Done, done}
 

@@ -1,7 +1,7 @@
 -- What the runs that were seen come to, once more follows.
 use Rattle.std.specs.Prelude.{ℕ, ◌+◌, max, List}
 use Rattle.tocmark_event.specs.View.{EventView}
-use Rattle.tocmark_spelling.specs.Leaves.{run_length, longest_run}
+use Rattle.tocmark_escape.specs.Leaves.{run_length, longest_run}
 use Rattle.tocmark.specs.TokenCount.{code_in}
 use Rattle.tocmark.specs.StateView.{at_most}
 use Rattle.tocmark.specs.declared.token_count.Runs.{Runs}

@@ -4,13 +4,11 @@ use Rattle.std.specs.Borrow.{Bor}
 use Rattle.std.specs.List.{sum_by}
 use Rattle.std.specs.Option.{option_map}
 use Rattle.std.specs.Result.{IfOk}
-use Rattle.tocmark_event.specs.Options.{OptionsView, options_view}
+use Rattle.tocmark_event.specs.Options.{OptionsView, options_view, owned_options_view}
 use Rattle.tocmark_event.specs.Reading.{ReadingView}
-use Rattle.tocmark_event.specs.Text.{text_of}
+use Rattle.tocmark_event.specs.Text.{ParserEvent, text_of}
 use Rattle.tocmark_event.specs.View.{EventView, SourcedEvent, event_view}
-use Rattle.tocmark_event.specs.declared.event.EventOf.{EventOf}
 use Rattle.tocmark_event.specs.declared.event.flags.ParserOptions.{ParserOptions}
-use Rattle.tocmark_event.specs.declared.event.text.CowStr.{CowStr}
 use Rattle.tocmark_event.specs.declared.options.Error.{Error}
 use Rattle.tocmark_spelling.specs.Buffered.{buffered_view, sourced}
 use Rattle.tocmark_spelling.specs.PlanOf.{setting_of}
@@ -23,9 +21,9 @@ use Rattle.tocmark_render.specs.Units.{waits}
 use Rattle.tocmark_render.specs.declared.document.Document.{Document}
 use Rattle.tocmark.specs.declared.state.Progress.{Progress}
 use Rattle.tocmark.specs.declared.state.Held.{Held}
-use Rattle.tocmark.specs.declared.state.KeptOptions.{KeptOptions}
 use Rattle.tocmark.specs.declared.state.State.{State}
 use Rattle.tocmark.specs.declared.state.Tools.{Tools}
+use Rattle.tocmark.specs.declared.state.Status.{Status}
 use Rattle.tocmark.specs.declared.state.Status.TheVariants.{Active, Finished, Failed}
 use Rattle.tocmark.specs.Ranges.{Pair, Range, unranged}
 use Rattle.tocmark.specs.Walk.{done, Kept, Rendering, Standing, walk, nothing_yet, script}
@@ -35,29 +33,6 @@ use Rattle.tocmark.specs.Writes.{Makes}
 abbrev pub Answers : {X Y : Type 0} → Result X Error → Y → Result Y Error → Type 0
 Answers (Ok x) y answer = answer ≡ Ok y
 Answers (Err e) y answer = Refuses e answer
-
--- the options that a state keeps
-abbrev pub options_kept : KeptOptions → OptionsView
-options_kept o = record {
-  newlines_after_headline = o.newlines_after_headline;
-  newlines_after_paragraph = o.newlines_after_paragraph;
-  newlines_after_codeblock = o.newlines_after_codeblock;
-  newlines_after_htmlblock = o.newlines_after_htmlblock;
-  newlines_after_table = o.newlines_after_table;
-  newlines_after_rule = o.newlines_after_rule;
-  newlines_after_list = o.newlines_after_list;
-  newlines_after_blockquote = o.newlines_after_blockquote;
-  newlines_after_rest = o.newlines_after_rest;
-  newlines_after_metadata = o.newlines_after_metadata;
-  code_block_token_count = o.code_block_token_count;
-  code_block_token = o.code_block_token;
-  list_token = o.list_token;
-  ordered_list_token = o.ordered_list_token;
-  increment_ordered_list_bullets = o.increment_ordered_list_bullets;
-  emphasis_token = o.emphasis_token;
-  strong_token = string_bytes o.strong_token;
-  use_html_for_super_sub_script = o.use_html_for_super_sub_script;
-}
 
 -- the flags stay with the document
 abbrev pub keeping : ParserOptions → Result (List ℕ × DocumentView) Error → Result (List ℕ × Kept) Error
@@ -87,9 +62,27 @@ standing_of h = record {
   is_deferred = h.is_deferred;
 }
 
+-- where the events that a state took stand
+abbrev pub place_of : {R : Type 0} → State R → Standing
+place_of s = standing_of s.held
+
+-- whether a state takes events
+abbrev pub status_of : {R : Type 0} → State R → Status
+status_of s = s.status
+
+-- the reader of a state
+abbrev pub reader_of : {R : Type 0} → State R → R
+reader_of s = s.reader
+
+-- two states take the same further events, under the same options
+pub record SameStanding {R : Type 0} (s t : State R) : Type 0 where
+  pub status : status_of t ≡ status_of s
+  pub options : owned_options_view t.options ≡ owned_options_view s.options
+  pub standing : place_of t ≡ place_of s
+
 -- how a state writes units
 abbrev pub rendering_of : {R : Type 0} → (R → List ℕ → ParserOptions → ReadingView) → State R → Rendering
-rendering_of reading s = rendering (options_kept s.options) (reading s.reader)
+rendering_of reading s = rendering (owned_options_view s.options) (reading s.reader)
 
 -- how units are written in a call
 abbrev pub rendering_with : {R : Type 0} → (R → List ℕ → ParserOptions → ReadingView) → Tools R → Rendering
@@ -100,19 +93,19 @@ abbrev pub text_now : Option (Bor (List ℕ)) → Option (List ℕ)
 text_now source = option_map (λ s. s.now) source
 
 -- events as pairs without ranges
-abbrev pub pairs : List (Bor (EventOf CowStr)) → List Pair
+abbrev pub pairs : List (Bor ParserEvent) → List Pair
 pairs xs = map (λ x. unranged (event_view text_of x.now)) xs
 
 -- the state takes events
 abbrev pub IsActive : {R : Type 0} → State R → Type 0
-IsActive s = s.status ≡ Active
+IsActive s = status_of s ≡ Active
 
 -- an event with its range
-abbrev pub ranged_pair : Bor (EventOf CowStr) × Option Range → Pair
+abbrev pub ranged_pair : Bor ParserEvent × Option Range → Pair
 ranged_pair x = (event_view text_of x.0.now, x.1)
 
 -- events with their ranges
-abbrev pub ranged_pairs : List (Bor (EventOf CowStr) × Option Range) → List Pair
+abbrev pub ranged_pairs : List (Bor ParserEvent × Option Range) → List Pair
 ranged_pairs xs = map ranged_pair xs
 
 -- an event with this spelling in the source, and the end of the last range
@@ -123,7 +116,7 @@ ResolvedAs e (Err x) answer = Refuses x answer
 -- a state that is active, and stands where the list of pairs over the source does
 pub record Stands {R : Type 0} (reading : R → List ℕ → ParserOptions → ReadingView) (flags : ParserOptions) (source : List ℕ) (s : State R) (p : List Pair) : Type 0 where
   pub active : IsActive s
-  pub standing : (walk (rendering_of reading s) source (nothing_yet flags) p).outcome ≡ Ok (standing_of s.held)
+  pub standing : (walk (rendering_of reading s) source (nothing_yet flags) p).outcome ≡ Ok (place_of s)
 
 -- a count stops at the greatest number of its type
 abbrev pub at_most : ℕ → ℕ
@@ -136,26 +129,26 @@ pub record Counts (p : Progress) (events bytes : ℕ) : Type 0 where
 
 -- a call was refused
 abbrev pub IsFailed : {R : Type 0} → State R → Type 0
-IsFailed s = s.status ≡ Failed
+IsFailed s = status_of s ≡ Failed
 
 -- the events have ended
 abbrev pub IsFinished : {R : Type 0} → State R → Type 0
-IsFinished s = s.status ≡ Finished
+IsFinished s = status_of s ≡ Finished
 
 -- nothing is known of what a writer refuses
 abbrev pub unknown : {W : Type 0} → W → List ℕ → W → Type 0
 unknown w text v = Unit {0}
 
 -- A call that took the pairs q after p handed what the walk of both adds to that of p, and stands there or answers its end.
-pub record Adds {W : Type 0} (gives : W → List ℕ → W → Type 0) (w v : W) (how : Rendering) (flags : ParserOptions) (source : List ℕ) (r : Result Progress Error) (held : Held) (p q : List Pair) : Type 0 where
+pub record Adds {W : Type 0} (gives refuses : W → List ℕ → W → Type 0) (w v : W) (how : Rendering) (flags : ParserOptions) (source : List ℕ) (r : Result Progress Error) (place : Standing) (p q : List Pair) : Type 0 where
   pub more : List (List ℕ)
   pub added : (walk how source (nothing_yet flags) (p ++ q)).texts ≡ (walk how source (nothing_yet flags) p).texts ++ more
-  pub made : Makes gives unknown w v r (standing_of held) (record { texts = more; outcome = (walk how source (nothing_yet flags) (p ++ q)).outcome })
+  pub made : Makes gives refuses w v r place (record { texts = more; outcome = (walk how source (nothing_yet flags) (p ++ q)).outcome })
   pub counts : IfOk r (λ n. Counts n (length q) (sum_by length more))
 
 -- A call that ended the list p handed what its script adds to its walk, and answers its end.
-pub record Ends {W : Type 0} (gives : W → List ℕ → W → Type 0) (w v : W) (how : Rendering) (flags : ParserOptions) (source : List ℕ) (r : Result Progress Error) (p : List Pair) : Type 0 where
+pub record Ends {W : Type 0} (gives refuses : W → List ℕ → W → Type 0) (w v : W) (how : Rendering) (flags : ParserOptions) (source : List ℕ) (r : Result Progress Error) (p : List Pair) : Type 0 where
   pub more : List (List ℕ)
   pub added : (script how source (nothing_yet flags) p).texts ≡ (walk how source (nothing_yet flags) p).texts ++ more
-  pub made : Makes gives unknown w v r done (record { texts = more; outcome = (script how source (nothing_yet flags) p).outcome })
+  pub made : Makes gives refuses w v r done (record { texts = more; outcome = (script how source (nothing_yet flags) p).outcome })
   pub counts : IfOk r (λ n. Counts n 0 (sum_by length more))

@@ -2,7 +2,7 @@
 use Rattle.std.specs.Prelude.{ℕ, ◌+◌, Bool, true, false, nat_lt, if◌then◌else◌, max, List, [], ◌∷◌, ◌++◌, Option, Some, None}
 use Rattle.tocmark_event.specs.View.{EventView, Start, End, Leaf, CodeBlock, Text}
 use Rattle.tocmark_event.specs.declared.event.TagEnd.TheVariants as end
-use Rattle.tocmark_spelling.specs.Leaves.{longest_run}
+use Rattle.tocmark_escape.specs.Leaves.{longest_run}
 use Rattle.tocmark.specs.StateView.{at_most}
 
 -- a text in an open code block as it is; any other text ends a run, as a line feed does

@@ -1,19 +1,28 @@
 //! Laws of the walk, each the contract of a function that does nothing.
 
-ghost use Rattle.std.specs.Prelude.{◌≡◌, ◌≢◌, ◌++◌, All, IsTrue, IsUtf8, List, [], ℕ, Ok, chars, codes};
+ghost use Rattle.std.specs.Prelude.{◌≡◌, ◌≢◌, ◌++◌, All, IsTrue, IsUtf8, List, [], ℕ, Result, Ok, Err, chars, codes, ◌∷◌};
 ghost use Rattle.std.specs.Char.{char_set_contains};
+ghost use Rattle.std.specs.List.{AllByRecursion, list_all};
+ghost use Rattle.tocmark_core_reader.specs.PlainTexts.{lines_paragraph};
 ghost use Rattle.tocmark_event.specs.Forest.{IsBalanced, IsReading};
 ghost use Rattle.tocmark_event.specs.Options.{OptionsView};
 ghost use Rattle.tocmark_event.specs.View.{Code};
 ghost use Rattle.tocmark_event.specs.Reading.{ReadingView};
 ghost use Rattle.tocmark_event.specs.declared.event.flags.ParserOptions.{ParserOptions};
+ghost use Rattle.tocmark_event.specs.declared.options.Error.{Error};
+ghost use Rattle.tocmark.specs.declared.state.Progress.{Progress};
+ghost use Rattle.tocmark.specs.Calls.{AreCalls, all_pairs};
+ghost use Rattle.tocmark.specs.Causes.{IsRefusedAtPair, IsRefusedIn};
 ghost use Rattle.tocmark.specs.Paragraphs.{ReadsAs, ReadsAsSpan, paragraph_of, paragraph_with};
+ghost use Rattle.tocmark.specs.PlainLines.{is_line, paragraph_of_lines, IsReadBack, IsPlaced, IsPlainOf, PlacedLine, escaped_text, texts};
 ghost use Rattle.tocmark.specs.Ranges.{Pair};
 ghost use Rattle.tocmark.specs.Trees.{Trees, ranged, then_ranged, walk_trees};
 ghost use Rattle.tocmark.specs.StateView.{rendering};
-ghost use Rattle.tocmark.specs.Walk.{Kept, Rendering, Standing, beginning, go_on, nothing_yet, script, walk};
+ghost use Rattle.tocmark.specs.Walk.{Kept, Rendering, Standing, beginning, done, go_on, nothing_yet, script, walk};
+ghost use Rattle.tocmark.specs.Writes.{Makes};
 
-use tocmark_spelling::laws::{code_spans_read_back, escapes_read_back};
+use crate::taker::Taker;
+use tocmark_escape::laws::{code_spans_read_back, escapes_read_back};
 
 /// What later events add depends on where the earlier ones stand alone, whatever a unit comes to.
 pub fn cuts_are_free()
@@ -37,6 +46,26 @@ pub fn pending_events_are_nested()
         IsReading s.pending s.open_tags × (s.open_tags ≡ [] → IsBalanced s.pending) }
 {}
 
+/// A list of events that is refused has a first pair at which it is, or it is refused at its end, and there is a
+/// cause. At a pair: its range is none of the source (`InvalidSourceRange`); the unit before it, which is due, is
+/// refused by its choice; or it is an End that isn't the innermost open container's (`UnexpectedEvent`). At the end: a
+/// container is open (`UnexpectedEvent`), or the last unit is refused by its choice.
+pub fn refusals_have_causes()
+    ensures walk { (how : Rendering) (source : List ℕ) (s : Standing) (p : List Pair) (e : Error) →
+        (walk how source s p).outcome ≡ Err e → IsRefusedAtPair how source s p e }
+    ensures script { (how : Rendering) (source : List ℕ) (s : Standing) (p : List Pair) (e : Error) →
+        (script how source s p).outcome ≡ Err e → IsRefusedIn how source s p e }
+{}
+
+/// Calls on one state over one source, each with events of its own, up to the first that is refused, and then
+/// `finish`, hand the writer and answer what the script of all their events has: how the events are cut into calls
+/// makes no difference.
+pub fn calls_compose<W: Taker>()
+    ensures { (how : Rendering) (flags : ParserOptions) (source : List ℕ) (calls : List (List Pair)) (w v : W) (r : Result Progress Error) →
+        AreCalls W.takes W.refuses how flags source [] calls w v r →
+        Makes W.takes W.refuses w v r done (script how source (nothing_yet flags) (all_pairs calls)) }
+{}
+
 /// For one paragraph with one text, without NUL, texts are handed that join to an escape of the text, and
 /// an escape is read as the text: under all flags, over each reader, with `*` or `_` for emphasis.
 pub fn a_paragraph_is_read_back()
@@ -55,3 +84,20 @@ pub fn a_code_span_is_read_back()
 {
     code_spans_read_back();
 }
+
+/// For a paragraph of lines, a text for each with a soft break between two, exactly one text is handed, and
+/// the core reader's reading of it is, merged, exactly that paragraph, with no labels: under all flags,
+/// whatever reader is given, with `*` or `_` for emphasis. A line has at least one character, each from
+/// U+0020 to U+007E, and doesn't end with a space.
+pub fn lines_are_read_back()
+    ensures { (options : OptionsView) (reading : List ℕ → ParserOptions → ReadingView) (flags : ParserOptions) (source l : List ℕ) (ms : List (List ℕ)) →
+        IsTrue (char_set_contains (codes "*_") options.emphasis_token) → IsTrue (list_all is_line (l ∷ ms)) →
+        IsReadBack (script (rendering options reading) source (nothing_yet flags) (paragraph_of_lines l ms)) (lines_paragraph l ms) }
+{}
+
+/// The escapes of such lines in a paragraph, joined by line feeds, are a plain text that means these lines,
+/// so that `CoreReader::read` answers, merged, that paragraph, and no labels.
+pub fn escapes_of_lines_are_plain()
+    ensures { (l : PlacedLine) (ms : List PlacedLine) → AllByRecursion IsPlaced (l ∷ ms) →
+        IsPlainOf (escaped_text l ms) l.1 (texts ms) }
+{}

@@ -1,27 +1,43 @@
 //! Turns Markdown events back into Markdown text that reads back as those events.
+//!
+//! `cmark` writes a whole list, and `State` takes a list in parts; both have a form for events with
+//! ranges in a source, whose texts are then written as they stand in it. A unit, a tree at the top of
+//! the list, is written where each of its events is one of these, and is else refused as
+//! `UnexpectedEvent`: paragraphs, headings without id, classes and attributes, texts, code, inline HTML,
+//! and soft and hard breaks.
+//!
+//! ```
+//! let events = [
+//!     Event::Start(Tag::Paragraph),
+//!     Event::Text("# a & b".into()),
+//!     Event::End(TagEnd::Paragraph),
+//! ];
+//! let mut output = String::new(alloc);
+//! cmark(alloc, events.iter(), &mut output, CoreReader, ParserOptions::empty())?;
+//! assert_eq!(rt; output.as_str(), "\\# a &amp; b");
+//! ```
 #![tactic(auto)]
 
 mod laws;
 mod state;
 mod taker;
-#[cfg(test)]
-mod tests;
 mod token_count;
 
-ghost use Rattle.std.specs.Prelude.{◌≡◌, List, Option, ℕ, IfOk, IsOk};
+ghost use Rattle.std.specs.Prelude.{◌≡◌, ◌∷◌, List, [], Option, ℕ, IfOk, IsOk, IsTrue};
 ghost use Rattle.std.specs.Borrow.{Bor};
 ghost use Rattle.std.specs.Iterator.{IsFinite, DrainsIf};
+ghost use Rattle.std.specs.List.{list_all};
+ghost use Rattle.tocmark_event.specs.Text.{ParserEvent};
 ghost use Rattle.tocmark_event.specs.Options.{default_options, options_view};
-ghost use Rattle.tocmark_event.specs.declared.event.EventOf.{EventOf};
-ghost use Rattle.tocmark_event.specs.declared.event.text.CowStr.{CowStr};
+ghost use Rattle.tocmark.specs.PlainLines.{HandsLines, is_line, paragraph_of_lines};
 ghost use Rattle.tocmark.specs.Ranges.{Range};
-ghost use Rattle.tocmark.specs.Walk.{done, nothing_yet, script};
-ghost use Rattle.tocmark.specs.Writes.{Makes};
-ghost use Rattle.tocmark.specs.StateView.{IsFinished, pairs, ranged_pairs, rendering, unknown};
+ghost use Rattle.tocmark.specs.Walk.{done, nothing_yet, script, walk};
+ghost use Rattle.tocmark.specs.Writes.{Makes, TakesAll};
+ghost use Rattle.tocmark.specs.StateView.{IsFinished, pairs, ranged_pairs, rendering};
 
 pub use state::{Progress, State};
 use std::alloc::Global;
-use std::fmt;
+pub use taker::Taker;
 pub use tocmark_core_reader as core_reader;
 use tocmark_event::event::{Event, ParserOptions};
 pub use tocmark_event::options::{
@@ -32,6 +48,9 @@ pub use tocmark_event::{event, reader};
 pub use token_count::calculate_code_block_token_count;
 
 /// Writes events with the default options: `cmark_with_options` with `Options::default()`.
+///
+/// A paragraph of lines, each with characters from U+0020 to U+007E alone and no space at its end, is
+/// handed as one text that `CoreReader` reads as exactly that paragraph (the clause `lines`).
 pub fn cmark<'a, I, W, R>(
     alloc: Global,
     events: I,
@@ -41,12 +60,16 @@ pub fn cmark<'a, I, W, R>(
 ) -> Result<State<R>, Error>
 where
     I: IntoIterator<Item = &'a Event<'a>>,
-    W: fmt::Write,
+    W: Taker,
     R: Reader + Drop,
     requires { (it : I.IntoIter) → I.into_iter_gives events it → I.IntoIter.can_next it × IsFinite (I.IntoIter.remaining it) }
-    ensures made { (it : I.IntoIter) × (xs : List (Bor (EventOf CowStr))) × I.into_iter_gives events it
+    ensures made { (it : I.IntoIter) × (xs : List (Bor ParserEvent)) × I.into_iter_gives events it
+        × DrainsIf I.IntoIter.next_gives (TakesAll result (walk (rendering default_options (R.reading reader)) [] (nothing_yet parser_options) (pairs xs))) it xs
+        × ((source : List ℕ) → Makes W.takes W.refuses writer.old writer.new result done (script (rendering default_options (R.reading reader)) source (nothing_yet parser_options) (pairs xs))) }
+    ensures lines { (it : I.IntoIter) × (xs : List (Bor ParserEvent)) × I.into_iter_gives events it
         × DrainsIf I.IntoIter.next_gives (IsOk result) it xs
-        × ((source : List ℕ) → Makes W.write_str_gives unknown writer.old writer.new result done (script (rendering default_options (R.reading reader)) source (nothing_yet parser_options) (pairs xs))) }
+        × ((l : List ℕ) (ms : List (List ℕ)) → IsTrue (list_all is_line (l ∷ ms)) → pairs xs ≡ paragraph_of_lines l ms →
+        HandsLines W.takes W.refuses writer.old writer.new result l ms) }
     ensures finished { IfOk result (λ state. IsFinished state) }
 {
     cmark_with_options(
@@ -76,12 +99,12 @@ pub fn cmark_with_options<'a, I, W, R>(
 ) -> Result<State<R>, Error>
 where
     I: IntoIterator<Item = &'a Event<'a>>,
-    W: fmt::Write,
+    W: Taker,
     R: Reader + Drop,
     requires { (it : I.IntoIter) → I.into_iter_gives events it → I.IntoIter.can_next it × IsFinite (I.IntoIter.remaining it) }
-    ensures made { (it : I.IntoIter) × (xs : List (Bor (EventOf CowStr))) × I.into_iter_gives events it
-        × DrainsIf I.IntoIter.next_gives (IsOk result) it xs
-        × ((source : List ℕ) → Makes W.write_str_gives unknown writer.old writer.new result done (script (rendering (options_view options.entry) (R.reading reader)) source (nothing_yet parser_options) (pairs xs))) }
+    ensures made { (it : I.IntoIter) × (xs : List (Bor ParserEvent)) × I.into_iter_gives events it
+        × DrainsIf I.IntoIter.next_gives (TakesAll result (walk (rendering (options_view options.entry) (R.reading reader)) [] (nothing_yet parser_options) (pairs xs))) it xs
+        × ((source : List ℕ) → Makes W.takes W.refuses writer.old writer.new result done (script (rendering (options_view options.entry) (R.reading reader)) source (nothing_yet parser_options) (pairs xs))) }
     ensures finished { IfOk result (λ state. IsFinished state) }
 {
     let events = events.into_iter();
@@ -103,12 +126,12 @@ pub fn cmark_with_source_range<'a, I, W, R>(
 ) -> Result<State<R>, Error>
 where
     I: IntoIterator<Item = (&'a Event<'a>, Option<(usize, usize)>)>,
-    W: fmt::Write,
+    W: Taker,
     R: Reader + Drop,
     requires { (it : I.IntoIter) → I.into_iter_gives pairs it → I.IntoIter.can_next it × IsFinite (I.IntoIter.remaining it) }
-    ensures made { (it : I.IntoIter) × (xs : List (Bor (EventOf CowStr) × Option Range)) × I.into_iter_gives pairs it
-        × DrainsIf I.IntoIter.next_gives (IsOk result) it xs
-        × Makes W.write_str_gives unknown writer.old writer.new result done (script (rendering default_options (R.reading reader)) source.now (nothing_yet parser_options) (ranged_pairs xs)) }
+    ensures made { (it : I.IntoIter) × (xs : List (Bor ParserEvent × Option Range)) × I.into_iter_gives pairs it
+        × DrainsIf I.IntoIter.next_gives (TakesAll result (walk (rendering default_options (R.reading reader)) source.now (nothing_yet parser_options) (ranged_pairs xs))) it xs
+        × Makes W.takes W.refuses writer.old writer.new result done (script (rendering default_options (R.reading reader)) source.now (nothing_yet parser_options) (ranged_pairs xs)) }
     ensures finished { IfOk result (λ state. IsFinished state) }
 {
     let options = Options::default();
@@ -139,12 +162,12 @@ pub fn cmark_with_source_range_and_options<'a, I, W, R>(
 ) -> Result<State<R>, Error>
 where
     I: IntoIterator<Item = (&'a Event<'a>, Option<(usize, usize)>)>,
-    W: fmt::Write,
+    W: Taker,
     R: Reader + Drop,
     requires { (it : I.IntoIter) → I.into_iter_gives pairs it → I.IntoIter.can_next it × IsFinite (I.IntoIter.remaining it) }
-    ensures made { (it : I.IntoIter) × (xs : List (Bor (EventOf CowStr) × Option Range)) × I.into_iter_gives pairs it
-        × DrainsIf I.IntoIter.next_gives (IsOk result) it xs
-        × Makes W.write_str_gives unknown writer.old writer.new result done (script (rendering (options_view options.entry) (R.reading reader)) source.now (nothing_yet parser_options) (ranged_pairs xs)) }
+    ensures made { (it : I.IntoIter) × (xs : List (Bor ParserEvent × Option Range)) × I.into_iter_gives pairs it
+        × DrainsIf I.IntoIter.next_gives (TakesAll result (walk (rendering (options_view options.entry) (R.reading reader)) source.now (nothing_yet parser_options) (ranged_pairs xs))) it xs
+        × Makes W.takes W.refuses writer.old writer.new result done (script (rendering (options_view options.entry) (R.reading reader)) source.now (nothing_yet parser_options) (ranged_pairs xs)) }
     ensures finished { IfOk result (λ state. IsFinished state) }
 {
     let pairs = pairs.into_iter();

@@ -3,28 +3,26 @@
 ghost use Rattle.std.specs.Prelude.{◌+◌, Option, ◌≤◌, true, slice_range, ◌≡◌, ◌++◌, length, map, reverse, Bool, IfOk, OnOk, OnErr, List, ℕ, IsOk, Some, None, [], option_map, string_bytes, sum_by};
 ghost use Rattle.std.specs.Borrow.{Bor};
 ghost use Rattle.std.specs.Iterator.{IsFinite, DrainsIf};
-ghost use Rattle.tocmark_event.specs.Options.{options_view};
-ghost use Rattle.tocmark_event.specs.Text.{text_of};
+ghost use Rattle.tocmark_event.specs.Options.{options_view, owned_options_view};
+ghost use Rattle.tocmark_event.specs.Text.{ParserEvent, text_of};
 ghost use Rattle.tocmark_event.specs.View.{event_view};
-ghost use Rattle.tocmark_event.specs.declared.event.EventOf.{EventOf};
-ghost use Rattle.tocmark_event.specs.declared.event.text.CowStr.{CowStr};
 ghost use Rattle.tocmark_spelling.specs.Buffered.{buffered_view, next_view, sourced};
 ghost use Rattle.tocmark_render.specs.DocumentOf.{Refuses};
 ghost use Rattle.tocmark.specs.Ranges.{Range, is_character_boundary, is_good_range, resolved_at, spelling_start};
 ghost use Rattle.tocmark.specs.Walk.{Standing, step, done, is_due, is_whole, nested, flushed, flushed_before, advance, joins, walk, hand_walk, flushed_rest, ended};
 ghost use Rattle.tocmark.specs.Writes.{Makes};
-ghost use Rattle.tocmark.specs.StateView.{Adds, Answers, Counts, Ends, at_most, options_kept, pairs, ranged_pairs, rendering, rendering_of, rendering_with, ResolvedAs, standing_of, text_now};
+ghost use Rattle.tocmark.specs.StateView.{Adds, Answers, Counts, Ends, at_most, pairs, ranged_pairs, rendering, rendering_of, rendering_with, ResolvedAs, standing_of, text_now};
 
 use crate::taker::Taker;
 use std::alloc::{AllocError, Global};
 use std::fmt;
+use tocmark_ahead::same_events::end_number;
 use tocmark_event::event::{Event, EventOf, ParserOptions, TagEnd};
-use tocmark_event::options::{Error, Options};
+use tocmark_event::options::{Error, Options, OptionsOf};
 use tocmark_event::reader::Reader;
 use tocmark_render::document::Document;
 use tocmark_render::placeholder::needs_list_placeholder;
-use tocmark_spelling::same_events::end_number;
-use tocmark_spelling::spelling::BufferedEvent;
+use tocmark_spelling::buffered::BufferedEvent;
 
 /// How much a call did. Both counts stop at the greatest `usize`.
 #[derive(Clone, Copy, Debug, PartialEq, Eq, Default)]
@@ -43,31 +41,8 @@ enum Status {
     Failed,
 }
 
-/// Options with a strong token of their own.
-#[derive(Debug, Drop)]
-struct KeptOptions {
-    newlines_after_headline: usize,
-    newlines_after_paragraph: usize,
-    newlines_after_codeblock: usize,
-    newlines_after_htmlblock: usize,
-    newlines_after_table: usize,
-    newlines_after_rule: usize,
-    newlines_after_list: usize,
-    newlines_after_blockquote: usize,
-    newlines_after_rest: usize,
-    newlines_after_metadata: usize,
-    code_block_token_count: usize,
-    code_block_token: char,
-    list_token: char,
-    ordered_list_token: char,
-    increment_ordered_list_bullets: bool,
-    emphasis_token: char,
-    strong_token: String,
-    use_html_for_super_sub_script: bool,
-}
-
 /// What a state holds of the events that it took.
-#[derive(Debug, Drop)]
+#[derive(Drop)]
 struct Held {
     document: Document,
     /// The events since the last unit that was written.
@@ -89,67 +64,56 @@ struct Tools<'s, R> {
 }
 
 /// Takes events, and hands the text of each unit to a writer.
-#[derive(Debug, Drop)]
+///
+/// A unit is held until the event behind it has come, so what a call hands may stem from earlier ones.
+///
+/// ```
+/// let paragraph = [
+///     Event::Start(Tag::Paragraph),
+///     Event::Text("one".into()),
+///     Event::End(TagEnd::Paragraph),
+/// ];
+/// let mut output = String::new(alloc);
+/// let mut state = State::new(alloc, CoreReader, ParserOptions::empty(), Options::default())?;
+/// state.process(&paragraph[..1], &mut output)?;
+/// state.process(&paragraph[1..], &mut output)?;
+/// assert_eq!(rt; output.as_str(), "");
+/// state.process(&paragraph, &mut output)?;
+/// assert_eq!(rt; output.as_str(), "one");
+/// state.finish(&mut output)?;
+/// assert_eq!(rt; output.as_str(), "one\n\none");
+/// ```
+#[derive(Drop)]
 pub struct State<R> {
     alloc: Global,
     reader: R,
-    options: KeptOptions,
+    options: OptionsOf<String>,
     status: Status,
     held: Held,
 }
 
-impl KeptOptions {
-    /// The options with a copy of their strong token.
-    fn new(alloc: Global, options: Options<'_>) -> Result<KeptOptions, AllocError>
-        ensures { IfOk result (λ kept. options_kept kept ≡ options_view options.entry) }
-    {
-        Ok(KeptOptions {
-            newlines_after_headline: options.newlines_after_headline,
-            newlines_after_paragraph: options.newlines_after_paragraph,
-            newlines_after_codeblock: options.newlines_after_codeblock,
-            newlines_after_htmlblock: options.newlines_after_htmlblock,
-            newlines_after_table: options.newlines_after_table,
-            newlines_after_rule: options.newlines_after_rule,
-            newlines_after_list: options.newlines_after_list,
-            newlines_after_blockquote: options.newlines_after_blockquote,
-            newlines_after_rest: options.newlines_after_rest,
-            newlines_after_metadata: options.newlines_after_metadata,
-            code_block_token_count: options.code_block_token_count,
-            code_block_token: options.code_block_token,
-            list_token: options.list_token,
-            ordered_list_token: options.ordered_list_token,
-            increment_ordered_list_bullets: options.increment_ordered_list_bullets,
-            emphasis_token: options.emphasis_token,
-            strong_token: String::from_str(alloc, options.strong_token)?,
-            use_html_for_super_sub_script: options.use_html_for_super_sub_script,
-        })
+impl<R: fmt::Debug> fmt::Debug for State<R> {
+    fn fmt<W: fmt::Write>(&self, f: &mut fmt::Formatter<W>) -> fmt::Result {
+        f.debug_struct("State")
+            .field("reader", &self.reader)
+            .field("status", &self.status)
+            .finish_non_exhaustive()
     }
+}
 
-    /// The options.
-    fn options(&self) -> Options<'_>
-        ensures { options_view result ≡ options_kept self.now }
-    {
-        Options {
-            newlines_after_headline: self.newlines_after_headline,
-            newlines_after_paragraph: self.newlines_after_paragraph,
-            newlines_after_codeblock: self.newlines_after_codeblock,
-            newlines_after_htmlblock: self.newlines_after_htmlblock,
-            newlines_after_table: self.newlines_after_table,
-            newlines_after_rule: self.newlines_after_rule,
-            newlines_after_list: self.newlines_after_list,
-            newlines_after_blockquote: self.newlines_after_blockquote,
-            newlines_after_rest: self.newlines_after_rest,
-            newlines_after_metadata: self.newlines_after_metadata,
-            code_block_token_count: self.code_block_token_count,
-            code_block_token: self.code_block_token,
-            list_token: self.list_token,
-            ordered_list_token: self.ordered_list_token,
-            increment_ordered_list_bullets: self.increment_ordered_list_bullets,
-            emphasis_token: self.emphasis_token,
-            strong_token: self.strong_token.as_str(),
-            use_html_for_super_sub_script: self.use_html_for_super_sub_script,
-        }
-    }
+/// The options with a copy of their strong token.
+fn owned_options(alloc: Global, options: Options<'_>) -> Result<OptionsOf<String>, AllocError>
+    ensures { IfOk result (λ kept. owned_options_view kept ≡ options_view options.entry) }
+{
+    let strong_token = String::from_str(alloc, options.strong_token)?;
+    Ok(options.with_token(strong_token))
+}
+
+/// The options with their strong token lent.
+fn lent_options(options: &OptionsOf<String>) -> Options<'_>
+    ensures { options_view result ≡ owned_options_view options.now }
+{
+    options.with_token(options.strong_token.as_str())
 }
 
 /// Opens or ends a container.
@@ -302,7 +266,7 @@ where
     W: Taker,
     requires can { I.can_next events }
     requires ends { IsFinite (I.remaining events) }
-    ensures { (xs : List (Bor (EventOf CowStr))) × DrainsIf I.next_gives (IsOk result) events xs
+    ensures { (xs : List (Bor ParserEvent)) × DrainsIf I.next_gives (IsOk result) events xs
         × ((source : List ℕ) → Makes W.takes W.refuses writer.old writer.new result (standing_of held.new) (walk (rendering_with R.reading tools.now) source (standing_of held.old) (pairs xs)))
         × ((source : List ℕ) → IfOk result (λ p. Counts p (length xs) (sum_by length (walk (rendering_with R.reading tools.now) source (standing_of held.old) (pairs xs)).texts))) }
 {
@@ -400,7 +364,7 @@ where
     W: Taker,
     requires can { I.can_next pairs }
     requires ends { IsFinite (I.remaining pairs) }
-    ensures { (xs : List (Bor (EventOf CowStr) × Option Range)) × DrainsIf I.next_gives (IsOk result) pairs xs
+    ensures { (xs : List (Bor ParserEvent × Option Range)) × DrainsIf I.next_gives (IsOk result) pairs xs
         × Makes W.takes W.refuses writer.old writer.new result (standing_of held.new) (walk (rendering_with R.reading tools.now) source.now (standing_of held.old) (ranged_pairs xs))
         × IfOk result (λ p. Counts p (length xs) (sum_by length (walk (rendering_with R.reading tools.now) source.now (standing_of held.old) (ranged_pairs xs)).texts)) }
 {
@@ -450,7 +414,7 @@ impl<R: Reader + Drop> State<R> {
     ghost use Rattle.std.specs.Prelude.{IfErr};
     ghost use Rattle.tocmark_event.specs.declared.event.flags.ParserOptions.{ParserOptions};
     ghost use Rattle.tocmark.specs.Ranges.{Pair};
-    ghost use Rattle.tocmark.specs.StateView.{Stands, IsActive, IsFailed, IsFinished};
+    ghost use Rattle.tocmark.specs.StateView.{Stands, IsActive, IsFailed, IsFinished, place_of, status_of};
 
     /// A state that took no event. The options aren't checked. An `Err` says that memory ran out for
     /// a copy of the strong token; the reader is dropped then.
@@ -464,7 +428,7 @@ impl<R: Reader + Drop> State<R> {
         ensures same { IfOk result (λ state. rendering_of R.reading state ≡ rendering (options_view options.entry) (R.reading reader)) }
         ensures refused { IfErr result (λ e. e ≡ Error.OutOfMemory) }
     {
-        let options = KeptOptions::new(alloc, options)?;
+        let options = owned_options(alloc, options)?;
         Ok(State {
             alloc,
             reader,
@@ -507,14 +471,14 @@ impl<R: Reader + Drop> State<R> {
     pub fn process<'a, I, W>(&mut self, events: I, writer: &mut W) -> Result<Progress, Error>
     where
         I: IntoIterator<Item = &'a Event<'a>>,
-        W: fmt::Write,
+        W: Taker,
         requires { (it : I.IntoIter) → I.into_iter_gives events it → I.IntoIter.can_next it × IsFinite (I.IntoIter.remaining it) }
-        ensures active { IsActive self.old → (it : I.IntoIter) × (xs : List (Bor (EventOf CowStr))) × I.into_iter_gives events it
+        ensures active { IsActive self.old → (it : I.IntoIter) × (xs : List (Bor ParserEvent)) × I.into_iter_gives events it
             × DrainsIf I.IntoIter.next_gives (IsOk result) it xs
             × ((flags : ParserOptions) (source : List ℕ) (p : List Pair) → Stands R.reading flags source self.old p →
-            Adds W.write_str_gives writer.old writer.new (rendering_of R.reading self.old) flags source result self.new.held p (pairs xs)) }
+            Adds W.takes W.refuses writer.old writer.new (rendering_of R.reading self.old) flags source result (place_of self.new) p (pairs xs)) }
         ensures same { rendering_of R.reading self.new ≡ rendering_of R.reading self.old }
-        ensures stands { OnOk result (self.new.status ≡ self.old.status) }
+        ensures stands { OnOk result (status_of self.new ≡ status_of self.old) }
         ensures refused { OnErr result (IsFailed self.new) }
         ensures finished { IsFinished self.old → (result ≡ Err Error.Finished) × (writer.new ≡ writer.old) }
         ensures failed { IsFailed self.old → (result ≡ Err Error.Failed) × (writer.new ≡ writer.old) }
@@ -525,7 +489,7 @@ impl<R: Reader + Drop> State<R> {
                 let tools = Tools {
                     alloc: self.alloc,
                     reader: &self.reader,
-                    options: self.options.options(),
+                    options: lent_options(&self.options),
                 };
                 match take_all(&tools, &mut self.held, events, writer) {
                     Ok(progress) => Ok(progress),
@@ -545,6 +509,22 @@ impl<R: Reader + Drop> State<R> {
     ///
     /// An `Err` is as in `process`, or `InvalidSourceRange`, before anything else is looked at: a range
     /// is reversed, ends past the source or isn't on character boundaries.
+    ///
+    /// ```
+    /// let source = "a &gt; b";
+    /// let pairs = [
+    ///     (&Event::Start(Tag::Paragraph), Some((0, 8))),
+    ///     (&Event::Text("a ".into()), Some((0, 2))),
+    ///     (&Event::Text(">".into()), Some((2, 6))),
+    ///     (&Event::Text(" b".into()), Some((6, 8))),
+    ///     (&Event::End(TagEnd::Paragraph), Some((0, 8))),
+    /// ];
+    /// let mut output = String::new(alloc);
+    /// let mut state = State::new(alloc, CoreReader, ParserOptions::empty(), Options::default())?;
+    /// state.process_with_source_range(pairs, source, &mut output)?;
+    /// state.finish(&mut output)?;
+    /// assert_eq!(rt; output.as_str(), source);
+    /// ```
     pub fn process_with_source_range<'a, I, W>(
         &mut self,
         pairs: I,
@@ -553,14 +533,14 @@ impl<R: Reader + Drop> State<R> {
     ) -> Result<Progress, Error>
     where
         I: IntoIterator<Item = (&'a Event<'a>, Option<(usize, usize)>)>,
-        W: fmt::Write,
+        W: Taker,
         requires { (it : I.IntoIter) → I.into_iter_gives pairs it → I.IntoIter.can_next it × IsFinite (I.IntoIter.remaining it) }
-        ensures active { IsActive self.old → (it : I.IntoIter) × (xs : List (Bor (EventOf CowStr) × Option Range)) × I.into_iter_gives pairs it
+        ensures active { IsActive self.old → (it : I.IntoIter) × (xs : List (Bor ParserEvent × Option Range)) × I.into_iter_gives pairs it
             × DrainsIf I.IntoIter.next_gives (IsOk result) it xs
             × ((flags : ParserOptions) (p : List Pair) → Stands R.reading flags source.now self.old p →
-            Adds W.write_str_gives writer.old writer.new (rendering_of R.reading self.old) flags source.now result self.new.held p (ranged_pairs xs)) }
+            Adds W.takes W.refuses writer.old writer.new (rendering_of R.reading self.old) flags source.now result (place_of self.new) p (ranged_pairs xs)) }
         ensures same { rendering_of R.reading self.new ≡ rendering_of R.reading self.old }
-        ensures stands { OnOk result (self.new.status ≡ self.old.status) }
+        ensures stands { OnOk result (status_of self.new ≡ status_of self.old) }
         ensures refused { OnErr result (IsFailed self.new) }
         ensures finished { IsFinished self.old → (result ≡ Err Error.Finished) × (writer.new ≡ writer.old) }
         ensures failed { IsFailed self.old → (result ≡ Err Error.Failed) × (writer.new ≡ writer.old) }
@@ -571,7 +551,7 @@ impl<R: Reader + Drop> State<R> {
                 let tools = Tools {
                     alloc: self.alloc,
                     reader: &self.reader,
-                    options: self.options.options(),
+                    options: lent_options(&self.options),
                 };
                 match take_all_ranged(&tools, &mut self.held, pairs, source, writer) {
                     Ok(progress) => Ok(progress),
@@ -589,9 +569,9 @@ impl<R: Reader + Drop> State<R> {
     /// On a finished state it answers zeros and hands nothing; it takes no memory then. An `Err` is
     /// `UnexpectedEvent` where a container is open, `Failed` after another error (no memory is taken
     /// for it), and else as in `process`; every later call answers `Failed`.
-    pub fn finish<W: fmt::Write>(&mut self, writer: &mut W) -> Result<Progress, Error>
+    pub fn finish<W: Taker>(&mut self, writer: &mut W) -> Result<Progress, Error>
         ensures active { (flags : ParserOptions) (source : List ℕ) (p : List Pair) → Stands R.reading flags source self.old p →
-            Ends W.write_str_gives writer.old writer.new (rendering_of R.reading self.old) flags source result p }
+            Ends W.takes W.refuses writer.old writer.new (rendering_of R.reading self.old) flags source result p }
         ensures same { rendering_of R.reading self.new ≡ rendering_of R.reading self.old }
         ensures ok { OnOk result (IsFinished self.new) }
         ensures refused { OnErr result (IsFailed self.new) }
@@ -603,7 +583,7 @@ impl<R: Reader + Drop> State<R> {
                 let tools = Tools {
                     alloc: self.alloc,
                     reader: &self.reader,
-                    options: self.options.options(),
+                    options: lent_options(&self.options),
                 };
                 match end(&tools, &mut self.held, writer) {
                     Ok(bytes_written) => {
@@ -668,16 +648,16 @@ impl Held {
 }
 
 impl<R: Clone> State<R> {
+    ghost use Rattle.tocmark.specs.StateView.{SameStanding, reader_of};
+
     /// A state that stands where this one does, with the same options and flags and a clone of the
     /// reader. An `Err` says that memory ran out. This state stays as it is.
     pub fn clone(&self) -> Result<State<R>, AllocError>
-        ensures status { IfOk result (λ copy. copy.status ≡ self.now.status) }
-        ensures options { IfOk result (λ copy. options_kept copy.options ≡ options_kept self.now.options) }
-        ensures standing { IfOk result (λ copy. standing_of copy.held ≡ standing_of self.now.held) }
-        ensures reader { IfOk result (λ copy. R.is_clone self.now.reader copy.reader) }
+        ensures same { IfOk result (λ copy. SameStanding self.now copy) }
+        ensures reader { IfOk result (λ copy. R.is_clone (reader_of self.now) (reader_of copy)) }
     {
         let reader = self.reader.clone()?;
-        let options = KeptOptions::new(self.alloc, self.options.options())?;
+        let options = owned_options(self.alloc, lent_options(&self.options))?;
         let held = self.held.copied(self.alloc)?;
         Ok(State {
             alloc: self.alloc,

@@ -3,10 +3,8 @@
 ghost use Rattle.std.specs.Prelude.{◌≡◌, ◌++◌, false, Bool, List, [], ◌∷◌, ℕ, map};
 ghost use Rattle.std.specs.Borrow.{Bor};
 ghost use Rattle.std.specs.Iterator.{IsFinite, Drains};
-ghost use Rattle.tocmark_event.specs.Text.{text_of};
+ghost use Rattle.tocmark_event.specs.Text.{ParserEvent, text_of};
 ghost use Rattle.tocmark_event.specs.View.{EventView, event_view};
-ghost use Rattle.tocmark_event.specs.declared.event.EventOf.{EventOf};
-ghost use Rattle.tocmark_event.specs.declared.event.text.CowStr.{CowStr};
 ghost use Rattle.tocmark.specs.StateView.{at_most};
 ghost use Rattle.tocmark.specs.TokenCount.{code_in, count_beyond, longest_token_run, token_count};
 ghost use Rattle.tocmark.specs.SeenTokens.{onward, with_text, with_events};
@@ -118,7 +116,7 @@ where
     I: Iterator<Item = &'a Event<'a>>,
     requires can { I.can_next events }
     requires ends { IsFinite (I.remaining events) }
-    ensures { (xs : List (Bor (EventOf CowStr))) × Drains I.next_gives events xs
+    ensures { (xs : List (Bor ParserEvent)) × Drains I.next_gives events xs
         × (result ≡ at_most (longest_token_run (code_in false (map (λ x. event_view text_of x.now) xs)))) }
 {
     let none = Runs {
@@ -159,7 +157,7 @@ fn count_beyond(run: usize) -> Option<usize>
 /// ```
 /// let code = [
 ///     Event::Start(Tag::CodeBlock(CodeBlockKind::Indented)),
-///     Event::Text(CowStr::Borrowed("```")),
+///     Event::Text("```".into()),
 ///     Event::End(TagEnd::CodeBlock),
 /// ];
 /// assert_eq!(rt; calculate_code_block_token_count(code.iter()), Some(4));
@@ -168,7 +166,7 @@ pub fn calculate_code_block_token_count<'a, I>(events: I) -> Option<usize>
 where
     I: IntoIterator<Item = &'a Event<'a>>,
     requires { (it : I.IntoIter) → I.into_iter_gives events it → I.IntoIter.can_next it × IsFinite (I.IntoIter.remaining it) }
-    ensures { (it : I.IntoIter) × (xs : List (Bor (EventOf CowStr))) × I.into_iter_gives events it
+    ensures { (it : I.IntoIter) × (xs : List (Bor ParserEvent)) × I.into_iter_gives events it
         × Drains I.IntoIter.next_gives it xs
         × (result ≡ token_count (map (λ x. event_view text_of x.now) xs)) }
 {

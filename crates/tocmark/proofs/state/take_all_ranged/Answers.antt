@@ -3,8 +3,7 @@ use Rattle.std.proofs.iter.Next.{Yields-more}
 use Rattle.std.proofs.lemmas.List.{length-append}
 use Rattle.std.proofs.lemmas.Result.{err_from_is_err_and}
 use Rattle.std.specs.Borrow.{Bor}
-use Rattle.tocmark_event.specs.declared.event.EventOf.{EventOf}
-use Rattle.tocmark_event.specs.declared.event.text.CowStr.{CowStr}
+use Rattle.tocmark_event.specs.Text.{ParserEvent}
 use Rattle.tocmark.specs.Ranges.{Range}
 use Rattle.std.proofs.Common.{Option}
 use Rattle.tocmark.specs.StateView.{standing_of, ranged_pairs, rendering_with}
@@ -21,7 +20,7 @@ loop-event-preserved g c =
     let s = standing_of c.args.held.now in
     let t = standing_of c.loop-event.held in
     let ys = c.loop-event.yielded in
-    let y : Bor (EventOf CowStr) × Option Range = (c.in-Some.event, c.in-Some.range) in
+    let y : Bor ParserEvent × Option Range = (c.in-Some.event, c.in-Some.range) in
     let m = Makes-ranged {X = ℕ} g.W.Taker.takes g.W.Taker.refuses c.args.writer.now c.loop-event.writer c.take_ranged.new.writer (Ok c.in_ok-written.written) (standing_of c.take_ranged.new.held) how source s t ys y i.2 i.3 c.in_ok-written.ensures.made in (
       search rules,
       search rules,
@@ -40,7 +39,7 @@ returns-in_err-written g c =
     let s = standing_of c.args.held.now in
     let t = standing_of c.loop-event.held in
     let ys = c.loop-event.yielded in
-    let y : Bor (EventOf CowStr) × Option Range = (c.in-Some.event, c.in-Some.range) in
+    let y : Bor ParserEvent × Option Range = (c.in-Some.event, c.in-Some.range) in
     rw (q.1, q.2) (
       ys ++ y ∷ [],
       (c.next.new.self, rw (← c.into_iter-event-iterator.ensures.into_iter_gives) (Yields-more g.I.Iterator.next_gives c.into_iter-event-iterator.result ys c.loop-event.event-iterator y c.next.new.self c.loop-event.yielded_by c.in-Some.ensures.steps), λ h. no_ok h),

@@ -1,10 +1,10 @@
 use Rattle.std.proofs.Common.{Err}
-use Rattle.tocmark_event.specs.Options.{options_view}
-use Rattle.tocmark.specs.StateView.{options_kept, standing_of}
+use Rattle.tocmark_event.specs.Options.{options_view, owned_options_view}
+use Rattle.tocmark.specs.StateView.{standing_of}
 use Rattle.tocmark.proofs.Runs.{Ends-with}
 use Rattle.tocmark.proofs.state.State.finish.Goals as goal
 
 pub returns-in-Err-clause-active : goal.returns-in-Err-clause-active
 returns-in-Err-clause-active g c flags source p h =
     rw c.failed.ensures.error
-    (Ends-with g.W.Write.write_str_gives c.args.writer.now c.end.new.writer (options_kept c.args.self.now.options) (options_view c.options.result) (g.R.Reader.reading c.args.self.now.reader) flags source (Err c.in-Err.refusal) p (standing_of c.args.self.now.held) c.options.ensures h.standing c.in-Err.ensures.made tt)
+    (Ends-with g.W.Taker.takes g.W.Taker.refuses c.args.writer.now c.end.new.writer (owned_options_view c.args.self.now.options) (options_view c.lent_options.result) (g.R.Reader.reading c.args.self.now.reader) flags source (Err c.in-Err.refusal) p (standing_of c.args.self.now.held) c.lent_options.ensures h.standing c.in-Err.ensures.made tt)

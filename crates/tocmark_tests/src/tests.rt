@@ -2,17 +2,17 @@
 
 ghost use Rattle.std.specs.Prelude.{[]};
 
-use crate::event::{CodeBlockKind, CowStr, Event, ParserOptions, Tag, TagEnd};
-use crate::reader::{Reader, Reading};
-use crate::{
-    DEFAULT_CODE_BLOCK_TOKEN_COUNT, Error, Options, Progress, SUPPORTED_PARSER_OPTIONS, State,
-    calculate_code_block_token_count, cmark, cmark_with_options, cmark_with_source_range,
-    cmark_with_source_range_and_options,
-};
 use std::alloc::{AllocError, Global};
 use std::fmt;
 use std::process::Abort;
 use std::test::Fail;
+use tocmark::event::{CodeBlockKind, CowStr, Event, ParserOptions, Tag, TagEnd};
+use tocmark::reader::{Reader, Reading};
+use tocmark::{
+    DEFAULT_CODE_BLOCK_TOKEN_COUNT, Error, Options, Progress, SUPPORTED_PARSER_OPTIONS, State,
+    calculate_code_block_token_count, cmark, cmark_with_options, cmark_with_source_range,
+    cmark_with_source_range_and_options,
+};
 
 /// A reader that finds nothing in any text.
 #[derive(Clone, Debug, Drop)]
