@@ -7,10 +7,10 @@ use Rattle.ucd_table.specs.Rows.{value_in}
 use Rattle.ucd_case.specs.FullFoldingRows.{full_folding_rows}
 use Rattle.ucd_case.specs.CaseFolding.{full_folding}
 use Rattle.caseless.specs.Caseless.{default_case_fold}
-use Rattle.tocmark_spelling.specs.Characters.{is_alphanumeric}
-use Rattle.tocmark_spelling.specs.Escape.{coded, reference, ends_line, is_marker, doubles_backslash, opens_label, is_read_as_marker, needs_backslash, with_backslash, written, escaped}
-use Rattle.tocmark_spelling.specs.Destination.{destination, title}
-use Rattle.tocmark_spelling.specs.Leaves.{padding, span, code_span}
+use Rattle.tocmark_escape.specs.Characters.{is_alphanumeric}
+use Rattle.tocmark_escape.specs.Escape.{coded, reference, ends_line, is_marker, doubles_backslash, opens_label, is_read_as_marker, needs_backslash, with_backslash, written, escaped}
+use Rattle.tocmark_escape.specs.Destination.{destination, title}
+use Rattle.tocmark_escape.specs.Leaves.{padding, span, code_span}
 use Rattle.tocmark_spelling.specs.ById.{by_id}
 use Rattle.tocmark_spelling.specs.Edges.{is_boundary}
 use Rattle.tocmark_spelling.specs.Runs.{prefers_underscore}

@@ -8,3 +8,9 @@ pub mod EdgesOfDelimiters
 pub mod EdgesOfLinks
 pub mod EdgesOfBlocks
 pub mod Manners
+pub mod RulesOfGaps
+pub mod RulesOfTexts
+pub mod RulesOfBlocks
+pub mod RulesOfManners
+pub mod Refusals
+pub mod RulesOfLetters

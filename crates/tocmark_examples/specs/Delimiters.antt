@@ -12,6 +12,7 @@ abbrev pub emphasis_in_paragraph : Row
 emphasis_in_paragraph = record {
   setting = setting default_options 0
       ((
+        0,
         (codes "a *b*"),
         reading_of
             (Start Paragraph
@@ -35,8 +36,9 @@ emphasis_in_word = record {
   setting = setting
       (record default_options { emphasis_token = 95 })
       0
-      (((codes "a_b_c"), reading_of (Start Paragraph ∷ Leaf (Text (codes "a_b_c")) ∷ End end.Paragraph ∷ []) [] [])
+      ((0, (codes "a_b_c"), reading_of (Start Paragraph ∷ Leaf (Text (codes "a_b_c")) ∷ End end.Paragraph ∷ []) [] [])
       ∷ (
+        0,
         (codes "a*b*c"),
         reading_of
             (Start Paragraph
@@ -60,6 +62,7 @@ abbrev pub neighbouring_emphasis : Row
 neighbouring_emphasis = record {
   setting = setting default_options 0
       ((
+        0,
         (codes "*a**b*"),
         reading_of
             (Start Paragraph ∷ Start Emphasis ∷ Leaf (Text (codes "a**b")) ∷ End end.Emphasis ∷ End end.Paragraph ∷ [])
@@ -67,6 +70,7 @@ neighbouring_emphasis = record {
             [],
       )
       ∷ (
+        0,
         (codes "*a*_b_"),
         reading_of
             (Start Paragraph
@@ -91,6 +95,7 @@ abbrev pub nested_emphasis : Row
 nested_emphasis = record {
   setting = setting default_options 0
       ((
+        0,
         (codes "*_a_*"),
         reading_of
             (Start Paragraph
@@ -113,7 +118,7 @@ nested_emphasis = record {
 abbrev pub strikethrough_unread : Row
 strikethrough_unread = record {
   setting = setting default_options 0
-      (((codes "~~a~~"), reading_of (Start Paragraph ∷ Leaf (Text (codes "~~a~~")) ∷ End end.Paragraph ∷ []) [] []) ∷ []);
+      ((0, (codes "~~a~~"), reading_of (Start Paragraph ∷ Leaf (Text (codes "~~a~~")) ∷ End end.Paragraph ∷ []) [] []) ∷ []);
   trees = node Paragraph (node Strikethrough (text (codes "a") empty) empty) empty;
   written = record { texts = []; error = Some Unrepresentable };
 }
@@ -122,7 +127,7 @@ strikethrough_unread = record {
 abbrev pub strikethrough_unvalidated : Row
 strikethrough_unvalidated = record {
   setting = setting default_options 32
-      (((codes "~~a~~"), reading_of (Start Paragraph ∷ Leaf (Text (codes "~~a~~")) ∷ End end.Paragraph ∷ []) [] []) ∷ []);
+      ((32, (codes "~~a~~"), reading_of (Start Paragraph ∷ Leaf (Text (codes "~~a~~")) ∷ End end.Paragraph ∷ []) [] []) ∷ []);
   trees = node Paragraph (node Strikethrough (text (codes "a") empty) empty) empty;
   written = wrote ((codes "~~a~~") ∷ []);
 }
@@ -134,6 +139,7 @@ html_script_unread = record {
       (record default_options { use_html_for_super_sub_script = true })
       0
       ((
+        0,
         (codes "<sup>a</sup>"),
         reading_of
             (Start Paragraph
@@ -163,6 +169,7 @@ abbrev pub emphasis_alone : Row
 emphasis_alone = record {
   setting = setting default_options 0
       ((
+        0,
         (codes "*a*"),
         reading_of
             (Start Paragraph ∷ Start Emphasis ∷ Leaf (Text (codes "a")) ∷ End end.Emphasis ∷ End end.Paragraph ∷ [])
@@ -181,14 +188,17 @@ emphasis_behind_letter = record {
       (record default_options { emphasis_token = 95 })
       0
       ((
+        0,
         (encode_utf8_all (codes "é_x_")),
         reading_of (Start Paragraph ∷ Leaf (Text (encode_utf8_all (codes "é_x_"))) ∷ End end.Paragraph ∷ []) [] [],
       )
       ∷ (
+        0,
         (encode_utf8_all (codes "é_b_")),
         reading_of (Start Paragraph ∷ Leaf (Text (encode_utf8_all (codes "é_b_"))) ∷ End end.Paragraph ∷ []) [] [],
       )
       ∷ (
+        0,
         (encode_utf8_all (codes "é*b*")),
         reading_of
             (Start Paragraph
@@ -211,6 +221,7 @@ abbrev pub emphasis_in_strong : Row
 emphasis_in_strong = record {
   setting = setting default_options 0
       ((
+        0,
         (codes "***a***"),
         reading_of
             (Start Paragraph
@@ -225,6 +236,7 @@ emphasis_in_strong = record {
             [],
       )
       ∷ (
+        0,
         (codes "**_a_**"),
         reading_of
             (Start Paragraph
@@ -247,8 +259,8 @@ emphasis_in_strong = record {
 abbrev pub space_before_closing : Row
 space_before_closing = record {
   setting = setting default_options 0
-      (((codes "*a *"), reading_of (Start Paragraph ∷ Leaf (Text (codes "*a *")) ∷ End end.Paragraph ∷ []) [] [])
-      ∷ ((codes "_a _"), reading_of (Start Paragraph ∷ Leaf (Text (codes "_a _")) ∷ End end.Paragraph ∷ []) [] [])
+      ((0, (codes "*a *"), reading_of (Start Paragraph ∷ Leaf (Text (codes "*a *")) ∷ End end.Paragraph ∷ []) [] [])
+      ∷ (0, (codes "_a _"), reading_of (Start Paragraph ∷ Leaf (Text (codes "_a _")) ∷ End end.Paragraph ∷ []) [] [])
       ∷ []);
   trees = node Paragraph (node Emphasis (text (codes "a ") empty) empty) empty;
   written = record { texts = []; error = Some Unrepresentable };
@@ -259,6 +271,7 @@ abbrev pub reader_of_underscores : Row
 reader_of_underscores = record {
   setting = setting default_options 0
       ((
+        0,
         (codes "_a_"),
         reading_of
             (Start Paragraph ∷ Start Emphasis ∷ Leaf (Text (codes "a")) ∷ End end.Emphasis ∷ End end.Paragraph ∷ [])
@@ -275,6 +288,7 @@ abbrev pub reader_of_both : Row
 reader_of_both = record {
   setting = setting default_options 0
       ((
+        0,
         (codes "*a*"),
         reading_of
             (Start Paragraph ∷ Start Emphasis ∷ Leaf (Text (codes "a")) ∷ End end.Emphasis ∷ End end.Paragraph ∷ [])
@@ -290,7 +304,7 @@ reader_of_both = record {
 abbrev pub math : Row
 math = record {
   setting = setting default_options 1024
-      (((codes "$x$"), reading_of (Start Paragraph ∷ Leaf (InlineMath (codes "x")) ∷ End end.Paragraph ∷ []) [] []) ∷ []);
+      ((1024, (codes "$x$"), reading_of (Start Paragraph ∷ Leaf (InlineMath (codes "x")) ∷ End end.Paragraph ∷ []) [] []) ∷ []);
   trees = node Paragraph (one (InlineMath (codes "x")) empty) empty;
   written = wrote ((codes "$x$") ∷ []);
 }
@@ -300,6 +314,7 @@ abbrev pub double_strikethrough : Row
 double_strikethrough = record {
   setting = setting default_options 8
       ((
+        8,
         (codes "~~~a~~~"),
         reading_of
             (Start Paragraph

@@ -69,6 +69,7 @@ abbrev pub header_math_html_footnote_reference : Row
 header_math_html_footnote_reference = record {
   setting = setting default_options 0
       ((
+        0,
         (codes "|$xxx$<bb>`c`|\n|---|"),
         reading_of
             (Start Paragraph
@@ -215,8 +216,9 @@ raw_end_in_a_definition = record {
 abbrev pub last_unit_holds_html_and_there_are_definitions : Row
 last_unit_holds_html_and_there_are_definitions = record {
   setting = setting default_options 0
-      (((codes "\n\n[a]: /u"), reading_of [] ((codes "a") ∷ []) [])
+      ((0, (codes "\n\n[a]: /u"), reading_of [] ((codes "a") ∷ []) [])
       ∷ (
+        0,
         (codes "[t][a]"),
         reading_of (Start Paragraph ∷ Leaf (Text (codes "[t][a]")) ∷ End end.Paragraph ∷ []) [] ((codes "a") ∷ []),
       )
@@ -231,8 +233,9 @@ last_unit_holds_html_and_there_are_definitions = record {
 abbrev pub last_unit_holds_code_inside_a_quote : Row
 last_unit_holds_code_inside_a_quote = record {
   setting = setting default_options 0
-      (((codes "\n\n[a]: /u"), reading_of [] ((codes "a") ∷ []) [])
+      ((0, (codes "\n\n[a]: /u"), reading_of [] ((codes "a") ∷ []) [])
       ∷ (
+        0,
         (codes "[t][a]"),
         reading_of (Start Paragraph ∷ Leaf (Text (codes "[t][a]")) ∷ End end.Paragraph ∷ []) [] ((codes "a") ∷ []),
       )
@@ -247,8 +250,9 @@ last_unit_holds_code_inside_a_quote = record {
 abbrev pub last_unit_is_code_its_own_unit_holds_a_reference : Row
 last_unit_is_code_its_own_unit_holds_a_reference = record {
   setting = setting default_options 0
-      (((codes "\n\n[a]: /u"), reading_of [] ((codes "a") ∷ []) [])
+      ((0, (codes "\n\n[a]: /u"), reading_of [] ((codes "a") ∷ []) [])
       ∷ (
+        0,
         (codes "\n > \n > ````\n > x\n > ````\n > \n > [t][a]"),
         reading_of
             (Start (BlockQuote None)
@@ -440,7 +444,7 @@ definition_list_ends_paragraph_follows = record {
 -- footnote definition ends, text follows
 abbrev pub footnote_definition_ends_text_follows : Row
 footnote_definition_ends_text_follows = record {
-  setting = setting default_options 0 (((codes "[^n]: a"), reading_of [] ((codes "^n") ∷ []) []) ∷ []);
+  setting = setting default_options 0 ((0, (codes "[^n]: a"), reading_of [] ((codes "^n") ∷ []) []) ∷ []);
   trees = node (FootnoteDefinition (codes "n"))
       (node Paragraph (text (codes "a") empty) empty)
       (text (codes "b") empty);
@@ -450,7 +454,7 @@ footnote_definition_ends_text_follows = record {
 -- footnote definition ends, rule follows
 abbrev pub footnote_definition_ends_rule_follows : Row
 footnote_definition_ends_rule_follows = record {
-  setting = setting default_options 0 (((codes "[^n]: a"), reading_of [] ((codes "^n") ∷ []) []) ∷ []);
+  setting = setting default_options 0 ((0, (codes "[^n]: a"), reading_of [] ((codes "^n") ∷ []) []) ∷ []);
   trees = node (FootnoteDefinition (codes "n")) (text (codes "a") empty) (one Rule empty);
   written = wrote ((codes "[^n]: a") ∷ (codes "---") ∷ []);
 }
@@ -480,6 +484,7 @@ abbrev pub quote_kinds : Row
 quote_kinds = record {
   setting = setting default_options 0
       ((
+        0,
         (codes "\n > [!NOTE]\n > a"),
         reading_of
             (Start (BlockQuote None)
@@ -494,6 +499,7 @@ quote_kinds = record {
             ((codes "!NOTE") ∷ []),
       )
       ∷ (
+        0,
         (codes "\n\n* > [!TIP]\n   > b"),
         reading_of
             (Start (ListOf None)

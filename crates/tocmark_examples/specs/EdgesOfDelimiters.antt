@@ -12,6 +12,7 @@ abbrev pub caret_after_an_end_of_emphasis : Row
 caret_after_an_end_of_emphasis = record {
   setting = setting default_options 0
       ((
+        0,
         (codes "*a*\\^b"),
         reading_of
             (Start Paragraph
@@ -43,8 +44,9 @@ empty_text_between_a_text_and_emphasis = record {
   setting = setting
       (record default_options { emphasis_token = 95 })
       0
-      (((codes "a_b_"), reading_of (Start Paragraph ∷ Leaf (Text (codes "a_b_")) ∷ End end.Paragraph ∷ []) [] [])
+      ((0, (codes "a_b_"), reading_of (Start Paragraph ∷ Leaf (Text (codes "a_b_")) ∷ End end.Paragraph ∷ []) [] [])
       ∷ (
+        0,
         (codes "a*b*"),
         reading_of
             (Start Paragraph
@@ -67,6 +69,7 @@ abbrev pub two_empty_texts_alone_in_a_paragraph_beside_emphasis : Row
 two_empty_texts_alone_in_a_paragraph_beside_emphasis = record {
   setting = setting default_options 0
       ((
+        0,
         (codes "*b*"),
         reading_of
             (Start Paragraph ∷ Start Emphasis ∷ Leaf (Text (codes "b")) ∷ End end.Emphasis ∷ End end.Paragraph ∷ [])
@@ -74,6 +77,7 @@ two_empty_texts_alone_in_a_paragraph_beside_emphasis = record {
             [],
       )
       ∷ (
+        0,
         (codes "_b_"),
         reading_of
             (Start Paragraph ∷ Start Emphasis ∷ Leaf (Text (codes "b")) ∷ End end.Emphasis ∷ End end.Paragraph ∷ [])
@@ -90,6 +94,7 @@ abbrev pub one_empty_text : Row
 one_empty_text = record {
   setting = setting default_options 0
       ((
+        0,
         (codes "*b*"),
         reading_of
             (Start Paragraph ∷ Start Emphasis ∷ Leaf (Text (codes "b")) ∷ End end.Emphasis ∷ End end.Paragraph ∷ [])
@@ -97,6 +102,7 @@ one_empty_text = record {
             [],
       )
       ∷ (
+        0,
         (codes "_b_"),
         reading_of
             (Start Paragraph ∷ Start Emphasis ∷ Leaf (Text (codes "b")) ∷ End end.Emphasis ∷ End end.Paragraph ∷ [])
@@ -113,6 +119,7 @@ abbrev pub runs_edges_at_the_unit_border : Row
 runs_edges_at_the_unit_border = record {
   setting = setting default_options 0
       ((
+        0,
         (codes "*b*"),
         reading_of
             (Start Paragraph ∷ Start Emphasis ∷ Leaf (Text (codes "b")) ∷ End end.Emphasis ∷ End end.Paragraph ∷ [])
@@ -131,6 +138,7 @@ preferred_underscore_at_the_unit_border = record {
       (record default_options { emphasis_token = 95 })
       0
       ((
+        0,
         (codes "_b_"),
         reading_of
             (Start Paragraph ∷ Start Emphasis ∷ Leaf (Text (codes "b")) ∷ End end.Emphasis ∷ End end.Paragraph ∷ [])
@@ -147,6 +155,7 @@ abbrev pub literal_run_inside_strong : Row
 literal_run_inside_strong = record {
   setting = setting default_options 0
       ((
+        0,
         (codes "**a*b*c\\***"),
         reading_of
             (Start Paragraph
@@ -175,6 +184,7 @@ abbrev pub literal_marker_before_an_opening : Row
 literal_marker_before_an_opening = record {
   setting = setting default_options 0
       ((
+        0,
         (codes "\\**a*b"),
         reading_of
             (Start Paragraph
@@ -198,6 +208,7 @@ abbrev pub emphasis_over_a_break : Row
 emphasis_over_a_break = record {
   setting = setting default_options 0
       ((
+        0,
         (codes "*a\nb*"),
         reading_of
             (Start Paragraph
@@ -221,10 +232,12 @@ abbrev pub strikethrough_in_itself_and_in_itself : Row
 strikethrough_in_itself_and_in_itself = record {
   setting = setting default_options 8
       ((
+        8,
         (codes "~~~~~~a~~~~~~"),
         reading_of (Start (CodeBlock (Fenced (codes "a~~~~~~"))) ∷ End end.CodeBlock ∷ []) [] [],
       )
       ∷ (
+        8,
         (codes "~~~~~a~~~~~"),
         reading_of (Start (CodeBlock (Fenced (codes "a~~~~~"))) ∷ End end.CodeBlock ∷ []) [] [],
       )
@@ -239,8 +252,9 @@ strikethrough_in_itself_and_in_itself = record {
 abbrev pub superscript_beside_a_word : Row
 superscript_beside_a_word = record {
   setting = setting default_options 8192
-      (((codes "a^b^c"), reading_of (Start Paragraph ∷ Leaf (Text (codes "a^b^c")) ∷ End end.Paragraph ∷ []) [] [])
+      ((8192, (codes "a^b^c"), reading_of (Start Paragraph ∷ Leaf (Text (codes "a^b^c")) ∷ End end.Paragraph ∷ []) [] [])
       ∷ (
+        8192,
         (codes "a^^b^^c"),
         reading_of (Start Paragraph ∷ Leaf (Text (codes "a^^b^^c")) ∷ End end.Paragraph ∷ []) [] [],
       )
@@ -253,7 +267,7 @@ superscript_beside_a_word = record {
 abbrev pub subscript_and_strikethrough : Row
 subscript_and_strikethrough = record {
   setting = setting default_options 16392
-      (((codes "~~~a~~~"), reading_of (Start (CodeBlock (Fenced (codes "a~~~"))) ∷ End end.CodeBlock ∷ []) [] []) ∷ []);
+      ((16392, (codes "~~~a~~~"), reading_of (Start (CodeBlock (Fenced (codes "a~~~"))) ∷ End end.CodeBlock ∷ []) [] []) ∷ []);
   trees = node Paragraph (node Strikethrough (node Subscript (text (codes "a") empty) empty) empty) empty;
   written = record { texts = []; error = Some Unrepresentable };
 }
@@ -265,6 +279,7 @@ emphasis_beside_punctuation_past_ascii = record {
       (record default_options { emphasis_token = 95 })
       0
       ((
+        0,
         (encode_utf8_all (codes "“_x_")),
         reading_of
             (Start Paragraph
@@ -278,6 +293,7 @@ emphasis_beside_punctuation_past_ascii = record {
             [],
       )
       ∷ (
+        0,
         (encode_utf8_all (codes "”_x_")),
         reading_of
             (Start Paragraph
@@ -291,6 +307,7 @@ emphasis_beside_punctuation_past_ascii = record {
             [],
       )
       ∷ (
+        0,
         (encode_utf8_all (codes "“_a_”")),
         reading_of
             (Start Paragraph
@@ -319,14 +336,17 @@ emphasis_beside_a_letter_past_ascii = record {
       (record default_options { emphasis_token = 95 })
       0
       ((
+        0,
         (encode_utf8_all (codes "é_x_")),
         reading_of (Start Paragraph ∷ Leaf (Text (encode_utf8_all (codes "é_x_"))) ∷ End end.Paragraph ∷ []) [] [],
       )
       ∷ (
+        0,
         (encode_utf8_all (codes "é_a_é")),
         reading_of (Start Paragraph ∷ Leaf (Text (encode_utf8_all (codes "é_a_é"))) ∷ End end.Paragraph ∷ []) [] [],
       )
       ∷ (
+        0,
         (encode_utf8_all (codes "é*a*é")),
         reading_of
             (Start Paragraph
@@ -355,6 +375,7 @@ emphasis_beside_a_no_break_space = record {
       (record default_options { emphasis_token = 95 })
       0
       ((
+        0,
         (encode_utf8_all (160 ∷ 95 ∷ 120 ∷ 95 ∷ [])),
         reading_of
             (Start Paragraph
@@ -368,6 +389,7 @@ emphasis_beside_a_no_break_space = record {
             [],
       )
       ∷ (
+        0,
         (encode_utf8_all (160 ∷ 95 ∷ 97 ∷ 95 ∷ [])),
         reading_of
             (Start Paragraph
@@ -390,6 +412,7 @@ abbrev pub nested_emphasis_at_both_ends : Row
 nested_emphasis_at_both_ends = record {
   setting = setting default_options 0
       ((
+        0,
         (codes "_*a*b*c*_"),
         reading_of
             (Start Paragraph
@@ -421,6 +444,7 @@ abbrev pub strong_in_emphasis_at_the_start : Row
 strong_in_emphasis_at_the_start = record {
   setting = setting default_options 0
       ((
+        0,
         (codes "***a**b*"),
         reading_of
             (Start Paragraph
@@ -445,6 +469,7 @@ abbrev pub strong_in_emphasis_at_the_end : Row
 strong_in_emphasis_at_the_end = record {
   setting = setting default_options 0
       ((
+        0,
         (codes "*b**a***"),
         reading_of
             (Start Paragraph
@@ -469,6 +494,7 @@ abbrev pub emphasis_twice_nested_in_strong : Row
 emphasis_twice_nested_in_strong = record {
   setting = setting default_options 0
       ((
+        0,
         (codes "*****a*****"),
         reading_of
             (Start Paragraph
@@ -485,6 +511,7 @@ emphasis_twice_nested_in_strong = record {
             [],
       )
       ∷ (
+        0,
         (codes "**_**a**_**"),
         reading_of
             (Start Paragraph
@@ -510,6 +537,7 @@ abbrev pub adjacent_strong_and_emphasis : Row
 adjacent_strong_and_emphasis = record {
   setting = setting default_options 0
       ((
+        0,
         (codes "**a***b***c**"),
         reading_of
             (Start Paragraph
@@ -540,6 +568,7 @@ abbrev pub emphasis_inside_a_word_in_emphasis : Row
 emphasis_inside_a_word_in_emphasis = record {
   setting = setting default_options 0
       ((
+        0,
         (codes "_a*b*c_"),
         reading_of
             (Start Paragraph
@@ -567,6 +596,7 @@ abbrev pub text_ends_with_a_backslash_before_emphasis : Row
 text_ends_with_a_backslash_before_emphasis = record {
   setting = setting default_options 0
       ((
+        0,
         (codes "a\\\\*b*"),
         reading_of
             (Start Paragraph
@@ -621,8 +651,9 @@ html_scripts = record {
 abbrev pub emphasis_without_events : Row
 emphasis_without_events = record {
   setting = setting default_options 0
-      (((codes "a**b"), reading_of (Start Paragraph ∷ Leaf (Text (codes "a**b")) ∷ End end.Paragraph ∷ []) [] [])
+      ((0, (codes "a**b"), reading_of (Start Paragraph ∷ Leaf (Text (codes "a**b")) ∷ End end.Paragraph ∷ []) [] [])
       ∷ (
+        0,
         (codes "&#97;**&#98;"),
         reading_of
             (Start Paragraph
@@ -635,6 +666,7 @@ emphasis_without_events = record {
             [],
       )
       ∷ (
+        0,
         (codes "&#97;__&#98;"),
         reading_of
             (Start Paragraph
@@ -646,7 +678,7 @@ emphasis_without_events = record {
             []
             [],
       )
-      ∷ ((codes "a__b"), reading_of (Start Paragraph ∷ Leaf (Text (codes "a__b")) ∷ End end.Paragraph ∷ []) [] [])
+      ∷ (0, (codes "a__b"), reading_of (Start Paragraph ∷ Leaf (Text (codes "a__b")) ∷ End end.Paragraph ∷ []) [] [])
       ∷ []);
   trees = node Paragraph (text (codes "a") (node Emphasis empty (text (codes "b") empty))) empty;
   written = record { texts = []; error = Some Unrepresentable };

@@ -13,8 +13,9 @@ use Rattle.tocmark_event.specs.declared.event.TagEnd.TheVariants as end
 abbrev pub references_inner_image_closes_first : Row
 references_inner_image_closes_first = record {
   setting = setting default_options 0
-      (((codes "\n\n[x]: /v\n[y]: /u"), reading_of [] ((codes "x") ∷ (codes "y") ∷ []) [])
+      ((0, (codes "\n\n[x]: /v\n[y]: /u"), reading_of [] ((codes "x") ∷ (codes "y") ∷ []) [])
       ∷ (
+        0,
         (codes "[![a][x]][y]"),
         reading_of
             (Start Paragraph ∷ Leaf (Text (codes "[![a][x]][y]")) ∷ End end.Paragraph ∷ [])
@@ -35,6 +36,7 @@ abbrev pub image_of_type_autolink_body_escaped : Row
 image_of_type_autolink_body_escaped = record {
   setting = setting default_options 0
       ((
+        0,
         (codes "![a\\*b>"),
         reading_of
             (Start Paragraph ∷ Leaf (Text (codes "![a")) ∷ Leaf (Text (codes "*b>")) ∷ End end.Paragraph ∷ [])
@@ -63,6 +65,7 @@ abbrev pub empty_destination_with_a_title_inline : Row
 empty_destination_with_a_title_inline = record {
   setting = setting default_options 0
       ((
+        0,
         (codes "[x]( \"t\")"),
         reading_of
             (Start Paragraph
@@ -84,6 +87,7 @@ abbrev pub title_ends_with_a_backslash : Row
 title_ends_with_a_backslash = record {
   setting = setting default_options 0
       ((
+        0,
         (codes "[x](/u \"a\\\\\")"),
         reading_of
             (Start Paragraph
@@ -105,6 +109,7 @@ abbrev pub heading_with_a_break_inside_a_link_by_id : Row
 heading_with_a_break_inside_a_link_by_id = record {
   setting = setting default_options 0
       ((
+        0,
         (codes "[a](cmark-label)"),
         reading_of
             (Start Paragraph
@@ -116,8 +121,9 @@ heading_with_a_break_inside_a_link_by_id = record {
             []
             [],
       )
-      ∷ ((codes "\n\n[a]: /u"), reading_of [] ((codes "a") ∷ []) [])
+      ∷ (0, (codes "\n\n[a]: /u"), reading_of [] ((codes "a") ∷ []) [])
       ∷ (
+        0,
         (codes "[a\nb][a]\n---"),
         reading_of
             (Start (Heading level.H2 None [] [])
@@ -143,6 +149,7 @@ abbrev pub collapsed_over_lines_in_a_quote_label_keeps_prefixes : Row
 collapsed_over_lines_in_a_quote_label_keeps_prefixes = record {
   setting = setting default_options 0
       ((
+        0,
         (codes "[](cmark-label)"),
         reading_of
             (Start Paragraph
@@ -154,6 +161,7 @@ collapsed_over_lines_in_a_quote_label_keeps_prefixes = record {
             [],
       )
       ∷ (
+        0,
         (codes "\n\n[a\n > b]: /u"),
         reading_of
             (Start Paragraph
@@ -169,6 +177,7 @@ collapsed_over_lines_in_a_quote_label_keeps_prefixes = record {
             [],
       )
       ∷ (
+        0,
         (codes "\n > \n > [a\n > b][]"),
         reading_of
             (Start (BlockQuote None)
@@ -196,6 +205,7 @@ abbrev pub label_with_prefixes_in_a_list_item : Row
 label_with_prefixes_in_a_list_item = record {
   setting = setting default_options 0
       ((
+        0,
         (codes "[](cmark-label)"),
         reading_of
             (Start Paragraph
@@ -206,8 +216,9 @@ label_with_prefixes_in_a_list_item = record {
             []
             [],
       )
-      ∷ ((codes "\n\n[a\n  b]: /u"), reading_of [] ((codes "a b") ∷ []) [])
+      ∷ (0, (codes "\n\n[a\n  b]: /u"), reading_of [] ((codes "a b") ∷ []) [])
       ∷ (
+        0,
         (codes "* [a\n  b]"),
         reading_of
             (Start (ListOf None)
@@ -235,6 +246,7 @@ abbrev pub unknown_reference_kinds : Row
 unknown_reference_kinds = record {
   setting = setting default_options 0
       ((
+        0,
         (codes "[t](/u)"),
         reading_of
             (Start Paragraph
@@ -258,6 +270,7 @@ abbrev pub dot_after_digits_of_a_stretch_inside_a_line : Row
 dot_after_digits_of_a_stretch_inside_a_line = record {
   setting = setting default_options 0
       ((
+        0,
         (codes "*x*1\\. a"),
         reading_of
             (Start Paragraph
@@ -297,6 +310,7 @@ abbrev pub exclamation_before_a_link_spelled_by_id : Row
 exclamation_before_a_link_spelled_by_id = record {
   setting = setting default_options 0
       ((
+        0,
         (codes "[a](cmark-label)"),
         reading_of
             (Start Paragraph
@@ -308,8 +322,9 @@ exclamation_before_a_link_spelled_by_id = record {
             []
             [],
       )
-      ∷ ((codes "\n\n[a]: /u"), reading_of [] ((codes "a") ∷ []) [])
+      ∷ (0, (codes "\n\n[a]: /u"), reading_of [] ((codes "a") ∷ []) [])
       ∷ (
+        0,
         (codes "x\\![a]"),
         reading_of
             (Start Paragraph ∷ Leaf (Text (codes "x")) ∷ Leaf (Text (codes "![a]")) ∷ End end.Paragraph ∷ [])
@@ -328,6 +343,7 @@ abbrev pub exclamation_before_a_unit_border : Row
 exclamation_before_a_unit_border = record {
   setting = setting default_options 0
       ((
+        0,
         (codes "[a](cmark-label)"),
         reading_of
             (Start Paragraph
@@ -339,8 +355,9 @@ exclamation_before_a_unit_border = record {
             []
             [],
       )
-      ∷ ((codes "\n\n[a]: /u"), reading_of [] ((codes "a") ∷ []) [])
+      ∷ (0, (codes "\n\n[a]: /u"), reading_of [] ((codes "a") ∷ []) [])
       ∷ (
+        0,
         (codes "[a]"),
         reading_of (Start Paragraph ∷ Leaf (Text (codes "[a]")) ∷ End end.Paragraph ∷ []) [] ((codes "a") ∷ []),
       )
@@ -354,6 +371,7 @@ abbrev pub emphasis_around_a_link_by_id : Row
 emphasis_around_a_link_by_id = record {
   setting = setting default_options 0
       ((
+        0,
         (codes "[a](cmark-label)"),
         reading_of
             (Start Paragraph
@@ -366,6 +384,7 @@ emphasis_around_a_link_by_id = record {
             [],
       )
       ∷ (
+        0,
         (codes "\n\n[a]: /u\n\n*[a]*b"),
         reading_of
             (Start Paragraph
@@ -380,6 +399,7 @@ emphasis_around_a_link_by_id = record {
             [],
       )
       ∷ (
+        0,
         (codes "\n\n[a]: /u\n\n*[a]*&#98;"),
         reading_of
             (Start Paragraph
@@ -394,8 +414,9 @@ emphasis_around_a_link_by_id = record {
             ((codes "a") ∷ [])
             [],
       )
-      ∷ ((codes "\n\n[a]: /u"), reading_of [] ((codes "a") ∷ []) [])
+      ∷ (0, (codes "\n\n[a]: /u"), reading_of [] ((codes "a") ∷ []) [])
       ∷ (
+        0,
         (codes "*[a]*&#98;"),
         reading_of
             (Start Paragraph
@@ -422,6 +443,7 @@ abbrev pub emphasis_whose_link_body_holds_emphasis_by_id : Row
 emphasis_whose_link_body_holds_emphasis_by_id = record {
   setting = setting default_options 0
       ((
+        0,
         (codes "[*a*](cmark-label)"),
         reading_of
             (Start Paragraph
@@ -436,6 +458,7 @@ emphasis_whose_link_body_holds_emphasis_by_id = record {
             [],
       )
       ∷ (
+        0,
         (codes "\n\n[*a*]: /u\n\n*x[*a*]y*"),
         reading_of
             (Start Paragraph
@@ -453,8 +476,9 @@ emphasis_whose_link_body_holds_emphasis_by_id = record {
             ((codes "*a*") ∷ [])
             [],
       )
-      ∷ ((codes "\n\n[*a*]: /u"), reading_of [] ((codes "*a*") ∷ []) [])
+      ∷ (0, (codes "\n\n[*a*]: /u"), reading_of [] ((codes "*a*") ∷ []) [])
       ∷ (
+        0,
         (codes "*x[*a*]y*"),
         reading_of
             (Start Paragraph
@@ -488,6 +512,7 @@ abbrev pub two_delimiter_units_with_the_same_label : Row
 two_delimiter_units_with_the_same_label = record {
   setting = setting default_options 0
       ((
+        0,
         (codes "\n\n[a]: /u\n\n*[t][a]*"),
         reading_of
             (Start Paragraph
@@ -501,8 +526,9 @@ two_delimiter_units_with_the_same_label = record {
             ((codes "a") ∷ [])
             [],
       )
-      ∷ ((codes "\n\n[a]: /u"), reading_of [] ((codes "a") ∷ []) [])
+      ∷ (0, (codes "\n\n[a]: /u"), reading_of [] ((codes "a") ∷ []) [])
       ∷ (
+        0,
         (codes "*[t][a]*"),
         reading_of
             (Start Paragraph
@@ -515,6 +541,7 @@ two_delimiter_units_with_the_same_label = record {
             ((codes "a") ∷ []),
       )
       ∷ (
+        0,
         (codes "\n\n*b*\\[a\\]"),
         reading_of
             (Start Paragraph
@@ -540,6 +567,7 @@ abbrev pub heading_break_in_the_body_of_a_link_spelled_by_its_id : Row
 heading_break_in_the_body_of_a_link_spelled_by_its_id = record {
   setting = setting default_options 0
       ((
+        0,
         (codes "[a\nb](cmark-label)"),
         reading_of
             (Start Paragraph
@@ -553,8 +581,9 @@ heading_break_in_the_body_of_a_link_spelled_by_its_id = record {
             []
             [],
       )
-      ∷ ((codes "\n\n[a\nb]: /u"), reading_of [] ((codes "a b") ∷ []) [])
+      ∷ (0, (codes "\n\n[a\nb]: /u"), reading_of [] ((codes "a b") ∷ []) [])
       ∷ (
+        0,
         (codes "[a\nb]\n---"),
         reading_of
             (Start (Heading level.H2 None [] [])
@@ -581,6 +610,7 @@ abbrev pub emphasis_only_in_the_body_of_a_link_spelled_by_its_id : Row
 emphasis_only_in_the_body_of_a_link_spelled_by_its_id = record {
   setting = setting default_options 0
       ((
+        0,
         (codes "[*a*](cmark-label)"),
         reading_of
             (Start Paragraph
@@ -595,6 +625,7 @@ emphasis_only_in_the_body_of_a_link_spelled_by_its_id = record {
             [],
       )
       ∷ (
+        0,
         (codes "\n\n[*a*]: /u\n\n[*a*]x "),
         reading_of
             (Start Paragraph
@@ -623,6 +654,7 @@ abbrev pub link_without_events : Row
 link_without_events = record {
   setting = setting default_options 0
       ((
+        0,
         (codes "[](/u)"),
         reading_of
             (Start Paragraph ∷ Start (Link link.Inline (codes "/u") [] []) ∷ End end.Link ∷ End end.Paragraph ∷ [])
@@ -639,6 +671,7 @@ abbrev pub shortcut_with_empty_id_and_no_body : Row
 shortcut_with_empty_id_and_no_body = record {
   setting = setting default_options 0
       ((
+        0,
         (codes "[](cmark-label)"),
         reading_of
             (Start Paragraph
@@ -650,10 +683,11 @@ shortcut_with_empty_id_and_no_body = record {
             [],
       )
       ∷ (
+        0,
         (codes "\n\n[]: /u"),
         reading_of (Start Paragraph ∷ Leaf (Text (codes "[]: /u")) ∷ End end.Paragraph ∷ []) [] [],
       )
-      ∷ ((codes "[]"), reading_of (Start Paragraph ∷ Leaf (Text (codes "[]")) ∷ End end.Paragraph ∷ []) [] [])
+      ∷ (0, (codes "[]"), reading_of (Start Paragraph ∷ Leaf (Text (codes "[]")) ∷ End end.Paragraph ∷ []) [] [])
       ∷ []);
   trees = node Paragraph (node (Link link.Shortcut (codes "/u") [] []) empty empty) empty;
   written = wrote ((codes "[]") ∷ (codes "\n\n[]: /u") ∷ []);
@@ -663,12 +697,14 @@ shortcut_with_empty_id_and_no_body = record {
 abbrev pub same_definition_twice_in_two_units : Row
 same_definition_twice_in_two_units = record {
   setting = setting default_options 0
-      (((codes "\n\n[a]: /u"), reading_of [] ((codes "a") ∷ []) [])
+      ((0, (codes "\n\n[a]: /u"), reading_of [] ((codes "a") ∷ []) [])
       ∷ (
+        0,
         (codes "[t][a]"),
         reading_of (Start Paragraph ∷ Leaf (Text (codes "[t][a]")) ∷ End end.Paragraph ∷ []) [] ((codes "a") ∷ []),
       )
       ∷ (
+        0,
         (codes "\n\n[t][a]"),
         reading_of (Start Paragraph ∷ Leaf (Text (codes "[t][a]")) ∷ End end.Paragraph ∷ []) [] ((codes "a") ∷ []),
       )
@@ -683,8 +719,9 @@ same_definition_twice_in_two_units = record {
 abbrev pub reference_title_and_destination_escaped_in_a_definition : Row
 reference_title_and_destination_escaped_in_a_definition = record {
   setting = setting default_options 0
-      (((codes "\n\n[k]: <a b\\<> \"x\\\"y\\\\\""), reading_of [] ((codes "k") ∷ []) [])
+      ((0, (codes "\n\n[k]: <a b\\<> \"x\\\"y\\\\\""), reading_of [] ((codes "k") ∷ []) [])
       ∷ (
+        0,
         (codes "[t][k]"),
         reading_of (Start Paragraph ∷ Leaf (Text (codes "[t][k]")) ∷ End end.Paragraph ∷ []) [] ((codes "k") ∷ []),
       )
@@ -700,6 +737,7 @@ abbrev pub autolink_in_an_image_text : Row
 autolink_in_an_image_text = record {
   setting = setting default_options 0
       ((
+        0,
         (codes "![<http://x.y>](/u)"),
         reading_of
             (Start Paragraph

@@ -38,6 +38,7 @@ abbrev pub placeholder_empty_item_list_labelled_by_another_child_one_list_open :
 placeholder_empty_item_list_labelled_by_another_child_one_list_open = record {
   setting = setting default_options 0
       ((
+        0,
         (codes "\n\n- [cmark-loose-1]: <>\n  \n  z"),
         reading_of
             (Start (ListOf None)
@@ -63,6 +64,7 @@ abbrev pub placeholder_empty_item_in_the_labelled_list_one_list : Row
 placeholder_empty_item_in_the_labelled_list_one_list = record {
   setting = setting default_options 0
       ((
+        0,
         (codes "\n\n- [cmark-loose-1]: <>\n  \n  z\n\nk"),
         reading_of
             (Start (ListOf None)
@@ -154,6 +156,7 @@ abbrev pub waiting_unit_with_delimiters : Row
 waiting_unit_with_delimiters = record {
   setting = setting default_options 0
       ((
+        0,
         (codes "* [cmark-loose-1]: <>\n  \n  a\n\n*b*"),
         reading_of
             (Start (ListOf None)
@@ -184,6 +187,7 @@ abbrev pub waiting_unit_that_cannot_be_read_back : Row
 waiting_unit_that_cannot_be_read_back = record {
   setting = setting default_options 0
       ((
+        0,
         (codes "* [cmark-loose-1]: <>\n  \n  a\n\n*b *"),
         reading_of
             (Start (ListOf None)
@@ -201,6 +205,7 @@ waiting_unit_that_cannot_be_read_back = record {
             [],
       )
       ∷ (
+        0,
         (codes "* [cmark-loose-1]: <>\n  \n  a\n\n_b _"),
         reading_of
             (Start (ListOf None)
@@ -229,6 +234,7 @@ abbrev pub waiting_unit_without_delimiters_that_cannot_be_read_back : Row
 waiting_unit_without_delimiters_that_cannot_be_read_back = record {
   setting = setting default_options 0
       ((
+        0,
         (codes "* [cmark-loose-1]: <>\n  \n  a\n\nb "),
         reading_of
             (Start (ListOf None)
@@ -315,6 +321,7 @@ abbrev pub empty_item_of_a_labelled_list_under_a_reserved_label : Row
 empty_item_of_a_labelled_list_under_a_reserved_label = record {
   setting = setting default_options 0
       ((
+        0,
         (codes "* [cmark-loose-1]: <>\n  \n  z\n\n- [cmark-loose-1]: <>\n\n > \n > a\n\nk"),
         reading_of
             (Start (ListOf None)
@@ -354,6 +361,7 @@ abbrev pub empty_item_two_lists_open_under_a_reserved_label : Row
 empty_item_two_lists_open_under_a_reserved_label = record {
   setting = setting default_options 0
       ((
+        0,
         (codes "* z\n  * [cmark-loose-1]: <>\n\nk"),
         reading_of
             (Start (ListOf None)
@@ -396,6 +404,7 @@ abbrev pub nested_list_ends_in_an_empty_item_then_indented_code : Row
 nested_list_ends_in_an_empty_item_then_indented_code = record {
   setting = setting default_options 0
       ((
+        0,
         (codes "* a\n     *    [cmark-loose-1]: <>\n  \n      x\n"),
         reading_of
             (Start (ListOf None)

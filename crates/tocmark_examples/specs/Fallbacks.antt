@@ -12,6 +12,7 @@ abbrev pub references_at_edges : Row
 references_at_edges = record {
   setting = setting default_options 0
       ((
+        0,
         (codes "a*&#32;b*"),
         reading_of
             (Start Paragraph
@@ -24,6 +25,7 @@ references_at_edges = record {
             [],
       )
       ∷ (
+        0,
         (codes "&#97;*&#32;b*"),
         reading_of
             (Start Paragraph
@@ -46,8 +48,8 @@ references_at_edges = record {
 abbrev pub no_fallback : Row
 no_fallback = record {
   setting = setting default_options 0
-      (((codes "*a *"), reading_of (Start Paragraph ∷ Leaf (Text (codes "*a *")) ∷ End end.Paragraph ∷ []) [] [])
-      ∷ ((codes "_a _"), reading_of (Start Paragraph ∷ Leaf (Text (codes "_a _")) ∷ End end.Paragraph ∷ []) [] [])
+      ((0, (codes "*a *"), reading_of (Start Paragraph ∷ Leaf (Text (codes "*a *")) ∷ End end.Paragraph ∷ []) [] [])
+      ∷ (0, (codes "_a _"), reading_of (Start Paragraph ∷ Leaf (Text (codes "_a _")) ∷ End end.Paragraph ∷ []) [] [])
       ∷ []);
   trees = node Paragraph (node Emphasis (text (codes "a ") empty) empty) empty;
   written = record { texts = []; error = Some Unrepresentable };
@@ -58,6 +60,7 @@ abbrev pub double_caret : Row
 double_caret = record {
   setting = setting default_options 8192
       ((
+        8192,
         (codes "^^a^^"),
         reading_of
             (Start Paragraph

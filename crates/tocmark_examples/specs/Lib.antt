@@ -9,3 +9,9 @@ pub mod EdgesOfDelimiters
 pub mod EdgesOfLinks
 pub mod EdgesOfBlocks
 pub mod Manners
+pub mod RulesOfGaps
+pub mod RulesOfTexts
+pub mod RulesOfBlocks
+pub mod RulesOfManners
+pub mod Refusals
+pub mod RulesOfLetters

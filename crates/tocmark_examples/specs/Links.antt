@@ -12,6 +12,7 @@ abbrev pub source_taken : Row
 source_taken = record {
   setting = setting default_options 0
       ((
+        0,
         (codes "a < b &amp; c"),
         reading_of
             (Start Paragraph
@@ -36,6 +37,7 @@ abbrev pub source_with_backslash : Row
 source_with_backslash = record {
   setting = setting default_options 0
       ((
+        0,
         (codes "a\\*b"),
         reading_of
             (Start Paragraph ∷ Leaf (Text (codes "a")) ∷ Leaf (Text (codes "*b")) ∷ End end.Paragraph ∷ [])
@@ -52,6 +54,7 @@ abbrev pub paragraph_alone_in_item : Row
 paragraph_alone_in_item = record {
   setting = setting default_options 0
       ((
+        0,
         (codes "* [cmark-loose-1]: <>\n  \n  a"),
         reading_of
             (Start (ListOf None)
@@ -75,6 +78,7 @@ abbrev pub list_waits : Row
 list_waits = record {
   setting = setting default_options 0
       ((
+        0,
         (codes "* [cmark-loose-1]: <>\n  \n  a"),
         reading_of
             (Start (ListOf None)
@@ -97,16 +101,19 @@ list_waits = record {
 abbrev pub label_of_earlier_unit : Row
 label_of_earlier_unit = record {
   setting = setting default_options 0
-      (((codes "\n\n[a]: /u"), reading_of [] ((codes "a") ∷ []) [])
+      ((0, (codes "\n\n[a]: /u"), reading_of [] ((codes "a") ∷ []) [])
       ∷ (
+        0,
         (codes "[t][a]"),
         reading_of (Start Paragraph ∷ Leaf (Text (codes "[t][a]")) ∷ End end.Paragraph ∷ []) [] ((codes "a") ∷ []),
       )
       ∷ (
+        0,
         (codes "\n\n[a]"),
         reading_of (Start Paragraph ∷ Leaf (Text (codes "[a]")) ∷ End end.Paragraph ∷ []) [] ((codes "a") ∷ []),
       )
       ∷ (
+        0,
         (codes "\n\n\\[a\\]"),
         reading_of
             (Start Paragraph ∷ Leaf (Text (codes "[a")) ∷ Leaf (Text (codes "]")) ∷ End end.Paragraph ∷ [])
@@ -124,8 +131,9 @@ label_of_earlier_unit = record {
 abbrev pub definitions_before_code : Row
 definitions_before_code = record {
   setting = setting default_options 0
-      (((codes "\n\n[a]: /u"), reading_of [] ((codes "a") ∷ []) [])
+      ((0, (codes "\n\n[a]: /u"), reading_of [] ((codes "a") ∷ []) [])
       ∷ (
+        0,
         (codes "[t][a]"),
         reading_of (Start Paragraph ∷ Leaf (Text (codes "[t][a]")) ∷ End end.Paragraph ∷ []) [] ((codes "a") ∷ []),
       )
@@ -141,6 +149,7 @@ abbrev pub inline_link : Row
 inline_link = record {
   setting = setting default_options 0
       ((
+        0,
         (codes "[t](<a b> \"x\\\"y\")"),
         reading_of
             (Start Paragraph
@@ -164,6 +173,7 @@ abbrev pub tab_in_destination : Row
 tab_in_destination = record {
   setting = setting default_options 0
       ((
+        0,
         (codes "[t](<a\tb>)"),
         reading_of
             (Start Paragraph
@@ -185,6 +195,7 @@ abbrev pub body_by_id : Row
 body_by_id = record {
   setting = setting default_options 0
       ((
+        0,
         (codes "[a](cmark-label)"),
         reading_of
             (Start Paragraph
@@ -196,8 +207,9 @@ body_by_id = record {
             []
             [],
       )
-      ∷ ((codes "\n\n[a]: /u"), reading_of [] ((codes "a") ∷ []) [])
+      ∷ (0, (codes "\n\n[a]: /u"), reading_of [] ((codes "a") ∷ []) [])
       ∷ (
+        0,
         (codes "[a][]"),
         reading_of (Start Paragraph ∷ Leaf (Text (codes "[a][]")) ∷ End end.Paragraph ∷ []) [] ((codes "a") ∷ []),
       )
@@ -211,6 +223,7 @@ abbrev pub body_not_by_id : Row
 body_not_by_id = record {
   setting = setting default_options 0
       ((
+        0,
         (codes "[a](cmark-label)"),
         reading_of
             (Start Paragraph
@@ -222,8 +235,9 @@ body_not_by_id = record {
             []
             [],
       )
-      ∷ ((codes "\n\n[a]: /u"), reading_of [] ((codes "a") ∷ []) [])
+      ∷ (0, (codes "\n\n[a]: /u"), reading_of [] ((codes "a") ∷ []) [])
       ∷ (
+        0,
         (codes "[b][a]"),
         reading_of (Start Paragraph ∷ Leaf (Text (codes "[b][a]")) ∷ End end.Paragraph ∷ []) [] ((codes "a") ∷ []),
       )
@@ -236,8 +250,9 @@ body_not_by_id = record {
 abbrev pub label_in_use : Row
 label_in_use = record {
   setting = setting default_options 0
-      (((codes "\n\n[CMARK-LOOSE-1]: /u"), reading_of [] ((codes "CMARK-LOOSE-1") ∷ []) [])
+      ((0, (codes "\n\n[CMARK-LOOSE-1]: /u"), reading_of [] ((codes "CMARK-LOOSE-1") ∷ []) [])
       ∷ (
+        0,
         (codes "[t][CMARK-LOOSE-1]"),
         reading_of
             (Start Paragraph ∷ Leaf (Text (codes "[t][CMARK-LOOSE-1]")) ∷ End end.Paragraph ∷ [])
@@ -245,6 +260,7 @@ label_in_use = record {
             ((codes "CMARK-LOOSE-1") ∷ []),
       )
       ∷ (
+        0,
         (codes "\n\n* [cmark-loose-2]: <>\n  \n  a"),
         reading_of
             (Start (ListOf None)
@@ -284,6 +300,7 @@ abbrev pub image : Row
 image = record {
   setting = setting default_options 0
       ((
+        0,
         (codes "![t](/i)"),
         reading_of
             (Start Paragraph
@@ -305,6 +322,7 @@ abbrev pub empty_id : Row
 empty_id = record {
   setting = setting default_options 0
       ((
+        0,
         (codes "[](cmark-label)"),
         reading_of
             (Start Paragraph
@@ -315,8 +333,9 @@ empty_id = record {
             []
             [],
       )
-      ∷ ((codes "\n\n[a]: /u"), reading_of [] ((codes "a") ∷ []) [])
+      ∷ (0, (codes "\n\n[a]: /u"), reading_of [] ((codes "a") ∷ []) [])
       ∷ (
+        0,
         (codes "[a][]"),
         reading_of (Start Paragraph ∷ Leaf (Text (codes "[a][]")) ∷ End end.Paragraph ∷ []) [] ((codes "a") ∷ []),
       )
@@ -329,8 +348,9 @@ empty_id = record {
 abbrev pub one_definition_for_two_links : Row
 one_definition_for_two_links = record {
   setting = setting default_options 0
-      (((codes "\n\n[a]: /u"), reading_of [] ((codes "a") ∷ []) [])
+      ((0, (codes "\n\n[a]: /u"), reading_of [] ((codes "a") ∷ []) [])
       ∷ (
+        0,
         (codes "[x][a] [y][a]"),
         reading_of
             (Start Paragraph ∷ Leaf (Text (codes "[x][a] [y][a]")) ∷ End end.Paragraph ∷ [])
@@ -350,8 +370,9 @@ one_definition_for_two_links = record {
 abbrev pub two_definitions_of_a_label : Row
 two_definitions_of_a_label = record {
   setting = setting default_options 0
-      (((codes "\n\n[a]: /u\n[a]: /v"), reading_of [] ((codes "a") ∷ []) [])
+      ((0, (codes "\n\n[a]: /u\n[a]: /v"), reading_of [] ((codes "a") ∷ []) [])
       ∷ (
+        0,
         (codes "[x][a] [y][a]"),
         reading_of
             (Start Paragraph ∷ Leaf (Text (codes "[x][a] [y][a]")) ∷ End end.Paragraph ∷ [])
@@ -372,6 +393,7 @@ abbrev pub empty_inner_item : Row
 empty_inner_item = record {
   setting = setting default_options 0
       ((
+        0,
         (codes "* a\n  * [cmark-loose-1]: <>"),
         reading_of
             (Start (ListOf None)
@@ -399,6 +421,7 @@ abbrev pub list_waits_for_all : Row
 list_waits_for_all = record {
   setting = setting default_options 0
       ((
+        0,
         (codes "* [cmark-loose-1]: <>\n  \n  a\n\nb"),
         reading_of
             (Start (ListOf None)
@@ -426,7 +449,7 @@ list_waits_for_all = record {
 abbrev pub wrong_source : Row
 wrong_source = record {
   setting = setting default_options 0
-      (((codes "a"), reading_of (Start Paragraph ∷ Leaf (Text (codes "a")) ∷ End end.Paragraph ∷ []) [] []) ∷ []);
+      ((0, (codes "a"), reading_of (Start Paragraph ∷ Leaf (Text (codes "a")) ∷ End end.Paragraph ∷ []) [] []) ∷ []);
   trees = node Paragraph (text_from (codes "a") (codes "x") empty) empty;
   written = wrote ((codes "x") ∷ []);
 }
@@ -435,7 +458,7 @@ wrong_source = record {
 abbrev pub reference_in_source : Row
 reference_in_source = record {
   setting = setting default_options 0
-      (((codes "&#38;"), reading_of (Start Paragraph ∷ Leaf (Text (codes "&")) ∷ End end.Paragraph ∷ []) [] []) ∷ []);
+      ((0, (codes "&#38;"), reading_of (Start Paragraph ∷ Leaf (Text (codes "&")) ∷ End end.Paragraph ∷ []) [] []) ∷ []);
   trees = node Paragraph (text_from (codes "&#38;") (codes "&") empty) empty;
   written = wrote ((codes "&#38;") ∷ []);
 }
@@ -445,6 +468,7 @@ abbrev pub half_a_source : Row
 half_a_source = record {
   setting = setting default_options 0
       ((
+        0,
         (codes "&amp;c"),
         reading_of
             (Start Paragraph ∷ Leaf (Text (codes "&")) ∷ Leaf (Text (codes "c")) ∷ End end.Paragraph ∷ [])
@@ -460,7 +484,7 @@ half_a_source = record {
 abbrev pub backslash_before_letter : Row
 backslash_before_letter = record {
   setting = setting default_options 0
-      (((codes "\\a"), reading_of (Start Paragraph ∷ Leaf (Text (codes "\\a")) ∷ End end.Paragraph ∷ []) [] []) ∷ []);
+      ((0, (codes "\\a"), reading_of (Start Paragraph ∷ Leaf (Text (codes "\\a")) ∷ End end.Paragraph ∷ []) [] []) ∷ []);
   trees = node Paragraph (text_from (codes "\\a") (codes "a") empty) empty;
   written = wrote ((codes "a") ∷ []);
 }
@@ -470,6 +494,7 @@ abbrev pub round_trip_by_source : Row
 round_trip_by_source = record {
   setting = setting default_options 0
       ((
+        0,
         (codes "a < b &#38; c"),
         reading_of
             (Start Paragraph
@@ -501,7 +526,7 @@ round_trip_escaped = record {
 abbrev pub unknown_reference_by_source : Row
 unknown_reference_by_source = record {
   setting = setting default_options 0
-      (((codes "&copy;"), reading_of (Start Paragraph ∷ Leaf (Text (codes "&copy;")) ∷ End end.Paragraph ∷ []) [] [])
+      ((0, (codes "&copy;"), reading_of (Start Paragraph ∷ Leaf (Text (codes "&copy;")) ∷ End end.Paragraph ∷ []) [] [])
       ∷ []);
   trees = node Paragraph (text_from (codes "&copy;") (codes "&copy;") empty) empty;
   written = wrote ((codes "&copy;") ∷ []);

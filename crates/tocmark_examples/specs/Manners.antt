@@ -2,18 +2,18 @@
 use Rattle.std.specs.Prelude.{◌≡◌, ℕ, List, [], ◌∷◌, codes, true, false, Option, Some, None}
 use Rattle.tocmark_event.specs.Forest.{empty, node}
 use Rattle.tocmark_event.specs.Options.{default_options}
-use Rattle.tocmark_event.specs.Reading.{ReadingView}
 use Rattle.tocmark_event.specs.View.{Paragraph, Emphasis, Strong}
 use Rattle.tocmark_spelling.specs.Body.{Trees}
 use Rattle.tocmark_spelling.specs.Page.{Page}
 use Rattle.tocmark_spelling.specs.Plan.{Preferred, Runs, Uniform, Shared, RuleThree, Escaped, Literal, Entities, LiteralEntities, Manner}
 use Rattle.tocmark_render.specs.Choice.{spelled}
 use Rattle.tocmark_render.specs.Document.{first_document}
-use Rattle.tocmark_examples.specs.Script.{text, setting}
+use Rattle.tocmark_examples.specs.Script.{text, setting, Readings}
 
--- an example: a table of readings, a manner, trees, and the text that they are spelled as
+-- an example: flags, a table of readings, a manner, trees, and the text that they are spelled as
 pub record Spelt : Type 0 where
-  pub table : List (List ℕ × ReadingView)
+  pub flags : ℕ
+  pub table : Readings
   pub manner : Manner
   pub trees : Trees
   pub text : List ℕ
@@ -23,7 +23,7 @@ text_of None = None
 text_of (Some p) = Some p.sheet.text
 
 abbrev pub IsSpelt : Spelt → Type 0
-IsSpelt e = text_of (spelled (setting default_options 0 e.table) first_document e.trees None e.manner) ≡ Some e.text
+IsSpelt e = text_of (spelled (setting default_options e.flags e.table) first_document e.trees None e.manner) ≡ Some e.text
 
 -- each is spelled as it says
 unfoldable pub AreSpelt : List Spelt → Type 0
@@ -33,6 +33,7 @@ AreSpelt (e ∷ es) = IsSpelt e × AreSpelt es
 -- one paragraph by the preferred plan
 abbrev pub preferred_plan : Spelt
 preferred_plan = record {
+  flags = 0;
   table = [];
   manner = record {
     plan = record { layout = Preferred; text = Escaped };
@@ -51,6 +52,7 @@ preferred_plan = record {
 -- the same by runs
 abbrev pub runs_plan : Spelt
 runs_plan = record {
+  flags = 0;
   table = [];
   manner = record {
     plan = record { layout = Runs; text = Escaped };
@@ -69,6 +71,7 @@ runs_plan = record {
 -- the same by rule of three entities
 abbrev pub rule_of_three_entities : Spelt
 rule_of_three_entities = record {
+  flags = 0;
   table = [];
   manner = record {
     plan = record { layout = RuleThree; text = Entities };
@@ -87,6 +90,7 @@ rule_of_three_entities = record {
 -- the same by rule of three literal entities
 abbrev pub rule_of_three_literal_entities : Spelt
 rule_of_three_literal_entities = record {
+  flags = 0;
   table = [];
   manner = record {
     plan = record { layout = RuleThree; text = LiteralEntities };
@@ -105,6 +109,7 @@ rule_of_three_literal_entities = record {
 -- the same by runs literal
 abbrev pub runs_literal : Spelt
 runs_literal = record {
+  flags = 0;
   table = [];
   manner = record {
     plan = record { layout = Runs; text = Literal };
@@ -123,6 +128,7 @@ runs_literal = record {
 -- the same by uniform escaped
 abbrev pub uniform_escaped : Spelt
 uniform_escaped = record {
+  flags = 0;
   table = [];
   manner = record {
     plan = record { layout = Uniform; text = Escaped };
@@ -141,6 +147,7 @@ uniform_escaped = record {
 -- the same by uniform literal
 abbrev pub uniform_literal : Spelt
 uniform_literal = record {
+  flags = 0;
   table = [];
   manner = record {
     plan = record { layout = Uniform; text = Literal };
@@ -159,6 +166,7 @@ uniform_literal = record {
 -- the same by shared escaped
 abbrev pub shared_escaped : Spelt
 shared_escaped = record {
+  flags = 0;
   table = [];
   manner = record {
     plan = record { layout = (Shared false false false); text = Escaped };
@@ -177,6 +185,7 @@ shared_escaped = record {
 -- the same by shared ends escaped
 abbrev pub shared_ends_escaped : Spelt
 shared_ends_escaped = record {
+  flags = 0;
   table = [];
   manner = record {
     plan = record { layout = (Shared true false false); text = Escaped };
@@ -195,6 +204,7 @@ shared_ends_escaped = record {
 -- the same by shared adjacent escaped
 abbrev pub shared_adjacent_escaped : Spelt
 shared_adjacent_escaped = record {
+  flags = 0;
   table = [];
   manner = record {
     plan = record { layout = (Shared false true false); text = Escaped };
@@ -213,6 +223,7 @@ shared_adjacent_escaped = record {
 -- the same by shared ends adjacent escaped
 abbrev pub shared_ends_adjacent_escaped : Spelt
 shared_ends_adjacent_escaped = record {
+  flags = 0;
   table = [];
   manner = record {
     plan = record { layout = (Shared true true false); text = Escaped };
@@ -231,6 +242,7 @@ shared_ends_adjacent_escaped = record {
 -- the same by shared entities
 abbrev pub shared_entities : Spelt
 shared_entities = record {
+  flags = 0;
   table = [];
   manner = record {
     plan = record { layout = (Shared false false false); text = Entities };
@@ -249,6 +261,7 @@ shared_entities = record {
 -- the same by shared literal
 abbrev pub shared_literal : Spelt
 shared_literal = record {
+  flags = 0;
   table = [];
   manner = record {
     plan = record { layout = (Shared false false false); text = Literal };
@@ -267,6 +280,7 @@ shared_literal = record {
 -- the same by shared ends literal
 abbrev pub shared_ends_literal : Spelt
 shared_ends_literal = record {
+  flags = 0;
   table = [];
   manner = record {
     plan = record { layout = (Shared true false false); text = Literal };
@@ -285,6 +299,7 @@ shared_ends_literal = record {
 -- the same by shared split escaped
 abbrev pub shared_split_escaped : Spelt
 shared_split_escaped = record {
+  flags = 0;
   table = [];
   manner = record {
     plan = record { layout = (Shared false false true); text = Escaped };
@@ -303,6 +318,7 @@ shared_split_escaped = record {
 -- the same by shared ends split escaped
 abbrev pub shared_ends_split_escaped : Spelt
 shared_ends_split_escaped = record {
+  flags = 0;
   table = [];
   manner = record {
     plan = record { layout = (Shared true false true); text = Escaped };
@@ -321,6 +337,7 @@ shared_ends_split_escaped = record {
 -- the same by runs with underscores
 abbrev pub runs_with_underscores : Spelt
 runs_with_underscores = record {
+  flags = 0;
   table = [];
   manner = record {
     plan = record { layout = Runs; text = Escaped };
@@ -339,6 +356,7 @@ runs_with_underscores = record {
 -- a run takes in the markers of a text beside it
 abbrev pub run_takes_in_text : Spelt
 run_takes_in_text = record {
+  flags = 0;
   table = [];
   manner = record {
     plan = record { layout = RuleThree; text = LiteralEntities };
@@ -355,6 +373,7 @@ run_takes_in_text = record {
 -- without them it is shorter
 abbrev pub run_alone : Spelt
 run_alone = record {
+  flags = 0;
   table = [];
   manner = record {
     plan = record { layout = RuleThree; text = LiteralEntities };
@@ -371,6 +390,7 @@ run_alone = record {
 -- emphasis in a word makes the emphasis around it prefer the underscore
 abbrev pub inner_disturbs : Spelt
 inner_disturbs = record {
+  flags = 0;
   table = [];
   manner = record {
     plan = record { layout = Preferred; text = Escaped };
@@ -386,6 +406,7 @@ inner_disturbs = record {
 -- the edge of an empty text is none, though another text stands before it
 abbrev pub empty_text_is_no_neighbour : Spelt
 empty_text_is_no_neighbour = record {
+  flags = 0;
   table = [];
   manner = record {
     plan = record { layout = Runs; text = Escaped };

@@ -1,5 +1,5 @@
 -- What a whole list of trees is written as, each tree a unit of its own.
-use Rattle.std.specs.Prelude.{◌≡◌, ℕ, Bool, true, false, ◌||◌, if◌then◌else◌, Option, Some, None, Ok, Err, List, [], ◌∷◌, bytes_eq, map}
+use Rattle.std.specs.Prelude.{◌≡◌, ℕ, Bool, true, false, ◌&&◌, ◌||◌, ◌==◌, if◌then◌else◌, Option, Some, None, Ok, Err, List, [], ◌∷◌, bytes_eq, map}
 use Rattle.tocmark_event.specs.Forest.{empty, leaf, node, flat}
 use Rattle.tocmark_event.specs.Options.{OptionsView}
 use Rattle.tocmark_event.specs.Reading.{ReadingView}
@@ -85,13 +85,17 @@ reading_of events defined unresolved = record { events = map (λ e. (e, (0, 0)))
 abbrev pub nothing : ReadingView
 nothing = reading_of [] [] []
 
--- a reader that knows some texts, and reads any other as nothing
-abbrev pub reads : List (List ℕ × ReadingView) → List ℕ → ReadingView
-reads [] t = nothing
-reads (r ∷ rs) t = if bytes_eq r.0 t then r.1 else reads rs t
+-- readings, each of a text under flags
+abbrev pub Readings : Type 0
+Readings = List (ℕ × List ℕ × ReadingView)
 
-abbrev pub setting : OptionsView → ℕ → List (List ℕ × ReadingView) → Setting
-setting o flags table = record { options = o; flags = flags_of flags; reading = λ t f. reads table t; label = None }
+-- a reader that knows these readings, and reads anything else as nothing
+abbrev pub reads : Readings → List ℕ → ParserOptions → ReadingView
+reads [] t f = nothing
+reads (r ∷ rs) t f = if (r.0 == f.0) && bytes_eq r.1 t then r.2 else reads rs t f
+
+abbrev pub setting : OptionsView → ℕ → Readings → Setting
+setting o flags table = record { options = o; flags = flags_of flags; reading = reads table; label = None }
 
 -- an example: a list of trees in a setting, and what it is written as
 pub record Row : Type 0 where

@@ -79,7 +79,7 @@ definition_with_paragraph = record {
 -- a footnote
 abbrev pub footnote : Row
 footnote = record {
-  setting = setting default_options 0 (((codes "[^n]: a"), reading_of [] ((codes "^n") ∷ []) []) ∷ []);
+  setting = setting default_options 0 ((0, (codes "[^n]: a"), reading_of [] ((codes "^n") ∷ []) []) ∷ []);
   trees = node (FootnoteDefinition (codes "n")) (node Paragraph (text (codes "a") empty) empty) empty;
   written = wrote ((codes "[^n]: a") ∷ []);
 }
@@ -89,6 +89,7 @@ abbrev pub mark_before_footnote_reference : Row
 mark_before_footnote_reference = record {
   setting = setting default_options 0
       ((
+        0,
         (codes "x\\![^n]"),
         reading_of
             (Start Paragraph ∷ Leaf (Text (codes "x")) ∷ Leaf (Text (codes "![^n]")) ∷ End end.Paragraph ∷ [])
@@ -115,6 +116,7 @@ abbrev pub task_list : Row
 task_list = record {
   setting = setting default_options 0
       ((
+        0,
         (codes "* [x] a"),
         reading_of
             (Start (ListOf None) ∷ Start Item ∷ Leaf (Text (codes "[x] a")) ∷ End end.Item ∷ End (end.List false) ∷ [])

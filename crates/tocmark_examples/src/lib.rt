@@ -13,6 +13,12 @@ ghost use Rattle.tocmark_examples.specs.Fallbacks.{fallbacks};
 ghost use Rattle.tocmark_examples.specs.Links.{links};
 ghost use Rattle.tocmark_examples.specs.Manners.{manners, AreSpelt};
 ghost use Rattle.tocmark_examples.specs.Tables.{tables};
+ghost use Rattle.tocmark_examples.specs.RulesOfGaps.{rules_of_gaps};
+ghost use Rattle.tocmark_examples.specs.RulesOfTexts.{rules_of_texts};
+ghost use Rattle.tocmark_examples.specs.RulesOfBlocks.{rules_of_blocks};
+ghost use Rattle.tocmark_examples.specs.RulesOfManners.{rules_of_manners};
+ghost use Rattle.tocmark_examples.specs.Refusals.{refusals, AreRefused};
+ghost use Rattle.tocmark_examples.specs.RulesOfLetters.{rules_of_letters};
 
 /// Quotes, lists, code and HTML.
 pub fn blocks_are_written()
@@ -62,4 +68,34 @@ pub fn edges_of_blocks_are_written()
 /// Paragraphs in single manners.
 pub fn manners_are_spelt()
     ensures { AreSpelt manners }
+{}
+
+/// Rules of gaps and open containers, as they show in what is written.
+pub fn rules_of_gaps_are_written()
+    ensures { AreWritten rules_of_gaps }
+{}
+
+/// Rules of escapes, destinations, titles and inline leaves, as they show in what is written.
+pub fn rules_of_texts_are_written()
+    ensures { AreWritten rules_of_texts }
+{}
+
+/// Rules of openings and closings of blocks, as they show in what is written.
+pub fn rules_of_blocks_are_written()
+    ensures { AreWritten rules_of_blocks }
+{}
+
+/// Rules of delimiters, as they show in single manners.
+pub fn rules_of_manners_are_spelt()
+    ensures { AreSpelt rules_of_manners }
+{}
+
+/// Trees for which there is no spelling.
+pub fn misplaced_trees_are_refused()
+    ensures { AreRefused refusals }
+{}
+
+/// Letters, numbers and punctuation past ASCII, beside markers.
+pub fn rules_of_letters_are_written()
+    ensures { AreWritten rules_of_letters }
 {}
