@@ -45,7 +45,17 @@ fn faults(rt: HostRuntime) {
     let input = b"\nRule \nText \"a\"\n%\nText \"b\"\n%\nReads else\n";
     let answer = "\"b\"\nOk consumed=1 written=1\n%\n";
     let faults =
-        "tocmark_script: line 2: expected the end of the line\ntocmark_script: line 8: expected End of reading\n";
+        "tocmark_script: line 2, column 5: expected the end of the line, found a space\ntocmark_script: line 7: no line End of reading stands behind this reading\n";
+    runs(&rt, &mut input.as_slice(), 1, answer, faults);
+}
+
+/// What memory can't hold is told at once, and the next script has its answer.
+#[test]
+fn wants(rt: HostRuntime) {
+    let input =
+        b"Text \"a\"*18446744073709551615\n%\nRepeat 18446744073709551615 Rule\n%\nText \"b\"\n";
+    let answer = "\"b\"\nOk consumed=1 written=1\n";
+    let faults = "tocmark_script: line 1: out of memory\ntocmark_script: line 3: out of memory\n";
     runs(&rt, &mut input.as_slice(), 1, answer, faults);
 }
 

@@ -6,7 +6,7 @@ use crate::question::answers;
 use crate::runs::run;
 use std::alloc::{AllocError, Global};
 use std::io::Write;
-use tocmark_script_lines::fault::LineFault;
+use tocmark_script_lines::fault::{LineFault, NumberedFault};
 use tocmark_script_lines::gathering::Gathering;
 use tocmark_script_lines::script::Script;
 use tocmark_script_lines::statement::statement_in_line;
@@ -54,9 +54,8 @@ impl Batch {
     }
 
     /// Writes a fault's line, and lets the script go. A line that can't be written changes nothing.
-    fn refuse<F: Write>(&mut self, faults: &mut F, fault: &LineFault) {
-        let line = self.line;
-        let _ = writeln!(faults, "tocmark_script: line {line}: {fault}");
+    fn refuse<F: Write>(&mut self, faults: &mut F, fault: NumberedFault<'_>) {
+        let _ = writeln!(faults, "tocmark_script: {fault}");
         self.gathering = None;
         self.is_right = false;
     }
@@ -72,6 +71,14 @@ impl Batch {
         }
     }
 
+    /// The number of the line at which a fault of the whole script is reported.
+    fn faulty_line(&self) -> usize {
+        match &self.gathering {
+            Some(gathering) => gathering.unclosed().unwrap_or(self.line),
+            None => self.line,
+        }
+    }
+
     /// Ends a script: writes its answer and this last line.
     fn end_script<O: Write, F: Write>(
         &mut self,
@@ -79,13 +86,21 @@ impl Batch {
         output: &mut O,
         faults: &mut F,
     ) -> Result<(), Fault> {
+        let number = self.faulty_line();
         match self.answer() {
             Ok(Some(answer)) => {
                 write_out(output, answer.as_str())?;
                 write_out(output, last)?;
             }
             Ok(None) => {}
-            Err(fault) => self.refuse(faults, &fault),
+            Err(fault) => self.refuse(
+                faults,
+                NumberedFault {
+                    number,
+                    line: "",
+                    fault,
+                },
+            ),
         }
         self.gathering = Some(Gathering::new(self.alloc));
         Ok(())
@@ -96,11 +111,19 @@ impl Batch {
             return;
         };
         let taken = match statement_in_line(self.alloc, line) {
-            Ok(statement) => gathering.take(statement),
+            Ok(statement) => gathering.take(self.line, statement),
             Err(fault) => Err(fault),
         };
+        let number = self.line;
         if let Err(fault) = taken {
-            self.refuse(faults, &fault);
+            self.refuse(
+                faults,
+                NumberedFault {
+                    number,
+                    line,
+                    fault,
+                },
+            );
         }
     }
 

@@ -67,7 +67,7 @@ fn write_merged(
 /// Whether a text is equal to its copy, lent and owned.
 fn text_has_copies(alloc: Global, text: &CowStr<'_>) -> Result<bool, AllocError> {
     let lent = CowStr::Borrowed(text.as_str());
-    let copy = lent.to_static(alloc)?;
+    let copy = CowStr::Owned(String::from_str(alloc, text.as_str())?);
     let again = copy.clone()?;
     Ok(again == lent)
 }

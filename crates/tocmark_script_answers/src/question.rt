@@ -10,13 +10,13 @@ use tocmark::core_reader::CoreReader;
 use tocmark::event::{Event, LinkType};
 use tocmark::reader::{Reader, Reading};
 use tocmark::{Error, OptionsError, State};
+use tocmark_escape::text_modifications::{
+    EscapeDestination, EscapeLinkTitle, close_link, max_consecutive_chars,
+};
 use tocmark_script_lines::event::{Events, RangedEvent, RangedEvents};
 use tocmark_script_lines::line::EventLine;
 use tocmark_script_lines::script::{Question, Script};
 use tocmark_script_lines::string::Quoted;
-use tocmark_spelling::text_modifications::{
-    EscapeDestination, EscapeLinkTitle, close_link, max_consecutive_chars,
-};
 
 /// The name of what is wrong with options, and what it speaks of.
 #[derive(Clone, Copy, Debug)]

@@ -3,7 +3,6 @@
 use crate::cursor::Cursor;
 use crate::fault::LineFault;
 use crate::names::known;
-use crate::number::split_range;
 use crate::tag::{tag, tag_end, truth};
 use std::alloc::Global;
 use std::slice::Iter;
@@ -125,7 +124,7 @@ fn end(cursor: &mut Cursor<'_>) -> Result<Event<'static>, LineFault> {
 }
 
 fn marker(cursor: &mut Cursor<'_>) -> Result<Event<'static>, LineFault> {
-    Ok(Event::TaskListMarker(truth(cursor)?))
+    Ok(Event::TaskListMarker(truth(cursor, "true (done) or false (open)")?))
 }
 
 /// The event of this name, whose parts come next.
@@ -157,13 +156,15 @@ fn ended(
     }
 }
 
-/// The event of a line with its range, or nothing where the line is no event.
-pub fn event_in_line(alloc: Global, line: &str) -> Result<Option<RangedEvent<'static>>, LineFault> {
-    let (parts, range) = split_range(line)?;
-    let mut cursor = Cursor::new(parts);
-    let name = cursor.word().unwrap_or("");
-    match known(&EVENTS, name) {
-        None => Ok(None),
-        Some(name) => ended(event_of_parts(alloc, name, &mut cursor)?, range, &cursor),
-    }
+/// The event that is all that is left of a line, with its range, or nothing where no event comes next.
+pub fn event_in_line(
+    alloc: Global,
+    line: &Cursor<'_>,
+) -> Result<Option<RangedEvent<'static>>, LineFault> {
+    let mut cursor = *line;
+    let Some(name) = known(&EVENTS, cursor.word().unwrap_or("")) else {
+        return Ok(None);
+    };
+    let range = cursor.range()?;
+    ended(event_of_parts(alloc, name, &mut cursor)?, range, &cursor)
 }

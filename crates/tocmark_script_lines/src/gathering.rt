@@ -4,12 +4,14 @@ use crate::event::RangedEvent;
 use crate::fault::LineFault;
 use crate::script::{Call, EventsQuestion, Question, Script};
 use crate::statement::Statement;
-use std::alloc::Global;
+use std::alloc::{AllocError, Global};
 use tocmark_script_reader::readers::{ReadEvents, ScriptReader, Table};
 
 /// The reading of a table whose events are being read.
 #[derive(Drop)]
 struct OpenReading<'a> {
+    /// The number of the line that it begins with.
+    line: usize,
     /// The text, or nothing for any other text.
     text: Option<String>,
     events: ReadEvents<'a>,
@@ -82,8 +84,8 @@ impl Gathering<'static> {
     }
 
     fn end_reading(&mut self) -> Result<(), LineFault> {
-        let Some(OpenReading { text, events }) = self.reading.take() else {
-            return Err(LineFault::Expected("a line that begins with Reads, before"));
+        let Some(OpenReading { text, events, .. }) = self.reading.take() else {
+            return Err(LineFault::Wrong("no line Reads stands before this End of reading"));
         };
         let mut table = self.take_table();
         match text {
@@ -112,16 +114,26 @@ impl Gathering<'static> {
         self.take_event((event.to_static(self.alloc)?, *range))
     }
 
+    /// Makes room for so many events where the next one goes.
+    fn reserve(&mut self, events: usize) -> Result<(), AllocError> {
+        match &mut self.reading {
+            Some(reading) => reading.events.reserve(events),
+            None => self.script.events.reserve(events),
+        }
+    }
+
     /// Takes so many copies of an event.
     fn take_copies(&mut self, event: &RangedEvent<'static>, times: usize) -> Result<(), LineFault> {
+        self.reserve(times)?;
         for _ in 0..times {
             self.take_copy(event)?;
         }
         Ok(())
     }
 
-    fn open_reading(&mut self, text: Option<String>) {
+    fn open_reading(&mut self, line: usize, text: Option<String>) {
         self.reading = Some(OpenReading {
+            line,
             text,
             events: Vec::new(self.alloc),
         });
@@ -138,14 +150,14 @@ impl Gathering<'static> {
         self.ask(Question::OfEvents { question, events })
     }
 
-    /// Takes a statement that stands outside of readings.
-    fn take_outside(&mut self, statement: Statement) -> Result<(), LineFault> {
+    /// Takes a statement that stands outside of readings, in the line with this number.
+    fn take_outside(&mut self, line: usize, statement: Statement) -> Result<(), LineFault> {
         match statement {
             Statement::Set(setting) => self.script.set(setting),
             Statement::Cut => self.process()?,
             Statement::Finish => self.finish()?,
             Statement::ReaderNothing => self.table = Some(self.take_table()),
-            Statement::Reads(text) => self.open_reading(text),
+            Statement::Reads(text) => self.open_reading(line, text),
             Statement::AskOfEvents(question) => self.ask_of_events(question)?,
             Statement::Ask(question) => self.ask(question)?,
             _other => {}
@@ -153,8 +165,8 @@ impl Gathering<'static> {
         Ok(())
     }
 
-    /// Takes what a line says.
-    pub fn take(&mut self, statement: Statement) -> Result<(), LineFault> {
+    /// Takes what the line with this number says.
+    pub fn take(&mut self, line: usize, statement: Statement) -> Result<(), LineFault> {
         if let Statement::Nothing = statement {
             return Ok(());
         }
@@ -163,15 +175,26 @@ impl Gathering<'static> {
             Statement::Event(event) => self.take_event(event),
             Statement::Repeat { event, times } => self.take_copies(&event, times),
             Statement::EndOfReading => self.end_reading(),
-            _ if self.reading.is_some() => Err(LineFault::Expected("an event, or End of reading")),
-            _ => self.take_outside(statement),
+            _ if self.reading.is_some() => Err(LineFault::Expected {
+                expected: "an event, or End of reading",
+                at: 0,
+            }),
+            _ => self.take_outside(line, statement),
+        }
+    }
+
+    /// The number of the line that begins a reading without an end, or nothing where each has its end.
+    pub fn unclosed(&self) -> Option<usize> {
+        match &self.reading {
+            Some(reading) => Some(reading.line),
+            None => None,
         }
     }
 
     /// Makes the calls behind the last line, and takes the table as the reader.
     fn complete(&mut self) -> Result<(), LineFault> {
         if self.reading.is_some() {
-            return Err(LineFault::Expected("End of reading"));
+            return Err(LineFault::Wrong("no line End of reading stands behind this reading"));
         }
         self.process_waiting()?;
         if !self.has_finish {

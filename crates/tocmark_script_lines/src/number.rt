@@ -1,7 +1,5 @@
 //! Numbers and ranges.
 
-use crate::fault::LineFault;
-
 fn is_decimal(word: &str) -> bool {
     for byte in word.as_bytes() {
         if !byte.is_ascii_digit() {
@@ -43,19 +41,12 @@ pub fn size(word: &str) -> Option<usize> {
     usize::try_from(decimal(word)?).ok()
 }
 
-/// A line's front and its range `a..b`, where it ends with one.
-pub fn split_range(line: &str) -> Result<(&str, Option<(usize, usize)>), LineFault> {
-    let Some((front, last)) = line.rsplit_once(' ') else {
-        return Ok((line, None));
-    };
-    let Some((start, end)) = last.split_once("..") else {
-        return Ok((line, None));
-    };
-    if !is_decimal(start) || !is_decimal(end) {
-        return Ok((line, None));
-    }
-    match (size(start), size(end)) {
-        (Some(start), Some(end)) => Ok((front, Some((start, end)))),
-        _ => Err(LineFault::Expected("a range of byte numbers below 2^64")),
+/// The two numbers in digits of a word `a..b`, or nothing where the word is no such thing.
+pub fn range_parts(word: &str) -> Option<(&str, &str)> {
+    let (start, end) = word.split_once("..")?;
+    if is_decimal(start) && is_decimal(end) {
+        Some((start, end))
+    } else {
+        None
     }
 }

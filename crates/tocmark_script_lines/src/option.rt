@@ -2,14 +2,12 @@
 
 use crate::cursor::Cursor;
 use crate::fault::LineFault;
-use crate::names::known;
 use crate::number::size;
+use crate::tag::truth;
 use std::alloc::Global;
 use tocmark_event::options::Options;
 
-const A_VALUE: &str = "a number, max, imax, true, false or a string in double quotes";
-
-const AN_OPTION: LineFault = LineFault::Expected("the name of an option, and a value of its kind");
+const A_SIZE: &str = "a decimal number below 2^64, max or imax";
 
 /// An option that is a number of line feeds or of fence characters.
 #[derive(Clone, Copy, Debug)]
@@ -43,6 +41,15 @@ pub enum TokenOption {
     Emphasis,
 }
 
+/// An option, by what it is set to.
+#[derive(Clone, Copy)]
+enum OptionName {
+    Size(SizeOption),
+    Choice(ChoiceOption),
+    Token(TokenOption),
+    StrongToken,
+}
+
 /// An option, and what it is set to.
 #[derive(Drop)]
 pub enum OptionSetting {
@@ -52,98 +59,87 @@ pub enum OptionSetting {
     StrongToken(String),
 }
 
-const SIZES: [(&str, SizeOption); 11] = [
-    ("newlines_after_headline", SizeOption::Headline),
-    ("newlines_after_paragraph", SizeOption::Paragraph),
-    ("newlines_after_codeblock", SizeOption::CodeBlock),
-    ("newlines_after_htmlblock", SizeOption::HtmlBlock),
-    ("newlines_after_table", SizeOption::Table),
-    ("newlines_after_rule", SizeOption::Rule),
-    ("newlines_after_list", SizeOption::List),
-    ("newlines_after_blockquote", SizeOption::BlockQuote),
-    ("newlines_after_rest", SizeOption::Rest),
-    ("newlines_after_metadata", SizeOption::Metadata),
-    ("code_block_token_count", SizeOption::CodeBlockToken),
-];
-
-const CHOICES: [(&str, ChoiceOption); 2] = [
+const OPTIONS: [(&str, OptionName); 18] = [
+    (
+        "newlines_after_headline",
+        OptionName::Size(SizeOption::Headline),
+    ),
+    (
+        "newlines_after_paragraph",
+        OptionName::Size(SizeOption::Paragraph),
+    ),
+    (
+        "newlines_after_codeblock",
+        OptionName::Size(SizeOption::CodeBlock),
+    ),
+    (
+        "newlines_after_htmlblock",
+        OptionName::Size(SizeOption::HtmlBlock),
+    ),
+    ("newlines_after_table", OptionName::Size(SizeOption::Table)),
+    ("newlines_after_rule", OptionName::Size(SizeOption::Rule)),
+    ("newlines_after_list", OptionName::Size(SizeOption::List)),
+    (
+        "newlines_after_blockquote",
+        OptionName::Size(SizeOption::BlockQuote),
+    ),
+    ("newlines_after_rest", OptionName::Size(SizeOption::Rest)),
+    (
+        "newlines_after_metadata",
+        OptionName::Size(SizeOption::Metadata),
+    ),
+    (
+        "code_block_token_count",
+        OptionName::Size(SizeOption::CodeBlockToken),
+    ),
     (
         "increment_ordered_list_bullets",
-        ChoiceOption::IncrementBullets,
+        OptionName::Choice(ChoiceOption::IncrementBullets),
     ),
-    ("use_html_for_super_sub_script", ChoiceOption::HtmlScripts),
+    (
+        "use_html_for_super_sub_script",
+        OptionName::Choice(ChoiceOption::HtmlScripts),
+    ),
+    (
+        "code_block_token",
+        OptionName::Token(TokenOption::CodeBlock),
+    ),
+    ("list_token", OptionName::Token(TokenOption::List)),
+    (
+        "ordered_list_token",
+        OptionName::Token(TokenOption::OrderedList),
+    ),
+    ("emphasis_token", OptionName::Token(TokenOption::Emphasis)),
+    ("strong_token", OptionName::StrongToken),
 ];
 
-const TOKENS: [(&str, TokenOption); 4] = [
-    ("code_block_token", TokenOption::CodeBlock),
-    ("list_token", TokenOption::List),
-    ("ordered_list_token", TokenOption::OrderedList),
-    ("emphasis_token", TokenOption::Emphasis),
-];
-
-/// The words that are a value and no number in digits.
-const SIZE_WORDS: [(&str, usize); 2] = [("max", usize::MAX), ("imax", 0x7FFF_FFFF_FFFF_FFFF)];
-
-const TRUTHS: [(&str, bool); 2] = [("true", true), ("false", false)];
-
-/// The one character of a text.
-pub fn only_character(text: &str) -> Result<char, LineFault> {
-    let mut chars = text.chars();
-    match (chars.next(), chars.next()) {
-        (Some(c), None) => Ok(c),
-        _ => Err(LineFault::Expected("a string of one character")),
+/// A number of line feeds or of fence characters, in digits or as a word.
+fn size_of_word(word: &str) -> Option<usize> {
+    match word {
+        "max" => Some(usize::MAX),
+        "imax" => Some(0x7FFF_FFFF_FFFF_FFFF),
+        _ => size(word),
     }
 }
 
-fn size_setting(name: &str, size: usize) -> Result<OptionSetting, LineFault> {
-    match known(&SIZES, name) {
-        Some(option) => Ok(OptionSetting::Size(option, size)),
-        None => Err(AN_OPTION),
-    }
-}
-
-fn choice_setting(name: &str, choice: bool) -> Result<OptionSetting, LineFault> {
-    match known(&CHOICES, name) {
-        Some(option) => Ok(OptionSetting::Choice(option, choice)),
-        None => Err(AN_OPTION),
-    }
-}
-
-fn text_setting(name: &str, text: String) -> Result<OptionSetting, LineFault> {
-    if name == "strong_token" {
-        return Ok(OptionSetting::StrongToken(text));
-    }
-    match known(&TOKENS, name) {
-        Some(option) => Ok(OptionSetting::Token(option, only_character(text.as_str())?)),
-        None => Err(AN_OPTION),
-    }
-}
-
-fn word_setting(name: &str, word: &str) -> Result<OptionSetting, LineFault> {
-    if let Some(choice) = known(&TRUTHS, word) {
-        return choice_setting(name, choice);
-    }
-    let number = match known(&SIZE_WORDS, word) {
-        Some(number) => Some(number),
-        None => size(word),
-    };
-    match number {
-        Some(number) => size_setting(name, number),
-        None => Err(LineFault::Expected(A_VALUE)),
+fn expect_size(cursor: &mut Cursor<'_>) -> Result<usize, LineFault> {
+    let fault = cursor.expected(A_SIZE);
+    match size_of_word(cursor.word().unwrap_or("")) {
+        Some(size) => Ok(size),
+        None => Err(fault),
     }
 }
 
 /// An option's name and its value.
 pub fn option_setting(alloc: Global, cursor: &mut Cursor<'_>) -> Result<OptionSetting, LineFault> {
-    let name = cursor.expect_word("the name of an option")?;
-    if cursor.is_at_string() {
-        let text = cursor.string(alloc)?;
-        cursor.end()?;
-        return text_setting(name, text);
+    match cursor.expect_known(&OPTIONS, "the name of an option")? {
+        OptionName::Size(option) => Ok(OptionSetting::Size(option, expect_size(cursor)?)),
+        OptionName::Choice(option) => {
+            Ok(OptionSetting::Choice(option, truth(cursor, "true or false")?))
+        }
+        OptionName::Token(option) => Ok(OptionSetting::Token(option, cursor.character(alloc)?)),
+        OptionName::StrongToken => Ok(OptionSetting::StrongToken(cursor.string(alloc)?)),
     }
-    let word = cursor.expect_word(A_VALUE)?;
-    cursor.end()?;
-    word_setting(name, word)
 }
 
 fn set_size(options: &mut Options<'_>, option: SizeOption, size: usize) {

@@ -5,15 +5,18 @@ use crate::event::{RangedEvent, event_in_line};
 use crate::fault::LineFault;
 use crate::names::known;
 use crate::number::{hexadecimal, size};
-use crate::option::{only_character, option_setting};
+use crate::option::option_setting;
 use crate::script::{EventsQuestion, Question, Setting};
 use crate::tag::link_type;
+use bitflags::Flags;
 use std::alloc::Global;
 use tocmark_event::event::ParserOptions;
 
-const FLAGS: &str = "parser flags, in at most eight hexadecimal digits";
+const FLAGS: &str = "the name of a flag, or at most eight hexadecimal digits";
 
-const A_TEXT: &str = "the number of a text, from 1";
+const A_STATEMENT: &str = "the name of an event, a statement or a question (case matters)";
+
+const A_CARRIAGE_RETURN: &str = "it ends with a carriage return, and a line feed alone ends a line";
 
 /// What is asked of the events so far, by its name.
 const EVENTS_QUESTIONS: [(&str, EventsQuestion); 4] = [
@@ -45,57 +48,88 @@ pub enum Statement {
     Ask(Question),
 }
 
-fn flags(cursor: &mut Cursor<'_>) -> Result<Setting, LineFault> {
-    match hexadecimal(cursor.expect_word(FLAGS)?) {
-        Some(bits) => Ok(Setting::Flags(ParserOptions(bits))),
-        None => Err(LineFault::Expected(FLAGS)),
+/// The bits of a flag's name, or of hexadecimal digits.
+fn bits(word: &str) -> Option<u32> {
+    match ParserOptions::from_name(word) {
+        Some(flags) => Some(flags.0),
+        None => hexadecimal(word),
     }
 }
 
+fn expect_bits(cursor: &mut Cursor<'_>) -> Result<u32, LineFault> {
+    let fault = cursor.expected(FLAGS);
+    match bits(cursor.word().unwrap_or("")) {
+        Some(bits) => Ok(bits),
+        None => Err(fault),
+    }
+}
+
+/// Flags with `|` between them. Each takes some bytes of the line.
+fn flags(cursor: &mut Cursor<'_>) -> Result<Setting, LineFault> {
+    let mut all = expect_bits(cursor)?;
+    for _ in 0..cursor.len() {
+        if cursor.is_at_end() {
+            break;
+        }
+        cursor.expect_known(&[("|", ())], "| and another flag")?;
+        all |= expect_bits(cursor)?;
+    }
+    Ok(Setting::Flags(ParserOptions(all)))
+}
+
 fn number(cursor: &mut Cursor<'_>, expected: &'static str) -> Result<usize, LineFault> {
-    match size(cursor.expect_word(expected)?) {
+    let fault = cursor.expected(expected);
+    match size(cursor.word().unwrap_or("")) {
         Some(number) => Ok(number),
-        None => Err(LineFault::Expected(expected)),
+        None => Err(fault),
     }
 }
 
 fn repeat(alloc: Global, cursor: &mut Cursor<'_>) -> Result<Statement, LineFault> {
     let times = number(cursor, "how often the event comes")?;
-    match event_in_line(alloc, cursor.rest().unwrap_or(""))? {
+    let fault = cursor.expected("an event");
+    let event = event_in_line(alloc, cursor)?;
+    cursor.pass_all();
+    match event {
         Some(event) => Ok(Statement::Repeat { event, times }),
-        None => Err(LineFault::Expected("an event")),
+        None => Err(fault),
     }
 }
 
 fn reader(cursor: &mut Cursor<'_>) -> Result<Statement, LineFault> {
-    match cursor.word() {
-        Some("nothing") => Ok(Statement::ReaderNothing),
-        _ => Err(LineFault::Expected("nothing")),
-    }
+    cursor.expect_known(&[("nothing", ())], "nothing")?;
+    Ok(Statement::ReaderNothing)
 }
 
 fn reads(alloc: Global, cursor: &mut Cursor<'_>) -> Result<Statement, LineFault> {
     if cursor.is_at_string() {
         return Ok(Statement::Reads(Some(cursor.string(alloc)?)));
     }
-    match cursor.word() {
-        Some("else") => Ok(Statement::Reads(None)),
-        _ => Err(LineFault::Expected("a string in double quotes, or else")),
-    }
+    cursor.expect_known(&[("else", ())], "a string in double quotes, or else")?;
+    Ok(Statement::Reads(None))
 }
 
 fn fail_at(cursor: &mut Cursor<'_>) -> Result<Setting, LineFault> {
-    match number(cursor, A_TEXT)? {
-        0 => Err(LineFault::Expected(A_TEXT)),
-        place => Ok(Setting::FailAt(place)),
+    let fault = cursor.expected("the number of a text, from 1");
+    match size(cursor.word().unwrap_or("")) {
+        Some(0) | None => Err(fault),
+        Some(place) => Ok(Setting::FailAt(place)),
     }
 }
 
+/// What can be escaped, by its name.
+#[derive(Clone, Copy)]
+enum Escaped {
+    Destination,
+    Title,
+}
+
+const ESCAPED: [(&str, Escaped); 2] = [("dest", Escaped::Destination), ("title", Escaped::Title)];
+
 fn escape(alloc: Global, cursor: &mut Cursor<'_>) -> Result<Question, LineFault> {
-    match cursor.word() {
-        Some("dest") => Ok(Question::EscapeDestination(cursor.string(alloc)?)),
-        Some("title") => Ok(Question::EscapeTitle(cursor.string(alloc)?)),
-        _ => Err(LineFault::Expected("dest or title")),
+    match cursor.expect_known(&ESCAPED, "dest or title")? {
+        Escaped::Destination => Ok(Question::EscapeDestination(cursor.string(alloc)?)),
+        Escaped::Title => Ok(Question::EscapeTitle(cursor.string(alloc)?)),
     }
 }
 
@@ -111,7 +145,7 @@ fn close(alloc: Global, cursor: &mut Cursor<'_>) -> Result<Question, LineFault> 
 }
 
 fn longest(alloc: Global, cursor: &mut Cursor<'_>) -> Result<Question, LineFault> {
-    let search = only_character(cursor.string(alloc)?.as_str())?;
+    let search = cursor.character(alloc)?;
     let text = cursor.string(alloc)?;
     Ok(Question::LongestRun { search, text })
 }
@@ -132,7 +166,7 @@ fn joined_strings(alloc: Global, cursor: &mut Cursor<'_>) -> Result<String, Line
 fn question(alloc: Global, name: &str, cursor: &mut Cursor<'_>) -> Result<Question, LineFault> {
     match name {
         "Validate" => Ok(Question::Validate),
-        "Count_valid" => Ok(Question::CountValid),
+        "CountValid" => Ok(Question::CountValid),
         "Special" => Ok(Question::SpecialCharacters),
         "Fault" => Ok(Question::Fault(cursor.string(alloc)?)),
         "Escape" => escape(alloc, cursor),
@@ -140,11 +174,14 @@ fn question(alloc: Global, name: &str, cursor: &mut Cursor<'_>) -> Result<Questi
         "Longest" => longest(alloc, cursor),
         "ErrorTexts" => Ok(Question::ErrorTexts),
         "Read" => Ok(Question::Read(cursor.string(alloc)?)),
-        "Read_merged" => Ok(Question::ReadMerged(cursor.string(alloc)?)),
-        "Count_read" => Ok(Question::CountRead(joined_strings(alloc, cursor)?)),
+        "ReadMerged" => Ok(Question::ReadMerged(cursor.string(alloc)?)),
+        "CountRead" => Ok(Question::CountRead(joined_strings(alloc, cursor)?)),
         "Roundtrip" => Ok(Question::Roundtrip(cursor.string(alloc)?)),
         "RoundtripSource" => Ok(Question::RoundtripSource(cursor.string(alloc)?)),
-        _ => Err(LineFault::Expected("an event, a statement or a question")),
+        _ => Err(LineFault::Expected {
+            expected: A_STATEMENT,
+            at: 0,
+        }),
     }
 }
 
@@ -205,8 +242,8 @@ fn ended(statement: Statement, cursor: &Cursor<'_>) -> Result<Statement, LineFau
 }
 
 /// What a line says that is no event.
-fn statement_without_event(alloc: Global, line: &str) -> Result<Statement, LineFault> {
-    let mut cursor = Cursor::new(line);
+fn statement_without_event(alloc: Global, line: &Cursor<'_>) -> Result<Statement, LineFault> {
+    let mut cursor = *line;
     let name = cursor.word().unwrap_or("");
     ended(statement_of_parts(alloc, name, &mut cursor)?, &cursor)
 }
@@ -216,11 +253,15 @@ pub fn statement_in_line(alloc: Global, line: &str) -> Result<Statement, LineFau
     if line.is_empty() || line.starts_with('#') || line.starts_with('>') {
         return Ok(Statement::Nothing);
     }
+    if line.ends_with('\r') {
+        return Err(LineFault::Wrong(A_CARRIAGE_RETURN));
+    }
     if line == "End of reading" {
         return Ok(Statement::EndOfReading);
     }
-    match event_in_line(alloc, line)? {
+    let cursor = Cursor::new(line);
+    match event_in_line(alloc, &cursor)? {
         Some(event) => Ok(Statement::Event(event)),
-        None => statement_without_event(alloc, line),
+        None => statement_without_event(alloc, &cursor),
     }
 }

@@ -1,11 +1,8 @@
 //! Strings in double quotes, as in JSON.
 
-use crate::fault::LineFault;
 use serde_json::Value;
 use std::alloc::{AllocError, Global};
 use std::fmt;
-
-const A_STRING: LineFault = LineFault::Expected("a string in double quotes, as in JSON");
 
 /// A text, which `{}` writes in double quotes, with escapes for quotes, backslashes and control
 /// characters.
@@ -72,21 +69,21 @@ fn literal_at_front<'a>(
     Ok(None)
 }
 
-/// The text of a string literal.
-fn text_of_literal(alloc: Global, literal: &str) -> Result<String, LineFault> {
+/// The text of a string literal, or nothing where it is none of JSON.
+fn text_of_literal(alloc: Global, literal: &str) -> Result<Option<String>, AllocError> {
     let value = match Value::from_str(alloc, literal) {
         Ok(value) => value,
-        Err(error) if error.is_memory() => return Err(LineFault::OutOfMemory),
-        Err(_error) => return Err(A_STRING),
+        Err(error) if error.is_memory() => return Err(AllocError),
+        Err(_error) => return Ok(None),
     };
     match value {
-        Value::String(text) => Ok(text),
-        _other => Err(A_STRING),
+        Value::String(text) => Ok(Some(text)),
+        _other => Ok(None),
     }
 }
 
 /// The decimal number at the front of a text, and what stands behind it.
-fn number_at_front(text: &str) -> Option<(usize, &str)> {
+pub fn number_at_front(text: &str) -> Option<(usize, &str)> {
     let mut chars = text.chars();
     let mut found = None;
     while let Some(c) = chars.next() {
@@ -102,29 +99,17 @@ fn number_at_front(text: &str) -> Option<(usize, &str)> {
     found
 }
 
-fn repeated(alloc: Global, text: &str, times: usize) -> Result<String, AllocError> {
-    let mut all = String::new(alloc);
-    if text.is_empty() {
-        return Ok(all);
-    }
-    for _ in 0..times {
-        all.push_str(text)?;
-    }
-    Ok(all)
-}
-
-/// The text of the string at the front of a text, and what stands behind it. A string is a literal, or a
-/// literal, `*` and how often it comes.
-pub fn string_at_front<'a>(alloc: Global, text: &'a str) -> Result<(String, &'a str), LineFault> {
+/// The text of the string literal at the front of a text, and what stands behind it, or nothing where none
+/// stands there.
+pub fn string_at_front<'a>(
+    alloc: Global,
+    text: &'a str,
+) -> Result<Option<(String, &'a str)>, AllocError> {
     let Some((literal, behind)) = literal_at_front(alloc, text)? else {
-        return Err(A_STRING);
+        return Ok(None);
     };
-    let once = text_of_literal(alloc, literal.as_str())?;
-    let Some(count) = behind.strip_prefix('*') else {
-        return Ok((once, behind));
-    };
-    let Some((times, behind)) = number_at_front(count) else {
-        return Err(LineFault::Expected("how often the string comes, behind *"));
-    };
-    Ok((repeated(alloc, once.as_str(), times)?, behind))
+    match text_of_literal(alloc, literal.as_str())? {
+        Some(text) => Ok(Some((text, behind))),
+        None => Ok(None),
+    }
 }

@@ -2,7 +2,6 @@
 
 use crate::cursor::Cursor;
 use crate::fault::LineFault;
-use crate::names::known;
 use crate::number::decimal;
 use std::alloc::Global;
 use tocmark_event::event::{
@@ -11,6 +10,10 @@ use tocmark_event::event::{
 };
 
 const A_TAG: &str = "the name of a tag";
+
+const AN_ALIGNMENT: &str = "a column's alignment: None, Left, Center or Right";
+
+const IS_ORDERED: &str = "true (a list of numbers) or false (one of bullets)";
 
 fn owned(text: String) -> CowStr<'static> {
     CowStr::Owned(text)
@@ -112,9 +115,9 @@ pub fn link_type(cursor: &mut Cursor<'_>) -> Result<LinkType, LineFault> {
     cursor.expect_known(&LINK_TYPES, "the type of a link")
 }
 
-/// `true` or `false`.
-pub fn truth(cursor: &mut Cursor<'_>) -> Result<bool, LineFault> {
-    cursor.expect_known(&TRUTHS, "true or false")
+/// `true` or `false`. What is expected says which means what.
+pub fn truth(cursor: &mut Cursor<'_>, expected: &'static str) -> Result<bool, LineFault> {
+    cursor.expect_known(&TRUTHS, expected)
 }
 
 /// The classes that come next. Each takes some bytes of the line.
@@ -154,39 +157,36 @@ fn heading(alloc: Global, cursor: &mut Cursor<'_>) -> Result<Tag<'static>, LineF
 }
 
 fn code_block(alloc: Global, cursor: &mut Cursor<'_>) -> Result<Tag<'static>, LineFault> {
+    let fault = cursor.expected("Indented or Fenced");
     match cursor.word() {
         Some("Indented") => Ok(Tag::CodeBlock(CodeBlockKind::Indented)),
         Some("Fenced") => {
             let info = owned(cursor.string(alloc)?);
             Ok(Tag::CodeBlock(CodeBlockKind::Fenced(info)))
         }
-        _ => Err(LineFault::Expected("Indented or Fenced")),
+        _ => Err(fault),
     }
 }
 
 fn list(cursor: &mut Cursor<'_>) -> Result<Tag<'static>, LineFault> {
+    let fault = cursor.expected("a list's first number, below 2^64");
     let Some(word) = cursor.word() else {
         return Ok(Tag::List(None));
     };
     match decimal(word) {
         Some(start) => Ok(Tag::List(Some(start))),
-        None => Err(LineFault::Expected("a list's first number, below 2^64")),
+        None => Err(fault),
     }
 }
 
-fn alignment(word: &str) -> Result<Alignment, LineFault> {
-    match known(&ALIGNMENTS, word) {
-        Some(alignment) => Ok(alignment),
-        None => Err(LineFault::Expected("a column's alignment: None, Left, Center or Right")),
-    }
-}
-
+/// A table with an alignment for each column. Each takes some bytes of the line.
 fn table(alloc: Global, cursor: &mut Cursor<'_>) -> Result<Tag<'static>, LineFault> {
     let mut alignments = Vec::new(alloc);
-    if let Some(words) = cursor.rest() {
-        for word in words.split(' ') {
-            alignments.push(alignment(word)?)?;
+    for _ in 0..cursor.len() {
+        if cursor.is_at_end() {
+            break;
         }
+        alignments.push(cursor.expect_known(&ALIGNMENTS, AN_ALIGNMENT)?)?;
     }
     Ok(Tag::Table(alignments))
 }
@@ -276,7 +276,7 @@ pub fn tag_end(cursor: &mut Cursor<'_>) -> Result<TagEnd, LineFault> {
     match end {
         TagEnd::Heading(_) => Ok(TagEnd::Heading(level(cursor)?)),
         TagEnd::BlockQuote(_) => Ok(TagEnd::BlockQuote(quote_kind(cursor)?)),
-        TagEnd::List(_) => Ok(TagEnd::List(truth(cursor)?)),
+        TagEnd::List(_) => Ok(TagEnd::List(truth(cursor, IS_ORDERED)?)),
         TagEnd::MetadataBlock(_) => Ok(TagEnd::MetadataBlock(metadata_kind(cursor)?)),
         _ => Ok(end),
     }

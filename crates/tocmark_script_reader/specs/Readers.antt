@@ -2,22 +2,20 @@
 use Rattle.std.specs.Prelude.{ℕ, List, [], map}
 use Rattle.std.specs.Option.{unwrap_or}
 use Rattle.std.specs.HashMap.{get_by_text}
-use Rattle.tocmark_event.specs.Text.{text_of}
+use Rattle.tocmark_event.specs.Text.{ParserEvent, text_of}
 use Rattle.tocmark_event.specs.View.{EventView, event_view}
 use Rattle.tocmark_event.specs.Reading.{ReadingView}
-use Rattle.tocmark_event.specs.declared.event.EventOf.{EventOf}
-use Rattle.tocmark_event.specs.declared.event.text.CowStr.{CowStr}
 use Rattle.tocmark_core_reader.specs.Reading.{core_reading}
 use Rattle.tocmark_script_reader.specs.declared.readers.Table.{Table as ReadingTable}
 use Rattle.tocmark_script_reader.specs.declared.readers.ScriptReader.{ScriptReader}
 use Rattle.tocmark_script_reader.specs.declared.readers.ScriptReader.TheVariants.{Core, Table}
 
 -- an event with its range, as a plain value
-abbrev pub ranged_view : EventOf CowStr × (ℕ × ℕ) → EventView × (ℕ × ℕ)
+abbrev pub ranged_view : ParserEvent × (ℕ × ℕ) → EventView × (ℕ × ℕ)
 ranged_view e = (event_view text_of e.0, e.1)
 
 -- the events that a table has for a text, or those for any other text
-abbrev pub table_events : ReadingTable → List ℕ → List (EventOf CowStr × (ℕ × ℕ))
+abbrev pub table_events : ReadingTable → List ℕ → List (ParserEvent × (ℕ × ℕ))
 table_events t text = (unwrap_or (get_by_text t.readings text) t.otherwise).items
 
 -- these events, without labels
