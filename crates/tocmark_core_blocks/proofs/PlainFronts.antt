@@ -1,12 +1,15 @@
 -- Lines with a marker's byte or digits in front that begin no block all the same.
-use Rattle.std.proofs.Common.{◌≡◌, ℕ, suc, ◌+◌, ◌^◌, ◌<◌, ◌≤◌, Bool, true, false, ◌==◌, ◌&&◌, ◌||◌, if◌then◌else◌, nat_le, List, [], ◌∷◌, length, refl, ap, sym, subst, ◌∙◌, arith, Some, None, ◌⊎◌, inl, inr}
+use Rattle.std.proofs.Common.{◌≡◌, ℕ, suc, ◌+◌, ◌-◌, ◌^◌, ◌<◌, ◌≤◌, Bool, true, false, ◌==◌, ◌&&◌, ◌||◌, if◌then◌else◌, nat_le, List, [], ◌∷◌, ◌++◌, length, reverse, take_while, cond, refl, ap, sym, subst, ◌∙◌, append_assoc, length-append, arith, Some, None, ◌⊎◌, inl, inr}
 use Rattle.std.proofs.lemmas.Bool.Decides.{nat_tests}
+use Rattle.std.proofs.lemmas.Grind.{reverse_onto}
+use Rattle.std.proofs.lemmas.List.{length-reverse}
+use Rattle.std.proofs.lemmas.List.Folds.{length-prefix_len}
 use Rattle.std.specs.Char.{is_ascii_digit}
-use Rattle.std.specs.List.{fold, prefix_len}
+use Rattle.std.specs.List.{prefix_len}
 use Rattle.std.specs.Option.{option_or}
 use Rattle.tocmark_core_scan.specs.Basic.{plus}
-use Rattle.tocmark_core_blocks.specs.Cells.{cell, cell_byte, first_cursor}
-use Rattle.tocmark_core_blocks.specs.Marks.{is_rule, is_rule_byte, marker_at, bullet_at, ordered_at, is_behind, underline_at, is_underline_byte, tail_step, tail_of, digit_count}
+use Rattle.tocmark_core_blocks.specs.Cells.{cell, cell_byte, trailing, first_cursor}
+use Rattle.tocmark_core_blocks.specs.Marks.{is_rule, is_rule_byte, marker_at, bullet_at, ordered_at, is_behind, underline_at, is_underline_byte, tail_length, tail_of, digit_count}
 use Rattle.tocmark_core_blocks.specs.declared.cell.Cell.{Cell}
 use Rattle.tocmark_core_blocks.specs.declared.mark.Marker.{Marker}
 use Rattle.tocmark_core_blocks.specs.declared.mark.Tail.{Tail}
@@ -14,6 +17,7 @@ use Rattle.tocmark_core_blocks.proofs.PlainLines.{numbered}
 use Rattle.tocmark_core_blocks.proofs.PlainSteps.{BeginsNothing}
 use Rattle.tocmark_core_blocks.proofs.PlainStarts.{IsQuiet, quiet_begins_nothing, some_cells, no_heading, no_fence, no_underline}
 use Rattle.tocmark_core_scan.specs.PlainParts.{ends_number}
+use Rattle.tocmark_core_scan.proofs.PlainTests.{eq_of}
 
 -- a byte that keeps a mark before it from being a marker, a rule or an underline
 pub record IsBehindMark (c : ℕ) : Type 0 where
@@ -24,29 +28,57 @@ pub record IsBehindMark (c : ℕ) : Type 0 where
 two_cells : (n : ℕ) → nat_le (suc (suc n)) 1 ≡ false
 two_cells n = grind (arith, nat_tests)
 
--- a tail of a line that begins behind its front
-abbrev IsBehindFront : Tail → Type 0
-IsBehindFront t = (0 < t.from) × (0 < t.column)
-
-tail_goes_on : (t : Tail) (c : Cell) → IsBehindFront t → IsBehindFront (tail_step t c)
-unfolding tail_step
-tail_goes_on t c h = by_byte ((c.byte == 32) || (c.byte == t.byte))
+-- what passes a test in front of one that doesn't
+before_failure : (p : Cell → Bool) (xs : List Cell) (d : Cell) (ys : List Cell) → p d ≡ false → prefix_len p (xs ++ d ∷ ys) ≤ length xs
+before_failure p [] d ys h = rw h (omega arith)
+before_failure p (x ∷ xs) d ys h = by_test (p x) (before_failure p xs d ys h)
   where
-    by_byte : (k : Bool) → IsBehindFront (if k then record { byte = t.byte; from = t.from; column = plus t.column 1 } else record { byte = c.byte; from = t.column; column = plus t.column 1 })
-    by_byte true = (h.0, omega arith)
-    by_byte false = (h.1, omega arith)
+    by_test : (k : Bool) → prefix_len p (xs ++ d ∷ ys) ≤ length xs → cond k (1 + prefix_len p (xs ++ d ∷ ys)) 0 ≤ length (x ∷ xs)
+    by_test true e = omega arith
+    by_test false e = omega arith
 
-tail_stays : (cs : List Cell) (t : Tail) → IsBehindFront t → IsBehindFront (fold tail_step t cs)
-tail_stays [] t h = h
-tail_stays (c ∷ cs) t h = tail_stays cs (tail_step t c) (tail_goes_on t c h)
+-- a test that the first column or the second one fails doesn't reach the first from the end
+behind_failure : (p : Cell → Bool) (a d : Cell) (cs : List Cell) → (p a ≡ false) ⊎ (p d ≡ false) → length (take_while p (reverse (a ∷ d ∷ cs))) < length (a ∷ d ∷ cs)
+behind_failure p a d cs h =
+    let turned : reverse (a ∷ d ∷ cs) ≡ reverse cs ++ d ∷ a ∷ [] = reverse_onto cs d (a ∷ []) in
+    let counted : length (take_while p (reverse (a ∷ d ∷ cs))) ≡ prefix_len p (reverse cs ++ d ∷ a ∷ []) = length-prefix_len p (reverse (a ∷ d ∷ cs)) ∙ ap (prefix_len p) turned in
+    let same : length (reverse cs) ≡ length cs = length-reverse cs in
+    let short : prefix_len p (reverse cs ++ d ∷ a ∷ []) ≤ length cs + 1 = by_failure h in
+    omega arith
+  where
+    by_failure : (p a ≡ false) ⊎ (p d ≡ false) → prefix_len p (reverse cs ++ d ∷ a ∷ []) ≤ length cs + 1
+    by_failure (inl e) =
+        let parted : reverse cs ++ d ∷ a ∷ [] ≡ (reverse cs ++ d ∷ []) ++ a ∷ [] = sym (append_assoc (reverse cs) (d ∷ []) (a ∷ [])) in
+        let counted : prefix_len p ((reverse cs ++ d ∷ []) ++ a ∷ []) ≤ length (reverse cs ++ d ∷ []) = before_failure p (reverse cs ++ d ∷ []) a [] e in
+        let long : length (reverse cs ++ d ∷ []) ≡ length (reverse cs) + 1 = length-append (reverse cs) (d ∷ []) in
+        let same : length (reverse cs) ≡ length cs = length-reverse cs in
+        let moved : prefix_len p (reverse cs ++ d ∷ a ∷ []) ≡ prefix_len p ((reverse cs ++ d ∷ []) ++ a ∷ []) = ap (prefix_len p) parted in
+        omega arith
+    by_failure (inr e) =
+        let counted : prefix_len p (reverse cs ++ d ∷ a ∷ []) ≤ length (reverse cs) = before_failure p (reverse cs) d (a ∷ []) e in
+        let same : length (reverse cs) ≡ length cs = length-reverse cs in
+        omega arith
 
--- behind a minus and a byte that is neither a minus nor a space
-tail_behind : (at c : ℕ) (cs : List ℕ) → IsBehindMark c → IsBehindFront (tail_of (numbered at (45 ∷ c ∷ cs)))
-unfolding tail_step
+-- one of two bytes isn't a third one, if they differ
+one_differs : (b c x : ℕ) → (c == b) ≡ false → ((b == x) ≡ false) ⊎ ((c == x) ≡ false)
+one_differs b c x h = by_test (b == x) refl
+  where
+    by_test : (k : Bool) → (b == x) ≡ k → ((b == x) ≡ false) ⊎ ((c == x) ≡ false)
+    by_test true e = inr (let same : b ≡ x = eq_of b x e in subst (λ y. (c == y) ≡ false) same h)
+    by_test false e = inl e
+
+-- the tail of a line begins behind a minus with a byte behind it that is neither a minus nor a space
+tail_behind : (at c : ℕ) (cs : List ℕ) → IsBehindMark c → 0 < (tail_of (numbered at (45 ∷ c ∷ cs))).from
+unfolding tail_of
 tail_behind at c cs h =
-    let second : Tail = record { byte = c; from = 1; column = 2 } in
-    let step : tail_step (record { byte = 45; from = 0; column = 1 }) (cell c (at + 1)) ≡ second = rw (h.space, h.minus) refl in
-    subst (λ t. IsBehindFront (fold tail_step t (numbered (at + 1 + 1) cs))) (sym step) (tail_stays (numbered (at + 1 + 1) cs) second (omega arith, omega arith))
+    let cells : List Cell = numbered at (45 ∷ c ∷ cs) in
+    let b : ℕ = cell_byte cells (length cells - trailing cells 32 - 1) in
+    let short : tail_length cells b < length cells = behind_failure (λ x. (x.byte == 32) || (x.byte == b)) (cell 45 at) (cell c (at + 1)) (numbered (at + 1 + 1) cs) (by_byte b (one_differs 45 c b (h.minus))) in
+    omega arith
+  where
+    by_byte : (b : ℕ) → ((45 == b) ≡ false) ⊎ ((c == b) ≡ false) → (((45 == 32) || (45 == b)) ≡ false) ⊎ (((c == 32) || (c == b)) ≡ false)
+    by_byte b (inl e) = inl e
+    by_byte b (inr e) = inr (rw (h.space) e)
 
 no_rule_behind : (cells : List Cell) (t : Tail) → 0 < t.from → is_rule cells t 0 ≡ false
 unfolding is_rule
@@ -74,7 +106,7 @@ minus_begins_nothing at c cs h = record {
   some = some_cells (length (numbered (at + 1) (c ∷ cs)));
   ink = refl;
   quote = refl;
-  rule = no_rule_behind (numbered at (45 ∷ c ∷ cs)) (tail_of (numbered at (45 ∷ c ∷ cs))) ((tail_behind at c cs h).0);
+  rule = no_rule_behind (numbered at (45 ∷ c ∷ cs)) (tail_of (numbered at (45 ∷ c ∷ cs))) (tail_behind at c cs h);
   marker = no_bullet at 45 c cs h refl;
   heading = no_heading at 45 (c ∷ cs) refl refl;
   fence = no_fence at 45 (c ∷ cs) refl refl;

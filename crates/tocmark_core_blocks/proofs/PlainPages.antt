@@ -1,5 +1,5 @@
 -- The blocks of lines that begin nothing: one paragraph.
-use Rattle.std.proofs.Common.{◌≡◌, ℕ, ◌+◌, ◌-◌, false, ◌==◌, List, [], ◌∷◌, ◌++◌, length, map, ap, sym, ◌∙◌, append_assoc, append-nil, None}
+use Rattle.std.proofs.Common.{◌≡◌, ℕ, false, ◌==◌, List, [], ◌∷◌, ◌++◌, length, map, ap, sym, ◌∙◌, append_assoc, append-nil, None}
 use Rattle.std.specs.List.{AllByRecursion, fold}
 use Rattle.tocmark_core_scan.specs.Basic.{byte_at}
 use Rattle.tocmark_core_blocks.specs.Blocks.{BlocksView, line_taken, page_of, blocks_of}

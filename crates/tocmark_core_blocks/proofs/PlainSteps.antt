@@ -1,5 +1,5 @@
 -- A line that begins nothing: it begins a paragraph, or goes into the one that is open.
-use Rattle.std.proofs.Common.{◌≡◌, ℕ, suc, ◌+◌, ◌-◌, ◌<◌, Bool, true, false, ◌==◌, nat_lt, nat_le, List, [], ◌∷◌, ◌++◌, length, refl, ap, sym, ◌∙◌, arith, None}
+use Rattle.std.proofs.Common.{◌≡◌, ℕ, suc, ◌-◌, ◌<◌, Bool, true, false, ◌==◌, nat_lt, nat_le, List, [], ◌∷◌, ◌++◌, length, refl, ap, sym, ◌∙◌, arith, None}
 use Rattle.std.proofs.Math.Seq.{take-length}
 use Rattle.tocmark_core_scan.specs.Basic.{byte_at, piece}
 use Rattle.tocmark_core_scan.proofs.Repeats.{repeated_stop}

@@ -1,5 +1,5 @@
 -- How recursions over lists go on from a place.
-use Rattle.std.proofs.Common.{◌≡◌, ℕ, zero, suc, ◌+◌, ◌-◌, ◌<◌, List, length, drop, map, ap, refl, Bool, false, arith}
+use Rattle.std.proofs.Common.{◌≡◌, ℕ, zero, suc, ◌+◌, ◌-◌, ◌<◌, List, length, drop, map, ap, refl, Bool, arith}
 use native.Mathlib.Numerals.{unary_clauses}
 use Rattle.tocmark_core_blocks.specs.Pages.{times}
 use Rattle.std.specs.Bool.{IsTrue, one_answer}

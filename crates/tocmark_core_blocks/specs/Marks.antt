@@ -1,12 +1,12 @@
 -- What a line begins with.
-use Rattle.std.specs.Prelude.{ℕ, ◌+◌, ◌-◌, ◌*◌, ◌^◌, min, Bool, not, ◌==◌, ◌&&◌, ◌||◌, nat_lt, nat_le, if◌then◌else◌, List, [], ◌∷◌, length, drop, take_while, Option, Some, None}
+use Rattle.std.specs.Prelude.{ℕ, ◌+◌, ◌-◌, ◌*◌, ◌^◌, min, Bool, not, ◌==◌, ◌&&◌, ◌||◌, nat_lt, nat_le, if◌then◌else◌, List, length, drop, reverse, take_while, Option, Some, None}
 use Rattle.std.specs.List.{fold}
 use Rattle.std.specs.Option.{option_map, option_or}
 use Rattle.std.specs.Char.{is_ascii_digit}
 use Rattle.tocmark_event.specs.declared.event.HeadingLevel.{HeadingLevel}
 use Rattle.tocmark_event.specs.declared.event.HeadingLevel.TheVariants as level
 use Rattle.tocmark_core_scan.specs.Basic.{plus}
-use Rattle.tocmark_core_blocks.specs.Cells.{cell_byte, run_of, count_of, ink_from, part, trimmed, indent_of}
+use Rattle.tocmark_core_blocks.specs.Cells.{cell_byte, run_of, count_of, ink_from, part, trailing, trimmed, indent_of}
 use Rattle.tocmark_core_blocks.specs.declared.cell.Cell.{Cell}
 use Rattle.tocmark_core_blocks.specs.declared.cell.Cursor.{Cursor}
 use Rattle.tocmark_core_blocks.specs.declared.mark.Heading.{Heading}
@@ -66,16 +66,15 @@ closes_fence cells cursor fence =
     let count = run_of cells cursor.ink fence.byte in
     nat_le (indent_of cursor) 3 && nat_le fence.count count && nat_le (length cells) (ink_from cells (plus cursor.ink count))
 
--- another byte begins a new tail
-unfoldable pub tail_step : Tail → Cell → Tail
-tail_step tail cell =
-    if (cell.byte == 32) || (cell.byte == tail.byte)
-    then record { byte = tail.byte; from = tail.from; column = plus tail.column 1 }
-    else record { byte = cell.byte; from = tail.column; column = plus tail.column 1 }
+-- how many columns at the end of a line have this byte or a space
+abbrev pub tail_length : List Cell → ℕ → ℕ
+tail_length cells b = length (take_while (λ (c : Cell). (c.byte == 32) || (c.byte == b)) (reverse cells))
 
--- the columns at the end of a line that have one byte and spaces
-abbrev pub tail_of : List Cell → Tail
-tail_of cells = fold tail_step (record { byte = 32; from = 0; column = 0 }) cells
+-- the last byte of a line that is no space, and the columns at its end that have this byte or a space
+unfoldable pub tail_of : List Cell → Tail
+tail_of cells =
+    let b = cell_byte cells (length cells - trailing cells 32 - 1) in
+    record { byte = b; from = length cells - tail_length cells b }
 
 -- `*`, `-` or `_`
 unfoldable pub is_rule_byte : ℕ → Bool

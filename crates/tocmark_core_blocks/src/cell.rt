@@ -122,7 +122,8 @@ pub fn part(cells: &[Cell], from: usize, to: usize) -> &[Cell]
     }
 }
 
-fn trailing(cells: &[Cell], byte: u8) -> usize
+/// The number of columns at the end of a line that have this byte.
+pub fn trailing(cells: &[Cell], byte: u8) -> usize
     ensures { result ≡ trailing cells.now byte }
 {
     cells

@@ -1,10 +1,11 @@
 //! What a line begins with: headings, fences, rules and the markers of lists.
 
 ghost use Rattle.std.specs.Prelude.{◌≡◌};
-ghost use Rattle.tocmark_core_blocks.specs.Marks.{level_of, is_behind, heading_end, heading_at, is_fence_byte, fence_at, closes_fence, tail_step, tail_of, is_rule_byte, is_rule, is_underline_byte, underline_at, digit_count, number_step, number_of, bullet_at, ordered_at, marker_at};
+ghost use Rattle.tocmark_core_blocks.specs.Marks.{level_of, is_behind, heading_end, heading_at, is_fence_byte, fence_at, closes_fence, tail_length, tail_of, is_rule_byte, is_rule, is_underline_byte, underline_at, digit_count, number_step, number_of, bullet_at, ordered_at, marker_at};
 
 use crate::cell::{
-    Cell, Cursor, cell_byte, cells_from, count_of, indent_of, ink_from, part, run_of, trimmed,
+    Cell, Cursor, cell_byte, cells_from, count_of, indent_of, ink_from, part, run_of, trailing,
+    trimmed,
 };
 use tocmark_core_scan::basic::{minus, plus};
 use tocmark_event::event::HeadingLevel;
@@ -25,12 +26,12 @@ pub struct Fence {
     pub indent: usize,
 }
 
-/// The last columns of a line in which a single byte and spaces stand, and that byte.
+/// The last byte of a line that is no space, and the first of the columns at its end in which nothing
+/// but that byte and spaces stand.
 #[derive(Clone, Copy, Debug)]
 pub struct Tail {
     pub byte: u8,
     pub from: usize,
-    pub column: usize,
 }
 
 /// The marker of a list item: its last byte, its number if it has one, and its length.
@@ -137,39 +138,27 @@ pub fn closes_fence(cells: &[Cell], cursor: Cursor, fence: Fence) -> bool
     indent_of(cursor) <= 3 && fence.count <= count && alone
 }
 
-#[tactic(auto, unfolding(crate::specs::Marks::tail_step))]
-fn tail_step(tail: Tail, cell: Cell) -> Tail
-    ensures { result ≡ tail_step tail cell }
+fn tail_length(cells: &[Cell], byte: u8) -> usize
+    ensures { result ≡ tail_length cells.now byte }
 {
-    let column = plus(tail.column, 1);
-    if cell.byte == b' ' || cell.byte == tail.byte {
-        Tail {
-            byte: tail.byte,
-            from: tail.from,
-            column,
-        }
-    } else {
-        Tail {
-            byte: cell.byte,
-            from: tail.column,
-            column,
-        }
-    }
+    cells
+        .iter()
+        .rev()
+        .take_while(|cell| cell.byte == b' ' || cell.byte == byte)
+        .count()
 }
 
-/// The tail of a line.
+/// The tail of a line: it is looked for from the end, and no further than it goes.
+#[tactic(auto, unfolding(crate::specs::Marks::tail_of))]
 pub fn tail_of(cells: &[Cell]) -> Tail
     ensures { result ≡ tail_of cells.now }
 {
-    let mut tail = Tail {
-        byte: b' ',
-        from: 0,
-        column: 0,
-    };
-    for cell in cells {
-        tail = tail_step(tail, *cell);
+    let inked = minus(cells.len(), trailing(cells, b' '));
+    let byte = cell_byte(cells, minus(inked, 1));
+    Tail {
+        byte,
+        from: minus(cells.len(), tail_length(cells, byte)),
     }
-    tail
 }
 
 #[tactic(auto, unfolding(crate::specs::Marks::is_rule_byte))]

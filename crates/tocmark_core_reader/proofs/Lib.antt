@@ -7,3 +7,5 @@ pub mod PlainReading
 pub mod PlainTests
 pub mod PlainDecided
 pub mod PlainRanges
+pub mod PlainSearch
+pub mod Zeros

@@ -52,7 +52,7 @@ part_rebuilt b bs =
     by_tests false p false m n false ei ep ej em en ek = refl
 
 -- the parts of a text spell it
-parts_spell : (skip : ℕ) (bs : List ℕ) → spelled (parts_from skip bs) ≡ drop skip bs
+pub parts_spell : (skip : ℕ) (bs : List ℕ) → spelled (parts_from skip bs) ≡ drop skip bs
 parts_spell zero [] = refl
 parts_spell (suc skip) [] = refl
 parts_spell zero (b ∷ bs) =
@@ -64,7 +64,7 @@ one_more a l [] = refl
 one_more a l (m ∷ ms) = refl
 
 -- lines of parts are the parts
-lines_join : (parts : List Part) → text_parts (first_line parts) (further_lines parts) ≡ parts
+pub lines_join : (parts : List Part) → text_parts (first_line parts) (further_lines parts) ≡ parts
 lines_join [] = refl
 lines_join (Feed ∷ parts) = ap (λ (l : List Part). Feed ∷ l) (lines_join parts)
 lines_join (Bare b ∷ parts) = one_more (Bare b) (first_line parts) (further_lines parts) ∙ ap (λ (l : List Part). Bare b ∷ l) (lines_join parts)

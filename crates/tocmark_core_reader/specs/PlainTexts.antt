@@ -1,5 +1,5 @@
 -- Plain texts: lines that are read as a paragraph of their characters.
-use Rattle.std.specs.Prelude.{◌≡◌, ℕ, zero, suc, Bool, true, not, ◌==◌, ◌&&◌, if◌then◌else◌, nat_lt, nat_le, List, [], ◌∷◌, ◌++◌, bytes_eq, codes, length, map, take}
+use Rattle.std.specs.Prelude.{◌≡◌, ℕ, zero, suc, Bool, true, not, ◌==◌, ◌&&◌, if◌then◌else◌, nat_lt, nat_le, List, [], ◌∷◌, ◌++◌, bytes_eq, codes, length, map, take, drop, Option, Some, None}
 use Rattle.std.specs.Char.{is_ascii_punctuation}
 use Rattle.std.specs.List.{AllByRecursion, list_all}
 use Rattle.tocmark_event.specs.Merged.{merged}
@@ -9,7 +9,7 @@ use Rattle.tocmark_event.specs.declared.event.TagEnd.TheVariants as end
 use Rattle.tocmark_core_scan.specs.Basic.{byte_at}
 use Rattle.tocmark_core_reader.specs.Emitted.{NodeView}
 use Rattle.tocmark_core_reader.specs.Range.{snapped}
-use Rattle.tocmark_core_scan.specs.PlainParts.{Part, Bare, Escaped, Referred, Feed, spelled, last_byte, are_plain_parts, begins_plainly}
+use Rattle.tocmark_core_scan.specs.PlainParts.{Part, Bare, Escaped, Referred, Feed, spelled, spelled_part, is_plain_part, last_byte, are_plain_parts, begins_plainly}
 
 -- the parts of a line and of further lines, with a line feed between two
 abbrev pub text_parts : List Part → List (List Part) → List Part
@@ -20,9 +20,13 @@ text_parts l (m ∷ ms) = l ++ Feed ∷ text_parts m ms
 abbrev pub is_printable : ℕ → Bool
 is_printable b = nat_le 32 b && nat_lt b 127
 
--- a line of such characters that begins no block and doesn't end with a space
+-- the bytes of a line of such characters that begins no block and doesn't end with a space
+abbrev pub has_plain_bytes : List ℕ → Bool
+has_plain_bytes bytes = list_all is_printable bytes && begins_plainly bytes && not (last_byte 10 bytes == 32)
+
+-- the parts of such a line
 abbrev pub is_plain_line : List Part → Bool
-is_plain_line l = list_all is_printable (spelled l) && begins_plainly (spelled l) && not (last_byte 10 (spelled l) == 32)
+is_plain_line l = has_plain_bytes (spelled l)
 
 -- lines of this kind whose parts mean what they are for
 abbrev pub is_plain_text : List Part → List (List Part) → Bool
@@ -58,6 +62,12 @@ bytes_behind (Bare b) = 0
 bytes_behind (Escaped b) = 1
 bytes_behind (Referred c bs) = length bs
 bytes_behind Feed = 0
+
+-- the last byte of the part that a byte begins, and how many bytes of it stand behind that one, if it means what it is for
+abbrev pub plain_front : ℕ → ℕ → List ℕ → Option (ℕ × ℕ)
+plain_front before b bs =
+    let a = part_at b bs in
+    if is_plain_part before a (byte_at (drop (bytes_behind a) bs) 0) then Some (last_byte before (spelled_part a), bytes_behind a) else None
 
 -- the parts of a text from a place on
 abbrev pub parts_from : ℕ → List ℕ → List Part

@@ -5,7 +5,9 @@ mod emit;
 mod inline;
 mod laws;
 mod page;
+mod plain;
 mod reader;
 mod words;
 
+pub use plain::is_plain;
 pub use reader::CoreReader;

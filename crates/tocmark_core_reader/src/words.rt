@@ -26,12 +26,25 @@ fn push_byte(out: &mut Vec<u8>, byte: u8) -> Result<(), AllocError>
     Ok(())
 }
 
+fn push_replaced(out: &mut Vec<u8>, bytes: &[u8]) -> Result<(), AllocError>
+    ensures { OnOk result (out.new.items ≡ out.old.items ++ flat_map replaced bytes.now) }
+{
+    for byte in bytes {
+        push_byte(out, *byte)?;
+    }
+    Ok(())
+}
+
+/// The bytes with U+FFFD for U+0000; with room for one more.
+#[tactic(auto, using(crate::proofs::Zeros::without_zeros))]
 fn replaced_bytes(alloc: Global, bytes: &[u8]) -> Result<Vec<u8>, AllocError>
     ensures { IfOk result (λ v. v.items ≡ flat_map replaced bytes.now) }
 {
     let mut out = Vec::with_capacity(alloc, plus(bytes.len(), 1))?;
-    for byte in bytes {
-        push_byte(&mut out, *byte)?;
+    if bytes.contains(&0) {
+        push_replaced(&mut out, bytes)?;
+    } else {
+        out.extend_from_slice(bytes)?;
     }
     Ok(out)
 }
@@ -46,10 +59,13 @@ fn push_feed(out: &mut Vec<u8>, feed: bool) -> Result<(), AllocError>
 }
 
 /// A text with U+FFFD for U+0000, and a line feed behind it if it is a line that ends.
-#[tactic(auto, unfolding(crate::specs::Words::cleaned))]
+#[tactic(auto, unfolding(crate::specs::Words::cleaned), using(crate::proofs::Zeros::cleaned_whole))]
 pub fn cleaned(alloc: Global, bytes: &[u8], feed: bool) -> Result<String, AllocError>
     ensures { IfOk result (λ t. string_bytes t ≡ cleaned bytes.now feed) }
 {
+    if !feed && !bytes.contains(&0) {
+        return String::from_utf8_lossy(alloc, bytes);
+    }
     let mut out = replaced_bytes(alloc, bytes)?;
     push_feed(&mut out, feed)?;
     String::from_utf8_lossy(alloc, &out)
