@@ -5,7 +5,9 @@ use Rattle.tocmark_event.specs.Options.{default_options}
 use Rattle.tocmark_event.specs.View.{Paragraph, Emphasis, Strong}
 use Rattle.tocmark_spelling.specs.Body.{Trees}
 use Rattle.tocmark_spelling.specs.Page.{Page}
-use Rattle.tocmark_spelling.specs.Plan.{Preferred, Runs, Uniform, Shared, RuleThree, Escaped, Literal, Entities, LiteralEntities, Manner}
+use Rattle.tocmark_spelling.specs.Plan.{Manner}
+use Rattle.tocmark_spelling.specs.declared.plan.Layout.TheVariants.{Preferred, Runs, Uniform, Shared, RuleThree}
+use Rattle.tocmark_spelling.specs.declared.plan.TextSpelling.TheVariants.{Escaped, Literal, Entities, LiteralEntities}
 use Rattle.tocmark_render.specs.Choice.{spelled}
 use Rattle.tocmark_render.specs.Document.{first_document}
 use Rattle.tocmark_examples.specs.Script.{text, setting, Readings}

@@ -3,7 +3,8 @@ use Rattle.std.specs.Prelude.{[], ◌∷◌, codes, false, List, encode_utf8_all
 use Rattle.tocmark_event.specs.Forest.{empty, node}
 use Rattle.tocmark_event.specs.View.{Paragraph, Emphasis, Strikethrough, Superscript, Subscript, Text, Start, End, Leaf}
 use Rattle.tocmark_event.specs.declared.event.TagEnd.TheVariants as end
-use Rattle.tocmark_spelling.specs.Plan.{Preferred, Runs, Uniform, RuleThree, Escaped, Literal, Entities}
+use Rattle.tocmark_spelling.specs.declared.plan.Layout.TheVariants.{Preferred, Runs, Uniform, RuleThree}
+use Rattle.tocmark_spelling.specs.declared.plan.TextSpelling.TheVariants.{Escaped, Literal, Entities}
 use Rattle.tocmark_examples.specs.Script.{text, reading_of}
 use Rattle.tocmark_examples.specs.Manners.{Spelt}
 

@@ -13,9 +13,8 @@ use Rattle.tocmark_spelling.specs.Plan.{Setting, Manner}
 use Rattle.tocmark_spelling.specs.Scans.{span, AreEnds}
 use Rattle.tocmark_renderer.specs.Spelled.{is_spelled, are_spelled}
 use Rattle.tocmark_renderer.specs.Turn.{GoesOn, IsRefused}
-use Rattle.tocmark_renderer.specs.WriterOf.{site_of, IsKept, Arrives, IsRefusal}
+use Rattle.tocmark_renderer.specs.WriterOf.{Rendering, site_of, Arrives, IsRefusal}
 use Rattle.tocmark_spelling.specs.declared.buffered.BufferedEvent.{BufferedEvent}
-use Rattle.tocmark_renderer.specs.declared.writer.Writer.{Writer}
 use Rattle.tocmark_spelling.proofs.Follows.{run-refused}
 use Rattle.tocmark_spelling.proofs.Turns.{events-drop, events-take, before-event, length-events}
 
@@ -86,7 +85,7 @@ module _ (s : Setting) (m : Manner) (next : Option EventView) (events : List Buf
     stepped x = step s m next (buffered_view b) (map buffered_view x) (going here before)
 
     -- it was written, and further ones passed with it
-    pub goes-on : (w : Writer) (n : ℕ) (whole : Option Site) → before ≡ reverse (map buffered_view (take i events)) → from_here (going here before) ≡ whole → GoesOn w s m next (stepped rest) (map buffered_view rest) (buffered_view b ∷ before) n → answer_of (run s m next (map buffered_view (drop (i + (1 + n)) events)) (going (site_of w) (reverse (map buffered_view (take (i + (1 + n)) events))))) ≡ whole
+    pub goes-on : (w : Rendering) (n : ℕ) (whole : Option Site) → before ≡ reverse (map buffered_view (take i events)) → from_here (going here before) ≡ whole → GoesOn w s m next (stepped rest) (map buffered_view rest) (buffered_view b ∷ before) n → answer_of (run s m next (map buffered_view (drop (i + (1 + n)) events)) (going (site_of w) (reverse (map buffered_view (take (i + (1 + n)) events))))) ≡ whole
     goes-on w n whole so h goes =
         let all = map buffered_view rest in
         let same : i + 1 + n ≡ i + (1 + n) = omega arith in
@@ -121,7 +120,7 @@ module _ (s : Setting) (m : Manner) (next : Option EventView) (events : List Buf
     is-refused error.Failed whole h r = absurd r
 
 -- no event is left
-pub run-done : (s : Setting) (m : Manner) (next : Option EventView) (events : List BufferedEvent) (i : ℕ) (w : Writer) (before : List SourcedEvent) (whole : Option Site) → length events ≤ i → answer_of (run s m next (map buffered_view (drop i events)) (going (site_of w) before)) ≡ whole → IsKept w → Arrives w whole
-run-done s m next events i w before whole past h kept =
+pub run-done : (s : Setting) (m : Manner) (next : Option EventView) (events : List BufferedEvent) (i : ℕ) (w : Rendering) (before : List SourcedEvent) (whole : Option Site) → length events ≤ i → answer_of (run s m next (map buffered_view (drop i events)) (going (site_of w) before)) ≡ whole → Arrives w whole
+run-done s m next events i w before whole past h =
     let end = ap (λ bs. answer_of (run s m next (map buffered_view bs) (going (site_of w) before))) (drop_all i events past) in
-    subst (Arrives w) (sym end ∙ h) (record { path_is = refl; page_is = refl; kept = kept })
+    subst (Arrives w) (sym end ∙ h) (record { path_is = refl; page_is = refl })

@@ -4,7 +4,9 @@ use Rattle.std.specs.Prelude.{◌&&◌, ◌==◌, not, if◌then◌else◌, min,
 use Rattle.tocmark_event.specs.View.{EventView, Leaf, Text}
 use Rattle.tocmark_event.specs.declared.event.TagEnd.{TagEnd}
 use Rattle.tocmark_event.specs.declared.event.TagEnd.TheVariants as end
-use Rattle.tocmark_spelling.specs.Page.{Last, Other, Inline, ItemStart, ItemEnd, ListEnd, DefinitionEnd, BlockEnd, Trail, Path, Page, with_trail, raised}
+use Rattle.tocmark_spelling.specs.Page.{Trail, Path, Page, with_trail, raised}
+use Rattle.tocmark_spelling.specs.declared.trail.Last.{Last}
+use Rattle.tocmark_spelling.specs.declared.trail.Last.TheVariants.{Other, Inline, ItemStart, ItemEnd, ListEnd, DefinitionEnd, BlockEnd}
 use Rattle.tocmark_spelling.specs.Places.{is_close}
 use Rattle.tocmark_spelling.specs.Gap.{resumed, raised_for_list, raised_for_title, raised_for_block, least_after, least, joins_list, with_quote_line, owed_after_line, forget_quote, closed_up, raised_after_list, raised_for_item, after_html, before_event, raised_before, separated, gap}
 

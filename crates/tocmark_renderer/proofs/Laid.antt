@@ -1,11 +1,12 @@
 -- How text is laid in parts.
-use Rattle.std.proofs.Common.{◌≡◌, ℕ, zero, suc, ◌+◌, ◌<◌, Bool, true, false, cond, List, [], ◌∷◌, ◌++◌, refl, sym, ap, ◌∙◌, arith, append_assoc, replicate, nat_eq, length, add-one, take, subst, get_or}
+use Rattle.std.proofs.Common.{◌≡◌, ℕ, zero, suc, ◌+◌, ◌<◌, Bool, true, false, cond, List, [], ◌∷◌, ◌++◌, refl, sym, ap, ◌∙◌, arith, append_assoc, replicate, nat_eq, nat_lt, length, add-one, take, subst, get_or}
 use Rattle.std.specs.List.{before_first, after_first, position_or_len}
 use Rattle.std.proofs.lemmas.Bool.{eqb-true}
 use Rattle.std.proofs.lemmas.List.{append-nil, take_all}
 use Rattle.std.proofs.lemmas.Str.{IsUtf8-drop, IsCharBoundary-after_ascii}
 use Rattle.std.specs.Str.{IsUtf8}
-use Rattle.tocmark_spelling.specs.Page.{Sheet, feeds_after, lead, put_byte, laid}
+use Rattle.tocmark_renderer.specs.Changes.{on_sheet, with_feeds, with_more}
+use Rattle.tocmark_spelling.specs.Page.{Sheet, Site, feeds_after, lead, put_byte, laid}
 use Rattle.tocmark_renderer.specs.WriterOf.{HasNoFeed}
 
 pub laid-append : (prefix a b : List ℕ) (s : Sheet) → laid prefix (a ++ b) s ≡ laid prefix b (laid prefix a s)
@@ -119,3 +120,62 @@ laid-more prefix n s = ap (λ m. laid prefix (replicate m 10) s) (add-one n) ∙
     go : (n : ℕ) (s : Sheet) → laid prefix (replicate (suc n) 10) s ≡ put_byte prefix 10 (laid prefix (replicate n 10) s)
     go zero s = refl
     go (suc n) s = go n (put_byte prefix 10 s)
+
+-- ---- where a unit stands
+
+abbrev no_bytes : List ℕ
+no_bytes = []
+
+either-none : (b : Bool) → cond b no_bytes no_bytes ≡ no_bytes
+either-none true = refl
+either-none false = refl
+
+lead-none : (n : ℕ) → lead no_bytes n ≡ no_bytes
+lead-none n = either-none (nat_lt 0 n)
+
+-- a line that begins with no prefix
+pub unled : (here : Site) → here ≡ on_sheet (with_more (lead [] here.page.sheet.feeds)) here
+unled here =
+    let text = here.page.sheet.text in
+    ap (λ t. on_sheet (λ s. record { text = t; feeds = s.feeds }) here) (sym (append-nil text) ∙ ap (λ x. text ++ x) (sym (lead-none here.page.sheet.feeds)))
+
+pub laid-nothing : (prefix bs : List ℕ) (here : Site) → length bs ≡ 0 → here ≡ on_sheet (laid prefix bs) here
+laid-nothing prefix [] here e = refl
+laid-nothing prefix (b ∷ bs) here e = absurd (omega arith)
+
+module _ (prefix : List ℕ) (here one two three : Site) (begun : one ≡ on_sheet (with_more (lead prefix here.page.sheet.feeds)) here) where
+  -- a part of a line was laid
+  pub part-laid : (bs : List ℕ) → HasNoFeed bs → (length bs ≡ 0 → ⊥) → two ≡ on_sheet (with_more bs) one → three ≡ on_sheet (with_feeds 0) two → three ≡ on_sheet (laid prefix bs) here
+  part-laid bs h some put set =
+      set
+      ∙ ap (λ x. on_sheet (with_feeds 0) x) (put ∙ ap (λ x. on_sheet (with_more bs) x) begun)
+      ∙ ap (λ x. on_sheet (λ _. x) here) (sym (laid-part prefix bs here.page.sheet h some))
+
+  -- a line feed was laid
+  pub feed-laid : (n : ℕ) → n ≡ here.page.sheet.feeds + 1 → two ≡ on_sheet (with_more (10 ∷ [])) one → three ≡ on_sheet (with_feeds n) two → three ≡ on_sheet (put_byte prefix 10) here
+  feed-laid n e put set =
+      set
+      ∙ ap (λ k. on_sheet (with_feeds k) two) e
+      ∙ ap (λ x. on_sheet (with_feeds (here.page.sheet.feeds + 1)) x) (put ∙ ap (λ x. on_sheet (with_more (10 ∷ [])) x) begun)
+
+-- a line and its line feed were laid
+pub line-laid : (prefix bs line more p1 p2 : List ℕ) (here one two : Site) → p1 ≡ prefix → p2 ≡ prefix → position_or_len is_feed bs < length bs → line ≡ before_first is_feed bs → more ≡ after_first is_feed bs → one ≡ on_sheet (laid p1 line) here → two ≡ on_sheet (put_byte p2 10) one → on_sheet (laid prefix more) two ≡ on_sheet (laid prefix bs) here
+line-laid prefix bs line more p1 p2 here one two q1 q2 h e f part feed =
+    ap (λ x. on_sheet (laid prefix more) x) (
+    feed
+    ∙ ap (λ p. on_sheet (put_byte p 10) one) q2
+    ∙ ap (λ x. on_sheet (put_byte prefix 10) x) (part ∙ ap (λ p. on_sheet (laid p line) here) q1)
+    )
+    ∙ ap (λ x. on_sheet (λ _. x) here) (laid-line prefix bs line more here.page.sheet h e f)
+
+-- the rest was laid
+pub rest-laid : (prefix bs p : List ℕ) (here new whole : Site) → p ≡ prefix → on_sheet (laid prefix bs) here ≡ whole → new ≡ on_sheet (laid p bs) here → new ≡ whole
+rest-laid prefix bs p here new whole q e last = last ∙ ap (λ p. on_sheet (laid p bs) here) q ∙ e
+
+-- one more line feed was laid
+pub feeds-laid : (prefix p : List ℕ) (n : ℕ) (start here new : Site) → p ≡ prefix → here ≡ on_sheet (laid prefix (replicate n 10)) start → new ≡ on_sheet (put_byte p 10) here → new ≡ on_sheet (laid prefix (replicate (n + 1) 10)) start
+feeds-laid prefix p n start here new q e feed =
+    feed
+    ∙ ap (λ p. on_sheet (put_byte p 10) here) q
+    ∙ ap (λ x. on_sheet (put_byte prefix 10) x) e
+    ∙ ap (λ x. on_sheet (λ _. x) start) (sym (laid-more prefix n start.page.sheet))

@@ -1,5 +1,6 @@
+pub mod Marks
+pub mod Carries
 pub mod Laid
-pub mod Paths
 pub mod Gaps
 pub mod Steps
 pub mod Events

@@ -13,7 +13,8 @@ use Rattle.tocmark_spelling.specs.Look.{Look, look}
 use Rattle.tocmark_spelling.specs.Opening.{opening, entered_if}
 use Rattle.tocmark_spelling.specs.Page.{Path, Page, Site, Level, Reference, Around, Held, front, with_trail}
 use Rattle.tocmark_spelling.specs.Places.{is_close, is_in}
-use Rattle.tocmark_spelling.specs.Plan.{Setting, Manner, TextSpelling}
+use Rattle.tocmark_spelling.specs.Plan.{Setting, Manner}
+use Rattle.tocmark_spelling.specs.declared.plan.TextSpelling.{TextSpelling}
 use Rattle.tocmark_renderer.specs.Rendered.{NeedsNone}
 use Rattle.tocmark_spelling.specs.Runs.{inside, beyond, ahead_of, past}
 use Rattle.tocmark_renderer.specs.Spelled.{is_spelled_tag, is_spelled_leaf, is_spelled_path, is_spelled_forest}

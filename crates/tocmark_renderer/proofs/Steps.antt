@@ -6,7 +6,8 @@ use Rattle.tocmark_event.specs.declared.event.TagEnd.{TagEnd}
 use Rattle.tocmark_event.specs.declared.options.Error.{Error}
 use Rattle.tocmark_event.specs.declared.options.Error.TheVariants as error
 use Rattle.tocmark_event.specs.Options.{OptionsView}
-use Rattle.tocmark_spelling.specs.Plan.{Setting, Manner, TextSpelling}
+use Rattle.tocmark_spelling.specs.Plan.{Setting, Manner}
+use Rattle.tocmark_spelling.specs.declared.plan.TextSpelling.{TextSpelling}
 use Rattle.tocmark_event.specs.declared.event.flags.ParserOptions.{ParserOptions}
 use Rattle.std.specs.Prelude.{OnOk}
 use Rattle.std.proofs.lemmas.Bool.{false≢true, true≢false}
@@ -16,7 +17,8 @@ use Rattle.tocmark_escape.specs.Leaves.{code_span}
 use Rattle.tocmark_spelling.specs.Look.{Look, look}
 use Rattle.tocmark_spelling.specs.Buffered.{sourced}
 use Rattle.tocmark_spelling.specs.Words.{or_else}
-use Rattle.tocmark_spelling.specs.Page.{Path, Page, Site, Level, Held, Inline, front, with_last, written}
+use Rattle.tocmark_spelling.specs.Page.{Path, Page, Site, Level, Held, front, with_last, written}
+use Rattle.tocmark_spelling.specs.declared.trail.Last.TheVariants.{Inline}
 use Rattle.tocmark_spelling.specs.Places.{is_in, widened}
 use Rattle.tocmark_spelling.specs.Gap.{gap}
 use Rattle.tocmark_spelling.specs.Opening.{opening, entered_if}
@@ -29,7 +31,7 @@ use Rattle.tocmark_spelling.specs.Scans.{span}
 use Rattle.tocmark_spelling.specs.Machine.{Machine, going, refused, arrive, started, around, begun_if, kids_of, step, run, answer_of}
 use Rattle.tocmark_renderer.specs.Turn.{Goes, GoesOn, IsRefused, Moves, turned, special_text, special_on}
 use Rattle.tocmark_renderer.specs.WriterOf.{levels_of, page_of, site_of, Stands, IsRefusal, Comes, begun, held_after, unheld}
-use Rattle.tocmark_renderer.specs.declared.writer.Writer.{Writer}
+use Rattle.tocmark_renderer.specs.WriterOf.{Rendering}
 use Rattle.tocmark_renderer.proofs.Gaps.{gap-text}
 use Rattle.tocmark_spelling.proofs.Looks.{behind-span, behind-open}
 
@@ -52,25 +54,23 @@ IsClosed None = Unit {0}
 IsClosed (Some here) = is_spelled_path here.path ≡ true
 
 -- where the writer stands
-site-of-stands : (w : Writer) (path : Path) (page : Page) → Stands w path page → record { path = path; page = page } ≡ site_of w
+site-of-stands : (w : Rendering) (path : Path) (page : Page) → Stands w path page → record { path = path; page = page } ≡ site_of w
 site-of-stands w path page h =
     ap (λ x. record { path = x; page = page }) (sym h.path_is) ∙ ap (λ x. record { path = levels_of w; page = x }) (sym h.page_is)
 
-goes-on : (w : Writer) (path : Path) (page : Page) (before : List SourcedEvent) → Stands w path page → is_spelled_path path ≡ true → Goes w (going (record { path = path; page = page }) before) before
+goes-on : (w : Rendering) (path : Path) (page : Page) (before : List SourcedEvent) → Stands w path page → is_spelled_path path ≡ true → Goes w (going (record { path = path; page = page }) before) before
 goes-on w path page before h spelled =
     record {
       machine_is = ap (λ x. going x before) (site-of-stands w path page h);
-      kept = h.kept;
       path_spelled = ap is_spelled_path h.path_is ∙ spelled;
     }
 
 -- no further event was passed
-pub moves-on : (w : Writer) (s : Setting) (m : Manner) (next : Option EventView) (machine : Machine) (rest before : List SourcedEvent) → Goes w machine before → GoesOn w s m next machine rest before 0
+pub moves-on : (w : Rendering) (s : Setting) (m : Manner) (next : Option EventView) (machine : Machine) (rest before : List SourcedEvent) → Goes w machine before → GoesOn w s m next machine rest before 0
 moves-on w s m next machine rest before goes =
     record {
       within = omega arith;
       run_is = ap (λ x. answer_of (run s m next rest x)) goes.machine_is;
-      kept = goes.kept;
       path_spelled = goes.path_spelled;
     }
 
@@ -87,7 +87,7 @@ refuses-started error.InvalidSourceRange t o before r = absurd r
 refuses-started error.Finished t o before r = absurd r
 refuses-started error.Failed t o before r = absurd r
 
-pub started-moves : {X : Type 0} (result : Result X Error) (w : Writer) (t : TagView) (o : Option Site) (before : List SourcedEvent) → IsOpened o → Comes result w o → Moves result w (started t o before) before
+pub started-moves : {X : Type 0} (result : Result X Error) (w : Rendering) (t : TagView) (o : Option Site) (before : List SourcedEvent) → IsOpened o → Comes result w o → Moves result w (started t o before) before
 started-moves (Ok x) w t None before open_ h = absurd h
 started-moves (Ok x) w t (Some here) before open_ h =
     opened-on t here before _ refl open_.0 (λ machine. Goes w machine before) (goes-on w here.path here.page before h open_.1)
@@ -102,7 +102,7 @@ refuses-arrive error.InvalidSourceRange o before r = absurd r
 refuses-arrive error.Finished o before r = absurd r
 refuses-arrive error.Failed o before r = absurd r
 
-pub arrive-moves : {X : Type 0} (result : Result X Error) (w : Writer) (o : Option Site) (before : List SourcedEvent) → IsClosed o → Comes result w o → Moves result w (arrive o before) before
+pub arrive-moves : {X : Type 0} (result : Result X Error) (w : Rendering) (o : Option Site) (before : List SourcedEvent) → IsClosed o → Comes result w o → Moves result w (arrive o before) before
 arrive-moves (Ok x) w None before closed h = absurd h
 arrive-moves (Ok x) w (Some here) before closed h = goes-on w here.path here.page before h closed
 arrive-moves (Err e) w o before closed h = refuses-arrive e o before h
@@ -246,12 +246,12 @@ module _ (s : Setting) (m : Manner) (next : Option EventView) (before rest : Lis
   code-place text source h = ap (λ x. record { path = x; page = with_last Inline (written path (code_span (is_in is_table path) text) (gap (Leaf (Code text)) path p)) }) (widened-spelled (length (chars text) + 2) path h)
 
 -- a leaf was written
-pub leaf-moves : (s : Setting) (m : Manner) (next : Option EventView) (l : SourcedLeaf) (rest before : List SourcedEvent) (here : Site) (w : Writer) (page : Page) → leaf_on s m l (around before rest next) here.path here.page ≡ record { path = here.path; page = page } → Stands w here.path page → is_spelled_path here.path ≡ true → Goes w (step s m next (Leaf l) rest (going here before)) (Leaf l ∷ before)
+pub leaf-moves : (s : Setting) (m : Manner) (next : Option EventView) (l : SourcedLeaf) (rest before : List SourcedEvent) (here : Site) (w : Rendering) (page : Page) → leaf_on s m l (around before rest next) here.path here.page ≡ record { path = here.path; page = page } → Stands w here.path page → is_spelled_path here.path ≡ true → Goes w (step s m next (Leaf l) rest (going here before)) (Leaf l ∷ before)
 leaf-moves s m next l rest before here w page e h spelled =
     let P : Site → Type 0 = λ x. Goes w (going x (Leaf l ∷ before)) (Leaf l ∷ before) in
     subst P (sym e) (goes-on w here.path page (Leaf l ∷ before) h spelled)
 
-module _ {X : Type 0} (result : Result X Error) (w : Writer) (s : Setting) (m : Manner) (next : Option EventView) (t : TagView) (rest before : List SourcedEvent) (here : Site) where
+module _ {X : Type 0} (result : Result X Error) (w : Rendering) (s : Setting) (m : Manner) (next : Option EventView) (t : TagView) (rest before : List SourcedEvent) (here : Site) where
   -- a container was opened
   pub start-moves : is_spelled_tag t ≡ true → is_spelled_path here.path ≡ true → span 0 rest < length rest → Comes result w (opening s m t (look s m t (kids_of rest) (around before (drop (suc (span 0 rest)) rest) next)) here.path (gap (Start t) here.path here.page)) → Moves result w (step s m next (Start t) rest (going here before)) (Start t ∷ before)
   start-moves e h lt comes =
@@ -263,13 +263,13 @@ pub start-refused : (s : Setting) (m : Manner) (next : Option EventView) (t : Ta
 start-refused s m next t rest before here h = ap (λ o. begun_if s m next t (kids_of rest) o here before) (behind-open rest 0 h)
 
 -- what a call did from where the writer stood in between
-pub comes-at : {X : Type 0} (result : Result X Error) (w mid : Writer) (f : Path → Page → Option Site) (path : Path) (page : Page) → Stands mid path page → Comes result w (f (levels_of mid) (page_of mid)) → Comes result w (f path page)
+pub comes-at : {X : Type 0} (result : Result X Error) (w mid : Rendering) (f : Path → Page → Option Site) (path : Path) (page : Page) → Stands mid path page → Comes result w (f (levels_of mid) (page_of mid)) → Comes result w (f path page)
 comes-at result w mid f path page h comes =
     let P : Path → Type 0 = λ x. Comes result w (f x (page_of mid)) in
     let Q : Page → Type 0 = λ x. Comes result w (f path x) in
     subst Q h.page_is (subst P h.path_is comes)
 
-module _ {X Y : Type 0} (result : Result X Y) (w mid : Writer) (o : OptionsView) (flags : ParserOptions) (text : TextSpelling) (source : Bool) (e : EventView) (next : Option EventView) where
+module _ {X Y : Type 0} (result : Result X Y) (w mid : Rendering) (o : OptionsView) (flags : ParserOptions) (text : TextSpelling) (source : Bool) (e : EventView) (next : Option EventView) where
   abbrev Shows : Held → Path → Page → Type 0
   Shows h path page = OnOk result (Stands w path (shown o flags text source h next path (gap e path page)))
 
@@ -283,11 +283,11 @@ module _ {X Y : Type 0} (result : Result X Y) (w mid : Writer) (o : OptionsView)
       subst T (sym last) (subst R same (subst Q stands.page_is (subst P stands.path_is shows)))
 
 -- a container was closed
-pub end-moves : {X : Type 0} (result : Result X Error) (w : Writer) (s : Setting) (m : Manner) (next : Option EventView) (k : TagEnd) (rest before : List SourcedEvent) (here : Site) → is_spelled_path here.path ≡ true → Comes result w (closing s.options here.path here.page) → Moves result w (step s m next (End k) rest (going here before)) (End k ∷ before)
+pub end-moves : {X : Type 0} (result : Result X Error) (w : Rendering) (s : Setting) (m : Manner) (next : Option EventView) (k : TagEnd) (rest before : List SourcedEvent) (here : Site) → is_spelled_path here.path ≡ true → Comes result w (closing s.options here.path here.page) → Moves result w (step s m next (End k) rest (going here before)) (End k ∷ before)
 end-moves result w s m next k rest before here h comes =
     arrive-moves result w (closing s.options here.path here.page) (End k ∷ before) (closing-closed s.options here.path here.page h) comes
 
-module _ (s : Setting) (m : Manner) (next : Option EventView) (rest before : List SourcedEvent) (here : Site) (w : Writer) where
+module _ (s : Setting) (m : Manner) (next : Option EventView) (rest before : List SourcedEvent) (here : Site) (w : Rendering) where
   abbrev Reaches : SourcedEvent → Type 0
   Reaches e = Goes w (step s m next e rest (going here before)) (e ∷ before)
 
@@ -300,7 +300,7 @@ module _ (s : Setting) (m : Manner) (next : Option EventView) (rest before : Lis
       let D : Option EventView → Type 0 = λ x. Stands w here.path (turned (and_is is_text (front rest)) s.options s.flags m.plan.text m.source (held_after here.page.held text source previous) (Leaf (Text text)) x here.path here.page) in
       subst Reaches (sym is) (leaf-moves s m next (record { leaf = Text text; source = source }) rest before here w (turned (and_is is_text (front rest)) s.options s.flags m.plan.text m.source (held_after here.page.held text source previous) (Leaf (Text text)) (or_else (front rest) next) here.path here.page) (text-place s m next before rest here.path here.page text source previous pe spelled) (subst D ae (subst C me (subst B te (subst A ev h)))) spelled)
 
-module _ {X : Type 0} (result : Result X Error) (w : Writer) (s : Setting) (m : Manner) (next : Option EventView) (rest before : List SourcedEvent) (here : Site) where
+module _ {X : Type 0} (result : Result X Error) (w : Rendering) (s : Setting) (m : Manner) (next : Option EventView) (rest before : List SourcedEvent) (here : Site) where
   abbrev Reached : SourcedEvent → Type 0
   Reached e = Moves result w (step s m next e rest (going here before)) (e ∷ before)
 

@@ -5,7 +5,8 @@ use Rattle.tocmark_event.specs.Reading.{ReadingView}
 use Rattle.tocmark_event.specs.declared.event.flags.ParserOptions.{ParserOptions}
 use Rattle.tocmark_spelling.specs.Plan as plan
 use Rattle.tocmark_spelling.specs.Plan.{Setting}
-use Rattle.tocmark_spelling.specs.PlanOf.{setting_of, manner_of, text_spelling_view}
+use Rattle.tocmark_spelling.specs.declared.plan.TextSpelling.{TextSpelling}
+use Rattle.tocmark_spelling.specs.PlanOf.{setting_of, manner_of}
 use Rattle.tocmark_renderer.specs.declared.job.Job.{Job}
 use Rattle.tocmark_renderer.specs.declared.job.Manner.{Manner}
 
@@ -26,5 +27,5 @@ abbrev pub manner_view : Manner → plan.Manner
 manner_view manner = manner_of manner.delimiters manner.source
 
 -- how its texts are written
-abbrev pub text_in : Manner → plan.TextSpelling
-text_in manner = text_spelling_view manner.delimiters.text
+abbrev pub text_in : Manner → TextSpelling
+text_in manner = manner.delimiters.text

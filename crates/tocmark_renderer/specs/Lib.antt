@@ -1,6 +1,8 @@
 pub mod Spelled
 pub mod JobOf
-pub mod Outside
 pub mod WriterOf
+pub mod Changes
+pub mod RendererOf
+pub mod NeighboursOf
 pub mod Turn
 pub mod Rendered

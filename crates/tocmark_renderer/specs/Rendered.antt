@@ -1,15 +1,15 @@
 -- What a renderer of units carries from one to the next, and what it did with one.
-use Rattle.std.specs.Prelude.{◌≡◌, ℕ, List, [], Option, Some, None, Result, Ok, Err, String, string_bytes, map}
+use Rattle.std.specs.Prelude.{◌≡◌, ℕ, List, Option, Some, None, Result, Ok, Err, String, string_bytes, map}
 use Rattle.std.specs.Global.{Global}
 use Rattle.tocmark_event.specs.declared.options.Error.{Error}
 use Rattle.tocmark_spelling.specs.Page.{Page, Site}
 use Rattle.tocmark_spelling.specs.TrailOf.{trail_view}
-use Rattle.tocmark_renderer.specs.WriterOf.{reference_view, IsRefusal}
+use Rattle.tocmark_renderer.specs.WriterOf.{blank_page, reference_view, IsRefusal}
 use Rattle.tocmark_renderer.specs.declared.block.UnitRenderer.{UnitRenderer}
 
 -- the empty page on which the next unit begins
 abbrev pub page_before : UnitRenderer → Page
-page_before r = record { sheet = record { text = []; feeds = r.newlines }; trail = trail_view r.trail; references = []; held = None }
+page_before r = blank_page r.newlines (trail_view r.trail)
 
 -- the page's text was handed out, and the renderer kept the rest
 pub record Rendered (text : List ℕ) (new : UnitRenderer) (page : Page) : Type 0 where

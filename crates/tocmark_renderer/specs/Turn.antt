@@ -1,4 +1,4 @@
--- What one turn of the writer over a unit's events comes to.
+-- What one turn of the renderer over a unit's events comes to.
 use Rattle.std.specs.Prelude.{◌≡◌, ◌≤◌, ◌++◌, ℕ, Bool, true, if◌then◌else◌, Option, Some, None, List, Result, Ok, Err, codes, drop, length, reverse, take}
 use Rattle.tocmark_event.specs.Options.{OptionsView}
 use Rattle.tocmark_event.specs.View.{SourcedEvent, EventView, Leaf, Code, InlineHtml, SoftBreak, HardBreak}
@@ -9,13 +9,14 @@ use Rattle.tocmark_spelling.specs.Gap.{gap}
 use Rattle.tocmark_spelling.specs.Kinds.{is_table}
 use Rattle.tocmark_escape.specs.Leaves.{code_span}
 use Rattle.tocmark_spelling.specs.Machine.{Machine, going, refused, run, answer_of}
-use Rattle.tocmark_spelling.specs.Page.{Inline, Held, Page, Path, Site, with_last, written}
+use Rattle.tocmark_spelling.specs.Page.{Held, Page, Path, Site, with_last, written}
+use Rattle.tocmark_spelling.specs.declared.trail.Last.TheVariants.{Inline}
 use Rattle.tocmark_spelling.specs.Places.{is_in}
-use Rattle.tocmark_spelling.specs.Plan.{TextSpelling, Manner, Setting}
+use Rattle.tocmark_spelling.specs.Plan.{Manner, Setting}
+use Rattle.tocmark_spelling.specs.declared.plan.TextSpelling.{TextSpelling}
 use Rattle.tocmark_spelling.specs.PlanOf.{shown}
 use Rattle.tocmark_renderer.specs.Spelled.{is_spelled_path}
-use Rattle.tocmark_renderer.specs.WriterOf.{site_of, levels_of, IsKept, unheld}
-use Rattle.tocmark_renderer.specs.declared.writer.Writer.{Writer}
+use Rattle.tocmark_renderer.specs.WriterOf.{Rendering, site_of, levels_of, unheld}
 
 -- the page after a text of a stretch: held while a further text follows, else written behind its gap
 abbrev pub turned : Bool → OptionsView → ParserOptions → TextSpelling → Bool → Held → EventView → Option EventView → Path → Page → Page
@@ -39,10 +40,9 @@ led_by (Some text) e path p = Some (record { path = path; page = with_last Inlin
 abbrev pub special_on : EventView → Path → Page → Option Site
 special_on e path p = led_by (special_text (is_in is_table path) e) e path p
 
--- the machine goes on where the writer stands, behind these events, in containers that are written so far
-pub record Goes (w : Writer) (machine : Machine) (before : List SourcedEvent) : Type 0 where
+-- the machine goes on where the renderer stands, behind these events, in containers that are written so far
+pub record Goes (w : Rendering) (machine : Machine) (before : List SourcedEvent) : Type 0 where
   pub machine_is : machine ≡ going (site_of w) before
-  pub kept : IsKept w
   pub path_spelled : is_spelled_path (levels_of w) ≡ true
 
 -- the machine refused as well; memory may run out at any call
@@ -51,21 +51,20 @@ IsRefused error.OutOfMemory machine = Unit {0}
 IsRefused error.UnexpectedEvent machine = machine ≡ refused
 IsRefused e machine = ⊥
 
--- one event of the writer did what a step of the machine does
-abbrev pub Moves : {X : Type 0} → Result X Error → Writer → Machine → List SourcedEvent → Type 0
+-- one event of the renderer did what a step of the machine does
+abbrev pub Moves : {X : Type 0} → Result X Error → Rendering → Machine → List SourcedEvent → Type 0
 Moves (Ok x) w machine before = Goes w machine before
 Moves (Err e) w machine before = IsRefused e machine
 
--- the run of these events comes to what it does from where the writer stands, behind so many of them
-pub record GoesOn (w : Writer) (s : Setting) (m : Manner) (next : Option EventView) (machine : Machine) (rest before : List SourcedEvent) (n : ℕ) : Type 0 where
+-- the run of these events comes to what it does from where the renderer stands, behind so many of them
+pub record GoesOn (w : Rendering) (s : Setting) (m : Manner) (next : Option EventView) (machine : Machine) (rest before : List SourcedEvent) (n : ℕ) : Type 0 where
   pub within : n ≤ length rest
   pub run_is :
       answer_of (run s m next rest machine)
       ≡ answer_of (run s m next (drop n rest) (going (site_of w) (reverse (take n rest) ++ before)))
-  pub kept : IsKept w
   pub path_spelled : is_spelled_path (levels_of w) ≡ true
 
--- a turn of the writer did what the machine does with an event, and with so many further ones
-abbrev pub Passes : Result ℕ Error → Writer → Setting → Manner → Option EventView → Machine → List SourcedEvent → List SourcedEvent → Type 0
+-- a turn of the renderer did what the machine does with an event, and with so many further ones
+abbrev pub Passes : Result ℕ Error → Rendering → Setting → Manner → Option EventView → Machine → List SourcedEvent → List SourcedEvent → Type 0
 Passes (Ok n) w s m next machine rest before = GoesOn w s m next machine rest before n
 Passes (Err e) w s m next machine rest before = IsRefused e machine

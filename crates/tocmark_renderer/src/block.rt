@@ -8,16 +8,15 @@ ghost use Rattle.tocmark_spelling.specs.Buffered.{buffered_view, following_view}
 ghost use Rattle.tocmark_spelling.specs.Machine.{around};
 ghost use Rattle.tocmark_spelling.specs.Page.{first_trail};
 ghost use Rattle.tocmark_renderer.specs.Rendered.{page_before, Rendered, Renders};
-ghost use Rattle.tocmark_renderer.specs.Spelled.{are_spelled};
+ghost use Rattle.tocmark_renderer.specs.Spelled.{are_spelled, is_spelled_path};
 ghost use Rattle.tocmark_spelling.specs.Spelling.{spelling};
 ghost use Rattle.tocmark_spelling.specs.TrailOf.{trail_view};
-ghost use Rattle.tocmark_renderer.specs.WriterOf.{reference_view, page_of, levels_of, IsKept};
+ghost use Rattle.tocmark_renderer.specs.WriterOf.{reference_view, page_of, levels_of, Comes};
 
-use crate::frame::Reference;
 use crate::job::{Job, Manner};
-use crate::output::Output;
+use crate::parts::{Parts, Reference};
+use crate::renderer::Renderer;
 use crate::spelled::are_spelled;
-use crate::writer::Writer;
 use std::alloc::{AllocError, Global};
 use std::mem;
 use tocmark_ahead::body_facts::body_facts;
@@ -84,61 +83,76 @@ impl UnitRenderer {
         })
     }
 
-    /// A writer of the next unit, which takes the trail.
-    fn begin<'a>(&mut self, alloc: Global) -> Writer<'a>
+    /// A renderer of the next unit, which takes the trail, with no mark.
+    pub fn begin<'a>(&mut self, alloc: Global) -> Renderer<'a>
         ensures page { page_of result ≡ page_before self.old }
         ensures path { levels_of result ≡ [] }
-        ensures kept { IsKept result }
+        ensures mark { result.at_mark ≡ None }
     {
-        Writer {
-            output: Output::new(alloc, self.newlines),
-            frames: Vec::new(alloc),
-            trail: mem::replace(&mut self.trail, Trail::new()),
-            references: Vec::new(alloc),
-            held: None,
-        }
+        let trail = mem::replace(&mut self.trail, Trail::new());
+        Renderer::resume(alloc, self.newlines, trail)
     }
 
     /// Keeps what a unit leaves, and hands out its text.
-    fn keep(&mut self, writer: Writer<'_>) -> String
-        ensures { Rendered (string_bytes result) self.new (page_of writer.entry) }
+    pub fn finish(&mut self, renderer: Renderer<'_>) -> String
+        ensures { Rendered (string_bytes result) self.new (page_of renderer.entry) }
     {
-        let Writer {
-            output,
+        let Parts {
+            text,
+            newlines,
             trail,
             references,
-            ..
-        } = writer;
-        self.newlines = output.newlines;
+        } = renderer.into_parts();
+        self.newlines = newlines;
         self.trail = trail;
         self.references = references;
-        output.text
+        text
     }
 
-    /// Writes a unit and gives its text.
-    ///
-    /// Spelled are paragraphs, headings without id, classes and attributes, texts, code, inline HTML, and
-    /// soft and hard breaks. `next` is the event after the unit, if there is one. An `Err` is `UnexpectedEvent` where the unit has another event, a heading in a heading, an
-    /// End too many or a container that isn't closed, and `OutOfMemory` where memory ran out; the renderer
-    /// is of no use after it.
+    /// Writes a unit as `write_unit` does, and gives its text. After an `Err`, which is as in `write_unit`, the renderer is
+    /// of no use.
     pub fn render_block<R: Reader>(
         &mut self,
         job: Job<'_, '_>,
-        _reader: &R,
+        reader: &R,
         events: &[BufferedEvent],
         next: Option<&OwnedEvent>,
         manner: Manner<'_>,
     ) -> Result<String, Error>
         ensures unspelled { are_spelled (map buffered_view events.now) ≡ false → Renders result self.new None }
-        ensures spelled { (label : Option (List ℕ)) (f : Trees) → are_spelled (map buffered_view events.now) ≡ true → flat f ≡ map buffered_view events.now → Renders result self.new (spelling (setting_in job.entry (R.reading _reader.now) label) (manner_view manner.entry) f (around [] [] (following_view next.entry)) [] (page_before self.old)) }
+        ensures spelled { (label : Option (List ℕ)) (f : Trees) → are_spelled (map buffered_view events.now) ≡ true → flat f ≡ map buffered_view events.now → Renders result self.new (spelling (setting_in job.entry (R.reading reader.now) label) (manner_view manner.entry) f (around [] [] (following_view next.entry)) [] (page_before self.old)) }
     {
-        if !are_spelled(events) {
+        let mut renderer = self.begin(job.alloc);
+        renderer.write_unit(job, reader, events, next, manner)?;
+        Ok(self.finish(renderer))
+    }
+}
+
+impl<'a> Renderer<'a> {
+    /// Writes a unit.
+    ///
+    /// Spelled are paragraphs, headings without id, classes and attributes, texts, code, inline HTML, and
+    /// soft and hard breaks. `next` is the event after the unit, if there is one. An `Err` is `UnexpectedEvent` where the
+    /// unit has another event, a heading in a heading, an End too many or a container that isn't closed, and
+    /// `OutOfMemory` where memory ran out; some of the unit may be written then.
+    pub fn write_unit<R: Reader>(
+        &mut self,
+        job: Job<'_, '_>,
+        _reader: &R,
+        unit: &'a [BufferedEvent],
+        next: Option<&OwnedEvent>,
+        manner: Manner<'_>,
+    ) -> Result<(), Error>
+        requires { is_spelled_path (levels_of self.old) ≡ true }
+        ensures unspelled { are_spelled (map buffered_view unit.entry.now) ≡ false → Comes result self.new None }
+        ensures spelled { (label : Option (List ℕ)) (f : Trees) → are_spelled (map buffered_view unit.entry.now) ≡ true → flat f ≡ map buffered_view unit.entry.now → Comes result self.new (spelling (setting_in job.entry (R.reading _reader.now) label) (manner_view manner.entry) f (around [] [] (following_view next.entry)) (levels_of self.old) (page_of self.old)) }
+        ensures mark { self.new.at_mark ≡ self.old.at_mark }
+    {
+        if !are_spelled(unit) {
             return Err(Error::UnexpectedEvent);
         }
-        let ends = matching_ends(job.alloc, events)?;
-        let facts = body_facts(job.alloc, events)?;
-        let mut writer = self.begin(job.alloc);
-        writer.write_events(job, manner, events, &ends, &facts, next)?;
-        Ok(self.keep(writer))
+        let ends = matching_ends(job.alloc, unit)?;
+        let facts = body_facts(job.alloc, unit)?;
+        self.write_events(job, manner, unit, &ends, &facts, next)
     }
 }

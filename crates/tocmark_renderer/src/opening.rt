@@ -8,12 +8,12 @@ ghost use Rattle.tocmark_spelling.specs.Plan.{Setting, Manner};
 ghost use Rattle.tocmark_renderer.specs.Spelled.{is_spelled_tag};
 ghost use Rattle.tocmark_spelling.specs.Look.{Look};
 ghost use Rattle.tocmark_spelling.specs.Page.{written, Underlined};
-ghost use Rattle.tocmark_renderer.specs.WriterOf.{levels_of, page_of, IsKept, Stands, Arrives, Comes};
+ghost use Rattle.tocmark_renderer.specs.WriterOf.{levels_of, page_of, Stands, Arrives, Comes};
 
-use crate::frame::Content;
-use crate::writer::Writer;
+use crate::renderer::Renderer;
 use std::alloc::{AllocError, Global};
 use tocmark_ahead::body_facts::BodyFacts;
+use tocmark_containers::content::Content;
 use tocmark_event::event::{HeadingLevel, TagOf};
 use tocmark_event::options::Error;
 use tocmark_spelling::trail::Last;
@@ -37,13 +37,13 @@ fn mark_of(level: HeadingLevel, underlined: bool) -> &'static str
     if underlined { "" } else { heading_mark(level) }
 }
 
-impl<'a> Writer<'a> {
+impl<'a> Renderer<'a> {
     /// A container that writes nothing.
     pub fn open_plain(&mut self, alloc: Global, tag: &'a TagOf<String>) -> Result<(), AllocError>
-        requires { IsKept self.old }
-        ensures { OnOk result (Arrives self.new (open_plain (tag_view string_bytes tag.entry.now) (levels_of self.old) (page_of self.old))) }
+        ensures stands { OnOk result (Arrives self.new (open_plain (tag_view string_bytes tag.entry.now) (levels_of self.old) (page_of self.old))) }
+        ensures mark { self.new.at_mark ≡ self.old.at_mark }
     {
-        self.push(tag, String::new(alloc), Content::Plain)
+        self.push_frame(tag, String::new(alloc), Content::Plain)
     }
 
     /// A heading's mark.
@@ -54,11 +54,11 @@ impl<'a> Writer<'a> {
         level: HeadingLevel,
         broken: bool,
     ) -> Result<(), AllocError>
-        requires { IsKept self.old }
-        ensures { OnOk result (Arrives self.new (entered (tag_view string_bytes tag.entry.now) [] (Underlined broken) (levels_of self.old) (written (levels_of self.old) (heading_mark level broken) (page_of self.old)))) }
+        ensures stands { OnOk result (Arrives self.new (entered (tag_view string_bytes tag.entry.now) [] (Underlined broken) (levels_of self.old) (written (levels_of self.old) (heading_mark level broken) (page_of self.old)))) }
+        ensures mark { self.new.at_mark ≡ self.old.at_mark }
     {
         self.write(mark_of(level, broken))?;
-        self.push(tag, String::new(alloc), Content::Underlined(broken))
+        self.push_frame(tag, String::new(alloc), Content::Underlined(broken))
     }
 
     /// A heading, which may not stand in a heading; `broken` says whether it goes over more than one line.
@@ -69,8 +69,8 @@ impl<'a> Writer<'a> {
         level: HeadingLevel,
         broken: bool,
     ) -> Result<(), Error>
-        requires { IsKept self.old }
-        ensures { (l : Look) → l.broken ≡ broken → Comes result self.new (open_heading (tag_view string_bytes tag.entry.now) level l (levels_of self.old) (page_of self.old)) }
+        ensures comes { (l : Look) → l.broken ≡ broken → Comes result self.new (open_heading (tag_view string_bytes tag.entry.now) level l (levels_of self.old) (page_of self.old)) }
+        ensures mark { self.new.at_mark ≡ self.old.at_mark }
     {
         if self.outside().in_heading {
             return Err(Error::UnexpectedEvent);
@@ -87,11 +87,11 @@ impl<'a> Writer<'a> {
         tag: &'a TagOf<String>,
         body: BodyFacts,
     ) -> Result<(), Error>
-        requires kept { IsKept self.old }
         requires spelled { is_spelled_tag (tag_view string_bytes tag.now) ≡ true }
-        ensures { (s : Setting) (m : Manner) (l : Look) → IsForeseen l body → Comes result self.new (opening s m (tag_view string_bytes tag.entry.now) l (levels_of self.old) (page_of self.old)) }
+        ensures comes { (s : Setting) (m : Manner) (l : Look) → IsForeseen l body → Comes result self.new (opening s m (tag_view string_bytes tag.entry.now) l (levels_of self.old) (page_of self.old)) }
+        ensures mark { self.new.at_mark ≡ self.old.at_mark }
     {
-        self.trail.last = Last::Other;
+        self.set_last(Last::Other);
         match tag {
             TagOf::Paragraph => {
                 self.open_plain(alloc, tag)?;

@@ -4,9 +4,9 @@ ghost use Rattle.std.specs.Prelude.{◌≡◌, string_bytes, IfOk};
 ghost use Rattle.std.specs.Option.{option_map};
 ghost use Rattle.tocmark_event.specs.View.{event_view};
 ghost use Rattle.tocmark_renderer.specs.Turn.{special_text, special_on};
-ghost use Rattle.tocmark_renderer.specs.WriterOf.{levels_of, page_of, IsKept, Comes};
+ghost use Rattle.tocmark_renderer.specs.WriterOf.{levels_of, page_of, Comes};
 
-use crate::writer::Writer;
+use crate::renderer::Renderer;
 use std::alloc::{AllocError, Global};
 use tocmark_escape::text_modifications::code_span;
 use tocmark_event::event::{EventOf, OwnedEvent};
@@ -29,17 +29,17 @@ fn special_text(
     }
 }
 
-impl<'a> Writer<'a> {
+impl<'a> Renderer<'a> {
     /// Such a leaf behind its gap; any other event is unexpected.
     pub fn write_special(&mut self, alloc: Global, event: &OwnedEvent) -> Result<(), Error>
-        requires { IsKept self.old }
-        ensures { Comes result self.new (special_on (event_view string_bytes event.now) (levels_of self.old) (page_of self.old)) }
+        ensures comes { Comes result self.new (special_on (event_view string_bytes event.now) (levels_of self.old) (page_of self.old)) }
+        ensures mark { self.new.at_mark ≡ self.old.at_mark }
     {
         let in_table = self.outside().in_table;
         match special_text(alloc, event, in_table)? {
             None => Err(Error::UnexpectedEvent),
             Some(text) => {
-                self.write_leaf(alloc, event, text.as_str())?;
+                self.write_leaf(event, text.as_str())?;
                 Ok(())
             }
         }

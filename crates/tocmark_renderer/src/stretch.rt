@@ -10,28 +10,29 @@ ghost use Rattle.tocmark_spelling.specs.Gap.{gap};
 ghost use Rattle.tocmark_spelling.specs.Runs.{end_width};
 ghost use Rattle.tocmark_spelling.specs.Marker.{ends_delimiter};
 ghost use Rattle.tocmark_spelling.specs.Kinds.{starts, is_emphasis_or_strong, and_is};
-ghost use Rattle.tocmark_spelling.specs.Page.{Inline, with_last, written};
-ghost use Rattle.tocmark_renderer.specs.WriterOf.{levels_of, page_of, held_view, longer, begun, held_after, unheld, IsKept, Stands};
-ghost use Rattle.tocmark_spelling.specs.PlanOf.{text_spelling_view, stretch_place, spelled_stretch, shown};
+ghost use Rattle.tocmark_spelling.specs.Page.{with_last, written};
+ghost use Rattle.tocmark_spelling.specs.declared.trail.Last.TheVariants.{Inline};
+ghost use Rattle.tocmark_renderer.specs.WriterOf.{levels_of, page_of, held_view, longer, begun, held_after, unheld, Stands};
+ghost use Rattle.tocmark_spelling.specs.PlanOf.{stretch_place, spelled_stretch, shown};
 ghost use Rattle.tocmark_escape.specs.Escape.{place_of as escape_place};
 
-use crate::frame::Held;
 use crate::job::{Job, Manner};
-use crate::writer::Writer;
+use crate::parts::Held;
+use crate::renderer::Renderer;
 use std::alloc::{AllocError, Global};
 use tocmark_escape::escape::{EscapePlace, escape_text};
 use tocmark_event::event::{EventOf, OwnedEvent, TagEnd, TagOf};
 use tocmark_spelling::plan::TextSpelling;
 use tocmark_spelling::trail::{Last, copied_text};
 
-impl<'a> Writer<'a> {
+impl<'a> Renderer<'a> {
     /// Inline content behind its gap.
     fn write_inline(&mut self, text: &str) -> Result<(), AllocError>
-        requires { IsKept self.old }
-        ensures { OnOk result (Stands self.new (levels_of self.old) (with_last Inline (written (levels_of self.old) text.now (page_of self.old)))) }
+        ensures stands { OnOk result (Stands self.new (levels_of self.old) (with_last Inline (written (levels_of self.old) text.now (page_of self.old)))) }
+        ensures mark { self.new.at_mark ≡ self.old.at_mark }
     {
         self.write(text)?;
-        self.trail.last = Last::Inline;
+        self.set_last(Last::Inline);
         Ok(())
     }
 
@@ -43,8 +44,7 @@ impl<'a> Writer<'a> {
         after_close: bool,
         next: Option<&'b OwnedEvent>,
     ) -> EscapePlace<'b>
-        requires { IsKept self.now }
-        ensures { escape_place result ≡ stretch_place (options_in job.entry) job.entry.flags (text_spelling_view text) after_close (following_view next.entry) (levels_of self.now) (page_of self.now) }
+        ensures { escape_place result ≡ stretch_place (options_in job.entry) job.entry.flags text after_close (following_view next.entry) (levels_of self.now) (page_of self.now) }
     {
         let outside = self.outside();
         EscapePlace {
@@ -61,18 +61,18 @@ impl<'a> Writer<'a> {
     }
 
     /// Takes the stretch that is held, longer by a text.
-    pub fn take_held(
+    pub fn take_longer(
         &mut self,
         alloc: Global,
         text: &str,
         source: &Option<String>,
         previous: Option<&OwnedEvent>,
     ) -> Result<Held, AllocError>
-        requires { IsKept self.old }
         ensures held { IfOk result (λ h. held_view h ≡ held_after (page_of self.old).held text.now (option_map string_bytes source.now) (following_view previous.entry)) }
         ensures rest { OnOk result (Stands self.new (levels_of self.old) (unheld (page_of self.old))) }
+        ensures mark { self.new.at_mark ≡ self.old.at_mark }
     {
-        match self.held.take() {
+        match self.take_held()? {
             None => begun(alloc, text, source, previous),
             Some(held) => longer(held, text, source),
         }
@@ -87,8 +87,8 @@ impl<'a> Writer<'a> {
         held: &Held,
         next: Option<&OwnedEvent>,
     ) -> Result<(), AllocError>
-        requires { IsKept self.old }
-        ensures { OnOk result (Stands self.new (levels_of self.old) (with_last Inline (written (levels_of self.old) (spelled_stretch (options_in job.entry) job.entry.flags (text_in manner.entry) manner.entry.source (held_view held.now) (following_view next.entry) (levels_of self.old) (page_of self.old)) (page_of self.old)))) }
+        ensures stands { OnOk result (Stands self.new (levels_of self.old) (with_last Inline (written (levels_of self.old) (spelled_stretch (options_in job.entry) job.entry.flags (text_in manner.entry) manner.entry.source (held_view held.now) (following_view next.entry) (levels_of self.old) (page_of self.old)) (page_of self.old)))) }
+        ensures mark { self.new.at_mark ≡ self.old.at_mark }
     {
         if self.outside().raw {
             return self.write_inline(held.text.as_str());
@@ -104,16 +104,11 @@ impl<'a> Writer<'a> {
     }
 
     /// An inline leaf with this text, behind its gap.
-    pub fn write_leaf(
-        &mut self,
-        alloc: Global,
-        event: &OwnedEvent,
-        text: &str,
-    ) -> Result<(), AllocError>
-        requires { IsKept self.old }
-        ensures { OnOk result (Stands self.new (levels_of self.old) (with_last Inline (written (levels_of self.old) text.now (gap (event_view string_bytes event.now) (levels_of self.old) (page_of self.old))))) }
+    pub fn write_leaf(&mut self, event: &OwnedEvent, text: &str) -> Result<(), AllocError>
+        ensures stands { OnOk result (Stands self.new (levels_of self.old) (with_last Inline (written (levels_of self.old) text.now (gap (event_view string_bytes event.now) (levels_of self.old) (page_of self.old))))) }
+        ensures mark { self.new.at_mark ≡ self.old.at_mark }
     {
-        self.write_gap(alloc, event)?;
+        self.write_gap(event)?;
         self.write_inline(text)
     }
 
@@ -126,10 +121,10 @@ impl<'a> Writer<'a> {
         held: &Held,
         next: Option<&OwnedEvent>,
     ) -> Result<(), AllocError>
-        requires { IsKept self.old }
-        ensures { OnOk result (Stands self.new (levels_of self.old) (shown (options_in job.entry) job.entry.flags (text_in manner.entry) manner.entry.source (held_view held.now) (following_view next.entry) (levels_of self.old) (gap (event_view string_bytes event.now) (levels_of self.old) (page_of self.old)))) }
+        ensures stands { OnOk result (Stands self.new (levels_of self.old) (shown (options_in job.entry) job.entry.flags (text_in manner.entry) manner.entry.source (held_view held.now) (following_view next.entry) (levels_of self.old) (gap (event_view string_bytes event.now) (levels_of self.old) (page_of self.old)))) }
+        ensures mark { self.new.at_mark ≡ self.old.at_mark }
     {
-        self.write_gap(job.alloc, event)?;
+        self.write_gap(event)?;
         self.write_stretch(job, manner, held, next)
     }
 }

@@ -18,11 +18,12 @@ ghost use Rattle.tocmark_renderer.specs.JobOf.{Reading, manner_view, options_in,
 ghost use Rattle.tocmark_spelling.specs.Scans.{span, AreEnds};
 ghost use Rattle.tocmark_renderer.specs.Spelled.{is_spelled, are_spelled, is_spelled_tag, is_spelled_path};
 ghost use Rattle.tocmark_renderer.specs.Turn.{turned, Moves, Passes};
+ghost use Rattle.tocmark_renderer.specs.NeighboursOf.{AreFound, following_in, goes_on_in, rest_in};
 ghost use Rattle.tocmark_spelling.specs.Words.{or_else};
-ghost use Rattle.tocmark_renderer.specs.WriterOf.{levels_of, page_of, site_of, held_after, IsKept, Stands, Comes};
+ghost use Rattle.tocmark_renderer.specs.WriterOf.{levels_of, page_of, site_of, held_after, Stands, Comes};
 
 use crate::job::{Job, Manner};
-use crate::writer::Writer;
+use crate::renderer::Renderer;
 use std::alloc::{AllocError, Global};
 use tocmark_ahead::body_facts::{BodyFacts, facts_at};
 use tocmark_event::event::{EventOf, OwnedEvent, TagOf};
@@ -30,7 +31,22 @@ use tocmark_event::options::{Error, Options};
 use tocmark_spelling::buffered::BufferedEvent;
 use tocmark_spelling::kinds::is_text;
 
-impl<'a> Writer<'a> {
+/// What stands around an event of a unit.
+#[derive(Clone, Copy)]
+pub struct Neighbours<'e> {
+    /// The event before it.
+    pub previous: Option<&'e OwnedEvent>,
+    /// The events behind it.
+    pub rest: &'e [BufferedEvent],
+    /// How many of them stand before the end of the container that is innermost behind it.
+    pub width: usize,
+    /// What these are like.
+    pub body: BodyFacts,
+    /// The event that follows the unit.
+    pub next: Option<&'e OwnedEvent>,
+}
+
+impl<'a> Renderer<'a> {
     /// A container's start: its gap, and its opening.
     fn start(
         &mut self,
@@ -39,23 +55,23 @@ impl<'a> Writer<'a> {
         tag: &'a TagOf<String>,
         body: BodyFacts,
     ) -> Result<(), Error>
-        requires kept { IsKept self.old }
         requires start { event_view string_bytes event.now ≡ Start (tag_view string_bytes tag.now) }
         requires spelled { is_spelled_tag (tag_view string_bytes tag.now) ≡ true }
-        ensures { (s : Setting) (m : AnyManner) (l : Look) → IsForeseen l body → Comes result self.new (opening s m (tag_view string_bytes tag.entry.now) l (levels_of self.old) (gap (Start (tag_view string_bytes tag.entry.now)) (levels_of self.old) (page_of self.old))) }
+        ensures comes { (s : Setting) (m : AnyManner) (l : Look) → IsForeseen l body → Comes result self.new (opening s m (tag_view string_bytes tag.entry.now) l (levels_of self.old) (gap (Start (tag_view string_bytes tag.entry.now)) (levels_of self.old) (page_of self.old))) }
+        ensures mark { self.new.at_mark ≡ self.old.at_mark }
     {
-        self.write_gap(alloc, event)?;
+        self.write_gap(event)?;
         self.open(alloc, tag, body)
     }
 
     /// The innermost container's end.
     #[tactic(auto, unfolding(tocmark_spelling::specs::Closing::closing))]
     fn end(&mut self, options: &Options<'_>) -> Result<(), Error>
-        requires kept { IsKept self.old }
         requires spelled { is_spelled_path (levels_of self.old) ≡ true }
-        ensures { Comes result self.new (closing (options_view options.now) (levels_of self.old) (page_of self.old)) }
+        ensures comes { Comes result self.new (closing (options_view options.now) (levels_of self.old) (page_of self.old)) }
+        ensures mark { self.new.at_mark ≡ self.old.at_mark }
     {
-        match self.pop() {
+        match self.pop_frame()? {
             None => Err(Error::UnexpectedEvent),
             Some(frame) => {
                 self.close(&frame, options)?;
@@ -69,85 +85,62 @@ impl<'a> Writer<'a> {
         &mut self,
         job: Job<'_, '_>,
         manner: Manner<'_>,
-        event: &OwnedEvent,
+        event: &BufferedEvent,
         text: &str,
-        source: &Option<String>,
-        previous: Option<&OwnedEvent>,
-        more: bool,
-        next: Option<&OwnedEvent>,
+        around: Neighbours<'_>,
     ) -> Result<(), AllocError>
-        requires { IsKept self.old }
-        ensures { OnOk result (Stands self.new (levels_of self.old) (turned more (options_in job.entry) job.entry.flags (text_in manner.entry) manner.entry.source (held_after (page_of self.old).held text.now (option_map string_bytes source.now) (following_view previous.entry)) (event_view string_bytes event.now) (following_view next.entry) (levels_of self.old) (page_of self.old))) }
+        ensures stands { OnOk result (Stands self.new (levels_of self.old) (turned (goes_on_in around.entry) (options_in job.entry) job.entry.flags (text_in manner.entry) manner.entry.source (held_after (page_of self.old).held text.now (option_map string_bytes event.now.source) (following_view around.entry.previous)) (event_view string_bytes event.now.event) (following_in around.entry) (levels_of self.old) (page_of self.old))) }
+        ensures mark { self.new.at_mark ≡ self.old.at_mark }
     {
-        let held = self.take_held(job.alloc, text, source, previous)?;
-        if more {
-            self.held = Some(held);
+        let held = self.take_longer(job.alloc, text, &event.source, around.previous)?;
+        if goes_on(around.rest) {
+            self.hold(held);
             return Ok(());
         }
-        self.show(job, manner, event, &held, next)
+        let next = following(around.rest, around.next);
+        self.show(job, manner, &event.event, &held, next)
     }
 
-    /// A container's start, before so many events of such a body. One that isn't closed is unexpected.
+    /// A container's start. One that isn't closed is unexpected.
     fn start_before(
         &mut self,
         alloc: Global,
         event: &OwnedEvent,
         tag: &'a TagOf<String>,
-        rest: &[BufferedEvent],
-        width: usize,
-        body: BodyFacts,
+        around: Neighbours<'_>,
     ) -> Result<(), Error>
-        requires kept { IsKept self.old }
         requires path { is_spelled_path (levels_of self.old) ≡ true }
         requires start { event_view string_bytes event.now ≡ Start (tag_view string_bytes tag.now) }
         requires spelled { is_spelled_tag (tag_view string_bytes tag.now) ≡ true }
-        requires width { width ≡ span 0 (map buffered_view rest.now) }
-        requires body { body ≡ facts_of (kids_of (map buffered_view rest.now)) }
-        ensures { (s : Setting) (m : AnyManner) (next : Option EventView) (before : List SourcedEvent) → Moves result self.new (step s m next (Start (tag_view string_bytes tag.entry.now)) (map buffered_view rest.now) (going (site_of self.old) before)) (Start (tag_view string_bytes tag.entry.now) ∷ before) }
+        requires around { AreFound around }
+        ensures moves { (s : Setting) (m : AnyManner) (next : Option EventView) (before : List SourcedEvent) → Moves result self.new (step s m next (Start (tag_view string_bytes tag.entry.now)) (rest_in around.entry) (going (site_of self.old) before)) (Start (tag_view string_bytes tag.entry.now) ∷ before) }
+        ensures mark { self.new.at_mark ≡ self.old.at_mark }
     {
-        if width >= rest.len() {
+        if around.width >= around.rest.len() {
             return Err(Error::UnexpectedEvent);
         }
-        self.start(alloc, event, tag, body)
+        self.start(alloc, event, tag, around.body)
     }
 
-    /// One event, before so many events of such a body if it starts a container; `next` follows the unit.
+    /// One event. An `Err` is as in `write_unit`.
     fn write_event(
         &mut self,
         job: Job<'_, '_>,
         manner: Manner<'_>,
         event: &'a BufferedEvent,
-        rest: &[BufferedEvent],
-        width: usize,
-        body: BodyFacts,
-        previous: Option<&OwnedEvent>,
-        next: Option<&OwnedEvent>,
+        around: Neighbours<'_>,
     ) -> Result<(), Error>
-        requires kept { IsKept self.old }
         requires path { is_spelled_path (levels_of self.old) ≡ true }
         requires spelled { is_spelled (buffered_view event.now) ≡ true }
-        requires width { width ≡ span 0 (map buffered_view rest.now) }
-        requires body { body ≡ facts_of (kids_of (map buffered_view rest.now)) }
-        ensures { (reading : Reading) (label : Option (List ℕ)) (before : List SourcedEvent) → following_view previous.entry ≡ front before → Moves result self.new (step (setting_in job.entry reading label) (manner_view manner.entry) (following_view next.entry) (buffered_view event.entry.now) (map buffered_view rest.now) (going (site_of self.old) before)) (buffered_view event.entry.now ∷ before) }
+        requires around { AreFound around }
+        ensures moves { (reading : Reading) (label : Option (List ℕ)) (before : List SourcedEvent) → following_view around.entry.previous ≡ front before → Moves result self.new (step (setting_in job.entry reading label) (manner_view manner.entry) (following_view around.entry.next) (buffered_view event.entry.now) (rest_in around.entry) (going (site_of self.old) before)) (buffered_view event.entry.now ∷ before) }
+        ensures mark { self.new.at_mark ≡ self.old.at_mark }
     {
         match &event.event {
-            EventOf::Start(tag) => {
-                self.start_before(job.alloc, &event.event, tag, rest, width, body)
-            }
+            EventOf::Start(tag) => self.start_before(job.alloc, &event.event, tag, around),
             EventOf::End(_) => self.end(job.options),
             EventOf::Text(text) => {
-                let more = goes_on(rest);
-                let after = following(rest, next);
-                self.add_text(
-                    job,
-                    manner,
-                    &event.event,
-                    text.as_str(),
-                    &event.source,
-                    previous,
-                    more,
-                    after,
-                )?;
+                self.add_text(job, manner, event, text.as_str(), around)?;
                 Ok(())
             }
             EventOf::Code(_) | EventOf::InlineHtml(_) | EventOf::SoftBreak | EventOf::HardBreak => {
@@ -163,21 +156,16 @@ impl<'a> Writer<'a> {
         job: Job<'_, '_>,
         manner: Manner<'_>,
         event: &'a BufferedEvent,
-        rest: &[BufferedEvent],
-        width: usize,
-        body: BodyFacts,
-        previous: Option<&OwnedEvent>,
-        next: Option<&OwnedEvent>,
+        around: Neighbours<'_>,
     ) -> Result<usize, Error>
-        requires kept { IsKept self.old }
         requires path { is_spelled_path (levels_of self.old) ≡ true }
         requires spelled { is_spelled (buffered_view event.now) ≡ true }
-        requires width { width ≡ span 0 (map buffered_view rest.now) }
-        requires body { body ≡ facts_of (kids_of (map buffered_view rest.now)) }
-        ensures passed { IfOk result (λ passed. passed ≤ length rest.now) }
-        ensures moves { (reading : Reading) (label : Option (List ℕ)) (before : List SourcedEvent) → following_view previous.entry ≡ front before → Passes result self.new (setting_in job.entry reading label) (manner_view manner.entry) (following_view next.entry) (step (setting_in job.entry reading label) (manner_view manner.entry) (following_view next.entry) (buffered_view event.entry.now) (map buffered_view rest.now) (going (site_of self.old) before)) (map buffered_view rest.now) (buffered_view event.entry.now ∷ before) }
+        requires around { AreFound around }
+        ensures passed { IfOk result (λ passed. passed ≤ length around.entry.rest.now) }
+        ensures moves { (reading : Reading) (label : Option (List ℕ)) (before : List SourcedEvent) → following_view around.entry.previous ≡ front before → Passes result self.new (setting_in job.entry reading label) (manner_view manner.entry) (following_view around.entry.next) (step (setting_in job.entry reading label) (manner_view manner.entry) (following_view around.entry.next) (buffered_view event.entry.now) (rest_in around.entry) (going (site_of self.old) before)) (rest_in around.entry) (buffered_view event.entry.now ∷ before) }
+        ensures mark { self.new.at_mark ≡ self.old.at_mark }
     {
-        self.write_event(job, manner, event, rest, width, body, previous, next)?;
+        self.write_event(job, manner, event, around)?;
         Ok(0)
     }
 
@@ -192,20 +180,27 @@ impl<'a> Writer<'a> {
         facts: &[BodyFacts],
         next: Option<&OwnedEvent>,
     ) -> Result<(), Error>
-        requires kept { IsKept self.old }
         requires path { is_spelled_path (levels_of self.old) ≡ true }
         requires spelled { are_spelled (map buffered_view events.now) ≡ true }
         requires ends { AreEnds (map buffered_view events.now) ends.now }
         requires facts { AreFacts (map buffered_view events.now) facts.now }
-        ensures { (reading : Reading) (label : Option (List ℕ)) → Comes result self.new (answer_of (run (setting_in job.entry reading label) (manner_view manner.entry) (following_view next.entry) (map buffered_view events.entry.now) (going (site_of self.old) []))) }
+        ensures comes { (reading : Reading) (label : Option (List ℕ)) → Comes result self.new (answer_of (run (setting_in job.entry reading label) (manner_view manner.entry) (following_view next.entry) (map buffered_view events.entry.now) (going (site_of self.old) []))) }
+        ensures mark { self.new.at_mark ≡ self.old.at_mark }
     {
         let mut i = 0usize;
         while i < events.len() {
+            let previous = previous_of(events, i);
             let rest = rest_of(events, i + 1);
             let width = width_of(ends, i);
             let body = facts_at(facts, i);
-            let previous = previous_of(events, i);
-            let passed = self.turn(job, manner, &events[i], rest, width, body, previous, next)?;
+            let around = Neighbours {
+                previous,
+                rest,
+                width,
+                body,
+                next,
+            };
+            let passed = self.turn(job, manner, &events[i], around)?;
             i += 1 + passed;
         }
         Ok(())

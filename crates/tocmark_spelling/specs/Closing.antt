@@ -11,11 +11,16 @@ use Rattle.tocmark_event.specs.declared.event.LinkType.TheVariants as link
 use Rattle.tocmark_event.specs.declared.event.MetadataBlockKind.{MetadataBlockKind}
 use Rattle.tocmark_escape.specs.Destination.{inline_closing}
 use Rattle.tocmark_spelling.specs.Kinds.{is_item, is_list}
-use Rattle.tocmark_spelling.specs.Page.{Tail, ParagraphTail, EmptyTail, BlockTail, Last, Other, Inline, ItemStart, ItemEnd, ListEnd, DefinitionEnd, BlockEnd, ListChoice, Content, Underlined, Fence, HtmlEnds, Listed, Headers, Delimited, Named, Level, Path, Page, Site, written, filled_to, prefix_of, with_trail, with_last, with_owed, raised}
+use Rattle.tocmark_spelling.specs.Page.{Content, Underlined, Fence, HtmlEnds, Listed, Headers, Delimited, Named, Level, Path, Page, Site, written, filled_to, prefix_of, with_trail, with_last, with_owed, raised}
 use Rattle.tocmark_spelling.specs.Words.{hyphen}
 use Rattle.tocmark_spelling.specs.Places.{is_in, width_of, with_header}
 use Rattle.tocmark_spelling.specs.Gap.{with_quote_line}
 use Rattle.tocmark_spelling.specs.Opening.{metadata_fence}
+use Rattle.tocmark_spelling.specs.declared.trail.Last.{Last}
+use Rattle.tocmark_spelling.specs.declared.trail.Last.TheVariants.{Other, Inline, ItemStart, ItemEnd, ListEnd, DefinitionEnd, BlockEnd}
+use Rattle.tocmark_spelling.specs.declared.trail.Tail.{Tail}
+use Rattle.tocmark_spelling.specs.declared.trail.Tail.TheVariants as tail
+use Rattle.tocmark_spelling.specs.declared.list_choice.ListChoice.{ListChoice}
 
 -- the container is closed
 abbrev pub left : Path → Page → Site
@@ -112,8 +117,8 @@ with_last_list c path p =
 
 -- what the last child of a list's last item was
 abbrev pub list_tail : Last → Tail
-list_tail (ItemEnd tail) = tail
-list_tail l = BlockTail
+list_tail (ItemEnd t) = t
+list_tail l = tail.Block
 
 -- a list inside a list owes what its last item does
 abbrev pub list_left : OptionsView → TagView → Path → Page → Page
@@ -128,10 +133,10 @@ close_list o t c path p = left path p
 
 -- what the last child of an item was; for an inner list, the last child of its last item
 abbrev pub item_tail : Last → Tail
-item_tail Inline = ParagraphTail
-item_tail ItemStart = EmptyTail
-item_tail (ListEnd tail) = tail
-item_tail l = BlockTail
+item_tail Inline = tail.Paragraph
+item_tail ItemStart = tail.Empty
+item_tail (ListEnd t) = t
+item_tail l = tail.Block
 
 -- an item ends; at least a new line is owed, and a quote has to go on only inside another item
 abbrev pub close_item : OptionsView → Path → Page → Site

@@ -4,8 +4,12 @@ use Rattle.tocmark_event.specs.View.{EventView}
 use Rattle.tocmark_event.specs.declared.event.TagEnd.{TagEnd}
 use Rattle.tocmark_event.specs.declared.event.TagEnd.TheVariants as end
 use Rattle.tocmark_spelling.specs.Kinds.{is_paragraph, is_quote, is_indented_code, is_list, is_item, is_definition_list, is_definition_title, is_table, starts, is_break, begins_block}
-use Rattle.tocmark_spelling.specs.Page.{Tail, ParagraphTail, BlockTail, Last, Inline, ItemStart, ItemEnd, ListEnd, DefinitionEnd, BlockEnd, Trail, Path, Page, laid_on, filled_to, with_trail, raised}
+use Rattle.tocmark_spelling.specs.Page.{Trail, Path, Page, laid_on, filled_to, with_trail, raised}
 use Rattle.tocmark_spelling.specs.Places.{is_in, is_close, is_in_loose_list}
+use Rattle.tocmark_spelling.specs.declared.trail.Last.{Last}
+use Rattle.tocmark_spelling.specs.declared.trail.Last.TheVariants.{Inline, ItemStart, ItemEnd, ListEnd, DefinitionEnd, BlockEnd}
+use Rattle.tocmark_spelling.specs.declared.trail.Tail.{Tail}
+use Rattle.tocmark_spelling.specs.declared.trail.Tail.TheVariants as tail
 
 -- whether inline content was written last
 abbrev pub is_inline : Last → Bool
@@ -19,7 +23,7 @@ is_item_opening l = false
 
 -- whether an item ended last
 abbrev pub is_item_end : Last → Bool
-is_item_end (ItemEnd tail) = true
+is_item_end (ItemEnd t) = true
 is_item_end l = false
 
 -- whether a definition of a definition list ended last
@@ -93,23 +97,23 @@ closed_up e path p = if not p.trail.open_html && is_close path then close_up e p
 
 -- whether the item ended with inline content, which is read as a paragraph
 abbrev pub is_paragraph_tail : Tail → Bool
-is_paragraph_tail ParagraphTail = true
+is_paragraph_tail tail.Paragraph = true
 is_paragraph_tail t = false
 
 -- whether the item ended with a block
 abbrev pub is_block_tail : Tail → Bool
-is_block_tail BlockTail = true
+is_block_tail tail.Block = true
 is_block_tail t = false
 
 -- what could go on with the last item of an inner list
 abbrev pub could_join : EventView → Tail → Bool
-could_join e tail =
-    starts is_paragraph e || starts is_definition_list e || (starts is_table e && is_paragraph_tail tail)
-    || (starts is_indented_code e && not (is_block_tail tail))
+could_join e t =
+    starts is_paragraph e || starts is_definition_list e || (starts is_table e && is_paragraph_tail t)
+    || (starts is_indented_code e && not (is_block_tail t))
 
 -- whether an inner list ended last and the event could go on with its last item (CommonMark, section 5.2)
 abbrev pub joins_list : EventView → Last → Bool
-joins_list e (ListEnd tail) = could_join e tail
+joins_list e (ListEnd t) = could_join e t
 joins_list e l = false
 
 -- a blank line stands between an inner list and what could go on with its last item

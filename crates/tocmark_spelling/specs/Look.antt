@@ -1,7 +1,9 @@
 -- What an opening may ask of its body and of what stands round the container.
 use Rattle.std.specs.Prelude.{ℕ, Bool, true, false, not, Option, List}
 use Rattle.tocmark_event.specs.View.{TagView, EventView}
-use Rattle.tocmark_spelling.specs.Plan.{Layout, Preferred, Setting, Manner}
+use Rattle.tocmark_spelling.specs.Plan.{Setting, Manner}
+use Rattle.tocmark_spelling.specs.declared.plan.Layout.{Layout}
+use Rattle.tocmark_spelling.specs.declared.plan.Layout.TheVariants.{Preferred}
 use Rattle.tocmark_spelling.specs.Kinds.{is_paragraph, is_emphasis_or_strong}
 use Rattle.tocmark_spelling.specs.Body.{Trees, is_empty, has_tag, begins_paragraph, is_tight, has_lone_paragraph, is_broken, joined_by, text_of_leaf, html_of_leaf, first_html}
 use Rattle.tocmark_spelling.specs.ById.{by_id}

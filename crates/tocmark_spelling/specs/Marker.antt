@@ -5,7 +5,11 @@ use Rattle.tocmark_event.specs.View.{TagView, Strong, EventView, End, end_of}
 use Rattle.tocmark_event.specs.declared.event.TagEnd.{TagEnd}
 use Rattle.tocmark_escape.specs.Characters.{underscore}
 use Rattle.tocmark_spelling.specs.Words.{last_character, last_byte, asterisk, or_else, same_truth}
-use Rattle.tocmark_spelling.specs.Plan.{Layout, Preferred, Runs, Uniform, Shared, RuleThree, TextSpelling, LiteralEntities, Markers, Setting, Manner}
+use Rattle.tocmark_spelling.specs.Plan.{Markers, Setting, Manner}
+use Rattle.tocmark_spelling.specs.declared.plan.Layout.{Layout}
+use Rattle.tocmark_spelling.specs.declared.plan.Layout.TheVariants.{Preferred, Runs, Uniform, Shared, RuleThree}
+use Rattle.tocmark_spelling.specs.declared.plan.TextSpelling.{TextSpelling}
+use Rattle.tocmark_spelling.specs.declared.plan.TextSpelling.TheVariants.{LiteralEntities}
 use Rattle.tocmark_spelling.specs.Kinds.{is_emphasis, is_emphasis_or_strong}
 use Rattle.tocmark_spelling.specs.Edges.{is_boundary, is_punctuation, edge_after}
 use Rattle.tocmark_spelling.specs.Runs.{tag_width, end_width, is_marker, run_around, last_run}

@@ -15,13 +15,18 @@ use Rattle.std.specs.Prelude.{bit_and}
 use Rattle.tocmark_escape.specs.Characters.{hash, space, ampersand, backslash, backtick}
 use Rattle.tocmark_escape.specs.Leaves.{longest_run}
 use Rattle.tocmark_spelling.specs.Words.{asterisk, hyphen, or_else, same_truth}
-use Rattle.tocmark_spelling.specs.Plan.{Layout, Uniform, Setting, Manner}
+use Rattle.tocmark_spelling.specs.Plan.{Setting, Manner}
+use Rattle.tocmark_spelling.specs.declared.plan.Layout.{Layout}
+use Rattle.tocmark_spelling.specs.declared.plan.Layout.TheVariants.{Uniform}
 use Rattle.tocmark_spelling.specs.Kinds.{is_heading, is_list, is_table, is_strikethrough, is_indented_code, starts, and_is}
 use Rattle.tocmark_spelling.specs.Html.{is_blank_terminated, is_html_closed}
 use Rattle.tocmark_spelling.specs.Look.{Look, is_preferred}
-use Rattle.tocmark_spelling.specs.Page.{Other, ItemStart, LastList, ListChoice, Content, Plain, Underlined, Fence, HtmlEnds, Listed, Defined, Headers, Width, Delimited, Named, Level, Path, Page, Site, written, filled_to, with_last, with_owed}
+use Rattle.tocmark_spelling.specs.Page.{Content, Plain, Underlined, Fence, HtmlEnds, Listed, Defined, Headers, Width, Delimited, Named, Level, Path, Page, Site, written, filled_to, with_last, with_owed}
 use Rattle.tocmark_spelling.specs.Places.{is_in, is_directly_in, depth_in, nearest, at_item_start, is_raw_link}
 use Rattle.tocmark_spelling.specs.Marker.{marker, opening_token}
+use Rattle.tocmark_spelling.specs.declared.trail.Last.TheVariants.{Other, ItemStart}
+use Rattle.tocmark_spelling.specs.declared.trail.LastList.{LastList}
+use Rattle.tocmark_spelling.specs.declared.list_choice.ListChoice.{ListChoice}
 
 -- a container is open, with this prefix and choice
 abbrev pub entered : TagView → List ℕ → Content → Path → Page → Option Site

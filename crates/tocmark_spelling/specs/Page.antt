@@ -1,30 +1,11 @@
 -- The text so far, the open containers, and what a finished container leaves to its right neighbour.
 use Rattle.std.specs.Prelude.{ℕ, ◌+◌, ◌-◌, Bool, false, Option, Some, None, List, [], ◌∷◌, ◌++◌, nat_lt, max, replicate, if◌then◌else◌, ◌==◌}
 use Rattle.tocmark_event.specs.View.{TagView, SourcedEvent, EventView, unsourced}
-use Rattle.tocmark_event.specs.declared.event.TagEnd.{TagEnd}
 use Rattle.tocmark_spelling.specs.Words.{or_else}
-
--- what the last child of an item was
-pub data Tail : Type 0 where
-  ParagraphTail : Tail
-  EmptyTail : Tail
-  BlockTail : Tail
-
--- what was written last
-pub data Last : Type 0 where
-  Other : Last
-  Inline : Last
-  ItemStart : Last
-  ItemEnd : Tail → Last
-  ListEnd : Tail → Last
-  DefinitionEnd : Last
-  BlockEnd : TagEnd → Last
-
--- the list that ended last: how many containers are open around it, whether it is ordered, and its token
-pub record LastList : Type 0 where
-  pub depth : ℕ
-  pub ordered : Bool
-  pub token : ℕ
+use Rattle.tocmark_spelling.specs.declared.trail.Last.{Last}
+use Rattle.tocmark_spelling.specs.declared.trail.Last.TheVariants.{Other}
+use Rattle.tocmark_spelling.specs.declared.trail.LastList.{LastList}
+use Rattle.tocmark_spelling.specs.declared.list_choice.ListChoice.{ListChoice}
 
 -- what a finished tree leaves to its right neighbour: line feeds that must stand before it, what was written last, the last list,
 -- the line that goes on with a quote, whether raw text ended without a line feed, and whether HTML is open
@@ -39,15 +20,6 @@ pub record Trail : Type 0 where
 -- the trail at the beginning of a document
 abbrev pub first_trail : Trail
 first_trail = record { owed = 0; last = Other; last_list = None; quote_line = None; raw_end = false; open_html = false }
-
--- what the opening of a list chose: its next number, if it is ordered, its token, whether it is tight, whether its markers are wide,
--- and whether its item begins with the reserved label
-pub record ListChoice : Type 0 where
-  pub number : Option ℕ
-  pub token : ℕ
-  pub tight : Bool
-  pub wide : Bool
-  pub labelled : Bool
 
 -- what the opening of a container chose, and what its children changed since
 pub data Content : Type 0 where

@@ -3,23 +3,11 @@ use Rattle.std.specs.Prelude.{ℕ, List, Bool, Option}
 use Rattle.tocmark_event.specs.Options.{OptionsView}
 use Rattle.tocmark_event.specs.Reading.{ReadingView}
 use Rattle.tocmark_event.specs.declared.event.flags.ParserOptions.{ParserOptions}
+use Rattle.tocmark_spelling.specs.declared.plan.Layout.{Layout}
+use Rattle.tocmark_spelling.specs.declared.plan.TextSpelling.{TextSpelling}
 
--- how the markers of emphasis are chosen; the truth values of Shared are called ends, adjacent and split
-pub data Layout : Type 0 where
-  Preferred : Layout
-  Runs : Layout
-  Uniform : Layout
-  Shared : Bool → Bool → Bool → Layout
-  RuleThree : Layout
-
--- how texts are written: escaped, with markers as they are, with the characters beside markers as references, or both
-pub data TextSpelling : Type 0 where
-  Escaped : TextSpelling
-  Literal : TextSpelling
-  Entities : TextSpelling
-  LiteralEntities : TextSpelling
-
--- how a unit is spelled: how the markers of emphasis are chosen, and how texts are written
+-- how a unit is spelled: how the markers of emphasis are chosen, and how texts are written;
+-- the truth values of `Layout.Shared` are, in this order, ends, adjacent and split
 pub record Plan : Type 0 where
   pub layout : Layout
   pub text : TextSpelling

@@ -3,39 +3,21 @@ use Rattle.std.specs.Prelude.{ℕ, List, Bool, Option, ◌&&◌, if◌then◌els
 use Rattle.tocmark_event.specs.View.{EventView}
 use Rattle.tocmark_escape.specs.Escape.{Place}
 use Rattle.tocmark_spelling.specs.Kinds.{is_table, is_heading, is_emphasis_or_strong, starts, and_is}
-use Rattle.tocmark_spelling.specs.Page.{Held, Path, Page, Inline, with_last, written}
+use Rattle.tocmark_spelling.specs.Page.{Held, Path, Page, with_last, written}
+use Rattle.tocmark_spelling.specs.declared.trail.Last.TheVariants.{Inline}
 use Rattle.tocmark_spelling.specs.Places.{is_in, is_raw}
 use Rattle.tocmark_spelling.specs.Stretch.{is_literal, has_entities, at_front, from_source, or_escaped}
 use Rattle.tocmark_event.specs.Options.{OptionsView}
 use Rattle.tocmark_event.specs.Reading.{ReadingView}
 use Rattle.tocmark_event.specs.declared.event.flags.ParserOptions.{ParserOptions}
-use Rattle.tocmark_spelling.specs.Plan as plan
-use Rattle.tocmark_spelling.specs.Plan.{Preferred, Runs, Uniform, Shared, RuleThree, Escaped, Literal, Entities, LiteralEntities, Setting, Manner}
-use Rattle.tocmark_spelling.specs.declared.plan.Layout.{Layout}
-use Rattle.tocmark_spelling.specs.declared.plan.Layout.TheVariants as layout
+use Rattle.tocmark_spelling.specs.Plan.{Setting, Manner}
 use Rattle.tocmark_spelling.specs.declared.plan.TextSpelling.{TextSpelling}
-use Rattle.tocmark_spelling.specs.declared.plan.TextSpelling.TheVariants as text
 use Rattle.tocmark_spelling.specs.declared.plan.Delimiters.{Delimiters}
-
--- how the markers of emphasis are chosen, as a plain value (CommonMark, section 6.2)
-abbrev pub layout_view : Layout → plan.Layout
-layout_view layout.Preferred = Preferred
-layout_view layout.Runs = Runs
-layout_view layout.Uniform = Uniform
-layout_view (layout.Shared ends adjacent split) = Shared ends adjacent split
-layout_view layout.RuleThree = RuleThree
-
--- how texts are written, as a plain value
-abbrev pub text_spelling_view : TextSpelling → plan.TextSpelling
-text_spelling_view text.Escaped = Escaped
-text_spelling_view text.Literal = Literal
-text_spelling_view text.Entities = Entities
-text_spelling_view text.LiteralEntities = LiteralEntities
 
 -- what one spelling is asked for: a layout, a way with texts and two markers, from the source or not
 abbrev pub manner_of : Delimiters → Bool → Manner
 manner_of d source = record {
-  plan = record { layout = layout_view d.layout; text = text_spelling_view d.text };
+  plan = record { layout = d.layout; text = d.text };
   markers = record { emphasis = d.emphasis; strong = d.strong.now };
   source = source;
 }
@@ -45,7 +27,7 @@ abbrev pub setting_of : OptionsView → ParserOptions → (List ℕ → ParserOp
 setting_of options flags reading label = record { options = options; flags = flags; reading = reading; label = label }
 
 -- where a stretch stands; the definitions' place asks nothing more of the setting and the manner
-abbrev pub stretch_place : OptionsView → ParserOptions → plan.TextSpelling → Bool → Option EventView → Path → Page → Place
+abbrev pub stretch_place : OptionsView → ParserOptions → TextSpelling → Bool → Option EventView → Path → Page → Place
 stretch_place o flags text after_close next path p = record {
   flags = flags;
   token = o.emphasis_token;
@@ -59,11 +41,11 @@ stretch_place o flags text after_close next path p = record {
 }
 
 -- the text of a stretch likewise
-abbrev pub spelled_stretch : OptionsView → ParserOptions → plan.TextSpelling → Bool → Held → Option EventView → Path → Page → List ℕ
+abbrev pub spelled_stretch : OptionsView → ParserOptions → TextSpelling → Bool → Held → Option EventView → Path → Page → List ℕ
 spelled_stretch o flags text source h next path p =
     if is_raw path then h.text
     else or_escaped (from_source source h.source) (stretch_place o flags text h.after_close next path p) h.text
 
 -- the page with a whole stretch written on it
-abbrev pub shown : OptionsView → ParserOptions → plan.TextSpelling → Bool → Held → Option EventView → Path → Page → Page
+abbrev pub shown : OptionsView → ParserOptions → TextSpelling → Bool → Held → Option EventView → Path → Page → Page
 shown o flags text source h next path p = with_last Inline (written path (spelled_stretch o flags text source h next path p) p)

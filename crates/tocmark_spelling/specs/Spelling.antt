@@ -9,7 +9,8 @@ use Rattle.tocmark_spelling.specs.Body.{Trees}
 use Rattle.tocmark_spelling.specs.ById.{by_id}
 use Rattle.tocmark_spelling.specs.Runs.{inside, beyond, ahead_of, past}
 use Rattle.tocmark_spelling.specs.Look.{look}
-use Rattle.tocmark_spelling.specs.Page.{Inline, Content, Named, Path, Page, Site, Around, written, with_last}
+use Rattle.tocmark_spelling.specs.Page.{Content, Named, Path, Page, Site, Around, written, with_last}
+use Rattle.tocmark_spelling.specs.declared.trail.Last.TheVariants.{Inline}
 use Rattle.tocmark_spelling.specs.Gap.{gap}
 use Rattle.tocmark_spelling.specs.Opening.{opening}
 use Rattle.tocmark_spelling.specs.Closing.{closing}

@@ -3,9 +3,13 @@ use Rattle.std.specs.Prelude.{ℕ, ◌+◌, Bool, true, false, ◌&&◌, ◌||�
 use Rattle.tocmark_event.specs.View.{LeafView, Text, Code, InlineMath, DisplayMath, Html, InlineHtml, FootnoteReference, SoftBreak, HardBreak, Rule, TaskListMarker, SourcedLeaf, EventView, Leaf}
 use Rattle.tocmark_escape.specs.Escape.{Place, escaped}
 use Rattle.tocmark_escape.specs.Leaves.{code_span, inline_math, display_math, task_marker, footnote_reference}
-use Rattle.tocmark_spelling.specs.Plan.{TextSpelling, Literal, Entities, LiteralEntities, Setting, Manner}
+use Rattle.tocmark_spelling.specs.Plan.{Setting, Manner}
+use Rattle.tocmark_spelling.specs.declared.plan.TextSpelling.{TextSpelling}
+use Rattle.tocmark_spelling.specs.declared.plan.TextSpelling.TheVariants.{Literal, Entities, LiteralEntities}
 use Rattle.tocmark_spelling.specs.Kinds.{is_table, is_heading, is_emphasis_or_strong, starts, is_text, and_is}
-use Rattle.tocmark_spelling.specs.Page.{Last, Other, Inline, Content, Listed, Path, Page, Site, Held, Around, front, following, written, with_last, with_owed}
+use Rattle.tocmark_spelling.specs.declared.trail.Last.{Last}
+use Rattle.tocmark_spelling.specs.declared.trail.Last.TheVariants.{Other, Inline}
+use Rattle.tocmark_spelling.specs.Page.{Content, Listed, Path, Page, Site, Held, Around, front, following, written, with_last, with_owed}
 use Rattle.tocmark_spelling.specs.Places.{is_in, is_after_opening, is_raw, widened}
 use Rattle.tocmark_spelling.specs.Gap.{gap, is_inline, is_item_opening}
 use Rattle.tocmark_spelling.specs.Marker.{ends_delimiter}

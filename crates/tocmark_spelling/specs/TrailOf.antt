@@ -1,46 +1,41 @@
 -- What the fields of a trail mean.
-use Rattle.std.specs.Prelude.{None, string_bytes}
+use Rattle.std.specs.Prelude.{◌≡◌, ℕ, Bool, ◌&&◌, not, if◌then◌else◌, Option, List, string_bytes}
 use Rattle.std.specs.Option.{option_map}
+use Rattle.tocmark_event.specs.View.{EventView}
+use Rattle.tocmark_spelling.specs.Gap.{is_item_opening, is_item_end, least}
+use Rattle.tocmark_spelling.specs.Kinds.{is_item, is_list, starts}
 use Rattle.tocmark_spelling.specs.Page as page
-use Rattle.tocmark_spelling.specs.Page.{ParagraphTail, EmptyTail, BlockTail, Other, Inline, ItemStart, ItemEnd, ListEnd, DefinitionEnd, BlockEnd}
-use Rattle.tocmark_spelling.specs.declared.trail.Tail.{Tail}
-use Rattle.tocmark_spelling.specs.declared.trail.Tail.TheVariants as tail
-use Rattle.tocmark_spelling.specs.declared.trail.Last.{Last}
-use Rattle.tocmark_spelling.specs.declared.trail.Last.TheVariants as last
-use Rattle.tocmark_spelling.specs.declared.trail.LastList.{LastList}
+use Rattle.tocmark_spelling.specs.Page.{raised}
+use Rattle.tocmark_spelling.specs.declared.trail.Carried.{Carried}
 use Rattle.tocmark_spelling.specs.declared.trail.Trail.{Trail}
 
--- what the last child of an item was, as a plain value
-abbrev pub tail_view : Tail → page.Tail
-tail_view tail.Paragraph = ParagraphTail
-tail_view tail.Empty = EmptyTail
-tail_view tail.Block = BlockTail
-
--- what was written last, as a plain value
-abbrev pub last_view : Last → page.Last
-last_view last.Other = Other
-last_view last.Inline = Inline
-last_view last.ItemStart = ItemStart
-last_view (last.ItemEnd t) = ItemEnd (tail_view t)
-last_view (last.ListEnd t) = ListEnd (tail_view t)
-last_view last.DefinitionEnd = DefinitionEnd
-last_view (last.BlockEnd k) = BlockEnd k
-
--- the list that ended last, as a plain value
-abbrev pub last_list_view : LastList → page.LastList
-last_list_view l = record { depth = l.depth; ordered = l.ordered; token = l.token }
+-- what is carried along, and the line that goes on with a quote, as a plain value
+abbrev pub trail_of : Carried → Option (List ℕ) → page.Trail
+trail_of c line = record {
+  owed = c.owed;
+  last = c.last;
+  last_list = c.last_list;
+  quote_line = line;
+  raw_end = c.raw_end;
+  open_html = c.open_html;
+}
 
 -- what was left to the right neighbour, as a plain value
 abbrev pub trail_view : Trail → page.Trail
-trail_view t = record {
-  owed = t.owed;
-  last = last_view t.last;
-  last_list = option_map last_list_view t.last_list;
-  quote_line = option_map string_bytes t.quote_line;
-  raw_end = t.raw_end;
-  open_html = t.open_html;
-}
+trail_view t = trail_of t.carried (option_map string_bytes t.quote_line)
 
--- the trail without the line that goes on with a quote
-abbrev pub forgotten_line : page.Trail → page.Trail
-forgotten_line t = record t { quote_line = None }
+-- whatever line goes on with a quote, the trail is changed so
+abbrev pub Becomes : Carried → Carried → (page.Trail → page.Trail) → Type 0
+Becomes old new change = (line : Option (List ℕ)) → trail_of new line ≡ change (trail_of old line)
+
+-- a list begins on a new line inside a list, but not right behind its item's marker
+abbrev pub raised_in_list : EventView → Bool → page.Trail → page.Trail
+raised_in_list e in_list t = if starts is_list e && in_list && not (is_item_opening t.last) then raised 1 t else t
+
+-- what the block that ended last needs behind it
+abbrev pub raised_to_least : EventView → page.Trail → page.Trail
+raised_to_least e t = raised (least e t.last) t
+
+-- blank lines stand between the items of a list, if it isn't tight
+abbrev pub raised_in_loose_list : EventView → Bool → page.Trail → page.Trail
+raised_in_loose_list e loose t = if starts is_item e && loose && is_item_end t.last then raised 2 t else t

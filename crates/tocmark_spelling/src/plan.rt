@@ -2,7 +2,6 @@
 
 ghost use Rattle.std.specs.Prelude.{◌≡◌};
 ghost use Rattle.tocmark_spelling.specs.Stretch.{is_literal, has_entities};
-ghost use Rattle.tocmark_spelling.specs.PlanOf.{text_spelling_view};
 
 /// How the markers of emphasis are chosen.
 #[derive(Clone, Copy, Debug, PartialEq, Eq)]
@@ -43,7 +42,7 @@ pub struct Delimiters<'a> {
 impl TextSpelling {
     /// Whether markers in texts stay as they are.
     pub fn is_literal(self) -> bool
-        ensures { result ≡ is_literal (text_spelling_view self) }
+        ensures { result ≡ is_literal self }
     {
         match self {
             TextSpelling::Literal => true,
@@ -54,7 +53,7 @@ impl TextSpelling {
 
     /// Whether the characters beside markers are written as references.
     pub fn has_entities(self) -> bool
-        ensures { result ≡ has_entities (text_spelling_view self) }
+        ensures { result ≡ has_entities self }
     {
         match self {
             TextSpelling::Entities => true,

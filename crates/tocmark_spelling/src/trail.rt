@@ -1,12 +1,11 @@
 //! What a finished tree leaves to its right neighbour.
 
-ghost use Rattle.std.specs.Prelude.{◌≡◌, string_bytes, IfOk, max, ◌&&◌, not, if◌then◌else◌};
+ghost use Rattle.std.specs.Prelude.{◌≡◌, ℕ, List, Option, None, string_bytes, IfOk, if◌then◌else◌};
 ghost use Rattle.tocmark_event.specs.View.{event_view};
 ghost use Rattle.tocmark_spelling.specs.Page.{first_trail, raised};
-ghost use Rattle.tocmark_spelling.specs.Kinds.{starts, is_list};
 ghost use Rattle.tocmark_spelling.specs.Gap.{is_inline, is_item_opening, is_item_end, is_definition_end, resumed, raised_for_title, raised_for_block, least, least_after, could_join, joins_list, raised_after_list, after_html, quote_line_for};
 ghost use Rattle.std.specs.Option.{option_map};
-ghost use Rattle.tocmark_spelling.specs.TrailOf.{tail_view, last_view, trail_view, forgotten_line};
+ghost use Rattle.tocmark_spelling.specs.TrailOf.{trail_of, trail_view, Becomes, raised_in_list, raised_to_least, raised_in_loose_list};
 
 use crate::kinds::{
     begins_block, could_continue, starts_definition_list, starts_indented_code, starts_item,
@@ -44,48 +43,54 @@ pub struct LastList {
     pub token: char,
 }
 
-/// What a finished tree leaves to its right neighbour.
-#[derive(Debug, Drop)]
-pub struct Trail {
+/// Of what a finished tree leaves to its right neighbour, all that owns no memory.
+#[derive(Clone, Copy, Debug)]
+pub struct Carried {
     /// Line feeds that must stand before it.
     pub owed: usize,
     pub last: Last,
     pub last_list: Option<LastList>,
-    /// The line that goes on with a quote.
-    pub quote_line: Option<String>,
     /// Whether raw text ended without a line feed.
     pub raw_end: bool,
     pub open_html: bool,
 }
 
+/// What a finished tree leaves to its right neighbour.
+#[derive(Debug, Drop)]
+pub struct Trail {
+    pub carried: Carried,
+    /// The line that goes on with a quote.
+    pub quote_line: Option<String>,
+}
+
 impl Last {
     fn is_inline(self) -> bool
-        ensures { result ≡ is_inline (last_view self) }
+        ensures { result ≡ is_inline self }
     {
         matches!(self, Last::Inline)
     }
 
     fn is_item_opening(self) -> bool
-        ensures { result ≡ is_item_opening (last_view self) }
+        ensures { result ≡ is_item_opening self }
     {
         matches!(self, Last::ItemStart)
     }
 
     fn is_item_end(self) -> bool
-        ensures { result ≡ is_item_end (last_view self) }
+        ensures { result ≡ is_item_end self }
     {
         matches!(self, Last::ItemEnd(_))
     }
 
     fn is_definition_end(self) -> bool
-        ensures { result ≡ is_definition_end (last_view self) }
+        ensures { result ≡ is_definition_end self }
     {
         matches!(self, Last::DefinitionEnd)
     }
 
     /// The line feeds without which the event would be read as part of the block that ended last.
     pub fn least(self, event: &OwnedEvent) -> usize
-        ensures { result ≡ least (event_view string_bytes event.now) (last_view self) }
+        ensures { result ≡ least (event_view string_bytes event.now) self }
     {
         match self {
             Last::BlockEnd(end) => least_after(end, event),
@@ -95,7 +100,7 @@ impl Last {
 
     /// Whether an inner list ended, and the event could go on with its last item.
     fn joins_list(self, event: &OwnedEvent) -> bool
-        ensures { result ≡ joins_list (event_view string_bytes event.now) (last_view self) }
+        ensures { result ≡ joins_list (event_view string_bytes event.now) self }
     {
         match self {
             Last::ListEnd(tail) => could_join(event, tail),
@@ -124,127 +129,129 @@ fn least_after(end: TagEnd, event: &OwnedEvent) -> usize
 }
 
 fn could_join(event: &OwnedEvent, tail: Tail) -> bool
-    ensures { result ≡ could_join (event_view string_bytes event.now) (tail_view tail) }
+    ensures { result ≡ could_join (event_view string_bytes event.now) tail }
 {
     let block = starts_paragraph(event) || starts_definition_list(event);
     let table = starts_table(event) && matches!(tail, Tail::Paragraph);
     block || table || (starts_indented_code(event) && !matches!(tail, Tail::Block))
 }
 
-impl Trail {
-    /// The trail at the beginning of a document.
-    pub fn new() -> Trail
-        ensures { trail_view result ≡ first_trail }
+impl Carried {
+    /// What is carried along at the beginning of a document.
+    fn new() -> Carried
+        ensures { trail_of result None ≡ first_trail }
     {
-        Trail {
+        Carried {
             owed: 0,
             last: Last::Other,
             last_list: None,
-            quote_line: None,
             raw_end: false,
             open_html: false,
         }
     }
 
-    fn raise(&mut self, lines: usize)
-        ensures { trail_view self.new ≡ raised lines (trail_view self.old) }
+    /// The same where this was written last.
+    pub fn with_last(mut self, last: Last) -> Carried
+        ensures { Becomes self result (λ t. record t { last = last }) }
     {
-        self.owed = self.owed.max(lines);
+        self.last = last;
+        self
     }
 
-    fn raise_if(&mut self, needed: bool, lines: usize)
-        ensures { trail_view self.new ≡ (if needed then raised lines (trail_view self.old) else trail_view self.old) }
+    /// The same where so many line feeds are owed.
+    pub fn with_owed(mut self, owed: usize) -> Carried
+        ensures { Becomes self result (λ t. record t { owed = owed }) }
     {
-        if needed {
-            self.raise(lines);
-        }
+        self.owed = owed;
+        self
+    }
+
+    fn raised(mut self, lines: usize) -> Carried
+        ensures { Becomes self result (raised lines) }
+    {
+        self.owed = self.owed.max(lines);
+        self
+    }
+
+    fn raised_if(self, needed: bool, lines: usize) -> Carried
+        ensures { Becomes self result (λ t. if needed then raised lines t else t) }
+    {
+        if needed { self.raised(lines) } else { self }
     }
 
     /// A new event ends raw text, and another than a list forgets the last list.
-    pub fn resume(&mut self, event: &OwnedEvent)
-        ensures { trail_view self.new ≡ resumed (event_view string_bytes event.now) (trail_view self.old) }
+    pub fn resumed(mut self, event: &OwnedEvent) -> Carried
+        ensures { Becomes self result (resumed (event_view string_bytes event.now)) }
     {
         if !starts_list(event) {
             self.last_list = None;
         }
         self.raw_end = false;
+        self
     }
 
     /// A list inside a list begins on a new line, but not right behind its item's marker.
-    pub fn raise_for_list(&mut self, event: &OwnedEvent, in_list: bool)
-        ensures { trail_view self.new ≡ (if starts is_list (event_view string_bytes event.now) && in_list && not (is_item_opening (trail_view self.old).last) then raised 1 (trail_view self.old) else trail_view self.old) }
+    pub fn raised_for_list(self, event: &OwnedEvent, in_list: bool) -> Carried
+        ensures { Becomes self result (raised_in_list (event_view string_bytes event.now) in_list) }
     {
         let needed = starts_list(event) && in_list && !self.last.is_item_opening();
-        self.raise_if(needed, 1);
+        self.raised_if(needed, 1)
     }
 
     /// A blank line stands between a definition and the next title.
-    pub fn raise_for_title(&mut self, event: &OwnedEvent)
-        ensures { trail_view self.new ≡ raised_for_title (event_view string_bytes event.now) (trail_view self.old) }
+    pub fn raised_for_title(self, event: &OwnedEvent) -> Carried
+        ensures { Becomes self result (raised_for_title (event_view string_bytes event.now)) }
     {
         let needed = self.last.is_definition_end() && starts_title(event);
-        self.raise_if(needed, 2);
+        self.raised_if(needed, 2)
     }
 
     /// A block begins on a new line after inline content.
-    pub fn raise_for_block(&mut self, event: &OwnedEvent)
-        ensures { trail_view self.new ≡ raised_for_block (event_view string_bytes event.now) (trail_view self.old) }
+    pub fn raised_for_block(self, event: &OwnedEvent) -> Carried
+        ensures { Becomes self result (raised_for_block (event_view string_bytes event.now)) }
     {
         let needed = self.last.is_inline() && begins_block(event);
-        self.raise_if(needed, 1);
+        self.raised_if(needed, 1)
     }
 
     /// What the block that ended last needs behind it.
-    pub fn raise_to_least(&mut self, event: &OwnedEvent)
-        ensures { trail_view self.new ≡ raised (least (event_view string_bytes event.now) (trail_view self.old).last) (trail_view self.old) }
+    pub fn raised_to_least(self, event: &OwnedEvent) -> Carried
+        ensures { Becomes self result (raised_to_least (event_view string_bytes event.now)) }
     {
-        let lines = self.last.least(event);
-        self.raise(lines);
+        self.raised(self.last.least(event))
     }
 
     /// A blank line stands between an inner list and what could go on with its last item.
-    pub fn raise_after_list(&mut self, event: &OwnedEvent)
-        ensures { trail_view self.new ≡ raised_after_list (event_view string_bytes event.now) (trail_view self.old) }
+    pub fn raised_after_list(self, event: &OwnedEvent) -> Carried
+        ensures { Becomes self result (raised_after_list (event_view string_bytes event.now)) }
     {
-        let needed = self.last.joins_list(event);
-        self.raise_if(needed, 2);
-    }
-
-    /// Whether an item ended last.
-    pub fn is_behind_item(&self) -> bool
-        ensures { result ≡ is_item_end (trail_view self.now).last }
-    {
-        self.last.is_item_end()
+        self.raised_if(self.last.joins_list(event), 2)
     }
 
     /// Blank lines stand between the items of a list that isn't tight.
-    pub fn raise_for_item(&mut self, between_items: bool)
-        ensures { trail_view self.new ≡ (if between_items then raised 2 (trail_view self.old) else trail_view self.old) }
+    pub fn raised_for_item(self, event: &OwnedEvent, in_loose_list: bool) -> Carried
+        ensures { Becomes self result (raised_in_loose_list (event_view string_bytes event.now) in_loose_list) }
     {
-        self.raise_if(between_items, 2);
+        let needed = starts_item(event) && in_loose_list && self.last.is_item_end();
+        self.raised_if(needed, 2)
     }
 
-    /// The line with which a quote goes on, if it has to before the event; it is forgotten.
-    pub fn take_quote_line(&mut self, event: &OwnedEvent) -> Option<String>
-        ensures line { option_map string_bytes result ≡ quote_line_for (event_view string_bytes event.now) (trail_view self.old) }
-        ensures forgotten { trail_view self.new ≡ forgotten_line (trail_view self.old) }
+    /// Whether a quote that was left open goes on before the event.
+    pub fn keeps_quote(self, event: &OwnedEvent) -> bool
+        ensures { (line : Option (List ℕ)) → (if result then line else None) ≡ quote_line_for (event_view string_bytes event.now) (trail_of self line) }
     {
-        let line = self.quote_line.take();
-        if self.last.least(event) == 0 && !starts_item(event) {
-            line
-        } else {
-            None
-        }
+        self.last.least(event) == 0 && !starts_item(event)
     }
 
     /// Open HTML goes on until a line ends it, so that no blank line is written.
-    pub fn pass_html(&mut self)
-        ensures { trail_view self.new ≡ after_html (trail_view self.old) }
+    pub fn past_html(mut self) -> Carried
+        ensures { Becomes self result after_html }
     {
         if self.open_html {
             self.owed = 1;
             self.open_html = false;
         }
+        self
     }
 }
 
@@ -259,17 +266,23 @@ pub fn copied_text(alloc: Global, text: &Option<String>) -> Result<Option<String
 }
 
 impl Trail {
+    /// The trail at the beginning of a document.
+    pub fn new() -> Trail
+        ensures { trail_view result ≡ first_trail }
+    {
+        Trail {
+            carried: Carried::new(),
+            quote_line: None,
+        }
+    }
+
     /// An equal trail. An `Err` says that memory ran out.
     pub fn copied(&self, alloc: Global) -> Result<Trail, AllocError>
         ensures { IfOk result (λ copy. trail_view copy ≡ trail_view self.now) }
     {
         Ok(Trail {
-            owed: self.owed,
-            last: self.last,
-            last_list: self.last_list,
+            carried: self.carried,
             quote_line: copied_text(alloc, &self.quote_line)?,
-            raw_end: self.raw_end,
-            open_html: self.open_html,
         })
     }
 }

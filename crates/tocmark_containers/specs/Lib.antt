@@ -1,0 +1,5 @@
+pub mod FrameOf
+pub mod Outside
+pub mod Nesting
+pub mod KeptOf
+pub mod ContainersOf

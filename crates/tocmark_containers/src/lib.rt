@@ -1,0 +1,12 @@
+//! The containers that are open at a place of a unit.
+//!
+//! `frame` is one of them: its tag, and what its opening chose (`content`). `outside` is what it and those around it
+//! say of a place. `Containers` is the stack of them with the joined prefix of its lines; it can be marked, and be made
+//! again what it was at the mark, by what `kept` notes of each.
+#![tactic(auto)]
+
+pub mod containers;
+pub mod content;
+pub mod frame;
+pub mod kept;
+pub mod outside;

@@ -1,0 +1,381 @@
+//! What is written of a unit so far, and what it was at a mark. No other file writes these fields.
+
+ghost use Rattle.std.specs.Prelude.{◌≡◌, ℕ, ◌<◌, ◌∷◌, [], Some, None, string_bytes, length, map, IfOk, IsSome, MatchOption, OnErr, OnOk};
+ghost use Rattle.std.specs.Option.{option_map};
+ghost use Rattle.tocmark_event.specs.View.{tag_view};
+ghost use Rattle.tocmark_containers.specs.FrameOf.{content_view, level_of};
+ghost use Rattle.tocmark_containers.specs.Nesting.{changed, entered};
+ghost use Rattle.tocmark_containers.specs.Outside.{outside_of};
+ghost use Rattle.tocmark_spelling.specs.Gap.{forget_quote};
+ghost use Rattle.tocmark_spelling.specs.Page.{lead, prefix_of};
+ghost use Rattle.tocmark_spelling.specs.Places.{is_after_opening, is_close, is_in_loose_list};
+ghost use Rattle.tocmark_spelling.specs.Stretch.{at_front};
+ghost use Rattle.tocmark_spelling.specs.TrailOf.{trail_of, trail_view};
+ghost use Rattle.tocmark_renderer.specs.Changes.{carrying, holding, on_page, on_path, on_sheet, quoting, referring, with_feeds, with_more};
+ghost use Rattle.tocmark_renderer.specs.WriterOf.{blank, held_view, levels_of, page_of, reference_view, sheet_of, site_of, unheld};
+
+use crate::parts::{Held, Parts, Reference};
+use std::alloc::{AllocError, Global};
+use std::marker::Model;
+use std::mem;
+use tocmark_containers::containers::Containers;
+use tocmark_containers::content::Content;
+use tocmark_containers::frame::Frame;
+use tocmark_containers::outside::Outside;
+use tocmark_event::event::TagOf;
+use tocmark_spelling::trail::{Carried, Trail, copied_text};
+
+/// What was at the mark and owns no memory.
+#[derive(Clone, Copy)]
+struct Snapshot {
+    /// How long the text was, in bytes.
+    text: usize,
+    newlines: usize,
+    carried: Carried,
+    /// How many references there were.
+    references: usize,
+}
+
+/// Writes one unit. At most one mark is set, and `back` makes it again what it was there.
+#[derive(Drop)]
+pub struct Renderer<'a> {
+    alloc: Global,
+    /// The unit's text.
+    text: String,
+    /// Line feeds at the end of all that is written, prefixes not counted.
+    newlines: usize,
+    containers: Containers<'a>,
+    /// The definitions that are still to be written.
+    references: Vec<Reference>,
+    carried: Carried,
+    /// The line that goes on with a quote.
+    quote_line: Option<String>,
+    /// The stretch of texts that has not ended.
+    held: Option<Held>,
+    mark: Option<Snapshot>,
+    /// The quote line at the mark, if it was replaced since.
+    old_quote_line: Option<Option<String>>,
+    /// The stretch at the mark, if it was replaced since.
+    old_held: Option<Option<Held>>,
+}
+
+impl<'a> Model for Renderer<'a> {
+    ghost use Rattle.tocmark_renderer.specs.WriterOf.{Rendering};
+
+    ghost Value = { Rendering };
+
+    ghost use Rattle.tocmark_renderer.specs.RendererOf.{rendering_of, IsNoted};
+
+    ghost view = { rendering_of };
+
+    ghost invariant = { IsNoted };
+}
+
+impl<'a> Renderer<'a> {
+    /// An empty unit behind so many line feeds, which finds this trail.
+    pub fn resume(alloc: Global, newlines: usize, trail: Trail) -> Renderer<'a>
+        ensures site { site_of result ≡ blank newlines (trail_view trail) }
+        ensures mark { result.at_mark ≡ None }
+    {
+        Renderer {
+            alloc,
+            text: String::new(alloc),
+            newlines,
+            containers: Containers::new(alloc),
+            references: Vec::new(alloc),
+            carried: trail.carried,
+            quote_line: trail.quote_line,
+            held: None,
+            mark: None,
+            old_quote_line: None,
+            old_held: None,
+        }
+    }
+
+    /// What the unit leaves.
+    pub fn into_parts(self) -> Parts
+        ensures text { string_bytes result.text ≡ (sheet_of self.entry).text }
+        ensures newlines { result.newlines ≡ (sheet_of self.entry).feeds }
+        ensures trail { trail_view result.trail ≡ (page_of self.entry).trail }
+        ensures references { map reference_view result.references.items ≡ (page_of self.entry).references }
+    {
+        let Renderer {
+            text,
+            newlines,
+            carried,
+            quote_line,
+            references,
+            ..
+        } = self;
+        Parts {
+            text,
+            newlines,
+            trail: Trail {
+                carried,
+                quote_line,
+            },
+            references,
+        }
+    }
+
+    /// The text so far.
+    pub fn text(&self) -> &str
+        ensures { result.now ≡ (sheet_of self.now).text }
+    {
+        self.text.as_str()
+    }
+
+    /// How many line feeds end all that is written, prefixes not counted.
+    pub fn newlines(&self) -> usize
+        ensures { result ≡ (sheet_of self.now).feeds }
+    {
+        self.newlines
+    }
+
+    /// The definitions that the unit needs so far.
+    pub fn references(&self) -> &[Reference]
+        ensures { map reference_view result.now ≡ (page_of self.now).references }
+    {
+        &self.references
+    }
+
+    /// What is carried along to what follows.
+    pub fn carried(&self) -> Carried
+        ensures { trail_of result (page_of self.now).trail.quote_line ≡ (page_of self.now).trail }
+    {
+        self.carried
+    }
+
+    /// What the open containers say of this place.
+    pub fn outside(&self) -> Outside
+        ensures { result ≡ outside_of (levels_of self.now) }
+    {
+        self.containers.outside()
+    }
+
+    /// Whether the innermost container's opening ended here.
+    fn is_after_opening(&self) -> bool
+        ensures { result ≡ is_after_opening (levels_of self.now) (page_of self.now) }
+    {
+        self.containers.starts_at(self.text.len())
+    }
+
+    /// Whether a line, the unit, or a container has its front here.
+    pub fn is_at_front(&self) -> bool
+        ensures { result ≡ at_front (levels_of self.now) (page_of self.now) }
+    {
+        let begins = self.newlines > 0 || self.text.is_empty();
+        begins || self.is_after_opening()
+    }
+
+    /// Whether no blank lines stand between the children of the innermost container.
+    pub fn is_close(&self) -> bool
+        ensures { result ≡ is_close (levels_of self.now) }
+    {
+        self.containers.is_close()
+    }
+
+    /// Whether the innermost container is a list that isn't tight.
+    pub fn is_in_loose_list(&self) -> bool
+        ensures { result ≡ is_in_loose_list (levels_of self.now) }
+    {
+        self.containers.is_in_loose_list()
+    }
+
+    /// Makes room for so many line feeds, each with the prefix of its line. An `Err` says that memory ran out.
+    pub fn reserve_lines(&mut self, count: usize) -> Result<(), AllocError>
+        ensures site { site_of self.new ≡ site_of self.old }
+        ensures mark { self.new.at_mark ≡ self.old.at_mark }
+    {
+        let width = self
+            .containers
+            .prefix()
+            .len()
+            .checked_add(1)
+            .ok_or(AllocError)?;
+        self.text
+            .reserve(count.checked_mul(width).ok_or(AllocError)?)
+    }
+
+    /// Adds to the text. An `Err` says that memory ran out.
+    pub fn put_text(&mut self, text: &str) -> Result<(), AllocError>
+        ensures site { OnOk result (site_of self.new ≡ on_sheet (with_more text.now) (site_of self.old)) }
+        ensures mark { self.new.at_mark ≡ self.old.at_mark }
+    {
+        self.text.push_str(text)?;
+        Ok(())
+    }
+
+    /// Adds the prefix, where a line begins. An `Err` says that memory ran out.
+    pub fn begin_line(&mut self) -> Result<(), AllocError>
+        ensures site { OnOk result (site_of self.new ≡ on_sheet (with_more (lead (prefix_of (levels_of self.old)) (sheet_of self.old).feeds)) (site_of self.old)) }
+        ensures mark { self.new.at_mark ≡ self.old.at_mark }
+    {
+        if self.newlines > 0 {
+            self.text.push_str(self.containers.prefix())?;
+        }
+        Ok(())
+    }
+
+    /// Says how many line feeds end all that is written, prefixes not counted.
+    pub fn set_newlines(&mut self, newlines: usize)
+        ensures site { site_of self.new ≡ on_sheet (with_feeds newlines) (site_of self.old) }
+        ensures mark { self.new.at_mark ≡ self.old.at_mark }
+    {
+        self.newlines = newlines;
+    }
+
+    /// Says what is carried along.
+    pub fn set_carried(&mut self, carried: Carried)
+        ensures site { site_of self.new ≡ on_page (carrying carried) (site_of self.old) }
+        ensures mark { self.new.at_mark ≡ self.old.at_mark }
+    {
+        self.carried = carried;
+    }
+
+    /// Replaces the line that goes on with a quote.
+    pub fn set_quote_line(&mut self, line: Option<String>)
+        ensures site { site_of self.new ≡ on_page (quoting (option_map string_bytes line)) (site_of self.old) }
+        ensures mark { self.new.at_mark ≡ self.old.at_mark }
+    {
+        let old = mem::replace(&mut self.quote_line, line);
+        if self.old_quote_line.is_none() {
+            self.old_quote_line = Some(old);
+        }
+    }
+
+    /// Takes the line that goes on with a quote; one of the mark is copied. An `Err` says that memory ran out.
+    pub fn take_quote_line(&mut self) -> Result<Option<String>, AllocError>
+        ensures site { OnOk result (site_of self.new ≡ on_page forget_quote (site_of self.old)) }
+        ensures line { IfOk result (λ line. option_map string_bytes line ≡ (page_of self.old).trail.quote_line) }
+        ensures mark { self.new.at_mark ≡ self.old.at_mark }
+    {
+        if self.mark.is_none() || self.old_quote_line.is_some() {
+            return Ok(mem::replace(&mut self.quote_line, None));
+        }
+        let copy = copied_text(self.alloc, &self.quote_line)?;
+        self.old_quote_line = Some(mem::replace(&mut self.quote_line, None));
+        Ok(copy)
+    }
+
+    /// Holds a stretch.
+    pub fn hold(&mut self, held: Held)
+        ensures site { site_of self.new ≡ on_page (holding (Some (held_view held))) (site_of self.old) }
+        ensures mark { self.new.at_mark ≡ self.old.at_mark }
+    {
+        let old = mem::replace(&mut self.held, Some(held));
+        if self.old_held.is_none() {
+            self.old_held = Some(old);
+        }
+    }
+
+    /// Takes the stretch that is held; one of the mark is copied. An `Err` says that memory ran out.
+    pub fn take_held(&mut self) -> Result<Option<Held>, AllocError>
+        ensures site { OnOk result (site_of self.new ≡ on_page unheld (site_of self.old)) }
+        ensures held { IfOk result (λ held. option_map held_view held ≡ (page_of self.old).held) }
+        ensures mark { self.new.at_mark ≡ self.old.at_mark }
+    {
+        if self.mark.is_none() || self.old_held.is_some() {
+            return Ok(mem::replace(&mut self.held, None));
+        }
+        let copy = match &self.held {
+            Some(held) => Some(held.copied(self.alloc)?),
+            None => None,
+        };
+        self.old_held = Some(mem::replace(&mut self.held, None));
+        Ok(copy)
+    }
+
+    /// Adds a definition that is still to be written. An `Err` says that memory ran out.
+    pub fn add_reference(&mut self, reference: Reference) -> Result<(), AllocError>
+        ensures site { OnOk result (site_of self.new ≡ on_page (referring (reference_view reference)) (site_of self.old)) }
+        ensures mark { self.new.at_mark ≡ self.old.at_mark }
+    {
+        self.references.push(reference)?;
+        Ok(())
+    }
+
+    /// Opens a container here. An `Err` says that memory ran out.
+    pub fn push_frame(
+        &mut self,
+        tag: &'a TagOf<String>,
+        prefix: String,
+        content: Content,
+    ) -> Result<(), AllocError>
+        ensures site { OnOk result (site_of self.new ≡ on_path (entered (tag_view string_bytes tag.entry.now) (string_bytes prefix) (length (sheet_of self.old).text) (content_view content)) (site_of self.old)) }
+        ensures mark { self.new.at_mark ≡ self.old.at_mark }
+    {
+        let start = self.text.len();
+        self.containers.push(tag, prefix, start, content)
+    }
+
+    /// Closes the innermost container, if there is one, and gives it. An `Err` says that memory ran out; nothing is
+    /// closed then.
+    pub fn pop_frame(&mut self) -> Result<Option<Frame<'a>>, AllocError>
+        ensures top { IfOk result (λ top. MatchOption top (levels_of self.old ≡ []) (λ frame. levels_of self.old ≡ level_of frame ∷ levels_of self.new)) }
+        ensures page { page_of self.new ≡ page_of self.old }
+        ensures stays { OnErr result (levels_of self.new ≡ levels_of self.old) }
+        ensures mark { self.new.at_mark ≡ self.old.at_mark }
+    {
+        self.containers.pop()
+    }
+
+    /// Replaces the content of an open container; the innermost is 0.
+    pub fn set_content(&mut self, n: usize, content: Content)
+        requires { n < length (levels_of self.old) }
+        ensures site { site_of self.new ≡ on_path (changed n (content_view content)) (site_of self.old) }
+        ensures mark { self.new.at_mark ≡ self.old.at_mark }
+    {
+        self.containers.set_content(n, content);
+    }
+
+    /// Sets the mark here, in place of an earlier one.
+    pub fn mark(&mut self)
+        ensures site { site_of self.new ≡ site_of self.old }
+        ensures mark { self.new.at_mark ≡ Some (site_of self.old) }
+    {
+        self.containers.mark();
+        self.old_quote_line = None;
+        self.old_held = None;
+        self.mark = Some(Snapshot {
+            text: self.text.len(),
+            newlines: self.newlines,
+            carried: self.carried,
+            references: self.references.len(),
+        });
+    }
+
+    /// Forgets the mark.
+    pub fn keep(&mut self)
+        ensures site { site_of self.new ≡ site_of self.old }
+        ensures mark { self.new.at_mark ≡ None }
+    {
+        self.containers.keep();
+        self.old_quote_line = None;
+        self.old_held = None;
+        self.mark = None;
+    }
+
+    /// Makes it again what it was at the mark, which is forgotten. It takes no memory.
+    pub fn back(&mut self)
+        requires { IsSome self.old.at_mark }
+        ensures site { Some (site_of self.new) ≡ self.old.at_mark }
+        ensures mark { self.new.at_mark ≡ None }
+    {
+        let Some(mark) = self.mark else {
+            return;
+        };
+        self.containers.back();
+        self.text.truncate(mark.text);
+        self.newlines = mark.newlines;
+        self.carried = mark.carried;
+        self.references.truncate(mark.references);
+        if let Some(line) = mem::replace(&mut self.old_quote_line, None) {
+            self.quote_line = line;
+        }
+        if let Some(held) = mem::replace(&mut self.old_held, None) {
+            self.held = held;
+        }
+        self.mark = None;
+    }
+}
