@@ -9,3 +9,5 @@ pub mod Gathered
 pub mod SameKeys
 pub mod Feeds
 pub mod FactLemmas
+pub mod RunLemmas
+pub mod RunLayers

@@ -1,3 +1,4 @@
 pub mod Ahead
 pub mod Sides
 pub mod BodyFacts
+pub mod TokenRuns

@@ -10,3 +10,4 @@ pub mod laws;
 pub mod marks;
 pub mod same_events;
 pub mod sides;
+pub mod token_runs;

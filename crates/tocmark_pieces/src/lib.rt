@@ -1,0 +1,12 @@
+//! The texts of blocks, tables and delimiters as they are written, from plain values.
+#![tactic(auto)]
+
+pub mod delimiters;
+pub mod fences;
+pub mod headings;
+pub mod html;
+pub mod lists;
+pub mod notes;
+pub mod quotes;
+pub mod repeated;
+pub mod tables;
