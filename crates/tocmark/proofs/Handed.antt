@@ -8,6 +8,7 @@ use Rattle.tocmark_event.specs.Reading.{events_left, lent_event, lent_pair, pair
 use Rattle.tocmark_event.specs.Text.{ParserEvent}
 use Rattle.tocmark_event.specs.declared.reader.Events.{Events}
 use Rattle.tocmark_event.specs.declared.reader.Pairs.{Pairs}
+use Rattle.tocmark.specs.Paragraphs.{Keeps}
 use Rattle.tocmark.specs.Ranges.{Range, unranged}
 use Rattle.tocmark.specs.StateView.{pairs, ranged_pairs}
 
@@ -30,8 +31,12 @@ pairs_of_events xs it h = sym (map-map unranged lent_event xs) ∙ ap (map unran
 pub pairs_of_pairs : (xs : List (Bor ParserEvent × Option Range)) (it : Pairs) → DrainsIf (YieldsFirstBy lent_pair pairs_left) (Unit {0}) it xs → ranged_pairs xs ≡ pairs_left it
 pairs_of_pairs xs it h = drained lent_pair pairs_left xs it h
 
+-- texts that a writer keeps one after the other
+pub kept_in_parts : {W : Type 0} {takes : W → List ℕ → W → Type 0} (bytes : W → List ℕ) (keeps : Keeps takes bytes) (texts : List (List ℕ)) (w v : W) → FoldsTo takes w texts v → bytes v ≡ bytes w ++ concat texts
+kept_in_parts bytes keeps [] w v h = sym (ap bytes h) ∙ sym (append-nil (bytes w))
+kept_in_parts bytes keeps (t ∷ ts) w v (u, first, others) =
+    kept_in_parts bytes keeps ts u v others ∙ (ap (λ b. b ++ concat ts) (keeps w t u first) ∙ append_assoc (bytes w) t (concat ts))
+
 -- texts written one after the other
 pub written_in_parts : {W : Type 0} (bytes : W → List ℕ) (texts : List (List ℕ)) (w v : W) → FoldsTo (λ s t u. bytes u ≡ bytes s ++ t) w texts v → bytes v ≡ bytes w ++ concat texts
-written_in_parts bytes [] w v h = sym (ap bytes h) ∙ sym (append-nil (bytes w))
-written_in_parts bytes (t ∷ ts) w v (u, first, others) =
-    written_in_parts bytes ts u v others ∙ (ap (λ b. b ++ concat ts) first ∙ append_assoc (bytes w) t (concat ts))
+written_in_parts bytes texts w v h = kept_in_parts bytes (λ w t v k. k) texts w v h

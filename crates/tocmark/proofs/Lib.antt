@@ -1,7 +1,6 @@
 pub mod Walks
 pub mod Runs
 pub mod Handed
-pub mod Ends
 pub mod Trees
 pub mod Reading
 pub mod TokenRuns
@@ -16,3 +15,7 @@ pub mod PlainEscapedBytes
 pub mod PlainSpelling
 pub mod PlainParagraph
 pub mod PlainDocument
+pub mod BlockEscapes
+pub mod BlockSpelling
+pub mod BlockWalks
+mod BlockExample

@@ -43,12 +43,12 @@ handed (b ∷ bs) = append-nil (b ∷ bs)
 abbrev unit : LeafView → Trees
 unit l = node Paragraph (leaf (record { leaf = l; source = None }) empty) empty
 
-either-way : (b : Bool) (xs : List ℕ) → (if b then xs else xs) ≡ xs
+pub either-way : (b : Bool) (xs : List ℕ) → (if b then xs else xs) ≡ xs
 either-way true xs = refl
 either-way false xs = refl
 
 -- a text that is laid with no prefix
-laid-plain : (text : List ℕ) (s : Sheet) → (laid [] text s).text ≡ s.text ++ text
+pub laid-plain : (text : List ℕ) (s : Sheet) → (laid [] text s).text ≡ s.text ++ text
 laid-plain [] s = sym (append-nil s.text)
 laid-plain (b ∷ bs) s =
     laid-plain bs (put_byte [] b s)

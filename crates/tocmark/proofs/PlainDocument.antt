@@ -13,7 +13,8 @@ use Rattle.tocmark_core_reader.specs.PlainTexts.{line_events, lines_paragraph}
 use Rattle.tocmark_spelling.specs.Body.{Trees}
 use Rattle.tocmark_spelling.specs.Closing.{closing}
 use Rattle.tocmark_spelling.specs.Opening.{opening}
-use Rattle.tocmark_spelling.specs.Page.{Site, Page, Reference, Other}
+use Rattle.tocmark_spelling.specs.Page.{Site, Page, Reference}
+use Rattle.tocmark_spelling.specs.declared.trail.Last.TheVariants.{Other}
 use Rattle.tocmark_spelling.specs.Plan.{Setting, Manner}
 use Rattle.tocmark_spelling.specs.PlanOf.{setting_of}
 use Rattle.tocmark_spelling.specs.Runs.{beyond}

@@ -8,7 +8,9 @@ use Rattle.tocmark_core_reader.proofs.PlainReading.{IsPrintable}
 use Rattle.tocmark_spelling.specs.Body.{Trees}
 use Rattle.tocmark_escape.specs.Escape.{Place, escaped}
 use Rattle.tocmark_spelling.specs.Kinds.{is_emphasis_or_strong, starts, and_is}
-use Rattle.tocmark_spelling.specs.Page.{Sheet, laid, put_byte, Path, Page, Site, Around, Trail, Last, Inline, Other, Plain, Reference}
+use Rattle.tocmark_spelling.specs.Page.{Sheet, laid, put_byte, Path, Page, Site, Around, Trail, Plain, Reference}
+use Rattle.tocmark_spelling.specs.declared.trail.Last.{Last}
+use Rattle.tocmark_spelling.specs.declared.trail.Last.TheVariants.{Inline, Other}
 use Rattle.tocmark_spelling.specs.Plan.{Setting, Manner}
 use Rattle.tocmark_spelling.specs.Spelling.{spelling}
 use Rattle.tocmark_spelling.specs.Stretch.{leaf_on, is_literal, has_entities}

@@ -1,7 +1,8 @@
 -- Laws of `go_on`, of what a call did with a writer, and of the steps of a walk.
-use Rattle.std.proofs.Common.{◌≡◌, ℕ, List, [], ◌∷◌, ◌++◌, Result, Ok, Err, Option, Some, None, true, false, refl, ap, sym, ◌∙◌, append_assoc, append-nil, arith, length, ◌==◌, sum_by, ◌+◌, reverse}
-use Rattle.std.proofs.lemmas.List.{append-nil, length-reverse}
+use Rattle.std.proofs.Common.{◌≡◌, ℕ, Bool, List, [], ◌∷◌, ◌++◌, Result, Ok, Err, Option, Some, None, true, false, refl, ap, sym, ◌∙◌, append_assoc, append-nil, arith, codes, drop, length, map, take, not, ◌==◌, ◌&&◌, sum_by, ◌+◌, reverse}
+use Rattle.std.proofs.lemmas.List.{append-nil, length-append, length-reverse}
 use Rattle.std.proofs.lemmas.List.Sums.{sum_by-append}
+use Rattle.std.proofs.lemmas.Bool.{ne_eqb}
 use Rattle.std.proofs.lemmas.Bool.Decides.{nat_tests}
 use Rattle.std.specs.List.{FoldsTo}
 use Rattle.tocmark_event.specs.View.{EventView, Start, End, Leaf, SourcedEvent, unsourced}
@@ -11,11 +12,11 @@ use Rattle.tocmark_event.specs.declared.options.Error.TheVariants as error
 use Rattle.tocmark_spelling.specs.Buffered.{sourced}
 use Rattle.tocmark_event.specs.declared.event.flags.ParserOptions.{ParserOptions}
 use Rattle.tocmark_render.specs.Document.{DocumentView}
-use Rattle.tocmark_render.specs.Ending.{last_texts}
+use Rattle.tocmark_render.specs.Ending.{last_texts, leading_feeds, unless_empty, with_definitions_in_front}
 use Rattle.tocmark_render.specs.DocumentOf.{Refuses, Gives}
 use Rattle.tocmark.specs.StateView.{keeping}
 use Rattle.tocmark.specs.Ranges.{Pair, resolved, unranged}
-use Rattle.tocmark.specs.Walk.{Done, done, Kept, Rendering, Standing, Walk, go_on, stay, refuse, handed_text, hand_walk, finished, finished_of, nested, with_event, joins, flush_of, flushed, is_due, flushed_before, advance, step, walk, flushed_rest, ended_at, ended}
+use Rattle.tocmark.specs.Walk.{Done, done, Kept, Rendering, Standing, Walk, go_on, stay, refuse, handed_text, hand_walk, finished, finished_of, last_choice, last_walk, two_texts, nested, with_event, joins, flush_of, flushed, is_due, flushed_before, advance, step, walk, ended_at, ended}
 use Rattle.tocmark.specs.Writes.{Makes, RefusesAt}
 
 ok_err : {A : Type 0} (s : A) (e : Error) → Ok s ≡ Err e → ⊥
@@ -214,53 +215,73 @@ pub ended_open : (how : Rendering) (s : Standing) (os : List TagEnd) → s.open_
 unfolding ended
 ended_open how s os e h = ended-at_open how s.open_tags s (rw e (reversed_open os h))
 
--- no definition is left when what is pending is written
-abbrev pub LeavesNone : Rendering → Standing → Type 0
-LeavesNone how s = (t : Standing) → (flushed_rest how s.pending s).outcome ≡ Ok t → how.definitions t.document ≡ []
+none-before : (defs : List ℕ) → unless_empty defs ≡ last_texts false defs []
+none-before [] = refl
+none-before (b ∷ defs) = refl
 
-finished-of-plain : (how : Rendering) (unit : List SourcedEvent) (s : Standing) (r : Result (List ℕ × Kept) Error) → ((t : Standing) → (flush_of s r).outcome ≡ Ok t → how.definitions t.document ≡ [])
-    → finished_of how unit r ≡ go_on (flush_of s r).texts (flush_of s r).outcome (λ t. hand_walk (how.definitions t.document) done)
-finished-of-plain how unit s (Err e) h = refl
-finished-of-plain how unit s (Ok x) h =
-    let none = h (record s { pending = []; document = x.1 }) refl in
-    ap (λ (defs : List ℕ). record { texts = last_texts (how.holds_raw unit) defs x.0; outcome = Ok done }) none
-    ∙ sym (ap (λ (ts : List (List ℕ)). record { texts = ts; outcome = Ok done }) (ap (λ (defs : List ℕ). handed_text x.0 ++ handed_text defs) none ∙ append-nil (handed_text x.0)))
+finished-last : (how : Rendering) (unit : List SourcedEvent) (kept : Kept) → how.holds_raw [] ≡ false → finished how unit kept ≡ finished_of how unit (last_choice how kept unit)
+finished-last how [] kept h =
+    ap (λ (ts : List (List ℕ)). record { texts = ts; outcome = Ok done }) (none-before (how.definitions kept))
+    ∙ ap (λ (b : Bool). last_walk b (how.definitions kept) []) (sym h)
+finished-last how (e ∷ es) kept h = refl
 
-finished-plain : (how : Rendering) (unit : List SourcedEvent) (s : Standing) → unit ≡ s.pending → ((t : Standing) → (flushed_rest how unit s).outcome ≡ Ok t → how.definitions t.document ≡ [])
-    → finished how unit s.document ≡ go_on (flushed_rest how unit s).texts (flushed_rest how unit s).outcome (λ t. hand_walk (how.definitions t.document) done)
-unfolding flushed
-finished-plain how [] s e h = refl
-finished-plain how (x ∷ xs) s e h =
-    let now : flush_of s (how.choice s.document (x ∷ xs) None) ≡ flush_of s (how.choice s.document s.pending None) = ap (λ (unit : List SourcedEvent). flush_of s (how.choice s.document unit None)) e in
-    finished-of-plain how (x ∷ xs) s (how.choice s.document (x ∷ xs) None) (λ t k. h t (ap (λ (w : Walk Standing). w.outcome) (sym now) ∙ k))
-    ∙ ap (λ (w : Walk Standing). go_on w.texts w.outcome (λ t. hand_walk (how.definitions t.document) done)) now
-
-pub ended_closed : (how : Rendering) (s : Standing) (os : List TagEnd) → s.open_tags ≡ reverse os → (length os == 0) ≡ true → LeavesNone how s → ended how s ≡ go_on (flushed_rest how s.pending s).texts (flushed_rest how s.pending s).outcome (λ t. hand_walk (how.definitions t.document) done)
+-- the end, where no container is open, is that of the last unit
+pub ended_closed : (how : Rendering) (s : Standing) (os : List TagEnd) → s.open_tags ≡ reverse os → (length os == 0) ≡ true → how.holds_raw [] ≡ false → ended how s ≡ finished_of how s.pending (last_choice how s.document s.pending)
 unfolding ended
-ended_closed how s os e h n = ended-at_closed how s.open_tags s (rw e (reversed_closed os h)) ∙ finished-plain how s.pending s refl n
+ended_closed how s os e h n = ended-at_closed how s.open_tags s (rw e (reversed_closed os h)) ∙ finished-last how s.pending s.document n
 
-pub ended_after : (how : Rendering) (s t : Standing) (os : List TagEnd) → s.open_tags ≡ reverse os → (length os == 0) ≡ true → LeavesNone how s → (flushed_rest how s.pending s).outcome ≡ Ok t → ended how s ≡ go_on (flushed_rest how s.pending s).texts (Ok t) (λ u. hand_walk (how.definitions u.document) done)
-ended_after how s t os e h n k = ended_closed how s os e h n ∙ ap (λ o. go_on (flushed_rest how s.pending s).texts o (λ u. hand_walk (how.definitions u.document) done)) k
+-- what is handed at the end is what is left there
+pub ended_as : (how : Rendering) (s : Standing) (os : List TagEnd) (raw : Bool) (defs text whole : List ℕ) (kept : Kept) → s.open_tags ≡ reverse os → (length os == 0) ≡ true → how.holds_raw [] ≡ false
+    → raw ≡ how.holds_raw s.pending → last_choice how s.document s.pending ≡ Ok (whole, kept) → defs ≡ how.definitions kept → text ≡ whole → last_walk raw defs text ≡ ended how s
+ended_as how s os raw defs text whole kept e h n is_raw is_chosen are_left is_text =
+    ap (λ (raw : Bool). last_walk raw defs text) is_raw
+    ∙ ap (λ (defs : List ℕ). last_walk (how.holds_raw s.pending) defs text) are_left
+    ∙ ap (λ (text : List ℕ). last_walk (how.holds_raw s.pending) (how.definitions kept) text) is_text
+    ∙ sym (ended_closed how s os e h n ∙ ap (finished_of how s.pending) is_chosen)
 
-pub ended_bytes : (how : Rendering) (s t : Standing) (os : List TagEnd) → s.open_tags ≡ reverse os → (length os == 0) ≡ true → LeavesNone how s → (flushed_rest how s.pending s).outcome ≡ Ok t → sum_by length (ended how s).texts ≡ sum_by length (flushed_rest how s.pending s).texts + length (how.definitions t.document)
-ended_bytes how s t os e h n k =
-    ap (λ (w : Walk Done). sum_by length w.texts) (ended_after how s t os e h n k)
-    ∙ (sum_by-append length (flushed_rest how s.pending s).texts (handed_text (how.definitions t.document))
-    ∙ ap (λ n. sum_by length (flushed_rest how s.pending s).texts + n) (sum_by-handed_text (how.definitions t.document)))
+-- the last unit is refused
+pub last_refused : {W : Type 0} (gives refuses : W → List ℕ → W → Type 0) (w : W) (how : Rendering) (unit : List SourcedEvent) (e : Error) (r : Result (List ℕ × Kept) Error) → Refuses e r → RefusesAt gives refuses w w e (finished_of how unit r)
+last_refused gives refuses w how unit (error.FormatFailed f) r h = absurd h
+last_refused gives refuses w how unit error.OutOfMemory r h = ([], (finished_of how unit r).texts, refl, refl)
+last_refused gives refuses w how unit e r h = rw h (refl, refl)
 
 -- an error of the definitions is want of memory
-pub Gives-refused : {W : Type 0} (gives refuses : W → List ℕ → W → Type 0) (w : W) (e : Error) (t u : List ℕ) → Gives (Err e) t → RefusesAt gives refuses w w e (hand_walk u done)
-Gives-refused gives refuses w (error.FormatFailed f) t u h = absurd h
-Gives-refused gives refuses w error.OutOfMemory t u h = ([], handed_text u, refl, refl)
-Gives-refused gives refuses w e t u h = absurd h
+pub Gives-refused : {W S : Type 0} (gives refuses : W → List ℕ → W → Type 0) (w : W) (e : Error) (t : List ℕ) (walk : Walk S) → Gives (Err e) t → RefusesAt gives refuses w w e walk
+Gives-refused gives refuses w (error.FormatFailed f) t walk h = absurd h
+Gives-refused gives refuses w error.OutOfMemory t walk h = ([], walk.texts, refl, refl)
+Gives-refused gives refuses w e t walk h = absurd h
 
-pub rest_empty : (how : Rendering) (es : List SourcedEvent) (s : Standing) → (length es == 0) ≡ true → flushed_rest how es s ≡ stay s
-rest_empty how [] s h = refl
-rest_empty how (e ∷ es) s h = absurd (grind (arith, nat_tests))
+-- nothing is pending, or something is
+module _ {A : Type 0} (view : A → SourcedEvent) (how : Rendering) (kept : Kept) where
+  pub choice_empty : (xs : List A) → (length xs == 0) ≡ true → last_choice how kept (map view xs) ≡ Ok ([], kept)
+  choice_empty [] h = refl
+  choice_empty (x ∷ xs) h = absurd (grind (arith, nat_tests))
 
-pub rest_some : (how : Rendering) (es : List SourcedEvent) (s : Standing) → (length es == 0) ≡ false → flushed_rest how es s ≡ flushed how None s
-rest_some how [] s h = cc
-rest_some how (e ∷ es) s h = refl
+  pub choice_some : (xs : List A) → (length xs == 0) ≡ false → last_choice how kept (map view xs) ≡ how.choice kept (map view xs) None
+  choice_some [] h = cc
+  choice_some (x ∷ xs) h = refl
+
+-- ---- the texts at the end
+
+front-nonempty : (defs text : List ℕ) → (length (with_definitions_in_front defs text) == 0) ≡ false
+front-nonempty defs text =
+    let front = take (leading_feeds text) text ++ drop (leading_feeds defs) defs in
+    let body = drop (leading_feeds text) text in
+    let long = length-append (front ++ codes "\n\n") body ∙ ap (λ n. n + length body) (length-append front (codes "\n\n")) in
+    ne_eqb (length (with_definitions_in_front defs text)) 0 (λ e. absurd (omega arith))
+
+-- definitions in front
+pub last-front : (raw : Bool) (defs text : List ℕ) → (raw && not (length defs == 0)) ≡ true → two_texts (with_definitions_in_front defs text) [] ≡ last_walk raw defs text
+last-front false defs text h = cc
+last-front true [] text h = cc
+last-front true (b ∷ defs) text h =
+    ap (λ (ts : List (List ℕ)). record { texts = ts; outcome = Ok done }) (append-nil _ ∙ handed_text-nonempty (with_definitions_in_front (b ∷ defs) text) (front-nonempty (b ∷ defs) text))
+
+-- definitions behind, if there are any
+pub last-behind : (raw : Bool) (defs text : List ℕ) → (raw && not (length defs == 0)) ≡ false → two_texts text defs ≡ last_walk raw defs text
+last-behind raw [] text h = ap (λ (ts : List (List ℕ)). record { texts = ts; outcome = Ok done }) (append-nil (handed_text text))
+last-behind false (b ∷ defs) text h = refl
+last-behind true (b ∷ defs) text h = absurd (grind (arith, nat_tests))
 
 pub keeping_ok : (f f' : ParserOptions) (o : Result (List ℕ × DocumentView) Error) (t : List ℕ) (d : DocumentView) → f' ≡ f → o ≡ Ok (t, d) → keeping f o ≡ Ok (t, record { flags = f'; document = d })
 keeping_ok f f' o t d h k = rw (h, k) refl

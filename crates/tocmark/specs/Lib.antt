@@ -9,3 +9,4 @@ pub mod Paragraphs
 pub mod Causes
 pub mod Calls
 pub mod PlainLines
+pub mod TextBlocks

@@ -1,5 +1,5 @@
 -- A paragraph with one text or one code span, and what is handed for it.
-use Rattle.std.specs.Prelude.{◌≡◌, ℕ, ◌<◌, false, List, [], ◌∷◌, Some, Ok, chars, length}
+use Rattle.std.specs.Prelude.{◌≡◌, ℕ, ◌<◌, false, List, [], ◌∷◌, ◌++◌, Some, Ok, chars, length}
 use Rattle.std.specs.List.{concat}
 use Rattle.tocmark_event.specs.View.{Start, End, Leaf, LeafView, Paragraph, Text}
 use Rattle.tocmark_event.specs.declared.event.TagEnd.TheVariants as end
@@ -29,3 +29,13 @@ pub record ReadsAsSpan (text : List ℕ) (walk : Walk Done) : Type 0 where
   pub ends_well : walk.outcome ≡ Ok done
   pub span : concat walk.texts ≡ code_span false text
   pub read : 0 < length text → unspan (concat walk.texts) ≡ Some text
+
+-- a writer keeps each text that it takes behind those before it, as a String does
+abbrev pub Keeps : {W : Type 0} → (W → List ℕ → W → Type 0) → (W → List ℕ) → Type 0
+Keeps {W} takes contents = (w : W) (text : List ℕ) (v : W) → takes w text v → contents v ≡ contents w ++ text
+
+-- behind what was there stands something that is read as the text
+pub record AppendsTo (old new text : List ℕ) : Type 0 where
+  pub more : List ℕ
+  pub behind : new ≡ old ++ more
+  pub read : unescape (chars more) ≡ chars text

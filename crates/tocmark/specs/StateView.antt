@@ -1,6 +1,7 @@
 -- What a state holds, as plain values.
-use Rattle.std.specs.Prelude.{◌≡◌, ℕ, ◌-◌, ◌^◌, ◌++◌, min, List, map, reverse, length, Result, Ok, Err, Option, None, string_bytes}
+use Rattle.std.specs.Prelude.{◌≡◌, ℕ, ◌-◌, ◌^◌, ◌++◌, min, List, map, reverse, length, Result, Ok, Err, Option, None, string_bytes, String}
 use Rattle.std.specs.Borrow.{Bor}
+use Rattle.std.specs.Global.{Global}
 use Rattle.std.specs.List.{sum_by}
 use Rattle.std.specs.Option.{option_map}
 use Rattle.std.specs.Result.{IfOk}
@@ -73,6 +74,11 @@ status_of s = s.status
 -- the reader of a state
 abbrev pub reader_of : {R : Type 0} → State R → R
 reader_of s = s.reader
+
+-- a call that wrote a unit answered its text and left this document, or refused the unit as the choice does
+abbrev pub Chooses : Result (String Global) Error → Kept → Result (List ℕ × Kept) Error → Type 0
+Chooses (Ok text) kept choice = choice ≡ Ok (string_bytes text, kept)
+Chooses (Err e) kept choice = Refuses e choice
 
 -- two states take the same further events, under the same options
 pub record SameStanding {R : Type 0} (s t : State R) : Type 0 where

@@ -141,14 +141,22 @@ beginning kept = record { pending = []; open_tags = []; document = kept; range_e
 abbrev pub nothing_yet : ParserOptions → Standing
 nothing_yet flags = beginning (record { flags = flags; document = first_document })
 
--- all that is pending is written as one unit, if there is any
-abbrev pub flushed_rest : Rendering → List SourcedEvent → Standing → Walk Standing
-flushed_rest how [] s = stay s
-flushed_rest how (e ∷ es) s = flushed how None s
+-- the text of all that is pending as one unit, and the document after it; an empty text where nothing is pending
+abbrev pub last_choice : Rendering → Kept → List SourcedEvent → Result (List ℕ × Kept) Error
+last_choice how kept [] = Ok ([], kept)
+last_choice how kept (e ∷ es) = how.choice kept (e ∷ es) None
+
+-- two texts, neither of which is handed where it is empty
+abbrev pub two_texts : List ℕ → List ℕ → Walk Done
+two_texts first second = record { texts = handed_text first ++ handed_text second; outcome = Ok done }
+
+-- the text of the last unit and the definitions that are left
+abbrev pub last_walk : Bool → List ℕ → List ℕ → Walk Done
+last_walk raw defs text = record { texts = last_texts raw defs text; outcome = Ok done }
 
 -- the texts of the last unit and of the definitions that are left, or the refusal of that unit
 abbrev pub finished_of : Rendering → List SourcedEvent → Result (List ℕ × Kept) Error → Walk Done
-finished_of how unit (Ok x) = record { texts = last_texts (how.holds_raw unit) (how.definitions x.1) x.0; outcome = Ok done }
+finished_of how unit (Ok x) = last_walk (how.holds_raw unit) (how.definitions x.1) x.0
 finished_of how unit (Err e) = refuse e
 
 -- the last unit is what is pending, if anything is

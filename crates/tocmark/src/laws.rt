@@ -13,9 +13,10 @@ ghost use Rattle.tocmark_event.specs.declared.options.Error.{Error};
 ghost use Rattle.tocmark.specs.declared.state.Progress.{Progress};
 ghost use Rattle.tocmark.specs.Calls.{AreCalls, all_pairs};
 ghost use Rattle.tocmark.specs.Causes.{IsRefusedAtPair, IsRefusedIn};
-ghost use Rattle.tocmark.specs.Paragraphs.{ReadsAs, ReadsAsSpan, paragraph_of, paragraph_with};
+ghost use Rattle.tocmark.specs.Paragraphs.{AppendsTo, Keeps, ReadsAs, ReadsAsSpan, paragraph_of, paragraph_with};
 ghost use Rattle.tocmark.specs.PlainLines.{is_line, paragraph_of_lines, IsReadBack, IsPlaced, IsPlainOf, PlacedLine, escaped_text, texts};
 ghost use Rattle.tocmark.specs.Ranges.{Pair};
+ghost use Rattle.tocmark.specs.TextBlocks.{BlocksAreEscapes};
 ghost use Rattle.tocmark.specs.Trees.{Trees, ranged, then_ranged, walk_trees};
 ghost use Rattle.tocmark.specs.StateView.{rendering};
 ghost use Rattle.tocmark.specs.Walk.{Kept, Rendering, Standing, beginning, done, go_on, nothing_yet, script, walk};
@@ -76,6 +77,17 @@ pub fn a_paragraph_is_read_back()
     escapes_read_back();
 }
 
+/// A call that succeeds on the events of such a paragraph, over a writer that keeps what it takes, as a `String` does,
+/// leaves behind what the writer held an escape that is read as the text.
+pub fn what_is_appended_is_read_back<W: Taker>()
+    ensures { (contents : W → List ℕ) (options : OptionsView) (reading : List ℕ → ParserOptions → ReadingView) (flags : ParserOptions) (source text : List ℕ) (w v : W) (p : Progress) →
+        Keeps W.takes contents → IsTrue (char_set_contains (codes "*_") options.emphasis_token) → IsUtf8 text → All (λ c. c ≢ 0) (chars text) →
+        Makes W.takes W.refuses w v (Ok p) done (script (rendering options reading) source (nothing_yet flags) (paragraph_of text)) →
+        AppendsTo (contents w) (contents v) text }
+{
+    a_paragraph_is_read_back();
+}
+
 /// For one paragraph with one code span, texts are handed that join to the span of its text, which is read
 /// as the text if that isn't empty: under all options and flags, over each reader.
 pub fn a_code_span_is_read_back()
@@ -100,4 +112,12 @@ pub fn lines_are_read_back()
 pub fn escapes_of_lines_are_plain()
     ensures { (l : PlacedLine) (ms : List PlacedLine) → AllByRecursion IsPlaced (l ∷ ms) →
         IsPlainOf (escaped_text l ms) l.1 (texts ms) }
+{}
+
+/// For paragraphs and headings without id, classes and attributes, each with one or more texts in which some
+/// character stands, exactly one text is handed for each: the line feeds that set it apart from the one before,
+/// as many `#` as its level and a space if it is a heading, and the escape of its texts as one. So it is under
+/// all options and flags, whatever reader is given.
+pub fn blocks_are_escapes()
+    ensures { BlocksAreEscapes }
 {}

@@ -31,6 +31,7 @@ ghost use Rattle.tocmark_event.specs.Text.{ParserEvent};
 ghost use Rattle.tocmark_event.specs.Options.{default_options, options_view};
 ghost use Rattle.tocmark.specs.PlainLines.{HandsLines, is_line, paragraph_of_lines};
 ghost use Rattle.tocmark.specs.Ranges.{Range};
+ghost use Rattle.tocmark.specs.TextBlocks.{MakesBlocks};
 ghost use Rattle.tocmark.specs.Walk.{done, nothing_yet, script, walk};
 ghost use Rattle.tocmark.specs.Writes.{Makes, TakesAll};
 ghost use Rattle.tocmark.specs.StateView.{IsFinished, pairs, ranged_pairs, rendering};
@@ -50,7 +51,10 @@ pub use token_count::calculate_code_block_token_count;
 /// Writes events with the default options: `cmark_with_options` with `Options::default()`.
 ///
 /// A paragraph of lines, each with characters from U+0020 to U+007E alone and no space at its end, is
-/// handed as one text that `CoreReader` reads as exactly that paragraph (the clause `lines`).
+/// handed as one text that `CoreReader` reads as exactly that paragraph (the clause `lines`). For paragraphs
+/// and headings that hold texts alone exactly one text each is handed: two line feeds unless it is the first
+/// one, as many `#` as its level and a space if it is a heading, and the escape of its texts (the clause
+/// `blocks`).
 pub fn cmark<'a, I, W, R>(
     alloc: Global,
     events: I,
@@ -70,6 +74,9 @@ where
         × DrainsIf I.IntoIter.next_gives (IsOk result) it xs
         × ((l : List ℕ) (ms : List (List ℕ)) → IsTrue (list_all is_line (l ∷ ms)) → pairs xs ≡ paragraph_of_lines l ms →
         HandsLines W.takes W.refuses writer.old writer.new result l ms) }
+    ensures blocks { (it : I.IntoIter) × (xs : List (Bor ParserEvent)) × I.into_iter_gives events it
+        × DrainsIf I.IntoIter.next_gives (IsOk result) it xs
+        × MakesBlocks W.takes W.refuses writer.old writer.new result parser_options (pairs xs) }
     ensures finished { IfOk result (λ state. IsFinished state) }
 {
     cmark_with_options(

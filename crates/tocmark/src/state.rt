@@ -1,6 +1,6 @@
 //! A state that takes events.
 
-ghost use Rattle.std.specs.Prelude.{◌+◌, Option, ◌≤◌, true, slice_range, ◌≡◌, ◌++◌, length, map, reverse, Bool, IfOk, OnOk, OnErr, List, ℕ, IsOk, Some, None, [], option_map, string_bytes, sum_by};
+ghost use Rattle.std.specs.Prelude.{◌+◌, ◌==◌, ◌&&◌, not, Option, ◌≤◌, true, slice_range, ◌≡◌, ◌++◌, length, map, reverse, Bool, IfOk, OnOk, OnErr, List, ℕ, IsOk, Some, None, [], option_map, string_bytes, sum_by};
 ghost use Rattle.std.specs.Borrow.{Bor};
 ghost use Rattle.std.specs.Iterator.{IsFinite, DrainsIf};
 ghost use Rattle.tocmark_event.specs.Options.{options_view, owned_options_view};
@@ -9,9 +9,9 @@ ghost use Rattle.tocmark_event.specs.View.{event_view};
 ghost use Rattle.tocmark_spelling.specs.Buffered.{buffered_view, next_view, sourced};
 ghost use Rattle.tocmark_render.specs.DocumentOf.{Refuses};
 ghost use Rattle.tocmark.specs.Ranges.{Range, is_character_boundary, is_good_range, resolved_at, spelling_start};
-ghost use Rattle.tocmark.specs.Walk.{Standing, step, done, is_due, is_whole, nested, flushed, flushed_before, advance, joins, walk, hand_walk, flushed_rest, ended};
+ghost use Rattle.tocmark.specs.Walk.{Standing, step, done, is_due, is_whole, nested, flushed, flushed_before, advance, joins, walk, hand_walk, last_walk, last_choice, two_texts, ended};
 ghost use Rattle.tocmark.specs.Writes.{Makes};
-ghost use Rattle.tocmark.specs.StateView.{Adds, Answers, Counts, Ends, at_most, pairs, ranged_pairs, rendering, rendering_of, rendering_with, ResolvedAs, standing_of, text_now};
+ghost use Rattle.tocmark.specs.StateView.{Adds, Answers, Chooses, Counts, Ends, at_most, kept_of, pairs, ranged_pairs, rendering, rendering_of, rendering_with, ResolvedAs, standing_of, text_now};
 
 use crate::taker::Taker;
 use std::alloc::{AllocError, Global};
@@ -21,6 +21,7 @@ use tocmark_event::event::{Event, EventOf, ParserOptions, TagEnd};
 use tocmark_event::options::{Error, Options, OptionsOf};
 use tocmark_event::reader::Reader;
 use tocmark_render::document::Document;
+use tocmark_render::ending::{holds_raw_block, with_definitions_in_front};
 use tocmark_render::placeholder::needs_list_placeholder;
 use tocmark_spelling::buffered::BufferedEvent;
 
@@ -376,20 +377,60 @@ where
     Ok(progress)
 }
 
-/// Writes all that is pending as one unit. Returns the length of its text in bytes.
-fn flush_rest<R: Reader, W: Taker>(
-    tools: &Tools<'_, R>,
-    held: &mut Held,
-    writer: &mut W,
-) -> Result<usize, Error>
-    ensures made { Makes W.takes W.refuses writer.old writer.new result (standing_of held.new) (flushed_rest (rendering_with R.reading tools.now) (standing_of held.old).pending (standing_of held.old)) }
-    ensures count { IfOk result (λ n. n ≡ sum_by length (flushed_rest (rendering_with R.reading tools.now) (standing_of held.old).pending (standing_of held.old)).texts) }
+/// The text of all that is pending as one unit, the last one; an empty text where nothing is pending.
+fn last_text<R: Reader>(tools: &Tools<'_, R>, held: &mut Held) -> Result<String, Error>
+    ensures { Chooses result (kept_of held.new.document) (last_choice (rendering_with R.reading tools.now) (standing_of held.old).document (standing_of held.old).pending) }
 {
     if held.pending.is_empty() {
-        Ok(0)
-    } else {
-        flush(tools, held, None, writer)
+        return Ok(String::new(tools.alloc));
     }
+    let text = held.document.block(
+        tools.alloc,
+        tools.reader,
+        &held.pending,
+        None,
+        &tools.options,
+    )?;
+    held.pending = Vec::new(tools.alloc);
+    Ok(text)
+}
+
+/// Hands two texts, each unless it is empty. Returns how many bytes it handed, at most the greatest
+/// `usize`.
+fn hand_both<W: Taker>(first: &str, second: &str, writer: &mut W) -> Result<usize, Error>
+    ensures made { Makes W.takes W.refuses writer.old writer.new result done (two_texts first.now second.now) }
+    ensures count { IfOk result (λ n. n ≡ at_most (sum_by length (two_texts first.now second.now).texts)) }
+{
+    let written = hand(writer, first)?;
+    let more = hand(writer, second)?;
+    Ok(written.saturating_add(more))
+}
+
+/// Whether definitions stand in front of the last unit: there are some, and they can't follow it.
+fn stand_in_front(holds_raw: bool, definitions: &str) -> bool
+    ensures { result ≡ holds_raw && not (length definitions.now == 0) }
+{
+    holds_raw && !definitions.is_empty()
+}
+
+/// Hands the text of the last unit and the definitions that are left: they stand behind it, or in
+/// front of it where it holds raw text, which nothing can follow. Returns how many bytes it handed,
+/// at most the greatest `usize`.
+fn hand_last<W: Taker>(
+    alloc: Global,
+    holds_raw: bool,
+    definitions: &str,
+    text: &str,
+    writer: &mut W,
+) -> Result<usize, Error>
+    ensures made { Makes W.takes W.refuses writer.old writer.new result done (last_walk holds_raw definitions.now text.now) }
+    ensures count { IfOk result (λ n. n ≡ at_most (sum_by length (last_walk holds_raw definitions.now text.now).texts)) }
+{
+    if stand_in_front(holds_raw, definitions) {
+        let whole = with_definitions_in_front(alloc, definitions, text)?;
+        return hand_both(whole.as_str(), "", writer);
+    }
+    hand_both(text, definitions, writer)
 }
 
 /// Takes the end of the events. Returns how many bytes it handed, at most the greatest `usize`.
@@ -404,10 +445,16 @@ fn end<R: Reader, W: Taker>(
     if !held.open_tags.is_empty() {
         return Err(Error::UnexpectedEvent);
     }
-    let written = flush_rest(tools, held, writer)?;
+    let holds_raw = holds_raw_block(&held.pending);
+    let text = last_text(tools, held)?;
     let definitions = held.document.finish(tools.alloc)?;
-    let more = hand(writer, definitions.as_str())?;
-    Ok(written.saturating_add(more))
+    hand_last(
+        tools.alloc,
+        holds_raw,
+        definitions.as_str(),
+        text.as_str(),
+        writer,
+    )
 }
 
 impl<R: Reader + Drop> State<R> {

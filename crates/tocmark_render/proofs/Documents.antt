@@ -1,39 +1,32 @@
 -- What is written for a unit is what is chosen for it.
-use Rattle.std.proofs.Common.{◌≡◌, ℕ, Bool, true, false, Option, Some, None, Ok, Err, List, [], ◌∷◌, ◌++◌, map, refl, sym, ap, ◌∙◌, subst, String}
-use Rattle.std.specs.Global.{Global}
-use Rattle.std.specs.Prelude.{◌&&◌, ◌||◌, ◌==◌, if◌then◌else◌, not, is_some, Result}
+use Rattle.std.proofs.Common.{◌≡◌, ℕ, Bool, true, false, Option, Some, None, Err, List, [], ◌∷◌, ◌++◌, map, refl, sym, ap, ◌∙◌}
+use Rattle.std.specs.Prelude.{◌&&◌, ◌||◌, is_some}
 use Rattle.std.specs.List.{list_any}
 use Rattle.std.proofs.lemmas.Bool.{false≢true, true≢false}
 use Rattle.tocmark_event.specs.Forest.{empty, leaf, node, flat, flat_onto}
-use Rattle.tocmark_event.specs.Merged.{merged}
 use Rattle.tocmark_event.specs.Reading.{ReadingView}
-use Rattle.tocmark_event.specs.View.{EventView, SourcedEvent, End, end_of, unsourced}
-use Rattle.tocmark_event.specs.declared.options.Error.{Error}
+use Rattle.tocmark_event.specs.View.{EventView, SourcedEvent, End, end_of}
+use Rattle.tocmark_event.specs.declared.event.flags.ParserOptions.{ParserOptions}
 use Rattle.tocmark_event.specs.declared.options.Error.TheVariants as error
-use Rattle.tocmark_spelling.specs.Body.{Trees}
-use Rattle.tocmark_spelling.specs.ById.{events_of}
+use Rattle.tocmark_spelling.specs.Body.{Trees, some_leaf}
+use Rattle.tocmark_spelling.specs.Page as page
 use Rattle.tocmark_spelling.specs.Page.{Page, Site}
-use Rattle.tocmark_spelling.specs.Plan.{Setting, Manner}
-use Rattle.tocmark_renderer.specs.Rendered.{Rendered, RenderedAt, NeedsNone}
-use Rattle.tocmark_spelling.specs.SameEvents.{same_events}
+use Rattle.tocmark_spelling.specs.Plan.{Setting}
+use Rattle.tocmark_renderer.specs.Rendered.{Rendered}
 use Rattle.tocmark_renderer.specs.Spelled.{are_spelled, is_spelled_tag, is_spelled_leaf, is_spelled_forest}
-use Rattle.tocmark_spelling.specs.Spelling.{spelling}
 use Rattle.tocmark_spelling.specs.TrailOf.{trail_view}
-use Rattle.tocmark_renderer.specs.WriterOf.{IsRefusal}
+use Rattle.tocmark_renderer.specs.WriterOf.{reference_view}
 use Rattle.tocmark_renderer.specs.declared.block.UnitRenderer.{UnitRenderer}
-use Rattle.tocmark_renderer.proofs.NoReferences.{plain-needs-none}
-use Rattle.tocmark_render.specs.Candidates.{has_source, is_sourced, preferred_manner}
-use Rattle.tocmark_render.specs.Choice.{Chosen, choice, preferred, spelled as spelled_page, accepted, accepted_if, definitions_of, page_of, page_in, document_after, literal_after, has_standard_markers}
+use Rattle.tocmark_render.specs.Candidates.{has_source, is_delimiter_block, is_delimiter_tag, is_math, is_sourced, some_tag}
+use Rattle.tocmark_render.specs.Choice.{choice, document_after}
 use Rattle.tocmark_render.specs.Definitions.{definitions_text}
-use Rattle.tocmark_render.specs.Document.{DocumentView, is_among, literal_in}
-use Rattle.tocmark_render.specs.DocumentOf.{Refuses, Spells, is_sourced_event}
-use Rattle.tocmark_render.specs.Placeholder.{whole}
-use Rattle.tocmark_render.specs.ReadsBack.{flags_at, in_paragraph, is_label, is_read_back, is_taken, reads_back}
+use Rattle.tocmark_render.specs.Document.{DocumentView, is_among, known_in, literal_in}
+use Rattle.tocmark_render.specs.DocumentOf.{is_delimiter_event, is_sourced_event, page_left}
+use Rattle.tocmark_render.specs.ReadsBack.{is_label, is_taken}
 use Rattle.tocmark_render.specs.Spelled.{choice_if, choice_if_spelled, chosen_if_spelled}
+use Rattle.tocmark_render.specs.TrialOf.{or_no_trees}
 use Rattle.tocmark_render.specs.Units.{trees_of}
 use Rattle.tocmark_render.proofs.Balanced.{flat-of-trees}
-use Rattle.tocmark_render.proofs.ReadBacks.{finds}
-use Rattle.tocmark_render.proofs.SpelledUnits.{choice-unasked, choice-found, choice-lost, choice-refused, source_manner}
 
 and-assoc : (a b c : Bool) → (a && b) && c ≡ a && (b && c)
 and-assoc true b c = refl
@@ -81,123 +74,83 @@ source-onto (node t kids f) r =
 pub source-flat : (es : List SourcedEvent) (f : Trees) → flat f ≡ es → has_source f ≡ list_any is_sourced_event es
 source-flat es f e = sym (or-false (has_source f)) ∙ sym (source-onto f []) ∙ ap (list_any is_sourced_event) e
 
+-- a leaf's test goes in front of what is asked of the rest
+leaf-delimiters : (m a b r : Bool) → m || ((a || b) || r) ≡ (a || (m || b)) || r
+leaf-delimiters true true b r = refl
+leaf-delimiters true false b r = refl
+leaf-delimiters false a b r = refl
+
+-- a tag's test goes in front of what is asked of the body and the rest
+node-delimiters : (t a b c e r : Bool) → t || ((a || b) || ((c || e) || r)) ≡ (t || a || c || (b || e)) || r
+node-delimiters true a b c e r = refl
+node-delimiters false true b c e r = refl
+node-delimiters false false true true e r = refl
+node-delimiters false false true false e r = refl
+node-delimiters false false false c e r = refl
+
+delimiters-onto : (f : Trees) (r : List SourcedEvent) → list_any is_delimiter_event (flat_onto f r) ≡ is_delimiter_block f || list_any is_delimiter_event r
+delimiters-onto empty r = refl
+delimiters-onto (leaf l f) r =
+    ap (λ b. is_math l.leaf || b) (delimiters-onto f r)
+    ∙ leaf-delimiters (is_math l.leaf) (some_tag is_delimiter_tag f) (some_leaf is_math f) (list_any is_delimiter_event r)
+delimiters-onto (node t kids f) r =
+    ap (λ b. is_delimiter_tag t || b) (delimiters-onto kids (End (end_of t) ∷ flat_onto f r))
+    ∙ ap (λ b. is_delimiter_tag t || (is_delimiter_block kids || b)) (delimiters-onto f r)
+    ∙ node-delimiters (is_delimiter_tag t) (some_tag is_delimiter_tag kids) (some_leaf is_math kids) (some_tag is_delimiter_tag f) (some_leaf is_math f) (list_any is_delimiter_event r)
+
+-- a forest has delimiters just where one of its events is written by some
+pub delimiters-flat : (es : List SourcedEvent) (f : Trees) → flat f ≡ es → is_delimiter_block f ≡ list_any is_delimiter_event es
+delimiters-flat es f e = sym (or-false (is_delimiter_block f)) ∙ sym (delimiters-onto f []) ∙ ap (list_any is_delimiter_event) e
+
 -- ---- labels
 
-taken-known : (s : Setting) (d : DocumentView) (labels : List (List ℕ)) → s.label ≡ None → list_any (is_taken s d) labels ≡ list_any (is_among d.known) labels
+pub taken-known : (s : Setting) (d : DocumentView) (labels : List (List ℕ)) → s.label ≡ None → list_any (is_taken s d) labels ≡ list_any (is_among d.known) labels
 taken-known s d [] e = refl
 taken-known s d (l ∷ ls) e =
     ap (λ o. (is_among d.known l || is_label o l) || list_any (is_taken s d) ls) e
     ∙ ap (λ b. b || list_any (is_taken s d) ls) (or-false (is_among d.known l))
     ∙ ap (λ b. is_among d.known l || b) (taken-known s d ls e)
 
--- ---- a unit of which each event is spelled
+-- ---- what a unit leaves
 
-finds-unit : (s : Setting) (d : DocumentView) (es : List SourcedEvent) (f : Trees) (r : ReadingView) → s.label ≡ None → flat f ≡ es → is_read_back s d f r ≡ finds d.known es r
-finds-unit s d es f r l e =
-    ap (λ es. same_events (merged (events_of r)) (in_paragraph (merged (map unsourced es))) && not (list_any (is_taken s d) r.unresolved)) e
-    ∙ ap (λ b. same_events (merged (events_of r)) (in_paragraph (merged (map unsourced es))) && not b) (taken-known s d r.unresolved l)
+-- the document behind a page, of which the stretch that is held is no part
+abbrev leaves : Setting → DocumentView → List ℕ → page.Trail → ℕ → List page.Reference → DocumentView
+leaves s d text trail feeds references =
+    document_after s d (record { sheet = record { text = text; feeds = feeds }; trail = trail; references = references; held = None })
 
--- the document that a unit leaves that needs no definitions
-abbrev pub after : DocumentView → UnitRenderer → List (List ℕ) → DocumentView
-after d new literal = record { trail = trail_view new.trail; feeds = new.newlines; references = d.references ++ []; known = d.known; literal = literal; flushed = true }
+-- a page and what a renderer left that wrote it leave the same document
+pub page-leaves : (s : Setting) (d : DocumentView) (text : List ℕ) (new : UnitRenderer) (p : Page) → Rendered text new p → document_after s d p ≡ document_after s d (page_left new text)
+unfolding document_after
+page-leaves s d text new p h =
+    ap (λ t. leaves s d t p.trail p.sheet.feeds p.references) h.text_is
+    ∙ ap (λ x. leaves s d text x p.sheet.feeds p.references) h.trail_is
+    ∙ ap (λ n. leaves s d text (trail_view new.trail) n p.references) h.feeds_is
+    ∙ ap (λ rs. leaves s d text (trail_view new.trail) new.newlines rs) h.references_are
 
-left : (s : Setting) (d : DocumentView) (p : Page) → p.references ≡ [] → document_after s d p ≡ record { trail = p.trail; feeds = p.sheet.feeds; references = d.references ++ []; known = d.known; literal = literal_after s d p.sheet.text; flushed = true }
-unfolding document_after definitions_text
-left s d p e = ap (λ rs. document_after s d (record p { references = rs })) e
+-- what a unit leaves asks neither for the trail nor for the line feeds before it
+pub kept-after : (s : Setting) (d now : DocumentView) (new : UnitRenderer) (t text : List ℕ) → now.references ≡ d.references → now.known ≡ d.known → now.literal ≡ d.literal → t ≡ text → document_after s now (page_left new t) ≡ document_after s d (page_left new text)
+unfolding document_after
+kept-after s d now new t text r k l e =
+    ap (λ rs. document_after s (record now { references = rs }) (page_left new t)) r
+    ∙ ap (λ ks. document_after s (record now { references = d.references; known = ks }) (page_left new t)) k
+    ∙ ap (λ ls. document_after s (record now { references = d.references; known = d.known; literal = ls }) (page_left new t)) l
+    ∙ ap (λ t. document_after s d (page_left new t)) e
 
-pub accepted-page : (s : Setting) (d : DocumentView) (text : List ℕ) (new : UnitRenderer) (p : Page) → Rendered text new p → p.references ≡ [] → accepted s d p ≡ Ok (text, after d new (literal_after s d text))
-accepted-page s d text new p h n =
-    ap (λ x. Ok (p.sheet.text, x)) (left s d p n)
-    ∙ ap (λ t. Ok (t, record { trail = p.trail; feeds = p.sheet.feeds; references = d.references ++ []; known = d.known; literal = literal_after s d t; flushed = true })) h.text_is
-    ∙ ap (λ x. Ok (text, record { trail = x; feeds = p.sheet.feeds; references = d.references ++ []; known = d.known; literal = literal_after s d text; flushed = true })) h.trail_is
-    ∙ ap (λ n. Ok (text, record { trail = trail_view new.trail; feeds = n; references = d.references ++ []; known = d.known; literal = literal_after s d text; flushed = true })) h.feeds_is
+-- a document behind a unit
+abbrev left : UnitRenderer → List page.Reference → List (List ℕ) → List (List ℕ) → DocumentView
+left r references known literal = record { trail = trail_view r.trail; feeds = r.newlines; references = references; known = known; literal = literal; flushed = true }
 
--- what a document holds that kept what a unit leaves
-pub kept-after : (s : Setting) (d : DocumentView) (new : UnitRenderer) (t text : List ℕ) → t ≡ text → record { trail = trail_view new.trail; feeds = new.newlines; references = d.references ++ []; known = d.known; literal = literal_in s.reading s.flags d.literal t; flushed = true } ≡ after d new (literal_after s d text)
-kept-after s d new t text e = ap (after d new) (ap (literal_in s.reading s.flags d.literal) e)
-
--- the preferred spelling after a search that found none
-pub then-preferred : (s now : Setting) (d kept new : DocumentView) (f : Trees) (next : Option EventView) (result : Result (String Global) Error) → now ≡ s → kept ≡ d → choice s d f next ≡ preferred s d f next → Spells new result (preferred now kept f next) → Spells new result (choice s d f next)
-then-preferred s now d kept new f next result es ed e h =
-    let P : Chosen → Type 0 = Spells new result in
-    subst P (ap (λ s. preferred s kept f next) es ∙ ap (λ d. preferred s d f next) ed ∙ sym e) h
-
-module _ (s : Setting) (d : DocumentView) (es : List SourcedEvent) (f : Trees) (next : Option EventView) (is : flat f ≡ es) (spelled : are_spelled es ≡ true) where
-  abbrev site : Manner → Option Site
-  site m = spelling s m f (whole next) [] (page_in d)
-
-  forest-spelled : is_spelled_forest f ≡ true
-  forest-spelled = spelled-flat es f is ∙ spelled
-
-  needs-none : (m : Manner) → NeedsNone (site m) (page_in d)
-  needs-none m = plain-needs-none s m f (whole next) (page_in d) forest-spelled
-
-  -- ---- the preferred spelling
-
-  preferred-at : (text : List ℕ) (new : UnitRenderer) (o : Option Site) → RenderedAt text new o → NeedsNone o (page_in d) → accepted_if s d (page_of o) ≡ Ok (text, after d new (literal_after s d text))
-  preferred-at text new None h n = absurd h
-  preferred-at text new (Some here) h n = accepted-page s d text new here.page h n
-
-  pub preferred-written : (text : List ℕ) (new : UnitRenderer) → RenderedAt text new (site (preferred_manner s.options)) → preferred s d f next ≡ Ok (text, after d new (literal_after s d text))
-  unfolding spelled_page
-  preferred-written text new h = preferred-at text new (site (preferred_manner s.options)) h (needs-none (preferred_manner s.options))
-
-  refuses-page : (e : Error) (o : Option Site) → IsRefusal e o → Refuses e (accepted_if s d (page_of o))
-  refuses-page error.OutOfMemory o r = tt
-  refuses-page error.UnexpectedEvent o r = ap (λ o. accepted_if s d (page_of o)) r
-  refuses-page (error.FormatFailed f) o r = absurd r
-  refuses-page error.Unrepresentable o r = absurd r
-  refuses-page error.InvalidSourceRange o r = absurd r
-  refuses-page error.Finished o r = absurd r
-  refuses-page error.Failed o r = absurd r
-
-  pub preferred-refused : (e : Error) → IsRefusal e (site (preferred_manner s.options)) → Refuses e (preferred s d f next)
-  unfolding spelled_page
-  preferred-refused e r = refuses-page e (site (preferred_manner s.options)) r
-
-  -- ---- the source
-
-  abbrev is_asked_of : Bool
-  is_asked_of = list_any is_sourced_event es && has_standard_markers s.options
-
-  asked-same : has_source f && has_standard_markers s.options ≡ is_asked_of
-  asked-same = ap (λ b. b && has_standard_markers s.options) (source-flat es f is)
-
-  pub source-unasked : is_asked_of ≡ false → choice s d f next ≡ preferred s d f next
-  source-unasked a = choice-unasked s d f next forest-spelled (asked-same ∙ a)
-
-  pub source-refused : (e : Error) → IsRefusal e (site (source_manner s.options)) → Refuses e (choice s d f next)
-  source-refused error.OutOfMemory r = tt
-  source-refused error.UnexpectedEvent r = choice-refused s d f next r
-  source-refused (error.FormatFailed f) r = absurd r
-  source-refused error.Unrepresentable r = absurd r
-  source-refused error.InvalidSourceRange r = absurd r
-  source-refused error.Finished r = absurd r
-  source-refused error.Failed r = absurd r
-
-  reads-page : (text : List ℕ) (new : UnitRenderer) (p : Page) → s.label ≡ None → Rendered text new p → p.references ≡ [] → reads_back s d f (definitions_of p) p.sheet.text ≡ finds d.known es (s.reading text (flags_at s d))
-  unfolding reads_back definitions_text
-  reads-page text new p l h n =
-      ap (λ rs. reads_back s d f (definitions_text rs p.sheet.feeds) p.sheet.text) n
-      ∙ ap (λ t. reads_back s d f [] t) h.text_is
-      ∙ finds-unit s d es f (s.reading text (flags_at s d)) l is
-
-  module _ (text : List ℕ) (new : UnitRenderer) (l : s.label ≡ None) (a : is_asked_of ≡ true) where
-    found-at : (o : Option Site) → site (source_manner s.options) ≡ o → RenderedAt text new o → NeedsNone o (page_in d) → finds d.known es (s.reading text (flags_at s d)) ≡ true → choice s d f next ≡ Ok (text, after d new (literal_after s d text))
-    found-at None e h n r = absurd h
-    found-at (Some here) e h n r =
-        choice-found s d f next forest-spelled (asked-same ∙ a) here e (reads-page text new here.page l h n ∙ r)
-        ∙ accepted-page s d text new here.page h n
-
-    pub source-found : RenderedAt text new (site (source_manner s.options)) → finds d.known es (s.reading text (flags_at s d)) ≡ true → choice s d f next ≡ Ok (text, after d new (literal_after s d text))
-    source-found h r = found-at (site (source_manner s.options)) refl h (needs-none (source_manner s.options)) r
-
-    lost-at : (o : Option Site) → site (source_manner s.options) ≡ o → RenderedAt text new o → NeedsNone o (page_in d) → finds d.known es (s.reading text (flags_at s d)) ≡ false → choice s d f next ≡ preferred s d f next
-    lost-at None e h n r = absurd h
-    lost-at (Some here) e h n r = choice-lost s d f next forest-spelled (asked-same ∙ a) here e (reads-page text new here.page l h n ∙ r)
-
-    pub source-lost : RenderedAt text new (site (source_manner s.options)) → finds d.known es (s.reading text (flags_at s d)) ≡ false → choice s d f next ≡ preferred s d f next
-    source-lost h r = lost-at (site (source_manner s.options)) refl h (needs-none (source_manner s.options)) r
+-- a document that kept what its last unit leaves is the one after it
+pub kept-is : (s : Setting) (d : DocumentView) (reading : List ℕ → ParserOptions → ReadingView) (flags : ParserOptions) (r : UnitRenderer) (text : List ℕ) (references : List page.Reference) (known literal : List (List ℕ)) → s.flags ≡ flags → s.reading ≡ reading
+    → references ≡ d.references ++ map reference_view r.references.items → known ≡ known_in reading flags d.known (definitions_text (map reference_view r.references.items) r.newlines) → literal ≡ literal_in reading flags d.literal text
+    → left r references known literal ≡ document_after s d (page_left r text)
+unfolding document_after
+kept-is s d reading flags r text references known literal f e is_references is_known is_literal =
+    ap (λ rs. left r rs known literal) is_references
+    ∙ ap (λ ks. left r (d.references ++ map reference_view r.references.items) ks literal) is_known
+    ∙ ap (λ ls. left r (d.references ++ map reference_view r.references.items) (known_in reading flags d.known (definitions_text (map reference_view r.references.items) r.newlines)) ls) is_literal
+    ∙ ap (λ fl. document_after (record s { flags = fl; reading = reading }) d (page_left r text)) (sym f)
+    ∙ ap (λ reads. document_after (record s { reading = reads }) d (page_left r text)) (sym e)
 
 -- ---- a unit as its events
 
@@ -220,13 +173,11 @@ module _ (s : Setting) (d : DocumentView) (es : List SourcedEvent) (next : Optio
   unfolding chosen_if_spelled
   unbalanced-refused h = unbalanced (trees_of es) h
 
-  by-trees : (P : Chosen → Type 0) (o : Option Trees) → trees_of es ≡ o → is_some o ≡ true → are_spelled es ≡ true → ((f : Trees) → flat f ≡ es → P (choice s d f next)) → P (choice_if_spelled s d o next)
-  by-trees P None e some h k = absurd (false≢true some)
-  by-trees P (Some f) e some h k =
-      let here = flat-of-trees es f e in
-      subst P (sym (ap (λ b. choice_if b s d f next) (spelled-flat es f here ∙ h))) (k f here)
+  trees-chosen : (o : Option Trees) → trees_of es ≡ o → is_some o ≡ true → are_spelled es ≡ true → choice_if_spelled s d o next ≡ choice s d (or_no_trees o) next
+  trees-chosen None e some h = absurd (false≢true some)
+  trees-chosen (Some f) e some h = ap (λ b. choice_if b s d f next) (spelled-flat es f (flat-of-trees es f e) ∙ h)
 
-  -- what holds of a forest's choice holds of its events'
-  pub by-forest : (P : Chosen → Type 0) → is_some (trees_of es) ≡ true → are_spelled es ≡ true → ((f : Trees) → flat f ≡ es → P (choice s d f next)) → P (chosen_if_spelled s d es next)
+  -- any other unit takes the choice of its forest
+  pub spelled-chosen : is_some (trees_of es) ≡ true → are_spelled es ≡ true → chosen_if_spelled s d es next ≡ choice s d (or_no_trees (trees_of es)) next
   unfolding chosen_if_spelled
-  by-forest P some h k = by-trees P (trees_of es) refl some h k
+  spelled-chosen some h = trees-chosen (trees_of es) refl some h

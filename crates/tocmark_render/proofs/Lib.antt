@@ -5,3 +5,8 @@ pub mod Balanced
 pub mod ReadBacks
 pub mod Documents
 pub mod Ambiguous
+pub mod DefinitionTexts
+pub mod Feeds
+pub mod ReservedLabels
+pub mod Trials
+pub mod TrialUnits

@@ -5,7 +5,11 @@ use Rattle.tocmark_event.specs.Forest.{empty, leaf, node}
 use Rattle.tocmark_event.specs.View.{TagView, Emphasis, Strong, Strikethrough, Superscript, Subscript, LeafView, InlineMath, DisplayMath, SourcedLeaf}
 use Rattle.tocmark_spelling.specs.Body.{Trees, some_leaf}
 use Rattle.tocmark_spelling.specs.Words.{asterisk}
-use Rattle.tocmark_spelling.specs.Plan.{Layout, Preferred, Runs, Uniform, Shared, RuleThree, TextSpelling, Escaped, Literal, Entities, LiteralEntities, Plan, Markers, Manner}
+use Rattle.tocmark_spelling.specs.Plan.{Plan, Markers, Manner}
+use Rattle.tocmark_spelling.specs.declared.plan.Layout.{Layout}
+use Rattle.tocmark_spelling.specs.declared.plan.Layout.TheVariants.{Preferred, Runs, Uniform, Shared, RuleThree}
+use Rattle.tocmark_spelling.specs.declared.plan.TextSpelling.{TextSpelling}
+use Rattle.tocmark_spelling.specs.declared.plan.TextSpelling.TheVariants.{Escaped, Literal, Entities, LiteralEntities}
 
 -- emphasis, strong emphasis (CommonMark, section 6.2), strikethrough (GFM, section 6.5), super- or subscript
 abbrev pub is_delimiter_tag : TagView → Bool

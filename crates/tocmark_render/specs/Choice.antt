@@ -1,6 +1,5 @@
 -- The spelling that is chosen for a unit, and the document that the unit leaves.
 use Rattle.std.specs.Prelude.{ℕ, Bool, true, false, ◌&&◌, ◌||◌, ◌==◌, Option, Some, None, Result, Ok, Err, List, [], ◌∷◌, ◌++◌, bytes_eq, codes}
-use Rattle.std.specs.List.{list_any}
 use Rattle.tocmark_event.specs.Options.{OptionsView}
 use Rattle.tocmark_event.specs.View.{EventView}
 use Rattle.tocmark_event.specs.declared.options.Error.{Error}
@@ -10,7 +9,7 @@ use Rattle.tocmark_spelling.specs.Body.{Trees}
 use Rattle.tocmark_spelling.specs.Page.{Page, Site}
 use Rattle.tocmark_spelling.specs.Spelling.{spelling, is_misplaced}
 use Rattle.tocmark_render.specs.Definitions.{definitions_text}
-use Rattle.tocmark_render.specs.Document.{DocumentView, literal_in, with_labels}
+use Rattle.tocmark_render.specs.Document.{DocumentView, known_in, literal_in}
 use Rattle.tocmark_render.specs.Candidates.{candidates, preferred_manner, is_delimiter_block}
 use Rattle.tocmark_render.specs.ReadsBack.{reads_back}
 use Rattle.tocmark_render.specs.Placeholder.{whole}
@@ -51,8 +50,7 @@ first_that_reads_back s d f next (m ∷ ms) =
 
 -- the labels that a reader finds defined in the definitions become known
 abbrev pub known_after : Setting → DocumentView → List ℕ → List (List ℕ)
-known_after s d [] = d.known
-known_after s d (b ∷ defs) = with_labels d.known (s.reading (b ∷ defs) s.flags).defined
+known_after s d defs = known_in s.reading s.flags d.known defs
 
 -- the literal labels after a unit with this text
 abbrev pub literal_after : Setting → DocumentView → List ℕ → List (List ℕ)

@@ -37,6 +37,11 @@ abbrev pub with_labels : List (List ℕ) → List (List ℕ) → List (List ℕ)
 with_labels labels [] = labels
 with_labels labels (l ∷ ls) = with_labels (with_label labels l) ls
 
+-- the labels that a reader finds defined in definitions become known
+abbrev pub known_in : (List ℕ → ParserOptions → ReadingView) → ParserOptions → List (List ℕ) → List ℕ → List (List ℕ)
+known_in reading flags known [] = known
+known_in reading flags known (b ∷ defs) = with_labels known (reading (b ∷ defs) flags).defined
+
 -- the labels that a reader looks up in vain in a text with a bracket become literal
 abbrev pub literal_in : (List ℕ → ParserOptions → ReadingView) → ParserOptions → List (List ℕ) → List ℕ → List (List ℕ)
 literal_in reading flags literal text = if list_any (λ b. b == 91) text then with_labels literal (reading text flags).unresolved else literal

@@ -1,28 +1,27 @@
 -- What a document's fields mean.
-use Rattle.std.specs.Prelude.{◌≡◌, ℕ, Bool, false, ◌==◌, List, [], if◌then◌else◌, Option, Some, None, Result, Ok, Err, string_bytes, String}
+use Rattle.std.specs.Prelude.{◌≡◌, ℕ, Bool, false, List, Option, Some, None, Result, Ok, Err, map, string_bytes, String}
 use Rattle.std.specs.Global.{Global}
-use Rattle.std.specs.List.{list_any}
-use Rattle.tocmark_event.specs.Reading.{ReadingView}
-use Rattle.tocmark_event.specs.View.{EventView, SourcedEvent, Leaf, event_view}
+use Rattle.tocmark_event.specs.View.{EventView, SourcedEvent, Start, End, Leaf, event_view}
 use Rattle.tocmark_event.specs.declared.event.EventOf.{EventOf}
 use Rattle.tocmark_event.specs.declared.event.flags.ParserOptions.{ParserOptions}
 use Rattle.tocmark_event.specs.declared.options.Error.{Error}
 use Rattle.tocmark_event.specs.declared.options.Error.TheVariants as error
+use Rattle.tocmark_spelling.specs.Page.{Page}
 use Rattle.tocmark_spelling.specs.TrailOf.{trail_view}
-use Rattle.tocmark_spelling.specs.Body.{Trees}
-use Rattle.tocmark_spelling.specs.Plan.{Setting}
-use Rattle.tocmark_render.specs.Candidates.{is_sourced}
-use Rattle.tocmark_render.specs.Choice.{Chosen, choice, preferred}
-use Rattle.tocmark_render.specs.Document.{DocumentView, with_labels}
+use Rattle.tocmark_render.specs.Candidates.{is_delimiter_tag, is_math, is_sourced}
+use Rattle.tocmark_render.specs.Choice.{Chosen, choice}
+use Rattle.tocmark_renderer.specs.WriterOf.{reference_view}
+use Rattle.tocmark_renderer.specs.declared.block.UnitRenderer.{UnitRenderer}
+use Rattle.tocmark_render.specs.Document.{DocumentView}
 use Rattle.tocmark_render.specs.LabelsOf.{labels_of}
 use Rattle.tocmark_render.specs.declared.document.Document.{Document}
 
--- a document's fields as plain values; no link is written so far, so no reference is left
+-- a document's fields as plain values
 abbrev pub document_view : Document → DocumentView
 document_view d = record {
   trail = trail_view d.renderer.trail;
   feeds = d.renderer.newlines;
-  references = [];
+  references = map reference_view d.references.items;
   known = labels_of d.known;
   literal = labels_of d.literal;
   flushed = d.flushed;
@@ -31,6 +30,15 @@ document_view d = record {
 -- the parser's flags that a document is written for
 abbrev pub document_flags : Document → ParserOptions
 document_flags d = d.flags
+
+-- the page that a renderer's last unit left, with this text
+abbrev pub page_left : UnitRenderer → List ℕ → Page
+page_left r text = record {
+  sheet = record { text = text; feeds = r.newlines };
+  trail = trail_view r.trail;
+  references = map reference_view r.references.items;
+  held = None;
+}
 
 -- an event that is kept
 abbrev pub kept_view : Option (EventOf (String Global)) → Option EventView
@@ -54,12 +62,11 @@ Gives (Ok s) text = string_bytes s ≡ text
 Gives (Err error.OutOfMemory) text = Unit {0}
 Gives (Err e) text = ⊥
 
--- what a search for a spelling from the source came to: it is chosen; or the preferred one is, and the document stands as
--- it did; or the unit is refused, or memory ran out
-abbrev pub Searches : Setting → DocumentView → DocumentView → Trees → Option EventView → Result (Option (String Global)) Error → Type 0
-Searches s old new f next (Ok (Some text)) = choice s old f next ≡ Ok (string_bytes text, new)
-Searches s old new f next (Ok None) = (choice s old f next ≡ preferred s old f next) × (new ≡ old)
-Searches s old new f next (Err e) = Refuses e (choice s old f next)
+-- whether an event is written by delimiters
+abbrev pub is_delimiter_event : SourcedEvent → Bool
+is_delimiter_event (Start t) = is_delimiter_tag t
+is_delimiter_event (Leaf l) = is_math l.leaf
+is_delimiter_event (End k) = false
 
 -- whether an event has a text whose spelling in the source is known
 abbrev pub is_sourced_event : SourcedEvent → Bool

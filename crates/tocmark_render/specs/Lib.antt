@@ -1,4 +1,5 @@
 pub mod Definitions
+pub mod DefinitionsOf
 pub mod Ending
 pub mod Document
 pub mod Validates
@@ -12,3 +13,5 @@ pub mod Waiting
 pub mod Spelled
 pub mod Balanced
 pub mod DocumentOf
+pub mod Tries
+pub mod TrialOf

@@ -1,17 +1,16 @@
 -- When a spelling is read back as its unit.
-use Rattle.std.specs.Prelude.{◌≡◌, ℕ, ◌-◌, Bool, true, false, not, ◌&&◌, ◌||◌, if◌then◌else◌, Option, Some, None, List, [], ◌∷◌, ◌++◌, bit_and, bytes_eq, codes}
+use Rattle.std.specs.Prelude.{◌≡◌, ℕ, Bool, true, false, not, ◌&&◌, ◌||◌, if◌then◌else◌, Option, Some, None, List, [], ◌∷◌, ◌++◌, bytes_eq, codes}
 use Rattle.std.specs.List.{list_any}
-use Rattle.tocmark_event.specs.View.{Paragraph, Html, Rule, EventView, Start, End, Leaf}
+use Rattle.tocmark_event.specs.View.{EventView}
 use Rattle.tocmark_event.specs.Flags.{metadata_flags, union_of, without}
 use Rattle.tocmark_event.specs.Merged.{merged}
 use Rattle.tocmark_event.specs.Reading.{ReadingView}
 use Rattle.tocmark_event.specs.declared.event.flags.ParserOptions.{ParserOptions}
-use Rattle.tocmark_event.specs.declared.event.TagEnd.TheVariants as end
 use Rattle.tocmark_spelling.specs.Plan.{Setting}
-use Rattle.tocmark_spelling.specs.Kinds.{is_inline_tag, is_inline_end}
 use Rattle.tocmark_spelling.specs.SameEvents.{same_events}
 use Rattle.tocmark_spelling.specs.ById.{events_of, merged_trees}
 use Rattle.tocmark_spelling.specs.Body.{Trees}
+use Rattle.tocmark_read_back.specs.InParagraph.{in_paragraph}
 use Rattle.tocmark_render.specs.Document.{DocumentView, folded, is_among}
 
 -- the flags under which a unit is read: metadata stands only at a document's beginning
@@ -23,19 +22,9 @@ abbrev pub whole_text : List ℕ → List ℕ → List ℕ
 whole_text [] text = text
 whole_text (b ∷ defs) text = (b ∷ defs) ++ codes "\n\n" ++ text
 
--- whether an event is of a block: the Start or End of one, Rule or Html
-abbrev pub stands_alone : EventView → Bool
-stands_alone (Start t) = not (is_inline_tag t)
-stands_alone (End k) = not (is_inline_end k)
-stands_alone (Leaf Rule) = true
-stands_alone (Leaf (Html t)) = true
-stands_alone (Leaf l) = false
-
--- inline events in a Paragraph, as a reader finds them (CommonMark, section 4.8); with a block, as they are
-abbrev pub in_paragraph : List EventView → List EventView
-in_paragraph [] = []
-in_paragraph (e ∷ es) =
-    if list_any stands_alone (e ∷ es) then e ∷ es else Start Paragraph ∷ (e ∷ es) ++ End end.Paragraph ∷ []
+-- a reader found just these events, merged, and left none of these folded labels open
+abbrev pub found_in : List (List ℕ) → List EventView → ReadingView → Bool
+found_in known events r = same_events (merged (events_of r)) events && not (list_any (is_among known) r.unresolved)
 
 -- the events that must be read: the unit's, merged, and inline ones in a Paragraph
 abbrev pub expected : Trees → List EventView

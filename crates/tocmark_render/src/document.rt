@@ -1,35 +1,41 @@
 //! The text that is chosen for a unit, and what the unit leaves to later ones.
 
-ghost use Rattle.std.specs.Prelude.{◌≡◌, ◌==◌, ◌||◌, ◌&&◌, ℕ, List, [], map, string_bytes, IfOk, OnOk, None, codes, bytes_eq, true, false};
+ghost use Rattle.std.specs.Prelude.{◌≡◌, ◌∷◌, ◌==◌, [], string_bytes, IfOk, OnOk, map, is_some, None, true};
 ghost use Rattle.std.specs.List.{list_any};
-ghost use Rattle.tocmark_event.specs.Forest.{flat};
 ghost use Rattle.tocmark_event.specs.Options.{options_view};
-ghost use Rattle.tocmark_spelling.specs.Body.{Trees};
 ghost use Rattle.tocmark_spelling.specs.Buffered.{buffered_view, following_view, next_view};
 ghost use Rattle.tocmark_spelling.specs.Plan.{Setting};
-ghost use Rattle.tocmark_spelling.specs.PlanOf.{setting_of, manner_of};
+ghost use Rattle.tocmark_spelling.specs.PlanOf.{setting_of};
+ghost use Rattle.tocmark_renderer.specs.JobOf.{manner_view};
+ghost use Rattle.tocmark_renderer.specs.Rendered.{page_before};
 ghost use Rattle.tocmark_renderer.specs.Spelled.{are_spelled};
-ghost use Rattle.tocmark_render.specs.Candidates.{preferred_manner};
-ghost use Rattle.tocmark_render.specs.Choice.{choice, has_standard_markers, preferred};
+ghost use Rattle.tocmark_render.specs.Choice.{choice, document_after, page_in};
 ghost use Rattle.tocmark_render.specs.Definitions.{definitions_text};
-ghost use Rattle.tocmark_render.specs.Document.{DocumentView, first_document, literal_in};
-ghost use Rattle.tocmark_render.specs.DocumentOf.{document_view, document_flags, Gives, Searches, Spells, kept_view, is_sourced_event};
+ghost use Rattle.tocmark_render.specs.Document.{first_document, known_in, literal_in};
+ghost use Rattle.tocmark_render.specs.DocumentOf.{document_view, document_flags, Gives, Spells, kept_view, page_left};
 ghost use Rattle.tocmark_render.specs.LabelsOf.{labels_of};
 ghost use Rattle.tocmark_render.specs.ReadsBack.{flags_at};
 ghost use Rattle.tocmark_render.specs.Spelled.{chosen_if_spelled};
+ghost use Rattle.tocmark_render.specs.TrialOf.{Expects, IsReady, Leaves, TriesIn, Writes, WritesPreferred, asked_of, or_no_trees, reads_back_as, spelled_by};
+ghost use Rattle.tocmark_render.specs.Units.{trees_of};
+ghost use Rattle.tocmark_render.specs.Validates.{validates};
 
 use crate::balance::are_balanced;
+use crate::definitions::{copied_references, definitions_text};
 use crate::labels::Labels;
+use crate::manners::preferred_manner;
 use crate::read_back::reads_back;
+use crate::search::choose;
+use crate::trial::Trial;
 use std::alloc::{AllocError, Global};
 use tocmark_event::event::{Event, EventOf, OwnedEvent, ParserOptions};
 use tocmark_event::options::{Error, Options};
 use tocmark_event::reader::Reader;
 use tocmark_renderer::block::UnitRenderer;
 use tocmark_renderer::job::{Job, Manner};
+use tocmark_renderer::parts::Reference;
 use tocmark_renderer::spelled::are_spelled;
 use tocmark_spelling::buffered::BufferedEvent;
-use tocmark_spelling::plan::{Delimiters, Layout, TextSpelling};
 
 /// The flags of both kinds of metadata blocks, which stand only at a document's beginning.
 const METADATA_BLOCKS: ParserOptions = ParserOptions(
@@ -42,6 +48,8 @@ const METADATA_BLOCKS: ParserOptions = ParserOptions(
 pub struct Document {
     flags: ParserOptions,
     renderer: UnitRenderer,
+    /// What earlier units leave to be defined at the end.
+    references: Vec<Reference>,
     /// The labels that earlier units define.
     known: Labels,
     /// The labels of earlier units that are no links, since nothing defines them.
@@ -50,56 +58,12 @@ pub struct Document {
     flushed: bool,
 }
 
-/// Whether an event with a text in the source waits.
-fn is_sourced(event: &BufferedEvent) -> bool
-    ensures { result ≡ is_sourced_event (buffered_view event.now) }
-{
-    match &event.event {
-        EventOf::Start(_) => false,
-        EventOf::End(_) => false,
-        _ => event.source.is_some(),
-    }
-}
-
-/// Whether the spelling of some text of a unit is known in the source.
-fn has_source(unit: &[BufferedEvent]) -> bool
-    ensures { result ≡ list_any is_sourced_event (map buffered_view unit.now) }
-{
-    for event in unit {
-        if is_sourced(event) {
-            return true;
-        }
-    }
-    false
-}
-
-/// Whether emphasis and strong emphasis have markers that Markdown reads.
-fn has_standard_markers(options: &Options<'_>) -> bool
-    ensures { result ≡ has_standard_markers (options_view options.now) }
-{
-    let emphasis = options.emphasis_token == '*' || options.emphasis_token == '_';
-    let strong = options.strong_token == "**" || options.strong_token == "__";
-    emphasis && strong
-}
-
-/// The preferred layout, with texts escaped and the options' own markers.
-fn preferred_delimiters<'a>(options: &Options<'a>) -> Delimiters<'a>
-    ensures plain { manner_of result false ≡ preferred_manner (options_view options.now) }
-    ensures sourced { manner_of result true ≡ record (preferred_manner (options_view options.now)) { source = true } }
-{
-    Delimiters {
-        layout: Layout::Preferred,
-        text: TextSpelling::Escaped,
-        emphasis: options.emphasis_token,
-        strong: options.strong_token,
-    }
-}
-
-/// Whether a unit is first written with its texts as they stand in the source.
-fn asks_source(unit: &[BufferedEvent], options: &Options<'_>) -> bool
-    ensures { result ≡ list_any is_sourced_event (map buffered_view unit.now) && has_standard_markers (options_view options.now) }
-{
-    has_source(unit) && has_standard_markers(options)
+/// A unit as it is written, which isn't kept yet.
+#[derive(Drop)]
+pub(crate) struct Written {
+    pub(crate) text: String,
+    /// What it leaves to the renderer.
+    pub(crate) renderer: UnitRenderer,
 }
 
 fn kept_event(alloc: Global, event: Option<&Event<'_>>) -> Result<Option<OwnedEvent>, AllocError>
@@ -124,6 +88,24 @@ fn has_bracket(text: &str) -> bool
     ensures { result ≡ list_any (λ b. b == 91) text.now }
 {
     text.as_bytes().iter().any(|byte| *byte == b'[')
+}
+
+/// Adds the labels that a reader finds defined in a unit's definitions. An `Err` says that memory ran
+/// out or the reader answered it.
+fn note_known_labels<R: Reader>(
+    known: &mut Labels,
+    alloc: Global,
+    reader: &R,
+    definitions: &str,
+    flags: ParserOptions,
+) -> Result<(), AllocError>
+    ensures { OnOk result (labels_of known.new ≡ known_in (R.reading reader.now) flags (labels_of known.old) definitions.now) }
+{
+    if definitions.is_empty() {
+        return Ok(());
+    }
+    let found = reader.read(alloc, definitions, flags)?;
+    known.add_all(alloc, &found.defined)
 }
 
 /// Adds the labels that a reader finds in a unit's text and nothing defines. Only a text with a
@@ -153,6 +135,7 @@ impl Document {
         Document {
             flags,
             renderer: UnitRenderer::new(alloc),
+            references: Vec::new(alloc),
             known: Labels::new(alloc),
             literal: Labels::new(alloc),
             flushed: false,
@@ -167,6 +150,7 @@ impl Document {
         Ok(Document {
             flags: self.flags,
             renderer: self.renderer.copied(alloc)?,
+            references: copied_references(alloc, &self.references)?,
             known: self.known.copied()?,
             literal: self.literal.copied()?,
             flushed: self.flushed,
@@ -184,106 +168,186 @@ impl Document {
         }
     }
 
-    /// Keeps what a unit with this text leaves. An `Err` says that memory ran out or the reader answered it.
+    /// Keeps what the unit that was written last leaves, whose text this is: what it leaves to be
+    /// defined, the labels that the reader finds defined in its definitions, and those that nothing
+    /// defines in its text. An `Err` says that memory ran out or the reader answered it.
     fn keep<R: Reader>(&mut self, alloc: Global, reader: &R, text: &str) -> Result<(), AllocError>
-        ensures kept { OnOk result (document_view self.new ≡ record (document_view self.old) { literal = literal_in (R.reading reader.now) (document_flags self.old) (document_view self.old).literal text.now; flushed = true }) }
+        ensures kept { (s : Setting) → s.flags ≡ document_flags self.old → s.reading ≡ R.reading reader.now →
+            OnOk result (document_view self.new ≡ document_after s (document_view self.old) (page_left self.old.renderer text.now)) }
         ensures flags { document_flags self.new ≡ document_flags self.old }
     {
+        let unit = &mut self.renderer;
+        let definitions = definitions_text(alloc, &unit.references, unit.newlines)?;
+        self.references.append(&mut unit.references)?;
+        note_known_labels(
+            &mut self.known,
+            alloc,
+            reader,
+            definitions.as_str(),
+            self.flags,
+        )?;
         note_open_labels(&mut self.literal, alloc, reader, text, self.flags)?;
         self.flushed = true;
         Ok(())
     }
 
-    /// Writes a unit with its texts as they stand in the source, where some text is known there, the
-    /// options have markers that Markdown reads, and the reader finds the unit in what was written.
-    /// The answer is none elsewhere, and the document is then as it was. An `Err` is as in `block`.
-    fn from_source<R: Reader>(
-        &mut self,
-        alloc: Global,
-        reader: &R,
-        unit: &[BufferedEvent],
-        next: Option<&OwnedEvent>,
-        options: &Options<'_>,
-    ) -> Result<Option<String>, Error>
-        ensures searched { (f : Trees) → are_spelled (map buffered_view unit.now) ≡ true → flat f ≡ map buffered_view unit.now → Searches (setting_of (options_view options.now) (document_flags self.old) (R.reading reader.now) None) (document_view self.old) (document_view self.new) f (following_view next.entry) result }
-        ensures flags { document_flags self.new ≡ document_flags self.old }
+    /// Whether options are accepted with the flags of this document.
+    pub(crate) fn accepts(&self, options: &Options<'_>) -> bool
+        ensures { result ≡ validates (options_view options.now) (document_flags self.now) }
     {
-        if !asks_source(unit, options) {
-            return Ok(None);
-        }
-        let mut renderer = self.renderer.copied(alloc)?;
-        let job = Job {
-            alloc,
-            options,
-            flags: self.flags,
-        };
-        let manner = Manner {
-            delimiters: preferred_delimiters(options),
-            source: true,
-        };
-        let text = renderer.render_block(job, reader, unit, next, manner)?;
-        let flags = self.reading_flags();
-        if !reads_back(alloc, reader, flags, &self.known, unit, text.as_str())? {
-            return Ok(None);
-        }
-        self.renderer = renderer;
-        self.keep(alloc, reader, text.as_str())?;
-        Ok(Some(text))
+        options.validate(self.flags).is_ok()
     }
 
-    /// Writes a unit in the preferred spelling. An `Err` is as in `block`.
-    fn preferred<R: Reader>(
-        &mut self,
-        alloc: Global,
-        reader: &R,
-        unit: &[BufferedEvent],
-        next: Option<&OwnedEvent>,
-        options: &Options<'_>,
-    ) -> Result<String, Error>
-        ensures chosen { (f : Trees) → are_spelled (map buffered_view unit.now) ≡ true → flat f ≡ map buffered_view unit.now → Spells (document_view self.new) result (preferred (setting_of (options_view options.now) (document_flags self.old) (R.reading reader.now) None) (document_view self.old) f (following_view next.entry)) }
-        ensures flags { document_flags self.new ≡ document_flags self.old }
+    /// A renderer of the next unit, without the definitions of the last one.
+    fn next_renderer(&self, alloc: Global) -> Result<UnitRenderer, AllocError>
+        ensures { IfOk result (λ next. page_before next ≡ page_in (document_view self.now)) }
     {
+        Ok(UnitRenderer {
+            newlines: self.renderer.newlines,
+            trail: self.renderer.trail.copied(alloc)?,
+            references: Vec::new(alloc),
+        })
+    }
+
+    /// Writes the unit of a trial in one manner. The document stays as it is. An `Err` is as in `block`.
+    fn write<R: Reader>(
+        &self,
+        trial: &Trial<'_, '_, R>,
+        manner: &Manner<'_>,
+    ) -> Result<Written, Error>
+        requires ready { IsReady trial.now }
+        ensures { let q = asked_of R.reading trial.now self.now in
+            Writes result (spelled_by q (document_view self.now) (manner_view manner.now)) }
+    {
+        let mut renderer = self.next_renderer(trial.alloc)?;
         let job = Job {
-            alloc,
-            options,
+            alloc: trial.alloc,
+            options: trial.options,
             flags: self.flags,
         };
-        let manner = Manner {
-            delimiters: preferred_delimiters(options),
-            source: false,
-        };
-        let text = self.renderer.render_block(job, reader, unit, next, manner)?;
-        self.keep(alloc, reader, text.as_str())?;
+        let text = renderer.render_block(job, trial.reader, trial.unit, trial.next, *manner)?;
+        Ok(Written { text, renderer })
+    }
+
+    /// Whether the reader finds the unit of a trial in what was written, behind its definitions. An
+    /// `Err` says that memory ran out or the reader answered it.
+    fn is_read_back<R: Reader>(
+        &self,
+        trial: &Trial<'_, '_, R>,
+        expected: &[OwnedEvent],
+        written: &Written,
+    ) -> Result<bool, AllocError>
+        requires ready { IsReady trial.now }
+        requires expected { Expects trial.now expected.now }
+        ensures { let q = asked_of R.reading trial.now self.now in
+            IfOk result (λ b. b ≡ reads_back_as q (document_view self.now) written.now) }
+    {
+        let references = &written.renderer.references;
+        let definitions = definitions_text(trial.alloc, references, written.renderer.newlines)?;
+        reads_back(
+            trial.alloc,
+            trial.reader,
+            self.reading_flags(),
+            &self.known,
+            expected,
+            definitions.as_str(),
+            written.text.as_str(),
+        )
+    }
+
+    /// Goes on behind what was written, and hands out its text. An `Err` says that memory ran out or
+    /// the reader answered it.
+    fn accept<R: Reader>(
+        &mut self,
+        trial: &Trial<'_, '_, R>,
+        written: Written,
+    ) -> Result<String, AllocError>
+        ensures text { IfOk result (λ text. string_bytes text ≡ string_bytes written.text) }
+        ensures left { let q = asked_of R.reading trial.now self.old in
+            OnOk result (Leaves q (document_view self.old) (document_view self.new) written) }
+        ensures flags { document_flags self.new ≡ document_flags self.old }
+    {
+        let Written { text, renderer } = written;
+        self.renderer = renderer;
+        self.keep(trial.alloc, trial.reader, text.as_str())?;
         Ok(text)
     }
 
-    /// Writes a unit from the source, or else in the preferred spelling. An `Err` is as in `block`.
-    fn chosen<R: Reader>(
+    /// Writes the unit of a trial in one manner, and keeps it if the reader finds these events in that.
+    /// The answer is none elsewhere, and the document is then as it was. An `Err` is as in `block`.
+    pub(crate) fn try_one<R: Reader>(
         &mut self,
-        alloc: Global,
-        reader: &R,
-        unit: &[BufferedEvent],
-        next: Option<&OwnedEvent>,
-        options: &Options<'_>,
-    ) -> Result<String, Error>
-        ensures chosen { (f : Trees) → are_spelled (map buffered_view unit.now) ≡ true → flat f ≡ map buffered_view unit.now → Spells (document_view self.new) result (choice (setting_of (options_view options.now) (document_flags self.old) (R.reading reader.now) None) (document_view self.old) f (following_view next.entry)) }
+        trial: &Trial<'_, '_, R>,
+        expected: &[OwnedEvent],
+        manner: &Manner<'_>,
+    ) -> Result<Option<String>, Error>
+        requires ready { IsReady trial.now }
+        requires expected { Expects trial.now expected.now }
+        ensures tried { TriesIn R.reading trial.now self.old self.new
+            (manner_view manner.now ∷ []) result }
         ensures flags { document_flags self.new ≡ document_flags self.old }
     {
-        match self.from_source(alloc, reader, unit, next, options)? {
-            Some(text) => Ok(text),
-            None => self.preferred(alloc, reader, unit, next, options),
+        let written = self.write(trial, manner)?;
+        if !self.is_read_back(trial, expected, &written)? {
+            return Ok(None);
         }
+        Ok(Some(self.accept(trial, written)?))
+    }
+
+    /// Writes the unit of a trial in the preferred spelling, unread. An `Err` is as in `block`.
+    pub(crate) fn write_preferred<R: Reader>(
+        &mut self,
+        trial: &Trial<'_, '_, R>,
+    ) -> Result<String, Error>
+        requires ready { IsReady trial.now }
+        ensures written { WritesPreferred R.reading trial.now self.old self.new result }
+        ensures flags { document_flags self.new ≡ document_flags self.old }
+    {
+        let manner = preferred_manner(trial.options, false);
+        let written = self.write(trial, &manner)?;
+        Ok(self.accept(trial, written)?)
+    }
+
+    /// Writes a unit of which each event is written so far. An `Err` is as in `block`.
+    fn chosen<'u, R: Reader>(
+        &mut self,
+        alloc: Global,
+        reader: &'u R,
+        unit: &'u [BufferedEvent],
+        next: Option<&'u OwnedEvent>,
+        options: &'u Options<'_>,
+    ) -> Result<String, Error>
+        requires spelled { are_spelled (map buffered_view unit.now) ≡ true }
+        requires balanced { is_some (trees_of (map buffered_view unit.now)) ≡ true }
+        ensures chosen { let flags = document_flags self.old in
+            let s = setting_of (options_view options.now) flags (R.reading reader.now) None in
+            let f = or_no_trees (trees_of (map buffered_view unit.now)) in
+            Spells (document_view self.new) result
+            (choice s (document_view self.old) f (following_view next.entry)) }
+        ensures flags { document_flags self.new ≡ document_flags self.old }
+    {
+        let trial = Trial {
+            alloc,
+            reader,
+            unit,
+            next,
+            options,
+        };
+        choose(&trial, self)
     }
 
     /// Writes a unit and gives its text.
     ///
-    /// `next` is the event after the unit, if there is one. A unit of which some text is known in the
-    /// source is written with its texts as they stand there, if the reader finds the unit in that and
-    /// the options have markers that Markdown reads; any other is written in the preferred spelling.
+    /// `next` is the event after the unit, if there is one. Where the options have markers that Markdown
+    /// reads, spellings are tried in order, and the first is taken in which the reader finds the unit:
+    /// from the source, where some text is known there, and for a unit with delimiters the preferred
+    /// one and those by other plans and markers. Where none is found, a unit without delimiters is written in the
+    /// preferred spelling, as is one whose options aren't accepted, and any with other markers.
     ///
     /// An `Err` is `UnexpectedEvent` where the unit has an event that isn't written so far, where its
-    /// events aren't balanced, and where a heading stands in a heading; and `OutOfMemory` where memory
-    /// ran out or the reader answered it. The document is of no use after it.
+    /// events aren't balanced, and where a heading stands in a heading; `Unrepresentable` where no
+    /// spelling of a unit with delimiters is read back, though the options are accepted; and
+    /// `OutOfMemory` where memory ran out or the reader answered it. The document is of no use after it.
     pub fn block<R: Reader>(
         &mut self,
         alloc: Global,
@@ -292,7 +356,11 @@ impl Document {
         next: Option<&Event<'_>>,
         options: &Options<'_>,
     ) -> Result<String, Error>
-        ensures chosen { Spells (document_view self.new) result (chosen_if_spelled (setting_of (options_view options.now) (document_flags self.old) (R.reading reader.now) None) (document_view self.old) (map buffered_view unit.now) (next_view next.entry)) }
+        ensures chosen { let flags = document_flags self.old in
+            let s = setting_of (options_view options.now) flags (R.reading reader.now) None in
+            let unit = map buffered_view unit.now in
+            Spells (document_view self.new) result
+            (chosen_if_spelled s (document_view self.old) unit (next_view next.entry)) }
         ensures flags { document_flags self.new ≡ document_flags self.old }
     {
         if !are_spelled(unit) {
@@ -305,12 +373,11 @@ impl Document {
         self.chosen(alloc, reader, unit, lent_event(&next), options)
     }
 
-    /// The definitions that are left: none as long as no link is written. An `Err` says that memory
-    /// ran out.
-    #[tactic(auto, unfolding(crate::specs::Definitions::definitions_text))]
-    pub fn finish(&mut self, alloc: Global) -> Result<String, Error>
-        ensures { Gives result (definitions_text (document_view self.old).references (document_view self.old).feeds) }
+    /// The definitions that are left: of each unit so far those that it needs, each once, one a line,
+    /// behind a blank line; an empty text where no unit needs one. An `Err` says that memory ran out.
+    pub fn finish(&self, alloc: Global) -> Result<String, Error>
+        ensures { Gives result (definitions_text (document_view self.now).references (document_view self.now).feeds) }
     {
-        Ok(String::new(alloc))
+        Ok(definitions_text(alloc, &self.references, self.renderer.newlines)?)
     }
 }

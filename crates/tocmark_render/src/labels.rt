@@ -1,6 +1,6 @@
 //! Folded labels.
 
-ghost use Rattle.std.specs.Prelude.{◌≡◌, [], map, string_bytes, IfOk, OnOk};
+ghost use Rattle.std.specs.Prelude.{◌≡◌, [], length, map, string_bytes, IfOk, OnOk};
 ghost use Rattle.std.specs.List.{list_any};
 ghost use Rattle.tocmark_render.specs.Document.{is_among, with_label, with_labels};
 ghost use Rattle.tocmark_render.specs.LabelsOf.{labels_of};
@@ -23,6 +23,13 @@ impl Labels {
         Labels {
             folded: IndexSet::new(alloc),
         }
+    }
+
+    /// How many labels these are.
+    pub fn len(&self) -> usize
+        ensures { result ≡ length (labels_of self.now) }
+    {
+        self.folded.len()
     }
 
     /// Adds a label, unless one like it is there. An `Err` says that memory ran out.

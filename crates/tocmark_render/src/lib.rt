@@ -2,8 +2,14 @@
 #![tactic(auto)]
 
 pub mod balance;
+pub mod definitions;
 pub mod document;
+pub mod ending;
 pub mod labels;
 pub mod laws;
+mod manners;
 pub mod placeholder;
 pub mod read_back;
+pub mod reserved_label;
+mod search;
+mod trial;

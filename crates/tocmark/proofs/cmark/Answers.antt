@@ -2,6 +2,7 @@ use Rattle.std.proofs.Common.{◌≡◌, true, codes, [], ap}
 use Rattle.std.specs.Char.{char_set_contains}
 use Rattle.tocmark_event.specs.Options.{OptionsView, default_options, options_view}
 use Rattle.tocmark.specs.StateView.{pairs}
+use Rattle.tocmark.proofs.BlockWalks.{blocks_made}
 use Rattle.tocmark.proofs.PlainDocument.{lines_handed}
 use Rattle.tocmark.proofs.Runs.{taken_whole}
 use Rattle.tocmark.proofs.cmark.Goals as goal
@@ -18,4 +19,14 @@ returns-clause-lines g c =
       m.2,
       (m.3.0, m.3.1, λ h. m.3.2 (taken_whole c.cmark_with_options.result _ h)),
       λ l ms lines same. lines_handed g.W.Taker.takes g.W.Taker.refuses c.args.writer.now c.cmark_with_options.new.writer c.cmark_with_options.result (options_view c.default.result) (g.R.Reader.reading c.args.reader) c.args.parser_options (pairs m.1) l ms token lines same (m.4 []),
+    )
+
+pub returns-clause-blocks : goal.returns-clause-blocks
+returns-clause-blocks g c =
+    let m = c.cmark_with_options.ensures.made in (
+      m.0,
+      m.1,
+      m.2,
+      (m.3.0, m.3.1, λ h. m.3.2 (taken_whole c.cmark_with_options.result _ h)),
+      blocks_made g.W.Taker.takes g.W.Taker.refuses c.args.writer.now c.cmark_with_options.new.writer c.cmark_with_options.result (options_view c.default.result) (g.R.Reader.reading c.args.reader) c.args.parser_options (pairs m.1) c.default.ensures (m.4 []),
     )

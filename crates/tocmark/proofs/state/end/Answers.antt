@@ -1,66 +1,42 @@
-use Rattle.std.proofs.Common.{◌≡◌, ◌∙◌, ◌+◌, ℕ, List, Err, Ok, refl, subst, length, sum_by}
-use Rattle.std.proofs.lemmas.Result.{err_from_is_err_and}
-use Rattle.tocmark.specs.Walk.{done, ended, flushed_rest, hand_walk}
-use Rattle.tocmark.specs.Writes.{RefusesAt}
-use Rattle.tocmark.specs.StateView.{standing_of, rendering_with}
-use Rattle.tocmark_event.specs.Options.{options_view}
-use Rattle.tocmark.proofs.Ends.{leaves-none}
-use Rattle.tocmark.proofs.Walks.{ended_open, ended_closed, ended_after, ended_bytes, Gives-refused, Makes-then, RefusesAt-longer}
+use Rattle.std.proofs.Common.{◌∙◌, refl, ap, subst, length, map, sum_by, string_bytes}
+use Rattle.std.proofs.lemmas.Result.{IfOk-weaker, err_from_is_err_and}
+use Rattle.tocmark_spelling.specs.Buffered.{buffered_view}
+use Rattle.tocmark_render.specs.Ending.{holds_raw_block}
+use Rattle.tocmark.specs.Walk.{Walk, Done, done, ended, last_choice}
+use Rattle.tocmark.specs.Writes.{Makes}
+use Rattle.tocmark.specs.StateView.{at_most, kept_of, standing_of, rendering_with}
+use Rattle.tocmark.proofs.Walks.{ended_as, ended_open, ended_closed, Gives-refused, last_refused}
 use Rattle.tocmark.proofs.state.end.Goals as goal
 
 pub returns-then-not-is_empty-clause-made : goal.returns-then-not-is_empty-clause-made
 returns-then-not-is_empty-clause-made g c =
     rw (ended_open (rendering_with g.R.Reader.reading c.args.tools.now) (standing_of c.args.held.now) c.args.held.now.open_tags.items refl (cc (c.args.held.now.open_tags.ok.0, c.if-not-is_empty.ensures))) (refl, refl)
 
-pub returns-in_err-written-clause-made : goal.returns-in_err-written-clause-made
-returns-in_err-written-clause-made g c =
+pub returns-in_err-text-clause-made : goal.returns-in_err-text-clause-made
+returns-in_err-text-clause-made g c =
     let p = err_from_is_err_and c.from_residual.result c.from_residual.ensures.1 in
     let how = rendering_with g.R.Reader.reading c.args.tools.now in
     let s = standing_of c.args.held.now in
-    rw (p.1, p.2, ended_closed how s c.args.held.now.open_tags.items refl (cc (c.args.held.now.open_tags.ok.0, c.if-not-is_empty.ensures)) (leaves-none (options_view c.args.tools.now.options) (g.R.Reader.reading c.args.tools.now.reader.now) (standing_of c.args.held.now) refl))
-    (RefusesAt-longer g.W.Taker.takes g.W.Taker.refuses c.args.writer.now c.flush_rest.new.writer c.in_err-written.field-0.0 (flushed_rest how s.pending s).texts (flushed_rest how s.pending s).outcome (λ t. hand_walk (how.definitions t.document) done) c.in_err-written.ensures.made)
+    rw (p.1, p.2, ended_closed how s c.args.held.now.open_tags.items refl (cc (c.args.held.now.open_tags.ok.0, c.if-not-is_empty.ensures)) refl)
+    (last_refused g.W.Taker.takes g.W.Taker.refuses c.args.writer.now how s.pending c.in_err-text.field-0.0 (last_choice how s.document s.pending) c.in_err-text.ensures)
 
 pub returns-in_err-definitions-clause-made : goal.returns-in_err-definitions-clause-made
 returns-in_err-definitions-clause-made g c =
     let p = err_from_is_err_and c.from_residual-in_err-definitions.result c.from_residual-in_err-definitions.ensures.1 in
-    let how = rendering_with g.R.Reader.reading c.args.tools.now in
-    let s = standing_of c.args.held.now in
-    let t = standing_of c.flush_rest.new.held in
-    let gives = g.W.Taker.takes in let refuses = g.W.Taker.refuses in
-    let v = c.flush_rest.new.writer in
-    rw (p.1, p.2, ended_after how s t c.args.held.now.open_tags.items refl (cc (c.args.held.now.open_tags.ok.0, c.if-not-is_empty.ensures)) (leaves-none (options_view c.args.tools.now.options) (g.R.Reader.reading c.args.tools.now.reader.now) (standing_of c.args.held.now) refl) c.in_ok-written.ensures.made.0)
-    (Makes-then {X = ℕ} gives refuses c.args.writer.now v v (Err c.in_err-definitions.field-0.0) done t (flushed_rest how s.pending s).texts (λ u. hand_walk (how.definitions u.document) done) c.in_ok-written.ensures.made.1
-    (Gives-refused gives refuses v c.in_err-definitions.field-0.0 (how.definitions t.document) (how.definitions t.document) c.in_err-definitions.ensures))
-
-pub returns-in_err-more-clause-made : goal.returns-in_err-more-clause-made
-returns-in_err-more-clause-made g c =
-    let p = err_from_is_err_and c.from_residual-in_err-more.result c.from_residual-in_err-more.ensures.1 in
-    let how = rendering_with g.R.Reader.reading c.args.tools.now in
-    let s = standing_of c.args.held.now in
-    let t = standing_of c.flush_rest.new.held in
-    let gives = g.W.Taker.takes in let refuses = g.W.Taker.refuses in
-    let v = c.flush_rest.new.writer in
-    rw (p.1, p.2, ended_after how s t c.args.held.now.open_tags.items refl (cc (c.args.held.now.open_tags.ok.0, c.if-not-is_empty.ensures)) (leaves-none (options_view c.args.tools.now.options) (g.R.Reader.reading c.args.tools.now.reader.now) (standing_of c.args.held.now) refl) c.in_ok-written.ensures.made.0)
-    (Makes-then {X = ℕ} gives refuses c.args.writer.now v c.hand.new.writer (Err c.in_err-more.field-0.0) done t (flushed_rest how s.pending s).texts (λ u. hand_walk (how.definitions u.document) done) c.in_ok-written.ensures.made.1
-    (subst (λ (x : List ℕ). RefusesAt gives refuses v c.hand.new.writer c.in_err-more.field-0.0 (hand_walk x done)) (c.as_str.ensures.value ∙ c.in_ok-definitions.ensures) c.in_err-more.ensures.handed))
+    rw (p.1, p.2) (Gives-refused g.W.Taker.takes g.W.Taker.refuses c.args.writer.now c.in_err-definitions.field-0.0 _ (ended (rendering_with g.R.Reader.reading c.args.tools.now) (standing_of c.args.held.now)) c.in_err-definitions.ensures)
 
 pub returns-clause-made : goal.returns-clause-made
 returns-clause-made g c =
     let how = rendering_with g.R.Reader.reading c.args.tools.now in
     let s = standing_of c.args.held.now in
-    let t = standing_of c.flush_rest.new.held in
-    let gives = g.W.Taker.takes in let refuses = g.W.Taker.refuses in
-    let v = c.flush_rest.new.writer in
-    rw (ended_after how s t c.args.held.now.open_tags.items refl (cc (c.args.held.now.open_tags.ok.0, c.if-not-is_empty.ensures)) (leaves-none (options_view c.args.tools.now.options) (g.R.Reader.reading c.args.tools.now.reader.now) (standing_of c.args.held.now) refl) c.in_ok-written.ensures.made.0)
-    (Makes-then {X = ℕ} gives refuses c.args.writer.now v c.hand.new.writer (Ok c.in_ok-more.more) done t (flushed_rest how s.pending s).texts (λ u. hand_walk (how.definitions u.document) done) c.in_ok-written.ensures.made.1
-    (rw (← c.as_str.ensures.value ∙ c.in_ok-definitions.ensures) c.in_ok-more.ensures.handed))
+    let e = ended_as how s c.args.held.now.open_tags.items c.holds_raw_block-holds_raw.result c.as_str.result.now c.as_str-2.result.now (string_bytes c.in_ok-text.text) (kept_of c.last_text.new.held.document) refl (cc (c.args.held.now.open_tags.ok.0, c.if-not-is_empty.ensures)) refl
+    (c.holds_raw_block-holds_raw.ensures ∙ ap (λ es. holds_raw_block (map buffered_view es)) c.deref.ensures.value) c.in_ok-text.ensures (c.as_str.ensures.value ∙ c.in_ok-definitions.ensures) c.as_str-2.ensures.value in
+    subst (λ (w : Walk Done). Makes g.W.Taker.takes g.W.Taker.refuses c.args.writer.now c.hand_last.new.writer c.hand_last.result done w) e c.hand_last.ensures.made
 
 pub returns-clause-count : goal.returns-clause-count
 returns-clause-count g c =
     let how = rendering_with g.R.Reader.reading c.args.tools.now in
     let s = standing_of c.args.held.now in
-    let t = standing_of c.flush_rest.new.held in
-    let b : sum_by length (ended how s).texts ≡ c.in_ok-written.written + c.in_ok-more.more =
-    ended_bytes how s t c.args.held.now.open_tags.items refl (cc (c.args.held.now.open_tags.ok.0, c.if-not-is_empty.ensures)) (leaves-none (options_view c.args.tools.now.options) (g.R.Reader.reading c.args.tools.now.reader.now) (standing_of c.args.held.now) refl) c.in_ok-written.ensures.made.0
-    ∙ rw (c.in_ok-written.ensures.count, c.in_ok-more.ensures.count, c.as_str.ensures.value, c.in_ok-definitions.ensures) refl in
-    rw b c.saturating_add.ensures
+    let e = ended_as how s c.args.held.now.open_tags.items c.holds_raw_block-holds_raw.result c.as_str.result.now c.as_str-2.result.now (string_bytes c.in_ok-text.text) (kept_of c.last_text.new.held.document) refl (cc (c.args.held.now.open_tags.ok.0, c.if-not-is_empty.ensures)) refl
+    (c.holds_raw_block-holds_raw.ensures ∙ ap (λ es. holds_raw_block (map buffered_view es)) c.deref.ensures.value) c.in_ok-text.ensures (c.as_str.ensures.value ∙ c.in_ok-definitions.ensures) c.as_str-2.ensures.value in
+    IfOk-weaker c.hand_last.result _ _ (λ n h. h ∙ ap (λ (w : Walk Done). at_most (sum_by length w.texts)) e) c.hand_last.ensures.count

@@ -3,9 +3,11 @@ use Rattle.tocmark_event.specs.Options.{options_view}
 use Rattle.tocmark_event.specs.View.{EventView}
 use Rattle.tocmark_spelling.specs.Buffered.{buffered_view, next_view}
 use Rattle.tocmark_spelling.specs.PlanOf.{setting_of}
-use Rattle.tocmark_render.specs.Choice.{Chosen, choice}
+use Rattle.tocmark_render.specs.Choice.{choice}
 use Rattle.tocmark_render.specs.DocumentOf.{document_view, Spells}
-use Rattle.tocmark_render.proofs.Documents.{unspelled-refused, unbalanced-refused, by-forest}
+use Rattle.tocmark_render.specs.TrialOf.{or_no_trees}
+use Rattle.tocmark_render.specs.Units.{trees_of}
+use Rattle.tocmark_render.proofs.Documents.{unspelled-refused, unbalanced-refused, spelled-chosen}
 use Rattle.tocmark_render.proofs.document.Document.block.Goals as goal
 
 pub returns-then-not-are_spelled-clause-chosen : goal.returns-then-not-are_spelled-clause-chosen
@@ -30,8 +32,6 @@ returns-clause-chosen g c =
     let new = document_view c.chosen.new.self in
     let after = c.lent_event.ensures ∙ c.in_ok-next.ensures in
     let spelled = sym c.are_spelled.ensures ∙ c.if-not-are_spelled.false in
-    let P : Chosen → Type 0 = Spells new c.chosen.result in
-    by-forest s d es (next_view c.args.next) P (sym c.in_ok-are_balanced.ensures ∙ c.if-not-branch.false) spelled
-    (λ f is.
-    let Q : Option EventView → Type 0 = λ n. Spells new c.chosen.result (choice s d f n) in
-    subst Q after (c.chosen.ensures.chosen f spelled is))
+    let P : Option EventView → Type 0 = λ n. Spells new c.chosen.result (choice s d (or_no_trees (trees_of es)) n) in
+    subst (Spells new c.chosen.result) (sym (spelled-chosen s d es (next_view c.args.next) (sym c.in_ok-are_balanced.ensures ∙ c.if-not-branch.false) spelled))
+    (subst P after c.chosen.ensures.chosen)

@@ -1,0 +1,2 @@
+pub mod InParagraph
+pub mod Agrees

@@ -1,0 +1,76 @@
+-- What trying some spellings of a unit in order came to.
+use Rattle.std.specs.Prelude.{◌≡◌, ℕ, Bool, true, false, Option, Some, None, Result, Ok, Err, List, [], ◌∷◌, ◌++◌, if◌then◌else◌, map, string_bytes, String}
+use Rattle.std.specs.Global.{Global}
+use Rattle.tocmark_event.specs.Options.{OptionsView}
+use Rattle.tocmark_event.specs.View.{EventView}
+use Rattle.tocmark_event.specs.declared.options.Error.{Error}
+use Rattle.tocmark_event.specs.declared.options.Error.TheVariants as error
+use Rattle.tocmark_spelling.specs.Body.{Trees}
+use Rattle.tocmark_spelling.specs.Page.{Page}
+use Rattle.tocmark_spelling.specs.Plan.{Setting, Manner, Plan}
+use Rattle.tocmark_spelling.specs.Spelling.{is_misplaced}
+use Rattle.tocmark_spelling.specs.declared.plan.Layout.{Layout}
+use Rattle.tocmark_spelling.specs.declared.plan.Layout.TheVariants.{Runs}
+use Rattle.tocmark_spelling.specs.declared.plan.TextSpelling.{TextSpelling}
+use Rattle.tocmark_spelling.specs.declared.plan.TextSpelling.TheVariants.{Escaped}
+use Rattle.tocmark_render.specs.Candidates.{delimiter_manners, in_manner, pairs_from, preferred_manner, source_manners}
+use Rattle.tocmark_render.specs.Choice.{first_that_reads_back, document_after}
+use Rattle.tocmark_render.specs.Document.{DocumentView}
+
+-- what stays the same while spellings of a unit are tried: the setting, the unit, and the event behind it
+pub record Asked : Type 0 where
+  pub setting : Setting
+  pub unit : Trees
+  pub next : Option EventView
+
+-- a layout with a way of writing texts
+abbrev pub plan_view : Layout × TextSpelling → Plan
+plan_view p = record { layout = p.0; text = p.1 }
+
+-- of a unit with delimiters: the preferred spelling, and four by runs
+abbrev pub run_manners : OptionsView → List Manner
+run_manners o = preferred_manner o ∷ map (λ m. in_manner Runs Escaped m false) (pairs_from o.emphasis_token o.strong_token)
+
+-- the spellings that are tried: from the source, and escaped for a unit with delimiters
+abbrev pub manners_for : OptionsView → Bool → Bool → List Manner
+manners_for o has_source delimiters =
+    (if has_source then source_manners o delimiters else []) ++ (if delimiters then delimiter_manners o else [])
+
+-- the first of these spellings that reads back
+abbrev pub first : Asked → DocumentView → List Manner → Option Page
+first q d ms = first_that_reads_back q.setting d q.unit q.next ms
+
+-- the unit has a misplaced node
+abbrev pub misplaced : Asked → Bool
+misplaced q = is_misplaced q.setting [] q.unit
+
+-- one of these spellings reads back, with this text, and leaves this document
+pub record Found (q : Asked) (old new : DocumentView) (text : List ℕ) (ms : List Manner) : Type 0 where
+  pub page : Page
+  pub is_first : first q old ms ≡ Some page
+  pub text_is : page.sheet.text ≡ text
+  pub left_is : document_after q.setting old page ≡ new
+  pub placed : misplaced q ≡ false
+
+-- where some spelling was tried, no node of the unit is misplaced
+abbrev pub PlacedIfTried : Asked → List Manner → Type 0
+PlacedIfTried q [] = Unit {0}
+PlacedIfTried q (m ∷ ms) = misplaced q ≡ false
+
+-- none of these spellings reads back, and the document stands as it did
+pub record Lost (q : Asked) (old new : DocumentView) (ms : List Manner) : Type 0 where
+  pub none : first q old ms ≡ None
+  pub kept : new ≡ old
+  pub placed : PlacedIfTried q ms
+
+-- an error of a trial
+abbrev pub StopsTrial : Asked → Error → Type 0
+StopsTrial q error.OutOfMemory = Unit {0}
+StopsTrial q error.UnexpectedEvent = misplaced q ≡ true
+StopsTrial q e = ⊥
+
+-- what trying these spellings in order came to
+abbrev pub Tries : Asked → DocumentView → DocumentView → List Manner → Result (Option (String Global)) Error → Type 0
+Tries q old new ms (Ok (Some text)) = Found q old new (string_bytes text) ms
+Tries q old new ms (Ok None) = Lost q old new ms
+Tries q old new ms (Err e) = StopsTrial q e
