@@ -1,48 +1,31 @@
-//! Runs of the program.
+//! Fault lines, and streams that fail. The stored run has what is written after success.
 
 use crate::run;
-use std::alloc::AllocError;
+use std::alloc::Global;
 use std::io::{self, ErrorKind, Read, Write};
 use std::process::Abort;
-use std::test::Fail;
 
-/// One run with at most one argument.
-fn runs_as(
-    rt: &(impl Abort + AllocGlobal),
-    word: Option<&str>,
-    text: &[u8],
-    expected: (u8, &[u8], &[u8]),
-) -> Result<(), Fail> {
-    let alloc = rt.alloc();
-    let (expected_status, expected_output, expected_faults) = expected;
-    let mut words: Vec<String> = Vec::new(alloc);
-    if let Some(word) = word {
-        words
-            .push(String::from_str(alloc, word)?)
-            .map_err(AllocError::from)?;
-    }
-    let mut output: Vec<u8> = Vec::new(alloc);
-    let mut faults: Vec<u8> = Vec::new(alloc);
+/// Whether a run with these arguments on this input ends with this status and writes just these fault lines.
+fn is_refused(alloc: Global, words: &[String], text: &[u8], status: u8, faults: &str) -> bool {
     let mut input = text;
-    let status = run(alloc, &words, &mut input, &mut output, &mut faults);
-    assert_eq!(rt; status, expected_status);
-    assert_eq!(rt; output.as_slice(), expected_output);
-    assert_eq!(rt; faults.as_slice(), expected_faults);
-    Ok(())
+    let mut output: Vec<u8> = Vec::new(alloc);
+    let mut lines: Vec<u8> = Vec::new(alloc);
+    let ended = run(alloc, words, &mut input, &mut output, &mut lines);
+    ended == status && output.is_empty() && lines.as_slice() == faults.as_bytes()
 }
 
 #[test]
-fn runs(rt: HostRuntime) -> Result<(), Fail> {
-    let hello = b"# Hello\n\nWorld!".as_slice();
-    let nothing = b"".as_slice();
-    let usage = b"usage: tocmark [--source]\n".as_slice();
-    let not_text = b"tocmark: standard input is not UTF-8\n".as_slice();
-    runs_as(&rt, None, hello, (0, hello, nothing))?;
-    runs_as(&rt, None, nothing, (0, nothing, nothing))?;
-    runs_as(&rt, Some("--bad"), b"x".as_slice(), (2, nothing, usage))?;
-    runs_as(&rt, Some("--source"), b"x".as_slice(), (2, nothing, usage))?;
-    runs_as(&rt, None, b"a\xff".as_slice(), (1, nothing, not_text))?;
-    Ok(())
+fn wrong_calls(rt: HostRuntime) {
+    let alloc = rt.alloc();
+    let none: [String; 0] = [];
+    assert!(rt; is_refused(alloc, &none, b"", 0, ""));
+    let not_text = "tocmark: standard input is not UTF-8\n";
+    assert!(rt; is_refused(alloc, &none, b"a\xff", 1, not_text));
+    let Ok(word) = String::from_str(alloc, "--bad") else {
+        assert!(rt; false);
+        return;
+    };
+    assert!(rt; is_refused(alloc, &[word], b"x", 2, "usage: tocmark [--source]\n"));
 }
 
 /// Neither reads nor writes.
@@ -65,29 +48,29 @@ impl Write for Broken {
     }
 }
 
+/// The status of a run without arguments.
+fn status<I: Read, O: Write, F: Write>(
+    alloc: Global,
+    input: &mut I,
+    output: &mut O,
+    faults: &mut F,
+) -> u8 {
+    let none: [String; 0] = [];
+    run(alloc, &none, input, output, faults)
+}
+
 #[test]
-fn broken_streams(rt: HostRuntime) -> Result<(), Fail> {
+fn broken_streams(rt: HostRuntime) {
     let alloc = rt.alloc();
-    let words: Vec<String> = Vec::new(alloc);
     let mut output: Vec<u8> = Vec::new(alloc);
     let mut faults: Vec<u8> = Vec::new(alloc);
-    let status = run(alloc, &words, &mut Broken, &mut output, &mut faults);
-    assert_eq!(rt; status, 1);
-    assert_eq!(rt; output.len(), 0);
-    assert_eq!(rt;
-        faults.as_slice(),
-        b"tocmark: cannot read standard input\n".as_slice()
-    );
+    assert!(rt; status(alloc, &mut Broken, &mut output, &mut faults) == 1);
+    assert!(rt; output.is_empty());
+    let unread = "tocmark: cannot read standard input\n";
+    assert!(rt; faults.as_slice() == unread.as_bytes());
     faults.clear();
-    let mut input = b"x".as_slice();
-    let status = run(alloc, &words, &mut input, &mut Broken, &mut faults);
-    assert_eq!(rt; status, 1);
-    assert_eq!(rt;
-        faults.as_slice(),
-        b"tocmark: cannot write standard output\n".as_slice()
-    );
-    let mut input = b"x".as_slice();
-    let status = run(alloc, &words, &mut input, &mut output, &mut Broken);
-    assert_eq!(rt; status, 0);
-    Ok(())
+    assert!(rt; status(alloc, &mut b"x".as_slice(), &mut Broken, &mut faults) == 1);
+    let unwritten = "tocmark: cannot write standard output\n";
+    assert!(rt; faults.as_slice() == unwritten.as_bytes());
+    assert!(rt; status(alloc, &mut b"x".as_slice(), &mut output, &mut Broken) == 0);
 }

@@ -1,7 +1,9 @@
-//! Tests of the document and of what is asked of its units.
+//! Tests of what a unit leaves to be defined, of the comparison with what a reader found, and of the mark of a renderer.
 #![tactic(auto)]
 
 #[cfg(test)]
-mod balance_tests;
+mod agrees_tests;
 #[cfg(test)]
-mod tests;
+mod definitions_tests;
+#[cfg(test)]
+mod mark_tests;

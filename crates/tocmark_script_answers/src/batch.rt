@@ -111,7 +111,8 @@ impl Batch {
             return;
         };
         let taken = match statement_in_line(self.alloc, line) {
-            Ok(statement) => gathering.take(self.line, statement),
+            Ok(Some(statement)) => gathering.take(self.line, statement),
+            Ok(None) => Ok(()),
             Err(fault) => Err(fault),
         };
         let number = self.line;

@@ -5,7 +5,7 @@ use std::alloc::{AllocError, Global};
 use tocmark_script_lines::script::{Call, Script};
 
 /// How many cuts had the answer of one call over all events, and how many hadn't.
-#[derive(Clone, Copy, Debug)]
+#[derive(Clone, Copy)]
 struct Cuts {
     same: usize,
     different: usize,

@@ -3,6 +3,7 @@
 use std::alloc::{AllocError, Global};
 use tocmark::calculate_code_block_token_count;
 use tocmark::event::{CowStr, Event, EventOf, OwnedEvent, Tag, merge_all, merge_texts};
+use tocmark_ahead::same_events::same_event;
 use tocmark_script_lines::event::{Events, RangedEvent};
 use tocmark_script_lines::line::EventLine;
 use tocmark_script_lines::script::EventsQuestion;
@@ -127,6 +128,25 @@ fn write_copies(
     writeln!(answer, "{same} of {all}")
 }
 
+/// How many of these events are the same as this one.
+fn same_as(event: &Event<'_>, events: &[RangedEvent<'_>]) -> usize {
+    let mut same = 0usize;
+    for (other, _) in events {
+        if same_event(event, other) {
+            same = same.saturating_add(1);
+        }
+    }
+    same
+}
+
+fn write_same(answer: &mut String, events: &[RangedEvent<'_>]) -> Result<(), AllocError> {
+    let mut pairs = 0usize;
+    for (event, _) in events {
+        pairs = pairs.saturating_add(same_as(event, events));
+    }
+    writeln!(answer, "{pairs} pairs")
+}
+
 /// Writes what is answered about these events.
 pub fn write_events_answer(
     alloc: Global,
@@ -139,5 +159,6 @@ pub fn write_events_answer(
         EventsQuestion::Show => write_lines(answer, events),
         EventsQuestion::ShowMerged => write_merged(alloc, answer, events),
         EventsQuestion::CountCopies => write_copies(alloc, answer, events),
+        EventsQuestion::CountSame => write_same(answer, events),
     }
 }

@@ -11,7 +11,10 @@ fn take_line(
     number: usize,
     line: &str,
 ) -> Result<(), LineFault> {
-    gathering.take(number, statement_in_line(alloc, line)?)
+    match statement_in_line(alloc, line)? {
+        Some(statement) => gathering.take(number, statement),
+        None => Ok(()),
+    }
 }
 
 /// The fault of a whole script, of which each line can be read.

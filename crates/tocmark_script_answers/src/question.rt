@@ -7,19 +7,21 @@ use crate::valid::write_valid_count;
 use std::alloc::{AllocError, Global};
 use std::fmt;
 use tocmark::core_reader::CoreReader;
-use tocmark::event::{Event, LinkType};
+use tocmark::event::LinkType;
 use tocmark::reader::{Reader, Reading};
-use tocmark::{Error, OptionsError, State};
+use tocmark::{
+    Error, OptionsError, State, cmark, cmark_with_options, cmark_with_source_range,
+    cmark_with_source_range_and_options,
+};
 use tocmark_escape::text_modifications::{
     EscapeDestination, EscapeLinkTitle, close_link, max_consecutive_chars,
 };
-use tocmark_script_lines::event::{Events, RangedEvent, RangedEvents};
 use tocmark_script_lines::line::EventLine;
 use tocmark_script_lines::script::{Question, Script};
 use tocmark_script_lines::string::Quoted;
 
 /// The name of what is wrong with options, and what it speaks of.
-#[derive(Clone, Copy, Debug)]
+#[derive(Clone, Copy)]
 struct OptionsFault(OptionsError);
 
 impl fmt::Display for OptionsFault {
@@ -154,15 +156,36 @@ fn write_count(alloc: Global, answer: &mut String, reading: &Reading) -> Result<
     writeln!(answer, "{count} events")
 }
 
-fn ranged(
+/// Writes the events of a reading.
+fn write_events(
     alloc: Global,
-    events: Vec<(Event<'_>, (usize, usize))>,
-) -> Result<Vec<RangedEvent<'_>>, AllocError> {
-    let mut pairs = Vec::new(alloc);
-    for (event, range) in events {
-        pairs.push((event, Some(range)))?;
+    script: &Script<'_>,
+    reading: &Reading,
+    output: &mut String,
+) -> Result<State<CoreReader>, Error> {
+    let (flags, events) = (script.flags, reading.events());
+    if script.has_options {
+        cmark_with_options(alloc, events, output, CoreReader, flags, script.options())
+    } else {
+        cmark(alloc, events, output, CoreReader, flags)
     }
-    Ok(pairs)
+}
+
+/// Writes the events of a text's reading, with their ranges in the text.
+fn write_ranged_events(
+    alloc: Global,
+    script: &Script<'_>,
+    text: &str,
+    reading: &Reading,
+    output: &mut String,
+) -> Result<State<CoreReader>, Error> {
+    let (flags, pairs) = (script.flags, reading.pairs());
+    if script.has_options {
+        let options = script.options();
+        cmark_with_source_range_and_options(alloc, pairs, text, output, CoreReader, flags, options)
+    } else {
+        cmark_with_source_range(alloc, pairs, text, output, CoreReader, flags)
+    }
 }
 
 /// A text, read and written back, with ranges in it or without.
@@ -173,16 +196,16 @@ fn rewritten(
     has_source: bool,
 ) -> Result<String, Error> {
     let reading = CoreReader.read(alloc, text, script.flags)?;
-    let events = ranged(alloc, reading.events)?;
     let mut output = String::new(alloc);
-    let mut state = State::new(alloc, CoreReader, script.flags, script.options())?;
-    if has_source {
-        state.process_with_source_range(RangedEvents(events.iter()), text, &mut output)?;
+    let ended = if has_source {
+        write_ranged_events(alloc, script, text, &reading, &mut output)
     } else {
-        state.process(Events(events.iter()), &mut output)?;
+        write_events(alloc, script, &reading, &mut output)
+    };
+    match ended {
+        Ok(_) => Ok(output),
+        Err(error) => Err(error),
     }
-    state.finish(&mut output)?;
-    Ok(output)
 }
 
 fn write_rewritten(

@@ -52,6 +52,7 @@ fn call_name(call: Call) -> &'static str {
     match call {
         Call::Process { .. } => "process",
         Call::Finish => "finish",
+        Call::Clone => "clone",
     }
 }
 
@@ -70,6 +71,17 @@ fn process(
     }
 }
 
+/// Puts a clone of the state in its place.
+fn go_on_with_clone(state: &mut State<&ScriptReader<'_>>) -> Result<Progress, Error> {
+    match state.clone() {
+        Ok(copy) => {
+            *state = copy;
+            Ok(Progress::default())
+        }
+        Err(_) => Err(Error::OutOfMemory),
+    }
+}
+
 /// Makes one call.
 fn make(
     state: &mut State<&ScriptReader<'_>>,
@@ -83,6 +95,7 @@ fn make(
             process(state, events, &script.source, tape)
         }
         Call::Finish => state.finish(tape),
+        Call::Clone => go_on_with_clone(state),
     }
 }
 

@@ -6,7 +6,7 @@ use tocmark::{Options, OptionsError};
 
 /// How often options were accepted, refused for their flags, refused for HTML scripts, and refused for
 /// anything else.
-#[derive(Clone, Copy, Debug)]
+#[derive(Clone, Copy)]
 struct Counts {
     accepted: u32,
     flags: u32,

@@ -15,7 +15,7 @@ const A_RANGE: &str = "a range of byte numbers below 2^64";
 const A_CHARACTER: &str = "a string of one character";
 
 /// What is left of a line: words and strings that are parted by one space, or nothing.
-#[derive(Clone, Copy, Debug)]
+#[derive(Clone, Copy)]
 pub struct Cursor<'a> {
     rest: Option<&'a str>,
     /// The byte of the line behind what is left.
@@ -68,7 +68,7 @@ impl<'a> Cursor<'a> {
     }
 
     /// A fault unless nothing is left.
-    pub fn end(&self) -> Result<(), LineFault> {
+    fn end(&self) -> Result<(), LineFault> {
         match self.rest {
             None => Ok(()),
             Some("") => Err(LineFault::Expected {
@@ -76,6 +76,14 @@ impl<'a> Cursor<'a> {
                 at: self.end.saturating_sub(1),
             }),
             Some(_) => Err(self.expected(AN_END)),
+        }
+    }
+
+    /// What the line says, unless something is left of it.
+    pub fn ended<T: Drop>(&self, said: T) -> Result<T, LineFault> {
+        match self.end() {
+            Ok(()) => Ok(said),
+            Err(fault) => Err(fault),
         }
     }
 

@@ -52,7 +52,7 @@ impl<'a> Iterator for RangedEvents<'a> {
 }
 
 /// What the name of an event says.
-#[derive(Clone, Copy, Debug)]
+#[derive(Clone, Copy)]
 enum EventName {
     Start,
     End,
@@ -64,7 +64,7 @@ enum EventName {
 }
 
 /// An event that is a text.
-#[derive(Clone, Copy, Debug)]
+#[derive(Clone, Copy)]
 enum TextName {
     Text,
     Code,
@@ -144,18 +144,6 @@ fn event_of_parts(
     }
 }
 
-/// The event, unless something stands behind it.
-fn ended(
-    event: Event<'static>,
-    range: Option<(usize, usize)>,
-    cursor: &Cursor<'_>,
-) -> Result<Option<RangedEvent<'static>>, LineFault> {
-    match cursor.end() {
-        Ok(()) => Ok(Some((event, range))),
-        Err(fault) => Err(fault),
-    }
-}
-
 /// The event that is all that is left of a line, with its range, or nothing where no event comes next.
 pub fn event_in_line(
     alloc: Global,
@@ -166,5 +154,8 @@ pub fn event_in_line(
         return Ok(None);
     };
     let range = cursor.range()?;
-    ended(event_of_parts(alloc, name, &mut cursor)?, range, &cursor)
+    match event_of_parts(alloc, name, &mut cursor) {
+        Ok(event) => cursor.ended(Some((event, range))),
+        Err(fault) => Err(fault),
+    }
 }

@@ -5,7 +5,7 @@ use std::alloc::{AllocError, AllocFailed};
 use std::fmt;
 
 /// Why a line can't be read.
-#[derive(Clone, Copy, Debug)]
+#[derive(Clone, Copy)]
 pub enum LineFault {
     /// Something else is expected at this byte of the line.
     Expected { expected: &'static str, at: usize },
@@ -48,7 +48,7 @@ impl fmt::Display for Found<'_> {
 }
 
 /// A fault in a line, which `{}` writes with the line's number and the place in it.
-#[derive(Clone, Copy, Debug)]
+#[derive(Clone, Copy)]
 pub struct NumberedFault<'a> {
     /// The line's number, counted from 1.
     pub number: usize,

@@ -2,8 +2,8 @@
 
 use crate::event::RangedEvent;
 use crate::fault::LineFault;
-use crate::script::{Call, EventsQuestion, Question, Script};
-use crate::statement::Statement;
+use crate::script::{Call, EventsQuestion, Question, Script, Setting};
+use crate::statement::{Other, Statement};
 use std::alloc::{AllocError, Global};
 use tocmark_script_reader::readers::{ReadEvents, ScriptReader, Table};
 
@@ -30,6 +30,22 @@ pub struct Gathering<'a> {
     has_finish: bool,
     /// Whether some line said something.
     has_statement: bool,
+}
+
+/// Adds an event to a reading, where one without a range gets an empty one.
+fn add_read(
+    events: &mut ReadEvents<'static>,
+    event: RangedEvent<'static>,
+) -> Result<(), LineFault> {
+    Ok(events.push((event.0, event.1.unwrap_or((0, 0))))?)
+}
+
+/// Adds an event to a script.
+fn add(
+    events: &mut Vec<RangedEvent<'static>>,
+    event: RangedEvent<'static>,
+) -> Result<(), LineFault> {
+    Ok(events.push(event)?)
 }
 
 impl Gathering<'static> {
@@ -75,6 +91,12 @@ impl Gathering<'static> {
         Ok(())
     }
 
+    fn clone_state(&mut self) -> Result<(), LineFault> {
+        self.process_waiting()?;
+        self.script.calls.push(Call::Clone)?;
+        Ok(())
+    }
+
     /// The table of readings so far, or one without readings.
     fn take_table(&mut self) -> Table<'static> {
         match self.table.take() {
@@ -100,13 +122,10 @@ impl Gathering<'static> {
 
     /// Takes an event, into the open reading if there is one.
     fn take_event(&mut self, event: RangedEvent<'static>) -> Result<(), LineFault> {
-        let Some(reading) = &mut self.reading else {
-            self.script.events.push(event)?;
-            return Ok(());
-        };
-        let (event, range) = event;
-        reading.events.push((event, range.unwrap_or((0, 0))))?;
-        Ok(())
+        match &mut self.reading {
+            Some(reading) => add_read(&mut reading.events, event),
+            None => add(&mut self.script.events, event),
+        }
     }
 
     fn take_copy(&mut self, event: &RangedEvent<'static>) -> Result<(), LineFault> {
@@ -131,12 +150,13 @@ impl Gathering<'static> {
         Ok(())
     }
 
-    fn open_reading(&mut self, line: usize, text: Option<String>) {
+    fn open_reading(&mut self, line: usize, text: Option<String>) -> Result<(), LineFault> {
         self.reading = Some(OpenReading {
             line,
             text,
             events: Vec::new(self.alloc),
         });
+        Ok(())
     }
 
     fn ask(&mut self, question: Question) -> Result<(), LineFault> {
@@ -150,36 +170,50 @@ impl Gathering<'static> {
         self.ask(Question::OfEvents { question, events })
     }
 
-    /// Takes a statement that stands outside of readings, in the line with this number.
-    fn take_outside(&mut self, line: usize, statement: Statement) -> Result<(), LineFault> {
-        match statement {
-            Statement::Set(setting) => self.script.set(setting),
-            Statement::Cut => self.process()?,
-            Statement::Finish => self.finish()?,
-            Statement::ReaderNothing => self.table = Some(self.take_table()),
-            Statement::Reads(text) => self.open_reading(line, text),
-            Statement::AskOfEvents(question) => self.ask_of_events(question)?,
-            Statement::Ask(question) => self.ask(question)?,
-            _other => {}
-        }
+    fn set(&mut self, setting: Setting) -> Result<(), LineFault> {
+        self.script.set(setting);
         Ok(())
+    }
+
+    /// Has the reader be a table, without readings so far if none came.
+    fn read_nothing(&mut self) -> Result<(), LineFault> {
+        self.table = Some(self.take_table());
+        Ok(())
+    }
+
+    /// Takes a statement that stands outside of readings, in the line with this number.
+    fn take_outside(&mut self, line: usize, statement: Other) -> Result<(), LineFault> {
+        match statement {
+            Other::Set(setting) => self.set(setting),
+            Other::Cut => self.process(),
+            Other::Finish => self.finish(),
+            Other::Clone => self.clone_state(),
+            Other::ReaderNothing => self.read_nothing(),
+            Other::Reads(text) => self.open_reading(line, text),
+            Other::AskOfEvents(question) => self.ask_of_events(question),
+            Other::Ask(question) => self.ask(question),
+        }
+    }
+
+    /// Takes a statement in the line with this number, unless a reading is open.
+    fn take_other(&mut self, line: usize, statement: Other) -> Result<(), LineFault> {
+        if self.reading.is_some() {
+            return Err(LineFault::Expected {
+                expected: "an event, or End of reading",
+                at: 0,
+            });
+        }
+        self.take_outside(line, statement)
     }
 
     /// Takes what the line with this number says.
     pub fn take(&mut self, line: usize, statement: Statement) -> Result<(), LineFault> {
-        if let Statement::Nothing = statement {
-            return Ok(());
-        }
         self.has_statement = true;
         match statement {
             Statement::Event(event) => self.take_event(event),
             Statement::Repeat { event, times } => self.take_copies(&event, times),
             Statement::EndOfReading => self.end_reading(),
-            _ if self.reading.is_some() => Err(LineFault::Expected {
-                expected: "an event, or End of reading",
-                at: 0,
-            }),
-            _ => self.take_outside(line, statement),
+            Statement::Other(statement) => self.take_other(line, statement),
         }
     }
 

@@ -89,7 +89,7 @@ fn end_name(end: TagEnd) -> &'static str {
 }
 
 /// The end of a tag, which `{}` writes as a line has it behind `End`.
-#[derive(Clone, Copy, Debug)]
+#[derive(Clone, Copy)]
 struct EndLine(TagEnd);
 
 impl fmt::Display for EndLine {
@@ -217,7 +217,7 @@ fn write_leaf<W: fmt::Write>(
 }
 
 /// An event, which `{}` writes as a line without a range.
-#[derive(Clone, Copy, Debug)]
+#[derive(Clone, Copy)]
 pub struct EventLine<'a>(pub &'a Event<'a>);
 
 impl fmt::Display for EventLine<'_> {

@@ -10,7 +10,7 @@ use tocmark_event::options::Options;
 const A_SIZE: &str = "a decimal number below 2^64, max or imax";
 
 /// An option that is a number of line feeds or of fence characters.
-#[derive(Clone, Copy, Debug)]
+#[derive(Clone, Copy)]
 pub enum SizeOption {
     Headline,
     Paragraph,
@@ -26,14 +26,14 @@ pub enum SizeOption {
 }
 
 /// An option that is a choice.
-#[derive(Clone, Copy, Debug)]
+#[derive(Clone, Copy)]
 pub enum ChoiceOption {
     IncrementBullets,
     HtmlScripts,
 }
 
 /// An option that is one character.
-#[derive(Clone, Copy, Debug)]
+#[derive(Clone, Copy)]
 pub enum TokenOption {
     CodeBlock,
     List,

@@ -8,15 +8,17 @@ use tocmark_event::options::Options;
 use tocmark_script_reader::readers::ScriptReader;
 
 /// A call on the state of a script.
-#[derive(Clone, Copy, Debug)]
+#[derive(Clone, Copy)]
 pub enum Call {
     /// Takes the script's events from one place up to another.
     Process { start: usize, end: usize },
     Finish,
+    /// Goes on with a clone of the state.
+    Clone,
 }
 
 /// What is asked of the events of a script.
-#[derive(Clone, Copy, Debug)]
+#[derive(Clone, Copy)]
 pub enum EventsQuestion {
     /// How many tokens a fence needs for them.
     CountTokens,
@@ -26,6 +28,8 @@ pub enum EventsQuestion {
     ShowMerged,
     /// How many of them are equal to each of their copies.
     CountCopies,
+    /// How many pairs of them are the same, each paired with all.
+    CountSame,
 }
 
 /// What a script asks in place of a run.
@@ -80,6 +84,8 @@ pub struct Script<'a> {
     /// The options but for the strong token, if the script gives one.
     pub options: Options<'a>,
     pub strong_token: Option<String>,
+    /// Whether the script gives an option.
+    pub has_options: bool,
     /// The source of all ranges.
     pub source: Option<String>,
     pub reader: ScriptReader<'a>,
@@ -101,6 +107,7 @@ impl<'a> Script<'a> {
             flags: ParserOptions(0),
             options: Options::default(),
             strong_token: None,
+            has_options: false,
             source: None,
             reader: ScriptReader::Core,
             shows_calls: false,
@@ -117,6 +124,7 @@ impl<'a> Script<'a> {
         match setting {
             Setting::Flags(flags) => self.flags = flags,
             Setting::Option(option) => {
+                self.has_options = true;
                 set_option(&mut self.options, &mut self.strong_token, option);
             }
             Setting::Source(source) => self.source = Some(source),

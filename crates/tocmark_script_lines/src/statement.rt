@@ -19,30 +19,37 @@ const A_STATEMENT: &str = "the name of an event, a statement or a question (case
 const A_CARRIAGE_RETURN: &str = "it ends with a carriage return, and a line feed alone ends a line";
 
 /// What is asked of the events so far, by its name.
-const EVENTS_QUESTIONS: [(&str, EventsQuestion); 4] = [
+const EVENTS_QUESTIONS: [(&str, EventsQuestion); 5] = [
     ("Count", EventsQuestion::CountTokens),
     ("Events", EventsQuestion::Show),
     ("Merged", EventsQuestion::ShowMerged),
     ("Copies", EventsQuestion::CountCopies),
+    ("Same", EventsQuestion::CountSame),
 ];
 
 /// What a line says.
 #[derive(Drop)]
 pub enum Statement {
-    Nothing,
     Event(RangedEvent<'static>),
     /// An event so many times.
     Repeat {
         event: RangedEvent<'static>,
         times: usize,
     },
+    EndOfReading,
+    Other(Other),
+}
+
+/// What a line says that can't stand in a reading.
+#[derive(Drop)]
+pub enum Other {
     Set(Setting),
     Cut,
     ReaderNothing,
     /// A reading begins, of this text or of any other.
     Reads(Option<String>),
-    EndOfReading,
     Finish,
+    Clone,
     /// Asks of the events so far.
     AskOfEvents(EventsQuestion),
     Ask(Question),
@@ -96,17 +103,17 @@ fn repeat(alloc: Global, cursor: &mut Cursor<'_>) -> Result<Statement, LineFault
     }
 }
 
-fn reader(cursor: &mut Cursor<'_>) -> Result<Statement, LineFault> {
+fn reader(cursor: &mut Cursor<'_>) -> Result<Other, LineFault> {
     cursor.expect_known(&[("nothing", ())], "nothing")?;
-    Ok(Statement::ReaderNothing)
+    Ok(Other::ReaderNothing)
 }
 
-fn reads(alloc: Global, cursor: &mut Cursor<'_>) -> Result<Statement, LineFault> {
+fn reads(alloc: Global, cursor: &mut Cursor<'_>) -> Result<Other, LineFault> {
     if cursor.is_at_string() {
-        return Ok(Statement::Reads(Some(cursor.string(alloc)?)));
+        return Ok(Other::Reads(Some(cursor.string(alloc)?)));
     }
     cursor.expect_known(&[("else", ())], "a string in double quotes, or else")?;
-    Ok(Statement::Reads(None))
+    Ok(Other::Reads(None))
 }
 
 fn fail_at(cursor: &mut Cursor<'_>) -> Result<Setting, LineFault> {
@@ -207,13 +214,25 @@ fn setting_or_question(
     alloc: Global,
     name: &str,
     cursor: &mut Cursor<'_>,
-) -> Result<Statement, LineFault> {
+) -> Result<Other, LineFault> {
     if let Some(question) = known(&EVENTS_QUESTIONS, name) {
-        return Ok(Statement::AskOfEvents(question));
+        return Ok(Other::AskOfEvents(question));
     }
     match setting(alloc, name, cursor)? {
-        Some(setting) => Ok(Statement::Set(setting)),
-        None => Ok(Statement::Ask(question(alloc, name, cursor)?)),
+        Some(setting) => Ok(Other::Set(setting)),
+        None => Ok(Other::Ask(question(alloc, name, cursor)?)),
+    }
+}
+
+/// The statement of this name, which can't stand in a reading.
+fn other_statement(alloc: Global, name: &str, cursor: &mut Cursor<'_>) -> Result<Other, LineFault> {
+    match name {
+        "Cut" => Ok(Other::Cut),
+        "Finish" => Ok(Other::Finish),
+        "Clone" => Ok(Other::Clone),
+        "Reader" => reader(cursor),
+        "Reads" => reads(alloc, cursor),
+        _ => setting_or_question(alloc, name, cursor),
     }
 }
 
@@ -223,36 +242,22 @@ fn statement_of_parts(
     name: &str,
     cursor: &mut Cursor<'_>,
 ) -> Result<Statement, LineFault> {
-    match name {
-        "Cut" => Ok(Statement::Cut),
-        "Finish" => Ok(Statement::Finish),
-        "Reader" => reader(cursor),
-        "Reads" => reads(alloc, cursor),
-        "Repeat" => repeat(alloc, cursor),
-        _ => setting_or_question(alloc, name, cursor),
+    if name == "Repeat" {
+        return repeat(alloc, cursor);
     }
-}
-
-/// The statement, unless something stands behind it.
-fn ended(statement: Statement, cursor: &Cursor<'_>) -> Result<Statement, LineFault> {
-    match cursor.end() {
-        Ok(()) => Ok(statement),
-        Err(fault) => Err(fault),
-    }
+    Ok(Statement::Other(other_statement(alloc, name, cursor)?))
 }
 
 /// What a line says that is no event.
 fn statement_without_event(alloc: Global, line: &Cursor<'_>) -> Result<Statement, LineFault> {
     let mut cursor = *line;
     let name = cursor.word().unwrap_or("");
-    ended(statement_of_parts(alloc, name, &mut cursor)?, &cursor)
+    let statement = statement_of_parts(alloc, name, &mut cursor)?;
+    cursor.ended(statement)
 }
 
-/// What a line says.
-pub fn statement_in_line(alloc: Global, line: &str) -> Result<Statement, LineFault> {
-    if line.is_empty() || line.starts_with('#') || line.starts_with('>') {
-        return Ok(Statement::Nothing);
-    }
+/// What a line says that isn't empty and no comment.
+fn said(alloc: Global, line: &str) -> Result<Statement, LineFault> {
     if line.ends_with('\r') {
         return Err(LineFault::Wrong(A_CARRIAGE_RETURN));
     }
@@ -264,4 +269,12 @@ pub fn statement_in_line(alloc: Global, line: &str) -> Result<Statement, LineFau
         Some(event) => Ok(Statement::Event(event)),
         None => statement_without_event(alloc, &cursor),
     }
+}
+
+/// What a line says, or nothing where it is empty or a comment.
+pub fn statement_in_line(alloc: Global, line: &str) -> Result<Option<Statement>, LineFault> {
+    if line.is_empty() || line.starts_with('#') || line.starts_with('>') {
+        return Ok(None);
+    }
+    Ok(Some(said(alloc, line)?))
 }

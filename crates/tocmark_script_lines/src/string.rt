@@ -6,7 +6,7 @@ use std::fmt;
 
 /// A text, which `{}` writes in double quotes, with escapes for quotes, backslashes and control
 /// characters.
-#[derive(Clone, Copy, Debug)]
+#[derive(Clone, Copy)]
 pub struct Quoted<'a>(pub &'a str);
 
 impl fmt::Display for Quoted<'_> {

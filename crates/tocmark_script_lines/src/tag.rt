@@ -64,33 +64,58 @@ const ALIGNMENTS: [(&str, Alignment); 4] = [
 
 const TRUTHS: [(&str, bool); 2] = [("true", true), ("false", false)];
 
-/// The names of tags, each with an end of such a tag.
-const TAGS: [(&str, TagEnd); 23] = [
-    ("Paragraph", TagEnd::Paragraph),
-    ("Heading", TagEnd::Heading(HeadingLevel::H1)),
-    ("BlockQuote", TagEnd::BlockQuote(None)),
-    ("CodeBlock", TagEnd::CodeBlock),
-    ("HtmlBlock", TagEnd::HtmlBlock),
-    ("List", TagEnd::List(false)),
-    ("Item", TagEnd::Item),
-    ("FootnoteDefinition", TagEnd::FootnoteDefinition),
-    ("DefinitionList", TagEnd::DefinitionList),
-    ("DefinitionListTitle", TagEnd::DefinitionListTitle),
-    ("DefinitionListDefinition", TagEnd::DefinitionListDefinition),
-    ("Table", TagEnd::Table),
-    ("TableHead", TagEnd::TableHead),
-    ("TableRow", TagEnd::TableRow),
-    ("TableCell", TagEnd::TableCell),
-    ("Emphasis", TagEnd::Emphasis),
-    ("Strong", TagEnd::Strong),
-    ("Strikethrough", TagEnd::Strikethrough),
-    ("Superscript", TagEnd::Superscript),
-    ("Subscript", TagEnd::Subscript),
-    ("Link", TagEnd::Link),
-    ("Image", TagEnd::Image),
+/// What the end of a tag has behind its name.
+#[derive(Clone, Copy)]
+enum EndPart {
+    Level,
+    QuoteKind,
+    IsOrdered,
+    MetadataKind,
+    Nothing,
+}
+
+/// The names of tags, each with an end of such a tag and what other ends of such tags have in its place.
+const TAGS: [(&str, (TagEnd, EndPart)); 23] = [
+    ("Paragraph", (TagEnd::Paragraph, EndPart::Nothing)),
+    (
+        "Heading",
+        (TagEnd::Heading(HeadingLevel::H1), EndPart::Level),
+    ),
+    ("BlockQuote", (TagEnd::BlockQuote(None), EndPart::QuoteKind)),
+    ("CodeBlock", (TagEnd::CodeBlock, EndPart::Nothing)),
+    ("HtmlBlock", (TagEnd::HtmlBlock, EndPart::Nothing)),
+    ("List", (TagEnd::List(false), EndPart::IsOrdered)),
+    ("Item", (TagEnd::Item, EndPart::Nothing)),
+    (
+        "FootnoteDefinition",
+        (TagEnd::FootnoteDefinition, EndPart::Nothing),
+    ),
+    ("DefinitionList", (TagEnd::DefinitionList, EndPart::Nothing)),
+    (
+        "DefinitionListTitle",
+        (TagEnd::DefinitionListTitle, EndPart::Nothing),
+    ),
+    (
+        "DefinitionListDefinition",
+        (TagEnd::DefinitionListDefinition, EndPart::Nothing),
+    ),
+    ("Table", (TagEnd::Table, EndPart::Nothing)),
+    ("TableHead", (TagEnd::TableHead, EndPart::Nothing)),
+    ("TableRow", (TagEnd::TableRow, EndPart::Nothing)),
+    ("TableCell", (TagEnd::TableCell, EndPart::Nothing)),
+    ("Emphasis", (TagEnd::Emphasis, EndPart::Nothing)),
+    ("Strong", (TagEnd::Strong, EndPart::Nothing)),
+    ("Strikethrough", (TagEnd::Strikethrough, EndPart::Nothing)),
+    ("Superscript", (TagEnd::Superscript, EndPart::Nothing)),
+    ("Subscript", (TagEnd::Subscript, EndPart::Nothing)),
+    ("Link", (TagEnd::Link, EndPart::Nothing)),
+    ("Image", (TagEnd::Image, EndPart::Nothing)),
     (
         "MetadataBlock",
-        TagEnd::MetadataBlock(MetadataBlockKind::YamlStyle),
+        (
+            TagEnd::MetadataBlock(MetadataBlockKind::YamlStyle),
+            EndPart::MetadataKind,
+        ),
     ),
 ];
 
@@ -266,18 +291,23 @@ fn tag_of(alloc: Global, end: TagEnd, cursor: &mut Cursor<'_>) -> Result<Tag<'st
 
 /// A tag with its parts.
 pub fn tag(alloc: Global, cursor: &mut Cursor<'_>) -> Result<Tag<'static>, LineFault> {
-    let end = cursor.expect_known(&TAGS, A_TAG)?;
+    let (end, _) = cursor.expect_known(&TAGS, A_TAG)?;
     tag_of(alloc, end, cursor)
+}
+
+/// This end, or where such ends have a part, the end with the part that comes next.
+fn end_of_part(end: TagEnd, part: EndPart, cursor: &mut Cursor<'_>) -> Result<TagEnd, LineFault> {
+    match part {
+        EndPart::Level => Ok(TagEnd::Heading(level(cursor)?)),
+        EndPart::QuoteKind => Ok(TagEnd::BlockQuote(quote_kind(cursor)?)),
+        EndPart::IsOrdered => Ok(TagEnd::List(truth(cursor, IS_ORDERED)?)),
+        EndPart::MetadataKind => Ok(TagEnd::MetadataBlock(metadata_kind(cursor)?)),
+        EndPart::Nothing => Ok(end),
+    }
 }
 
 /// The end of a tag, with a level, a kind or a truth value where it has one.
 pub fn tag_end(cursor: &mut Cursor<'_>) -> Result<TagEnd, LineFault> {
-    let end = cursor.expect_known(&TAGS, A_TAG)?;
-    match end {
-        TagEnd::Heading(_) => Ok(TagEnd::Heading(level(cursor)?)),
-        TagEnd::BlockQuote(_) => Ok(TagEnd::BlockQuote(quote_kind(cursor)?)),
-        TagEnd::List(_) => Ok(TagEnd::List(truth(cursor, IS_ORDERED)?)),
-        TagEnd::MetadataBlock(_) => Ok(TagEnd::MetadataBlock(metadata_kind(cursor)?)),
-        _ => Ok(end),
-    }
+    let (end, part) = cursor.expect_known(&TAGS, A_TAG)?;
+    end_of_part(end, part, cursor)
 }

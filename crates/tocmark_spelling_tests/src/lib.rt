@@ -1,7 +1,5 @@
-//! Tests of the crates that spell a unit: `tocmark_escape`, `tocmark_spelling`, `tocmark_ahead` and `tocmark_renderer`.
+//! Tests of the crates that spell a unit: their calls that no script makes.
 #![tactic(auto)]
 
-#[cfg(test)]
-mod look_tests;
 #[cfg(test)]
 mod tests;

@@ -1,5 +1,0 @@
-//! Tests of the public calls.
-#![tactic(auto)]
-
-#[cfg(test)]
-mod tests;
