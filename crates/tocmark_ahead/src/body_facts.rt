@@ -158,7 +158,9 @@ fn with_leaf(inline: bool, breaks: bool, right: BodyFacts) -> BodyFacts
 
 /// A container in front, whose children are such; the trees to its right go from the stack.
 fn behind_start(tag: &TagOf<String>, kids: BodyFacts, outer: &mut Vec<BodyFacts>) -> BodyFacts
-    ensures { record { inner = result; outer = reverse outer.new.items } ≡ with_event (Start (tag_view string_bytes tag.now)) (record { inner = kids; outer = reverse outer.old.items }) }
+    ensures { record { inner = result; outer = reverse outer.new.items }
+        ≡ with_event (Start (tag_view string_bytes tag.now))
+        (record { inner = kids; outer = reverse outer.old.items }) }
 {
     match outer.pop() {
         None => with_node(tag, kids, no_facts()),
@@ -172,7 +174,10 @@ fn with_event(
     inner: BodyFacts,
     outer: &mut Vec<BodyFacts>,
 ) -> Result<BodyFacts, AllocError>
-    ensures { IfOk result (λ x. record { inner = x; outer = reverse outer.new.items } ≡ with_event (buffered_view event.now) (record { inner = inner; outer = reverse outer.old.items })) }
+    ensures { IfOk result (λ x.
+        record { inner = x; outer = reverse outer.new.items }
+        ≡ with_event (buffered_view event.now)
+        (record { inner = inner; outer = reverse outer.old.items })) }
 {
     match &event.event {
         EventOf::Start(tag) => Ok(behind_start(tag, inner, outer)),

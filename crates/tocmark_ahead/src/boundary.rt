@@ -37,7 +37,9 @@ fn has_emphasis(events: &[(Event<'static>, (usize, usize))]) -> bool
 
 /// Whether the reader opens emphasis behind a character. An `Err` says that memory ran out.
 fn opens_behind<R: Reader>(alloc: Global, reader: &R, character: char) -> Result<bool, AllocError>
-    ensures { (o : OptionsView) (flags : ParserOptions) (label : Option (List ℕ)) → IfOk result (λ opens. opens ≡ opens_behind (setting_of o flags (R.reading reader.now) label) character) }
+    ensures { (o : OptionsView) (flags : ParserOptions) (label : Option (List ℕ))
+        → IfOk result (λ opens.
+        opens ≡ opens_behind (setting_of o flags (R.reading reader.now) label) character) }
 {
     let mut text = String::new(alloc);
     text.push(character)?;
@@ -53,7 +55,9 @@ pub fn is_boundary<R: Reader>(
     reader: &R,
     character: Option<char>,
 ) -> Result<bool, AllocError>
-    ensures { (o : OptionsView) (flags : ParserOptions) (label : Option (List ℕ)) → IfOk result (λ boundary. boundary ≡ is_boundary (setting_of o flags (R.reading reader.now) label) character) }
+    ensures { (o : OptionsView) (flags : ParserOptions) (label : Option (List ℕ))
+        → IfOk result (λ boundary.
+        boundary ≡ is_boundary (setting_of o flags (R.reading reader.now) label) character) }
 {
     match character {
         None => Ok(true),

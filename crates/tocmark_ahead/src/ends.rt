@@ -19,7 +19,8 @@ fn first_closer(closers: &[usize], none: usize) -> usize
 }
 
 fn add_closer(closers: &mut Vec<usize>, event: &BufferedEvent, i: usize) -> Result<(), AllocError>
-    ensures { OnOk result (reverse closers.new.items ≡ closers_before (buffered_view event.now) i (reverse closers.old.items)) }
+    ensures { OnOk result (reverse closers.new.items
+        ≡ closers_before (buffered_view event.now) i (reverse closers.old.items)) }
 {
     match event.event {
         EventOf::Start(_) => {

@@ -40,7 +40,10 @@ fn disturbs_at<R: Reader>(
     first: Option<char>,
     after: Option<char>,
 ) -> Result<bool, AllocError>
-    ensures { (o : OptionsView) (flags : ParserOptions) (label : Option (List ℕ)) → IfOk result (λ disturbs. disturbs ≡ disturbs_at (setting_of o flags (R.reading reader.now) label) before first after) }
+    ensures { (o : OptionsView) (flags : ParserOptions) (label : Option (List ℕ))
+        → IfOk result (λ disturbs.
+        disturbs ≡ disturbs_at (setting_of o flags (R.reading reader.now) label)
+        before first after) }
 {
     let at_before = is_boundary(alloc, reader, before)?;
     let at_first = is_boundary(alloc, reader, first)?;
@@ -70,7 +73,10 @@ fn mark_of<R: Reader>(
     first: Option<char>,
     after: Option<char>,
 ) -> Result<bool, AllocError>
-    ensures { (o : OptionsView) (flags : ParserOptions) (label : Option (List ℕ)) → IfOk result (λ mark. mark ≡ mark_of (setting_of o flags (R.reading reader.now) label) runs (buffered_view event.now) before first after) }
+    ensures { (o : OptionsView) (flags : ParserOptions) (label : Option (List ℕ))
+        → IfOk result (λ mark.
+        mark ≡ mark_of (setting_of o flags (R.reading reader.now) label) runs
+        (buffered_view event.now) before first after) }
 {
     match &event.event {
         EventOf::Start(tag) => {
@@ -122,7 +128,11 @@ pub fn disturbers<R: Reader>(
     requires ends { AreEnds (map buffered_view events.now) ends.now }
     requires round { AreRound runs (map buffered_view events.now) before.now starts.now behind.now }
     ensures len { IfOk result (λ marks. length marks.items ≡ length events.now) }
-    ensures marks { (o : OptionsView) (flags : ParserOptions) (label : Option (List ℕ)) → IfOk result (λ marks. marks.items ≡ disturbers (setting_of o flags (R.reading reader.now) label) runs [] (map buffered_view events.now)) }
+    ensures marks { (o : OptionsView) (flags : ParserOptions) (label : Option (List ℕ))
+        → IfOk result (λ marks.
+        marks.items
+        ≡ disturbers (setting_of o flags (R.reading reader.now) label) runs []
+        (map buffered_view events.now)) }
 {
     let mut marks = Vec::new(alloc);
     for event in events {
@@ -158,7 +168,9 @@ fn nearer(is_marked: bool, place: usize, nearest: Option<usize>) -> Option<usize
 pub fn marks_within(alloc: Global, marks: &[bool], ends: &[usize]) -> Result<Vec<bool>, AllocError>
     requires { length ends.now ≡ length marks.now }
     ensures marked { IfOk result (λ found. HoldMarks marks.now ends.now found.items) }
-    ensures disturbed { (s : Setting) (runs : Bool) (es : List SourcedEvent) → marks.now ≡ disturbers s runs [] es → AreEnds es ends.now → IfOk result (λ found. AreDisturbed s runs es found.items) }
+    ensures disturbed { (s : Setting) (runs : Bool) (es : List SourcedEvent)
+        → marks.now ≡ disturbers s runs [] es → AreEnds es ends.now
+        → IfOk result (λ found. AreDisturbed s runs es found.items) }
 {
     let mut found = vec![in alloc; false; marks.len()]?;
     let mut nearest = None;
@@ -189,7 +201,10 @@ pub fn preferences<R: Reader>(
     ends: &[usize],
 ) -> Result<Vec<bool>, AllocError>
     requires { AreEnds (map buffered_view events.now) ends.now }
-    ensures { (o : OptionsView) (flags : ParserOptions) (label : Option (List ℕ)) → IfOk result (λ found. AreDisturbed (setting_of o flags (R.reading reader.now) label) runs (map buffered_view events.now) found.items) }
+    ensures { (o : OptionsView) (flags : ParserOptions) (label : Option (List ℕ))
+        → IfOk result (λ found.
+        AreDisturbed (setting_of o flags (R.reading reader.now) label) runs
+        (map buffered_view events.now) found.items) }
 {
     let starts_counted = counted_if(runs, Counted::Starts);
     let ends_counted = counted_if(runs, Counted::Ends);

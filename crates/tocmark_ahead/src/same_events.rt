@@ -93,7 +93,8 @@ fn same_text<T: Words, U: Words>(a: &T, b: &U) -> bool
 }
 
 fn same_optional<T: Words, U: Words>(a: &Option<T>, b: &Option<U>) -> bool
-    ensures { result ≡ bytes_eq (optional (option_map T.bytes a.now)) (optional (option_map U.bytes b.now)) }
+    ensures { result
+        ≡ bytes_eq (optional (option_map T.bytes a.now)) (optional (option_map U.bytes b.now)) }
 {
     match (a, b) {
         (None, None) => true,
@@ -117,13 +118,17 @@ fn same_texts<T: Words, U: Words>(a: &[T], b: &[U]) -> bool
 }
 
 fn same_attribute<T: Words, U: Words>(a: &(T, Option<T>), b: &(U, Option<U>)) -> bool
-    ensures { result ≡ pointwise bytes_eq (attribute_key (attribute_view T.bytes a.now)) (attribute_key (attribute_view U.bytes b.now)) }
+    ensures { result
+        ≡ pointwise bytes_eq (attribute_key (attribute_view T.bytes a.now))
+        (attribute_key (attribute_view U.bytes b.now)) }
 {
     same_text(&a.0, &b.0) && same_optional(&a.1, &b.1)
 }
 
 fn same_attributes<T: Words, U: Words>(a: &[(T, Option<T>)], b: &[(U, Option<U>)]) -> bool
-    ensures { result ≡ pointwise bytes_eq (flat_map attribute_key (map (attribute_view T.bytes) a.now)) (flat_map attribute_key (map (attribute_view U.bytes) b.now)) }
+    ensures { result
+        ≡ pointwise bytes_eq (flat_map attribute_key (map (attribute_view T.bytes) a.now))
+        (flat_map attribute_key (map (attribute_view U.bytes) b.now)) }
 {
     if a.len() != b.len() {
         return false;
@@ -157,9 +162,13 @@ fn same_names<T: Words, U: Words>(
     other_classes: &[U],
     other_attrs: &[(U, Option<U>)],
 ) -> bool
-    ensures { result ≡ pointwise bytes_eq
-        (number (length (map T.bytes classes.now)) ∷ map T.bytes classes.now ++ flat_map attribute_key (map (attribute_view T.bytes) attrs.now))
-        (number (length (map U.bytes other_classes.now)) ∷ map U.bytes other_classes.now ++ flat_map attribute_key (map (attribute_view U.bytes) other_attrs.now)) }
+    ensures { result
+        ≡ pointwise bytes_eq
+        (number (length (map T.bytes classes.now)) ∷ map T.bytes classes.now ++ flat_map
+        attribute_key (map (attribute_view T.bytes) attrs.now))
+        (number (length (map U.bytes other_classes.now))
+        ∷ map U.bytes other_classes.now ++ flat_map attribute_key
+        (map (attribute_view U.bytes) other_attrs.now)) }
 {
     same_texts(classes, other_classes) && same_attributes(attrs, other_attrs)
 }
@@ -171,7 +180,10 @@ fn is_heading<T: Words, U: Words>(
     attrs: &[(T, Option<T>)],
     other: &TagOf<U>,
 ) -> bool
-    ensures { result ≡ same_event (Start (Heading level (option_map T.bytes id.now) (map T.bytes classes.now) (map (attribute_view T.bytes) attrs.now))) (Start (tag_view U.bytes other.now)) }
+    ensures { result
+        ≡ same_event
+        (Start (Heading level (option_map T.bytes id.now) (map T.bytes classes.now)
+        (map (attribute_view T.bytes) attrs.now))) (Start (tag_view U.bytes other.now)) }
 {
     match other {
         TagOf::Heading {
@@ -191,7 +203,9 @@ fn is_heading<T: Words, U: Words>(
 }
 
 fn is_code_block<T: Words, U: Words>(kind: &CodeBlockKindOf<T>, other: &TagOf<U>) -> bool
-    ensures { result ≡ same_event (Start (CodeBlock (code_view T.bytes kind.now))) (Start (tag_view U.bytes other.now)) }
+    ensures { result
+        ≡ same_event (Start (CodeBlock (code_view T.bytes kind.now)))
+        (Start (tag_view U.bytes other.now)) }
 {
     match (kind, other) {
         (CodeBlockKindOf::Indented, TagOf::CodeBlock(CodeBlockKindOf::Indented)) => true,
@@ -213,7 +227,9 @@ fn is_list<U: Words>(start: Option<u64>, other: &TagOf<U>) -> bool
 }
 
 fn is_footnote<T: Words, U: Words>(label: &T, other: &TagOf<U>) -> bool
-    ensures { result ≡ same_event (Start (FootnoteDefinition (T.bytes label.now))) (Start (tag_view U.bytes other.now)) }
+    ensures { result
+        ≡ same_event (Start (FootnoteDefinition (T.bytes label.now)))
+        (Start (tag_view U.bytes other.now)) }
 {
     match other {
         TagOf::FootnoteDefinition(other_label) => same_text(label, other_label),
@@ -222,7 +238,8 @@ fn is_footnote<T: Words, U: Words>(label: &T, other: &TagOf<U>) -> bool
 }
 
 fn is_table<U: Words>(alignments: &[Alignment], other: &TagOf<U>) -> bool
-    ensures { result ≡ same_event (Start (Table alignments.now)) (Start (tag_view U.bytes other.now)) }
+    ensures { result
+        ≡ same_event (Start (Table alignments.now)) (Start (tag_view U.bytes other.now)) }
 {
     match other {
         TagOf::Table(other_alignments) => same_alignments(alignments, other_alignments),
@@ -237,7 +254,10 @@ fn is_link<T: Words, U: Words>(
     id: &T,
     other: &TagOf<U>,
 ) -> bool
-    ensures { result ≡ same_event (Start (Link link_type (T.bytes dest_url.now) (T.bytes title.now) (T.bytes id.now))) (Start (tag_view U.bytes other.now)) }
+    ensures { result
+        ≡ same_event
+        (Start (Link link_type (T.bytes dest_url.now) (T.bytes title.now) (T.bytes id.now)))
+        (Start (tag_view U.bytes other.now)) }
 {
     match other {
         TagOf::Link {
@@ -262,7 +282,10 @@ fn is_image<T: Words, U: Words>(
     id: &T,
     other: &TagOf<U>,
 ) -> bool
-    ensures { result ≡ same_event (Start (Image link_type (T.bytes dest_url.now) (T.bytes title.now) (T.bytes id.now))) (Start (tag_view U.bytes other.now)) }
+    ensures { result
+        ≡ same_event
+        (Start (Image link_type (T.bytes dest_url.now) (T.bytes title.now) (T.bytes id.now)))
+        (Start (tag_view U.bytes other.now)) }
 {
     match other {
         TagOf::Image {
@@ -334,7 +357,8 @@ pub fn same_event<T: Words, U: Words>(a: &EventOf<T>, b: &EventOf<U>) -> bool
 
 /// Whether two lists of events are the same, event by event. It takes no memory.
 pub fn same_events<T: Words, U: Words>(a: &[EventOf<T>], b: &[EventOf<U>]) -> bool
-    ensures { result ≡ same_events (map (event_view T.bytes) a.now) (map (event_view U.bytes) b.now) }
+    ensures { result
+        ≡ same_events (map (event_view T.bytes) a.now) (map (event_view U.bytes) b.now) }
 {
     if a.len() != b.len() {
         return false;

@@ -87,7 +87,9 @@ fn marker_only(character: Option<char>) -> Option<char>
 
 /// The marker with which a text begins or ends.
 fn literal(event: &BufferedEvent, first: bool) -> Option<char>
-    ensures { result ≡ marker_only (edge (picked first) (text_only (Some (unsourced (buffered_view event.now))))) }
+    ensures { result
+        ≡ marker_only
+        (edge (picked first) (text_only (Some (unsourced (buffered_view event.now))))) }
 {
     match &event.event {
         EventOf::Text(text) => marker_only(picked(text.as_str(), first)),
@@ -183,7 +185,8 @@ pub fn sides_ahead(
     events: &[BufferedEvent],
     counted: Counted,
 ) -> Result<Vec<Side>, AllocError>
-    ensures { IfOk result (λ sides. AreAhead (width_of counted) (map buffered_view events.now) sides.items) }
+    ensures { IfOk result (λ sides.
+        AreAhead (width_of counted) (map buffered_view events.now) sides.items) }
 {
     let mut sides = vec![in alloc; no_side(); events.len()]?;
     let mut side = no_side();
@@ -205,7 +208,8 @@ pub fn sides_before(
     events: &[BufferedEvent],
     counted: Counted,
 ) -> Result<Vec<Side>, AllocError>
-    ensures { IfOk result (λ sides. AreBefore (width_of counted) (map buffered_view events.now) sides.items) }
+    ensures { IfOk result (λ sides.
+        AreBefore (width_of counted) (map buffered_view events.now) sides.items) }
 {
     let mut sides = Vec::new(alloc);
     let mut side = no_side();

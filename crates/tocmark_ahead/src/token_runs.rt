@@ -86,7 +86,8 @@ fn event_runs(event: &BufferedEvent, token: char) -> Result<TokenRuns, AllocErro
 /// A container in front with such a body; what stands to its right goes from the stack.
 fn past_start(kids: TokenRuns, outer: &mut Vec<TokenRuns>) -> Result<TokenRuns, AllocError>
     ensures { IfOk result (λ x.
-        record { inner = x; outer = reverse outer.new.items } ≡ past_start kids (reverse outer.old.items)) }
+        record { inner = x; outer = reverse outer.new.items }
+        ≡ past_start kids (reverse outer.old.items)) }
 {
     match outer.pop() {
         None => kids.joined(no_runs()),
@@ -101,8 +102,10 @@ fn with_event(
     inner: TokenRuns,
     outer: &mut Vec<TokenRuns>,
 ) -> Result<TokenRuns, AllocError>
-    ensures runs { IfOk result (λ x. record { inner = x; outer = reverse outer.new.items }
-        ≡ runs_with token (buffered_view event.now) (record { inner = inner; outer = reverse outer.old.items })) }
+    ensures runs { IfOk result (λ x.
+        record { inner = x; outer = reverse outer.new.items }
+        ≡ runs_with token (buffered_view event.now)
+        (record { inner = inner; outer = reverse outer.old.items })) }
     ensures text { OnOk result (IsText (buffered_view event.now)) }
 {
     match &event.event {

@@ -66,7 +66,8 @@ impl Page {
         line: Line,
         place: Place,
     ) -> Result<Place, AllocError>
-        ensures { IfOk result (λ next. (page self.new, next) ≡ quote_opened text.now cells.now line place (page self.old)) }
+        ensures { IfOk result (λ next.
+            (page self.new, next) ≡ quote_opened text.now cells.now line place (page self.old)) }
     {
         self.close_to(alloc, text, place.depth)?;
         self.leave_list();
@@ -115,7 +116,8 @@ impl Page {
         place: Place,
         item: ItemStart,
     ) -> Result<Place, AllocError>
-        ensures { IfOk result (λ next. (page self.new, next) ≡ item_opened text.now cells.now line place item (page self.old)) }
+        ensures { IfOk result (λ next.
+            (page self.new, next) ≡ item_opened text.now cells.now line place item (page self.old)) }
     {
         self.close_to(alloc, text, place.depth)?;
         let start = cell_place(cells, place.cursor.ink, line.end);
@@ -138,7 +140,9 @@ impl Page {
         tail: Tail,
         place: Place,
     ) -> Result<Option<Place>, AllocError>
-        ensures { IfOk result (λ next. (page self.new, next) ≡ container_once text.now cells.now line tail place (page self.old)) }
+        ensures { IfOk result (λ next.
+            (page self.new, next)
+            ≡ container_once text.now cells.now line tail place (page self.old)) }
     {
         let directly = self.goes_directly(place.depth);
         match container_at(cells, tail, place.cursor, directly) {
@@ -165,7 +169,9 @@ impl Page {
         tail: Tail,
         first: Place,
     ) -> Result<Place, AllocError>
-        ensures { IfOk result (λ last. (page self.new, last) ≡ containers_opened text.now cells.now line tail first (page self.old)) }
+        ensures { IfOk result (λ last.
+            (page self.new, last)
+            ≡ containers_opened text.now cells.now line tail first (page self.old)) }
     {
         let mut place = first;
         for _fuel in (0..cells.len()).rev() {
@@ -251,7 +257,8 @@ impl Page {
         place: Place,
         column: usize,
     ) -> Result<(), AllocError>
-        ensures { OnOk result (page self.new ≡ indented_started text.now cells.now line place column (page self.old)) }
+        ensures { OnOk result (page self.new
+            ≡ indented_started text.now cells.now line place column (page self.old)) }
     {
         self.close_to(alloc, text, place.depth)?;
         let start = cell_place(cells, column, line.end);
@@ -269,7 +276,8 @@ impl Page {
         place: Place,
         heading: Heading,
     ) -> Result<(), AllocError>
-        ensures { OnOk result (page self.new ≡ heading_started text.now cells.now line place heading (page self.old)) }
+        ensures { OnOk result (page self.new
+            ≡ heading_started text.now cells.now line place heading (page self.old)) }
     {
         self.close_to(alloc, text, place.depth)?;
         let start = cell_place(cells, place.cursor.ink, line.end);
@@ -290,7 +298,8 @@ impl Page {
         place: Place,
         fence: Fence,
     ) -> Result<(), AllocError>
-        ensures { OnOk result (page self.new ≡ fence_started text.now cells.now line place fence (page self.old)) }
+        ensures { OnOk result (page self.new
+            ≡ fence_started text.now cells.now line place fence (page self.old)) }
     {
         self.close_to(alloc, text, place.depth)?;
         let start = cell_place(cells, place.cursor.ink, line.end);
@@ -308,7 +317,8 @@ impl Page {
         place: Place,
         kind: HtmlKind,
     ) -> Result<(), AllocError>
-        ensures { OnOk result (page self.new ≡ html_started text.now cells.now line place kind (page self.old)) }
+        ensures { OnOk result (page self.new
+            ≡ html_started text.now cells.now line place kind (page self.old)) }
     {
         self.close_to(alloc, text, place.depth)?;
         let start = cell_place(cells, place.cursor.column, line.end);
@@ -325,7 +335,8 @@ impl Page {
         line: Line,
         place: Place,
     ) -> Result<(), AllocError>
-        ensures { OnOk result (page self.new ≡ rule_started text.now cells.now line place (page self.old)) }
+        ensures { OnOk result (page self.new
+            ≡ rule_started text.now cells.now line place (page self.old)) }
     {
         self.close_to(alloc, text, place.depth)?;
         let start = cell_place(cells, place.cursor.ink, line.end);
@@ -373,7 +384,8 @@ impl Page {
         place: Place,
         level: HeadingLevel,
     ) -> Result<(), AllocError>
-        ensures { OnOk result (page self.new ≡ underline_taken text.now cells.now line tail place level (page self.old)) }
+        ensures { OnOk result (page self.new
+            ≡ underline_taken text.now cells.now line tail place level (page self.old)) }
     {
         self.settle(alloc, text)?;
         if self.has_text() {
@@ -398,7 +410,8 @@ impl Page {
         place: Place,
         leaf: LeafStart,
     ) -> Result<(), AllocError>
-        ensures { OnOk result (page self.new ≡ started leaf text.now cells.now line tail place (page self.old)) }
+        ensures { OnOk result (page self.new
+            ≡ started leaf text.now cells.now line tail place (page self.old)) }
     {
         match leaf {
             LeafStart::Blank => self.close_to(alloc, text, place.depth),
@@ -428,7 +441,8 @@ impl Page {
         line: Line,
         first: Place,
     ) -> Result<(), AllocError>
-        ensures { OnOk result (page self.new ≡ leaf_started text.now cells.now line first (page self.old)) }
+        ensures { OnOk result (page self.new
+            ≡ leaf_started text.now cells.now line first (page self.old)) }
     {
         let tail = tail_of(cells);
         let place = self.open_all(alloc, text, cells, line, tail, first)?;

@@ -24,7 +24,8 @@ pub struct Cursor {
 }
 
 fn push_spaces(cells: &mut Vec<Cell>, count: usize, at: usize) -> Result<(), AllocError>
-    ensures { OnOk result (cells.new.items ≡ cells.old.items ++ replicate count (record { byte = 32; at = at })) }
+    ensures { OnOk result (cells.new.items
+        ≡ cells.old.items ++ replicate count (record { byte = 32; at = at })) }
 {
     for _space in 0..count {
         cells.push(Cell { byte: b' ', at })?;
@@ -47,7 +48,8 @@ fn fill(cells: &mut Vec<Cell>, byte: u8, at: usize) -> Result<(), AllocError>
 
 /// The columns of a line without its line ending. An `Err` says that memory ran out.
 pub fn cells(alloc: Global, text: &[u8], line: Line) -> Result<Vec<Cell>, AllocError>
-    ensures { IfOk result (λ v. v.items ≡ cells_of [] line.start (piece text.now line.start line.end)) }
+    ensures { IfOk result (λ v.
+        v.items ≡ cells_of [] line.start (piece text.now line.start line.end)) }
 {
     let bytes = piece(text, line.start, line.end);
     let mut cells = Vec::with_capacity(alloc, bytes.len())?;

@@ -110,7 +110,9 @@ fn define_once(
     definitions: &mut Vec<LinkDefinition>,
     place: usize,
 ) -> Result<Option<usize>, AllocError>
-    ensures { IfOk result (λ next. (map definition_view definitions.new.items, next) ≡ define_once content.now place (map definition_view definitions.old.items)) }
+    ensures { IfOk result (λ next.
+        (map definition_view definitions.new.items, next)
+        ≡ define_once content.now place (map definition_view definitions.old.items)) }
 {
     match definition_at(content, place) {
         None => Ok(None),
@@ -128,7 +130,10 @@ fn define_all(
     content: &[u8],
     definitions: &mut Vec<LinkDefinition>,
 ) -> Result<usize, AllocError>
-    ensures { IfOk result (λ place. (map definition_view definitions.new.items, place) ≡ repeated (define_once content.now) (length content.now) 0 (map definition_view definitions.old.items)) }
+    ensures { IfOk result (λ place.
+        (map definition_view definitions.new.items, place)
+        ≡ repeated (define_once content.now) (length content.now) 0
+        (map definition_view definitions.old.items)) }
 {
     let mut place = 0;
     for _fuel in (0..content.len()).rev() {
@@ -160,7 +165,9 @@ pub fn take_definitions(
     lines: &[Piece],
     definitions: &mut Vec<LinkDefinition>,
 ) -> Result<usize, AllocError>
-    ensures { IfOk result (λ count. (map definition_view definitions.new.items, count) ≡ definitions_from text.now lines.now (map definition_view definitions.old.items)) }
+    ensures { IfOk result (λ count.
+        (map definition_view definitions.new.items, count)
+        ≡ definitions_from text.now lines.now (map definition_view definitions.old.items)) }
 {
     if !begins_definition(text, lines) {
         return Ok(0);

@@ -58,7 +58,8 @@ pub fn lines(alloc: Global, text: &[u8]) -> Result<Vec<Line>, AllocError>
 }
 
 fn push_last(lines: &mut Vec<Line>, start: usize, end: usize) -> Result<(), AllocError>
-    ensures { OnOk result (lines.new.items ≡ lines.old.items ++ last_line (length lines.old.items) start end) }
+    ensures { OnOk result (lines.new.items
+        ≡ lines.old.items ++ last_line (length lines.old.items) start end) }
 {
     if start < end {
         lines.push(Line {

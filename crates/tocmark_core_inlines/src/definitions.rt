@@ -80,7 +80,8 @@ impl Collected {
         destination: &[u8],
         title: &[u8],
     ) -> Result<(), AllocError>
-        ensures { OnOk result (collected_view self.new ≡ defined_with label.now destination.now title.now (collected_view self.old)) }
+        ensures { OnOk result (collected_view self.new
+            ≡ defined_with label.now destination.now title.now (collected_view self.old)) }
     {
         self.keys.push(key_of(alloc, label)?)?;
         let label = collapsed(alloc, label)?;
@@ -97,7 +98,8 @@ impl Collected {
     /// Adds the definition that was found in a text. An `Err` says that memory ran out.
     #[tactic(auto, unfolding(crate::specs::Definitions::defined))]
     pub fn add(&mut self, alloc: Global, bytes: &[u8], found: Definition) -> Result<(), AllocError>
-        ensures { OnOk result (collected_view self.new ≡ defined bytes.now found (collected_view self.old)) }
+        ensures { OnOk result (collected_view self.new
+            ≡ defined bytes.now found (collected_view self.old)) }
     {
         let label = piece(bytes, found.label.start, found.label.end);
         let destination = piece(bytes, found.destination.start, found.destination.end);

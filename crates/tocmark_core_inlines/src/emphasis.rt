@@ -60,7 +60,8 @@ impl Openers {
     /// Matches the run at a place of the stack with a closer, and gives what is left of the closer.
     #[tactic(auto, unfolding(crate::specs::Emphasis::matched))]
     fn join(&mut self, roles: &mut Vec<Role>, k: usize, opener: Run, closer: Run) -> Run
-        ensures { (openers roles.new.items self.new, result) ≡ matched k opener closer (openers roles.old.items self.old) }
+        ensures { (openers roles.new.items self.new, result)
+            ≡ matched k opener closer (openers roles.old.items self.old) }
     {
         let two = opener.count >= 2 && closer.count >= 2;
         let width: usize = if two { 2 } else { 1 };
@@ -100,7 +101,8 @@ impl Openers {
     /// or none fits, gives nothing, and such closers don't look there again.
     #[tactic(auto, unfolding(crate::specs::Emphasis::once))]
     fn close_once(&mut self, roles: &mut Vec<Role>, left: Run) -> Option<Run>
-        ensures { (openers roles.new.items self.new, result) ≡ once left (openers roles.old.items self.old) }
+        ensures { (openers roles.new.items self.new, result)
+            ≡ once left (openers roles.old.items self.old) }
     {
         if left.count == 0 {
             return None;
@@ -118,7 +120,8 @@ impl Openers {
     /// Matches a closer with openers as long as one fits, and gives what is left of it.
     #[tactic(auto, using(tocmark_core_scan::proofs::Repeats::repeated_zero, tocmark_core_scan::proofs::Repeats::repeated_stop, tocmark_core_scan::proofs::Repeats::repeated_more))]
     fn close(&mut self, roles: &mut Vec<Role>, closer: Run) -> Run
-        ensures { (openers roles.new.items self.new, result) ≡ repeated once closer.count closer (openers roles.old.items self.old) }
+        ensures { (openers roles.new.items self.new, result)
+            ≡ repeated once closer.count closer (openers roles.old.items self.old) }
     {
         let mut left = closer;
         for _fuel in (0..closer.count).rev() {
@@ -133,7 +136,8 @@ impl Openers {
     /// Takes the next run.
     #[tactic(auto, unfolding(crate::specs::Emphasis::run_step))]
     fn take(&mut self, roles: &mut Vec<Role>, run: Run) -> Result<(), AllocError>
-        ensures { OnOk result (openers roles.new.items self.new ≡ run_step (openers roles.old.items self.old) run) }
+        ensures { OnOk result (openers roles.new.items self.new
+            ≡ run_step (openers roles.old.items self.old) run) }
     {
         let left = if run.closes {
             self.close(roles, run)

@@ -57,7 +57,10 @@ pub fn read_inlines(
     depth: usize,
     definitions: &Definitions,
 ) -> Result<Inlines, AllocError>
-    ensures { IfOk result (λ v. inlines_view v ≡ read_inlines (content_view content.now) depth (entry_of definitions.now) (inlines_view before)) }
+    ensures { IfOk result (λ v.
+        inlines_view v
+        ≡ read_inlines (content_view content.now) depth (entry_of definitions.now)
+        (inlines_view before)) }
 {
     let mut nodes = before.nodes;
     let mut machine = scanner(

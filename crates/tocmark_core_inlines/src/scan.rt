@@ -480,7 +480,8 @@ impl Scanner {
         bracket: Bracket,
         asked: Asked,
     ) -> Result<(), AllocError>
-        ensures { OnOk result (scan self.new ≡ looked_up bytes.now (entry_of definitions.now) bracket asked (scan self.old)) }
+        ensures { OnOk result (scan self.new
+            ≡ looked_up bytes.now (entry_of definitions.now) bracket asked (scan self.old)) }
     {
         let label = piece(bytes, asked.label.start, asked.label.end);
         let key = key_of(alloc, label)?;
@@ -508,7 +509,8 @@ impl Scanner {
         definitions: &Definitions,
         bracket: Bracket,
     ) -> Result<(), AllocError>
-        ensures { OnOk result (scan self.new ≡ closed_by_label bytes.now (entry_of definitions.now) bracket (scan self.old)) }
+        ensures { OnOk result (scan self.new
+            ≡ closed_by_label bytes.now (entry_of definitions.now) bracket (scan self.old)) }
     {
         match label_asked(bytes, bracket, self.place) {
             Some(asked) => self.look_up(alloc, bytes, definitions, bracket, asked),
@@ -525,7 +527,8 @@ impl Scanner {
         definitions: &Definitions,
         bracket: Bracket,
     ) -> Result<(), AllocError>
-        ensures { OnOk result (scan self.new ≡ closed_active bytes.now (entry_of definitions.now) bracket (scan self.old)) }
+        ensures { OnOk result (scan self.new
+            ≡ closed_active bytes.now (entry_of definitions.now) bracket (scan self.old)) }
     {
         match inline_target(bytes, plus(self.place, 1)) {
             Some(found) => self.close_inline(alloc, bytes, bracket, found),
@@ -553,7 +556,8 @@ impl Scanner {
         bytes: &[u8],
         definitions: &Definitions,
     ) -> Result<(), AllocError>
-        ensures { OnOk result (scan self.new ≡ closed bytes.now (entry_of definitions.now) (scan self.old)) }
+        ensures { OnOk result (scan self.new
+            ≡ closed bytes.now (entry_of definitions.now) (scan self.old)) }
     {
         match self.brackets.last().copied() {
             Some(bracket) => {
@@ -600,7 +604,9 @@ impl Scanner {
         definitions: &Definitions,
         byte: u8,
     ) -> Result<(), AllocError>
-        ensures { OnOk result (scan self.new ≡ looked bytes.now (ahead_view ahead.now) (entry_of definitions.now) byte (scan self.old)) }
+        ensures { OnOk result (scan self.new
+            ≡ looked bytes.now (ahead_view ahead.now) (entry_of definitions.now) byte
+            (scan self.old)) }
     {
         if byte == b'[' {
             self.open(false, 1)
@@ -625,7 +631,9 @@ impl Scanner {
         definitions: &Definitions,
         byte: u8,
     ) -> Result<(), AllocError>
-        ensures { OnOk result (scan self.new ≡ scan_step bytes.now (ahead_view ahead.now) (entry_of definitions.now) (scan self.old) byte) }
+        ensures { OnOk result (scan self.new
+            ≡ scan_step bytes.now (ahead_view ahead.now) (entry_of definitions.now) (scan self.old)
+            byte) }
     {
         if is_mark(byte) && self.resume <= self.place {
             self.look(alloc, bytes, ahead, definitions, byte)?;
@@ -642,7 +650,8 @@ impl Scanner {
         ahead: &Ahead,
         definitions: &Definitions,
     ) -> Result<(), AllocError>
-        ensures { OnOk result (scan self.new ≡ ran bytes.now (ahead_view ahead.now) (entry_of definitions.now) (scan self.old)) }
+        ensures { OnOk result (scan self.new
+            ≡ ran bytes.now (ahead_view ahead.now) (entry_of definitions.now) (scan self.old)) }
     {
         for byte in bytes {
             self.step(alloc, bytes, ahead, definitions, *byte)?;
@@ -658,7 +667,8 @@ impl Scanner {
         bytes: &[u8],
         definitions: &Definitions,
     ) -> Result<(), AllocError>
-        ensures { OnOk result (scan self.new ≡ scanned bytes.now (entry_of definitions.now) (scan self.old)) }
+        ensures { OnOk result (scan self.new
+            ≡ scanned bytes.now (entry_of definitions.now) (scan self.old)) }
     {
         let ahead = Ahead {
             ends: ends_of(bytes),

@@ -72,7 +72,8 @@ fn snapped(text: &str, start: usize, end: usize) -> (usize, usize)
 
 /// Ends the containers from a depth on, the innermost first.
 fn close_to(out: &mut Vec<Marked>, stack: &mut Vec<Open>, depth: usize) -> Result<(), AllocError>
-    ensures events { OnOk result (map shown out.new.items ≡ map shown out.old.items ++ closings depth stack.old.items) }
+    ensures events { OnOk result (map shown out.new.items
+        ≡ map shown out.old.items ++ closings depth stack.old.items) }
     ensures stack { OnOk result (stack.new.items ≡ take depth stack.old.items) }
 {
     while stack.len() > depth {
@@ -109,7 +110,10 @@ fn put(
     item: &Item,
     range: (usize, usize),
 ) -> Result<(), AllocError>
-    ensures { OnOk result (let after = put text.now (item_view item.now) range (record { events = map shown out.old.items; stack = stack.old.items }) in (map shown out.new.items ≡ after.events) × (stack.new.items ≡ after.stack)) }
+    ensures { OnOk result
+        (let after = put text.now (item_view item.now) range
+        (record { events = map shown out.old.items; stack = stack.old.items }) in
+        (map shown out.new.items ≡ after.events) × (stack.new.items ≡ after.stack)) }
 {
     match item {
         Item::Container(tag) => {
@@ -141,7 +145,10 @@ fn write(
     stack: &mut Vec<Open>,
     node: &Node,
 ) -> Result<(), AllocError>
-    ensures { OnOk result (let after = step text.now (record { events = map shown out.old.items; stack = stack.old.items }) (node_view node.now) in (map shown out.new.items ≡ after.events) × (stack.new.items ≡ after.stack)) }
+    ensures { OnOk result
+        (let after = step text.now
+        (record { events = map shown out.old.items; stack = stack.old.items }) (node_view node.now)
+        in (map shown out.new.items ≡ after.events) × (stack.new.items ≡ after.stack)) }
 {
     close_to(out, stack, node.depth)?;
     let range = snapped(text, node.start, node.end);
@@ -165,7 +172,8 @@ fn write_all(alloc: Global, text: &str, nodes: &[Node]) -> Result<Vec<Marked>, A
 /// range is none of the text gets an empty one at the front. An `Err` says that memory ran out.
 #[tactic(auto, using(crate::proofs::EmitLaws::shown_balanced, crate::proofs::EmitLaws::shown_good))]
 pub fn emit(alloc: Global, text: &str, nodes: &[Node]) -> Result<Vec<Marked>, AllocError>
-    ensures exact { IfOk result (λ v. map shown v.items ≡ emitted text.now (map node_view nodes.now)) }
+    ensures exact { IfOk result (λ v.
+        map shown v.items ≡ emitted text.now (map node_view nodes.now)) }
     ensures balanced { IfOk result (λ v. IsBalanced (map (λ e. event_view text_of e.0) v.items)) }
     ensures ranges { IfOk result (λ v. HasGoodRanges text.now v.items) }
 {

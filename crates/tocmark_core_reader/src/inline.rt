@@ -129,7 +129,8 @@ pub fn push_inlines(
     targets: &[Target],
     nodes: &[inline::Node],
 ) -> Result<(), AllocError>
-    ensures { OnOk result (map node_view out.new.items ≡ map node_view out.old.items ++ map (inline_node texts.now targets.now) nodes.now) }
+    ensures { OnOk result (map node_view out.new.items
+        ≡ map node_view out.old.items ++ map (inline_node texts.now targets.now) nodes.now) }
 {
     for node in nodes {
         out.push(inline_node(alloc, texts, targets, *node)?)?;

@@ -12,6 +12,7 @@ pub fn plain_texts_are_decided()
 
 /// The range of each node that is found in a plain text is that of its event: none is cut or turned.
 pub fn plain_ranges_are_kept()
-    ensures { (l : List Part) (ms : List (List Part)) → IsTrue (is_plain_text l ms) → length (spelled (text_parts l ms)) < 2 ^ 64 →
-        AreKept (spelled (text_parts l ms)) (found_in (spelled (text_parts l ms))).nodes }
+    ensures { (l : List Part) (ms : List (List Part)) → IsTrue (is_plain_text l ms)
+        → length (spelled (text_parts l ms)) < 2 ^ 64
+        → AreKept (spelled (text_parts l ms)) (found_in (spelled (text_parts l ms))).nodes }
 {}

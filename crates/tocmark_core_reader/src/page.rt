@@ -57,7 +57,8 @@ fn push_spaces(
     depth: usize,
     line: Piece,
 ) -> Result<(), AllocError>
-    ensures { OnOk result (map node_view out.new.items ≡ map node_view out.old.items ++ space_nodes depth line) }
+    ensures { OnOk result (map node_view out.new.items
+        ≡ map node_view out.old.items ++ space_nodes depth line) }
 {
     if 0 < line.spaces {
         out.push(Node {
@@ -96,7 +97,8 @@ fn push_line(
     depth: usize,
     line: Piece,
 ) -> Result<(), AllocError>
-    ensures { OnOk result (map node_view out.new.items ≡ map node_view out.old.items ++ line_nodes text.now html depth line) }
+    ensures { OnOk result (map node_view out.new.items
+        ≡ map node_view out.old.items ++ line_nodes text.now html depth line) }
 {
     push_spaces(alloc, out, depth, line)?;
     if line.start < line.next {
@@ -118,7 +120,8 @@ fn push_lines(
     depth: usize,
     lines: &[Piece],
 ) -> Result<(), AllocError>
-    ensures { OnOk result (map node_view out.new.items ≡ map node_view out.old.items ++ lines_nodes text.now html depth lines.now) }
+    ensures { OnOk result (map node_view out.new.items
+        ≡ map node_view out.old.items ++ lines_nodes text.now html depth lines.now) }
 {
     for line in lines {
         push_line(alloc, out, text, html, depth, *line)?;
@@ -172,7 +175,8 @@ fn push_block(
     text: &[u8],
     block: Block,
 ) -> Result<(), AllocError>
-    ensures { OnOk result (map node_view out.new.items ≡ map node_view out.old.items ++ block_node text.now block ∷ []) }
+    ensures { OnOk result (map node_view out.new.items
+        ≡ map node_view out.old.items ++ block_node text.now block ∷ []) }
 {
     out.push(Node {
         depth: block.depth,
@@ -200,7 +204,9 @@ fn read_leaf(
     depth: usize,
     before: Assembly,
 ) -> Result<Assembly, AllocError>
-    ensures { IfOk result (λ a. assembly_view a ≡ leaf_inlines text.now (entry_of definitions.now) pieces.now depth (assembly_view before)) }
+    ensures { IfOk result (λ a.
+        assembly_view a
+        ≡ leaf_inlines text.now (entry_of definitions.now) pieces.now depth (assembly_view before)) }
 {
     let mut nodes = before.nodes;
     let lines = content_lines(alloc, pieces)?;
@@ -227,7 +233,8 @@ fn read_leaf(
 impl Assembly {
     #[tactic(auto, unfolding(crate::specs::Pages::with_block))]
     fn open(&mut self, alloc: Global, text: &[u8], block: Block) -> Result<(), AllocError>
-        ensures { OnOk result (assembly_view self.new ≡ with_block text.now block (assembly_view self.old)) }
+        ensures { OnOk result (assembly_view self.new
+            ≡ with_block text.now block (assembly_view self.old)) }
     {
         push_block(alloc, &mut self.nodes, text, block)
     }
@@ -241,7 +248,8 @@ impl Assembly {
         block: Block,
         lines: &[Piece],
     ) -> Result<(), AllocError>
-        ensures { OnOk result (assembly_view self.new ≡ with_lines text.now html block lines.now (assembly_view self.old)) }
+        ensures { OnOk result (assembly_view self.new
+            ≡ with_lines text.now html block lines.now (assembly_view self.old)) }
     {
         push_block(alloc, &mut self.nodes, text, block)?;
         push_lines(
@@ -278,7 +286,9 @@ fn read_wrapped(
     block: Block,
     before: Assembly,
 ) -> Result<Assembly, AllocError>
-    ensures { IfOk result (λ a. assembly_view a ≡ wrapped text.now (entry_of definitions.now) pieces.now block (assembly_view before)) }
+    ensures { IfOk result (λ a.
+        assembly_view a
+        ≡ wrapped text.now (entry_of definitions.now) pieces.now block (assembly_view before)) }
 {
     let mut before = before;
     before.open(alloc, text, block)?;
@@ -302,7 +312,10 @@ fn read_paragraph(
     block: Block,
     before: Assembly,
 ) -> Result<Assembly, AllocError>
-    ensures { IfOk result (λ a. assembly_view a ≡ paragraph_taken text.now (entry_of definitions.now) pieces.now unwrapped block (assembly_view before)) }
+    ensures { IfOk result (λ a.
+        assembly_view a
+        ≡ paragraph_taken text.now (entry_of definitions.now) pieces.now unwrapped block
+        (assembly_view before)) }
 {
     if block.last <= block.first {
         Ok(before)
@@ -324,7 +337,10 @@ fn read_block(
     block: Block,
     before: Assembly,
 ) -> Result<Assembly, AllocError>
-    ensures { IfOk result (λ a. assembly_view a ≡ block_taken text.now (entry_of definitions.now) all.now unwrapped block (assembly_view before)) }
+    ensures { IfOk result (λ a.
+        assembly_view a
+        ≡ block_taken text.now (entry_of definitions.now) all.now unwrapped block
+        (assembly_view before)) }
 {
     let pieces = pieces_of(all, block.first, block.last);
     let mut before = before;
@@ -355,7 +371,9 @@ pub fn assemble(
     pieces: &[Piece],
     texts: Vec<u8>,
 ) -> Result<Assembly, AllocError>
-    ensures { IfOk result (λ a. assembly_view a ≡ assembled text.now (entry_of definitions.now) blocks.now pieces.now texts.items) }
+    ensures { IfOk result (λ a.
+        assembly_view a
+        ≡ assembled text.now (entry_of definitions.now) blocks.now pieces.now texts.items) }
 {
     let mut assembly = Assembly {
         nodes: Vec::new(alloc),

@@ -24,7 +24,8 @@ fn define(
     collected: &mut Collected,
     found: &LinkDefinition,
 ) -> Result<(), AllocError>
-    ensures { OnOk result (collected_view collected.new ≡ define_step (collected_view collected.old) (definition_view found.now)) }
+    ensures { OnOk result (collected_view collected.new
+        ≡ define_step (collected_view collected.old) (definition_view found.now)) }
 {
     collected.define(alloc, &found.label, &found.destination, &found.title)
 }
@@ -105,10 +106,13 @@ impl Reader for CoreReader {
     #[tactic(auto, unfolding(crate::specs::Reading::core_reading))]
     fn read(&self, alloc: Global, text: &str, _flags: ParserOptions) -> Result<Reading, AllocError>
         ensures reading { IfOk result (λ found. reading_view found ≡ core_reading text.now) }
-        ensures balanced { IfOk result (λ found. IsBalanced (map (λ e. event_view text_of e.0) found.events.items)) }
+        ensures balanced { IfOk result (λ found.
+            IsBalanced (map (λ e. event_view text_of e.0) found.events.items)) }
         ensures ranges { IfOk result (λ found. HasGoodRanges text.now found.events.items) }
-        ensures plain { (l : List Part) (ms : List (List Part)) → IsTrue (is_plain_text l ms) → text.now ≡ spelled (text_parts l ms) →
-            IfOk result (λ found. IsReadAs (reading_view found) (lines_paragraph (meant l) (map meant ms))) }
+        ensures plain { (l : List Part) (ms : List (List Part)) → IsTrue (is_plain_text l ms)
+            → text.now ≡ spelled (text_parts l ms)
+            → IfOk result (λ found.
+            IsReadAs (reading_view found) (lines_paragraph (meant l) (map meant ms))) }
     {
         let found = find(alloc, text.as_bytes())?;
         Ok(Reading {

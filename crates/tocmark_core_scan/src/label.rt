@@ -71,7 +71,8 @@ pub fn key_of(alloc: Global, label: &[u8]) -> Result<String, AllocError>
 /// For each key of a list its first place there: of two definitions of a label the first counts. An
 /// `Err` says that memory ran out.
 pub fn first_places(alloc: Global, keys: &[String]) -> Result<HashMap<String, usize>, AllocError>
-    ensures first { IfOk result (λ places. (q : List ℕ) → get_by_text places q ≡ first_place 0 (map string_bytes keys.now) q) }
+    ensures first { IfOk result (λ places.
+        (q : List ℕ) → get_by_text places q ≡ first_place 0 (map string_bytes keys.now) q) }
 {
     let mut places = HashMap::new(alloc);
     for place in (0..keys.len()).rev() {
@@ -98,7 +99,8 @@ fn keep(
     key: &str,
     place: usize,
 ) -> Result<(), AllocError>
-    ensures { OnOk result (kept.new.items ≡ kept.old.items ++ place_if (is_at place (get_by_text places.now key.now)) place) }
+    ensures { OnOk result (kept.new.items
+        ≡ kept.old.items ++ place_if (is_at place (get_by_text places.now key.now)) place) }
 {
     if is_first(places, key, place) {
         kept.push(place)?;
@@ -109,7 +111,8 @@ fn keep(
 /// The places of a list at which a key stands for the first time, in order. An `Err` says that memory
 /// ran out.
 pub fn distinct(alloc: Global, keys: &[String]) -> Result<Vec<usize>, AllocError>
-    ensures { IfOk result (λ v. v.items ≡ distinct_from 0 (map string_bytes keys.now) (map string_bytes keys.now)) }
+    ensures { IfOk result (λ v.
+        v.items ≡ distinct_from 0 (map string_bytes keys.now) (map string_bytes keys.now)) }
 {
     let places = first_places(alloc, keys)?;
     let mut kept = Vec::new(alloc);

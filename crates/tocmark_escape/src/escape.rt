@@ -240,7 +240,8 @@ fn push_with_backslash(
     place: &EscapePlace<'_>,
     spot: Spot,
 ) -> Result<(), AllocError>
-    ensures { OnOk result (string_bytes to.new ≡ string_bytes to.old ++ encode_utf8_all (with_backslash (place_of place.now) spot)) }
+    ensures { OnOk result (string_bytes to.new
+        ≡ string_bytes to.old ++ encode_utf8_all (with_backslash (place_of place.now) spot)) }
 {
     if needs_backslash(place, spot) {
         to.push('\\')?;
@@ -251,7 +252,8 @@ fn push_with_backslash(
 /// Writes one character by the first rule that applies.
 #[tactic(auto, using(crate::proofs::EscapeLemmas::encoded_one), unfolding(crate::specs::Escape::written))]
 fn push_character(to: &mut String, place: &EscapePlace<'_>, spot: Spot) -> Result<(), AllocError>
-    ensures { OnOk result (string_bytes to.new ≡ string_bytes to.old ++ encode_utf8_all (written (place_of place.now) spot)) }
+    ensures { OnOk result (string_bytes to.new
+        ≡ string_bytes to.old ++ encode_utf8_all (written (place_of place.now) spot)) }
 {
     if is_literal(place, spot.character) {
         return to.push(spot.character);

@@ -15,13 +15,15 @@ pub fn escapes_read_back()
 /// What stands in an escaped destination is read as the destination.
 pub fn destinations_read_back()
     ensures characters { (text : List ℕ) → unescape (destination_text text) ≡ text }
-    ensures texts { (text : List ℕ) → IsUtf8 text → unescape (chars (destination_text text)) ≡ chars text }
+    ensures texts { (text : List ℕ) → IsUtf8 text → unescape (chars (destination_text text))
+        ≡ chars text }
 {}
 
 /// What stands between the quotes of an escaped title is read as the title.
 pub fn titles_read_back()
     ensures characters { (text : List ℕ) → unescape (title_text text) ≡ text }
-    ensures texts { (text : List ℕ) → IsUtf8 text → unescape (chars (title_text text)) ≡ chars text }
+    ensures texts { (text : List ℕ) → IsUtf8 text
+        → unescape (chars (title_text text)) ≡ chars text }
 {}
 
 /// A code span outside a table is read as its text, if that isn't empty.

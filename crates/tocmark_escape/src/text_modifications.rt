@@ -28,7 +28,8 @@ impl fmt::Display for EscapeDestination<'_> {
 }
 
 fn write_destination_character<W: fmt::Write>(f: &mut fmt::Formatter<W>, c: char) -> fmt::Result
-    ensures { WritesOnOk W.write_str_gives f.old result (encode_utf8_all (destination_character c)) f.new }
+    ensures { WritesOnOk W.write_str_gives f.old result (encode_utf8_all (destination_character c))
+        f.new }
 {
     match c {
         '&' => f.write_str("&amp;"),
@@ -55,7 +56,8 @@ impl fmt::Display for EscapeLinkTitle<'_> {
 }
 
 fn write_title_character<W: fmt::Write>(f: &mut fmt::Formatter<W>, c: char) -> fmt::Result
-    ensures { WritesOnOk W.write_str_gives f.old result (encode_utf8_all (title_character c)) f.new }
+    ensures { WritesOnOk W.write_str_gives f.old result (encode_utf8_all (title_character c))
+        f.new }
 {
     match c {
         '&' => f.write_str("&amp;"),
@@ -152,7 +154,8 @@ pub fn close_link<F: fmt::Write>(
     f: &mut F,
     link_type: LinkType,
 ) -> fmt::Result
-    ensures { OnOk result (WritesInCalls F.write_str_gives f.old (link_closing link_type uri.now title.now) f.new) }
+    ensures { OnOk result
+        (WritesInCalls F.write_str_gives f.old (link_closing link_type uri.now title.now) f.new) }
 {
     let title = Title(title);
     match link_type {
@@ -221,7 +224,8 @@ pub fn in_cell(alloc: Global, text: &str, in_table: bool) -> Result<String, Allo
 }
 
 fn push_in_cell(cell: &mut String, c: char) -> Result<(), AllocError>
-    ensures { OnOk result (string_bytes cell.new ≡ string_bytes cell.old ++ encode_utf8_all (cell_character c)) }
+    ensures { OnOk result (string_bytes cell.new
+        ≡ string_bytes cell.old ++ encode_utf8_all (cell_character c)) }
 {
     if c == '|' {
         cell.push('\\')?;

@@ -312,7 +312,9 @@ fn copied_attributes<T: Words, U: OwnedWords + Drop>(
     alloc: Global,
     attributes: &[(T, Option<T>)],
 ) -> Result<Vec<(U, Option<U>)>, AllocError>
-    ensures { IfOk result (λ copies. map (attribute_view U.Words.bytes) copies.items ≡ map (attribute_view T.bytes) attributes.now) }
+    ensures { IfOk result (λ copies.
+        map (attribute_view U.Words.bytes) copies.items
+        ≡ map (attribute_view T.bytes) attributes.now) }
 {
     let mut copies = Vec::new(alloc);
     for (key, value) in attributes {
@@ -484,7 +486,9 @@ fn push_text<U: OwnedWords + Drop>(
     events: &mut Vec<EventOf<U>>,
     text: Option<String>,
 ) -> Result<(), AllocError>
-    ensures { OnOk result (map (event_view U.Words.bytes) events.new.items ≡ map (event_view U.Words.bytes) events.old.items ++ pending_text (option_map string_bytes text)) }
+    ensures { OnOk result (map (event_view U.Words.bytes) events.new.items
+        ≡ map (event_view U.Words.bytes) events.old.items ++ pending_text
+        (option_map string_bytes text)) }
 {
     if let Some(text) = text {
         events.push(EventOf::Text(U::from_text(alloc, text.as_str())?))?;
@@ -493,7 +497,8 @@ fn push_text<U: OwnedWords + Drop>(
 }
 
 fn joined(alloc: Global, text: Option<String>, more: &str) -> Result<String, AllocError>
-    ensures { IfOk result (λ whole. string_bytes whole ≡ or_empty (option_map string_bytes text) ++ more.now) }
+    ensures { IfOk result (λ whole.
+        string_bytes whole ≡ or_empty (option_map string_bytes text) ++ more.now) }
 {
     let mut whole = match text {
         None => String::new(alloc),
@@ -508,7 +513,8 @@ pub fn merge_all<T: Words, U: OwnedWords + Drop>(
     alloc: Global,
     events: &[EventOf<T>],
 ) -> Result<Vec<EventOf<U>>, AllocError>
-    ensures { IfOk result (λ all. map (event_view U.Words.bytes) all.items ≡ merged (map (event_view T.bytes) events.now)) }
+    ensures { IfOk result (λ all.
+        map (event_view U.Words.bytes) all.items ≡ merged (map (event_view T.bytes) events.now)) }
 {
     let mut all = Vec::new(alloc);
     let mut pending: Option<String> = None;
@@ -532,7 +538,8 @@ pub fn merge_all<T: Words, U: OwnedWords + Drop>(
 /// `a`, `b`, a soft break and `c` become `ab`, the soft break and `c`. Empty texts join like others,
 /// so that a stretch of them stays one empty text.
 pub fn merge_texts(alloc: Global, events: &[Event<'_>]) -> Result<Vec<Event<'static>>, AllocError>
-    ensures { IfOk result (λ all. map (event_view text_of) all.items ≡ merged (map (event_view text_of) events.now)) }
+    ensures { IfOk result (λ all.
+        map (event_view text_of) all.items ≡ merged (map (event_view text_of) events.now)) }
 {
     merge_all(alloc, events)
 }

@@ -311,7 +311,8 @@ impl<'a> Options<'a> {
     ///
     /// An `Err` says that memory ran out, which never happens under the default tokens.
     pub fn special_characters(&self, alloc: Global) -> Result<CowStr<'static>, AllocError>
-        ensures text { IfOk result (λ text. text_of text ≡ special_characters (options_view self.now)) }
+        ensures text { IfOk result (λ text.
+            text_of text ≡ special_characters (options_view self.now)) }
         ensures lent { has_default_tokens (options_view self.now) ≡ true → IsOk result }
     {
         if self.has_default_tokens() {

@@ -54,7 +54,9 @@ fn all_lowered(
     alloc: Global,
     events: Vec<(Event<'static>, (usize, usize))>,
 ) -> Result<Vec<Event<'static>>, AllocError>
-    ensures { IfOk result (λ all. map (event_view text_of) all.items ≡ map (λ e. lowered (event_view text_of e.0)) events.entry.items) }
+    ensures { IfOk result (λ all.
+        map (event_view text_of) all.items
+        ≡ map (λ e. lowered (event_view text_of e.0)) events.entry.items) }
 {
     let mut all = Vec::new(alloc);
     for (event, _range) in events {
