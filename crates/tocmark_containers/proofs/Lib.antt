@@ -1,2 +1,3 @@
+pub mod Says
 pub mod Seen
 pub mod Notes

@@ -1,11 +1,16 @@
 -- The notes are kept by each change.
-use Rattle.std.proofs.Common.{◌≡◌, ℕ, ◌+◌, ◌<◌, ◌≤◌, Option, Some, None, List, [], ◌∷◌, ◌++◌, subst, sym, ap, ◌∙◌, take, drop, length, length-append, map, reverse, get_or, arith, IfSome, String, Vec, vec_capacity, string_capacity, set, refl}
+use Rattle.std.proofs.Common.{◌≡◌, ℕ, ◌+◌, ◌<◌, ◌≤◌, Option, Some, None, Result, Ok, Err, OnOk, OnErr, List, [], ◌∷◌, ◌++◌, subst, sym, ap, ◌∙◌, take, drop, length, length-append, map, reverse, get_or, arith, IfSome, String, Vec, vec_capacity, string_capacity, set, refl}
 use Rattle.std.specs.declared.alloc.Global.{Global}
 use Rattle.std.specs.Option.{option_map}
 use Rattle.std.proofs.lemmas.List.{take-append-le, map-append, take-map, take_more_set, take_more, length-map, drop-set-lt, get_or-drop, drop-drop}
-use Rattle.tocmark_containers.specs.ContainersOf.{Fits, marked}
-use Rattle.tocmark_containers.specs.KeptOf.{original, outside_at, seen}
+use Rattle.std.specs.Prelude.{is_some}
+use Rattle.tocmark_spelling.specs.Page.{Content, Path, prefix_of}
+use Rattle.tocmark_containers.specs.ContainersOf.{Fits, IsNoted, marked}
+use Rattle.tocmark_containers.specs.KeptOf.{original, outside_at, present, seen}
+use Rattle.tocmark_containers.specs.Nesting.{changed, is_counted, numbered, renumbered}
 use Rattle.tocmark_containers.specs.Outside.{outsides}
+use Rattle.tocmark_containers.proofs.Seen.{prefix-changed}
+use Rattle.tocmark_containers.proofs.Says.{Keeps, outsides-changed, outsides-renumbered}
 use Rattle.tocmark_containers.specs.declared.containers.Containers.TheInside.{Inside}
 use Rattle.tocmark_containers.specs.declared.kept.Kept.{Kept}
 
@@ -88,3 +93,37 @@ restore-step f g ks ms i k d less len at e done rest =
 -- what stands behind the place of that step
 pub rest-step : (ks ms : List Kept) (i : ℕ) (k : Kept) → drop i ks ≡ drop i ms → drop (i + 1) (set ks i k) ≡ drop (i + 1) ms
 rest-step ks ms i k e = drop-set-lt (i + 1) ks i k (omega arith) ∙ sym (drop-drop 1 i ks) ∙ ap (drop 1) e ∙ drop-drop 1 i ms
+
+-- ---- one of them replaced
+
+-- the prefix is the same, and so is what they say
+pub record IsLeft (new old : Path) : Type 0 where
+  pub prefix_is : prefix_of new ≡ prefix_of old
+  pub told_is : outsides new ≡ outsides old
+
+-- a content that is changed leaves both
+left-changed : (n : ℕ) (f : Content → Content) (new old : Path) → Keeps f → new ≡ changed n f old → IsLeft new old
+left-changed n f new old h e = record {
+  prefix_is = ap prefix_of e ∙ prefix-changed n f old;
+  told_is = ap outsides e ∙ outsides-changed n f old h;
+}
+
+-- the same of a change that may be refused
+pub left-by : {T E : Type 0} (r : Result T E) (n : ℕ) (f : Content → Content) (new old : Path) → Keeps f → OnOk r (new ≡ changed n f old) → OnErr r (new ≡ old) → IsLeft new old
+left-by (Ok x) n f new old h e stays = left-changed n f new old h e
+left-by (Err x) n f new old h e stays = record { prefix_is = ap prefix_of stays; told_is = ap outsides stays }
+
+-- a list that goes on with another number leaves both
+pub left-renumbered : (number : Option ℕ) (new old : Path) → is_counted old ≡ is_some number → new ≡ renumbered number old → IsLeft new old
+left-renumbered number new old counted e = record {
+  prefix_is = ap prefix_of e ∙ prefix-changed 0 (numbered number) old;
+  told_is = ap outsides e ∙ outsides-renumbered number old counted;
+}
+
+-- containers of which one was replaced by one that leaves both
+pub replaced : (a : Inside) (fs : Vec Kept Global) → IsLeft (seen present fs.items) (seen present a.frames.items) → map original fs.items ≡ map original a.frames.items → map outside_at fs.items ≡ map outside_at a.frames.items → vec_capacity fs ≡ vec_capacity a.frames → IsNoted a → IsNoted (record a { frames = fs })
+replaced a fs left originals outside capacity h = record {
+  prefix_is = h.prefix_is ∙ sym left.prefix_is;
+  told = ap reverse outside ∙ h.told ∙ sym left.told_is;
+  fits = refit a fs a.prefix a.kept (λ n less. stayed fs.items a.frames.items n originals outside less) (omega (arith, capacity)) (omega arith) h.fits;
+}

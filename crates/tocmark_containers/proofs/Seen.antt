@@ -1,11 +1,13 @@
 -- What is seen of the open containers.
-use Rattle.std.proofs.Common.{◌≡◌, ℕ, zero, suc, ◌+◌, ◌-◌, ◌<◌, ◌≤◌, List, [], ◌∷◌, ◌++◌, refl, sym, ap, ◌∙◌, take, drop, length, length-append, map, reverse, get_or, arith, string_bytes, set}
+use Rattle.std.proofs.Common.{◌≡◌, ℕ, zero, suc, ◌+◌, ◌-◌, ◌<◌, ◌≤◌, List, [], ◌∷◌, ◌++◌, refl, sym, ap, ◌∙◌, take, drop, length, length-append, map, reverse, get_or, arith, string_bytes, set, Some, None, unwrap_or}
+use Rattle.std.specs.Prelude.{is_some}
+use Rattle.std.proofs.lemmas.Bool.{false≢true, true≢false}
 use Rattle.std.proofs.lemmas.List.{append_assoc, append-nil, length-map, length-reverse, map-append, reverse-append, take_more, take_all, take-append-drop, get_or-append-add}
 use Rattle.tocmark_spelling.specs.Page.{Content, Level, Path, prefix_of}
 use Rattle.tocmark_containers.specs.FrameOf.{level_of}
 use Rattle.tocmark_containers.specs.KeptOf.{outside_at, present, seen}
-use Rattle.tocmark_containers.specs.Nesting.{changed, with_content}
-use Rattle.tocmark_containers.specs.Outside.{outside_of, outsides, within}
+use Rattle.tocmark_containers.specs.Nesting.{changed, changed_level, head_of}
+use Rattle.tocmark_containers.specs.Outside.{outside_of, outsides}
 use Rattle.tocmark_containers.specs.declared.frame.Frame.{Frame}
 use Rattle.tocmark_containers.specs.declared.kept.Kept.{Kept}
 use Rattle.tocmark_containers.specs.declared.outside.Outside.{Outside}
@@ -32,6 +34,15 @@ at-place ks n k p e q =
 
 pub seen-at : {Y : Type 0} (f : Kept → Y) (ks : List Kept) (n : ℕ) (k : Kept) → 0 < n → n ≡ length ks → k ≡ get_or ks (n - 1) k → seen f ks ≡ f k ∷ seen f (take (n - 1) ks)
 seen-at f ks n k p e q = seen-last f ks (take (n - 1) ks) k (at-last ks n k p e q)
+
+-- the innermost one stands at the front of the path
+pub head-is : (path : Path) (l : Level) → head_of path ≡ Some l → path ≡ l ∷ drop 1 path
+head-is [] l e = absurd (false≢true (ap is_some e))
+head-is (x ∷ xs) l e = ap (λ y. y ∷ xs) (ap (λ o. unwrap_or o x) e)
+
+pub no-head : (path : Path) → head_of path ≡ None → path ≡ []
+no-head [] e = refl
+no-head (x ∷ xs) e = absurd (true≢false (ap is_some e))
 
 pub seen-length : {Y : Type 0} (f : Kept → Y) (ks : List Kept) → length (seen f ks) ≡ length ks
 seen-length f ks = length-reverse (map f ks) ∙ length-map ks f
@@ -73,11 +84,11 @@ joined-bound ks n =
     ∙ reverse-append (map present (take n ks)) (map present (drop n ks)) in
     omega (arith, ap (λ x. length (prefix_of x)) whole, ap length (prefix-append inner outer), length-append (prefix_of outer) (prefix_of inner))
 
--- a content that is replaced leaves it
-pub prefix-changed : (n : ℕ) (c : Content) (ls : Path) → prefix_of (changed n c ls) ≡ prefix_of ls
-prefix-changed n c [] = refl
-prefix-changed zero c (l ∷ ls) = refl
-prefix-changed (suc n) c (l ∷ ls) = ap (λ r. r ++ l.prefix) (prefix-changed n c ls)
+-- a content that is changed leaves it
+pub prefix-changed : (n : ℕ) (f : Content → Content) (ls : Path) → prefix_of (changed n f ls) ≡ prefix_of ls
+prefix-changed n f [] = refl
+prefix-changed zero f (l ∷ ls) = refl
+prefix-changed (suc n) f (l ∷ ls) = ap (λ r. r ++ l.prefix) (prefix-changed n f ls)
 
 -- ---- what containers say
 
@@ -109,53 +120,42 @@ module _ (f : Kept → Level) (ks rest : List Kept) (k : Kept) (is : ks ≡ rest
       ∙ ap (λ x. outside_of (f k ∷ seen f rest) ∷ x) told
       ∙ sym (ap outsides (seen-last f ks rest k is))
 
-outside-changed : (n : ℕ) (c : Content) (ls : Path) → outside_of (changed n c ls) ≡ outside_of ls
-outside-changed n c [] = refl
-outside-changed zero c (l ∷ ls) = refl
-outside-changed (suc n) c (l ∷ ls) = ap (λ o. within l.tag o) (outside-changed n c ls)
-
--- a content that is replaced leaves what they say
-pub outsides-changed : (n : ℕ) (c : Content) (ls : Path) → outsides (changed n c ls) ≡ outsides ls
-outsides-changed n c [] = refl
-outsides-changed zero c (l ∷ ls) = refl
-outsides-changed (suc n) c (l ∷ ls) = ap (λ o. within l.tag o ∷ outsides (changed n c ls)) (outside-changed n c ls) ∙ ap (λ x. outside_of (l ∷ ls) ∷ x) (outsides-changed n c ls)
-
 -- ---- one of them replaced
 
-changed-end : (c : Content) (xs : Path) (l : Level) → changed (length xs) c (xs ++ l ∷ []) ≡ xs ++ with_content c l ∷ []
-changed-end c [] l = refl
-changed-end c (x ∷ xs) l = ap (λ r. x ∷ r) (changed-end c xs l)
+changed-end : (f : Content → Content) (xs : Path) (l : Level) → changed (length xs) f (xs ++ l ∷ []) ≡ xs ++ changed_level f l ∷ []
+changed-end f [] l = refl
+changed-end f (x ∷ xs) l = ap (λ r. x ∷ r) (changed-end f xs l)
 
-changed-front : (c : Content) (xs ys : Path) (n : ℕ) → n < length xs → changed n c (xs ++ ys) ≡ changed n c xs ++ ys
-changed-front c [] ys n h = absurd (omega arith)
-changed-front c (x ∷ xs) ys zero h = refl
-changed-front c (x ∷ xs) ys (suc n) h = ap (λ r. x ∷ r) (changed-front c xs ys n (omega arith))
+changed-front : (f : Content → Content) (xs ys : Path) (n : ℕ) → n < length xs → changed n f (xs ++ ys) ≡ changed n f xs ++ ys
+changed-front f [] ys n h = absurd (omega arith)
+changed-front f (x ∷ xs) ys zero h = refl
+changed-front f (x ∷ xs) ys (suc n) h = ap (λ r. x ∷ r) (changed-front f xs ys n (omega arith))
 
 -- the innermost is 0, and it is the last
-reverse-changed : (c : Content) (ls : Path) (i n : ℕ) → i < length ls → n + i + 1 ≡ length ls → reverse (changed i c ls) ≡ changed n c (reverse ls)
-reverse-changed c [] i n h e = absurd (omega arith)
-reverse-changed c (l ∷ ls) zero n h e =
+reverse-changed : (f : Content → Content) (ls : Path) (i n : ℕ) → i < length ls → n + i + 1 ≡ length ls → reverse (changed i f ls) ≡ changed n f (reverse ls)
+reverse-changed f [] i n h e = absurd (omega arith)
+reverse-changed f (l ∷ ls) zero n h e =
     let q : n ≡ length (reverse ls) = omega (arith, length-reverse ls, e) in
-    reverse-append (with_content c l ∷ []) ls
-    ∙ sym (changed-end c (reverse ls) l)
-    ∙ ap (λ k. changed k c (reverse ls ++ l ∷ [])) (sym q)
-    ∙ ap (changed n c) (sym (reverse-append (l ∷ []) ls))
-reverse-changed c (l ∷ ls) (suc i) n h e =
-    reverse-append (l ∷ []) (changed i c ls)
-    ∙ ap (λ r. r ++ l ∷ []) (reverse-changed c ls i n (omega arith) (omega (arith, e)))
-    ∙ sym (changed-front c (reverse ls) (l ∷ []) n (omega (arith, length-reverse ls, e)))
-    ∙ ap (changed n c) (sym (reverse-append (l ∷ []) ls))
+    reverse-append (changed_level f l ∷ []) ls
+    ∙ sym (changed-end f (reverse ls) l)
+    ∙ ap (λ k. changed k f (reverse ls ++ l ∷ [])) (sym q)
+    ∙ ap (changed n f) (sym (reverse-append (l ∷ []) ls))
+reverse-changed f (l ∷ ls) (suc i) n h e =
+    reverse-append (l ∷ []) (changed i f ls)
+    ∙ ap (λ r. r ++ l ∷ []) (reverse-changed f ls i n (omega arith) (omega (arith, e)))
+    ∙ sym (changed-front f (reverse ls) (l ∷ []) n (omega (arith, length-reverse ls, e)))
+    ∙ ap (changed n f) (sym (reverse-append (l ∷ []) ls))
 
-change-one : (c : Content) (ks : List Kept) (i : ℕ) (k d : Kept) → i < length ks → d ≡ get_or ks i d → present k ≡ with_content c (present d) → map present (set ks i k) ≡ changed i c (map present ks)
-change-one c [] i k d less at e = absurd (omega arith)
-change-one c (x ∷ xs) zero k d less at e = ap (λ l. l ∷ map present xs) (e ∙ ap (λ y. with_content c (present y)) at)
-change-one c (x ∷ xs) (suc i) k d less at e = ap (λ ls. present x ∷ ls) (change-one c xs i k d (omega arith) at e)
+change-one : (f : Content → Content) (ks : List Kept) (i : ℕ) (k d : Kept) → i < length ks → d ≡ get_or ks i d → present k ≡ changed_level f (present d) → map present (set ks i k) ≡ changed i f (map present ks)
+change-one f [] i k d less at e = absurd (omega arith)
+change-one f (x ∷ xs) zero k d less at e = ap (λ l. l ∷ map present xs) (e ∙ ap (λ y. changed_level f (present y)) at)
+change-one f (x ∷ xs) (suc i) k d less at e = ap (λ ls. present x ∷ ls) (change-one f xs i k d (omega arith) at e)
 
 -- one container's content replaced, seen from all of them
-pub change-seen : (c : Content) (ks : List Kept) (i n : ℕ) (k d : Kept) → i < length ks → n + i + 1 ≡ length ks → d ≡ get_or ks i d → present k ≡ with_content c (present d) → seen present (set ks i k) ≡ changed n c (seen present ks)
-change-seen c ks i n k d less sum at e =
-    ap reverse (change-one c ks i k d less at e)
-    ∙ reverse-changed c (map present ks) i n (omega (arith, length-map ks present)) (omega (arith, sum, length-map ks present))
+pub change-seen : (f : Content → Content) (ks : List Kept) (i n : ℕ) (k d : Kept) → i < length ks → n + i + 1 ≡ length ks → d ≡ get_or ks i d → present k ≡ changed_level f (present d) → seen present (set ks i k) ≡ changed n f (seen present ks)
+change-seen f ks i n k d less sum at e =
+    ap reverse (change-one f ks i k d less at e)
+    ∙ reverse-changed f (map present ks) i n (omega (arith, length-map ks present)) (omega (arith, sum, length-map ks present))
 
 -- one container replaced by one that a function can't tell from it
 pub replace-one : {Y : Type 0} (f : Kept → Y) (ks : List Kept) (i : ℕ) (k d : Kept) → i < length ks → d ≡ get_or ks i d → f k ≡ f d → map f (set ks i k) ≡ map f ks

@@ -1,7 +1,7 @@
 -- The open containers, those of a mark, and what is done to them.
-use Rattle.std.specs.Prelude.{ℕ, zero, suc, Bool, false, ◌==◌, List, [], ◌∷◌, Option}
+use Rattle.std.specs.Prelude.{ℕ, zero, suc, Bool, false, ◌==◌, List, [], ◌∷◌, Option, Some, None, is_some}
 use Rattle.tocmark_event.specs.View.{TagView}
-use Rattle.tocmark_spelling.specs.Page.{Content, Level, Path}
+use Rattle.tocmark_spelling.specs.Page.{Content, Listed, Level, Path}
 
 -- the open containers, and which were open at the mark, if one is set
 pub record Nesting : Type 0 where
@@ -12,15 +12,39 @@ pub record Nesting : Type 0 where
 abbrev pub entered : TagView → List ℕ → ℕ → Content → Path → Path
 entered t prefix start content path = record { tag = t; prefix = prefix; start = start; content = content } ∷ path
 
--- a container with another content
-abbrev pub with_content : Content → Level → Level
-with_content content l = record l { content = content }
+-- the innermost open container, if there is one
+abbrev pub head_of : Path → Option Level
+head_of [] = None
+head_of (l ∷ path) = Some l
 
--- the content of an open container replaced; the innermost is 0
-abbrev pub changed : ℕ → Content → Path → Path
-changed n content [] = []
-changed zero content (l ∷ path) = with_content content l ∷ path
-changed (suc n) content (l ∷ path) = l ∷ changed n content path
+-- a container with its content changed
+abbrev pub changed_level : (Content → Content) → Level → Level
+changed_level f l = record l { content = f l.content }
+
+-- the content of an open container changed; the innermost is 0
+abbrev pub changed : ℕ → (Content → Content) → Path → Path
+changed n f [] = []
+changed zero f (l ∷ path) = changed_level f l ∷ path
+changed (suc n) f (l ∷ path) = l ∷ changed n f path
+
+-- what a list keeps, with this number for its next item; that of another container does not change
+abbrev pub numbered : Option ℕ → Content → Content
+numbered number (Listed c) = Listed (record c { number = number })
+numbered number c = c
+
+-- the innermost container, if it is a list, goes on with this number
+abbrev pub renumbered : Option ℕ → Path → Path
+renumbered number path = changed 0 (numbered number) path
+
+-- whether what a container keeps is a list's next number
+abbrev pub has_number : Content → Bool
+has_number (Listed c) = is_some c.number
+has_number c = false
+
+-- whether the innermost container is a list with numbers
+abbrev pub is_counted : Path → Bool
+is_counted [] = false
+is_counted (l ∷ path) = has_number l.content
 
 -- the innermost container's opening ended at this place
 abbrev pub starts_at : ℕ → Path → Bool

@@ -1,18 +1,20 @@
 //! The containers that are open, with the prefix of their lines, and which were open at a mark.
 
-ghost use Rattle.std.specs.Prelude.{◌≡◌, ◌<◌, ◌≤◌, ◌+◌, ◌++◌, ◌∷◌, [], ℕ, List, Some, None, length, string_bytes, string_capacity, vec_capacity, OnOk, OnErr, IfOk, IfSome, IsSome, MatchOption, take};
+ghost use Rattle.std.specs.Prelude.{◌≡◌, ◌<◌, ◌≤◌, ◌+◌, ◌++◌, ◌∷◌, [], ℕ, List, Some, None, length, string_bytes, string_capacity, vec_capacity, OnOk, OnErr, IfOk, IfSome, IsSome, MatchOption, is_some, take};
+ghost use Rattle.std.specs.Option.{option_map};
 ghost use Rattle.tocmark_event.specs.View.{tag_view};
 ghost use Rattle.tocmark_spelling.specs.Page.{prefix_of};
-ghost use Rattle.tocmark_spelling.specs.Places.{is_close, is_in_loose_list, is_in_tight_list};
+ghost use Rattle.tocmark_spelling.specs.Kinds.{is_emphasis, is_emphasis_or_strong};
+ghost use Rattle.tocmark_spelling.specs.Places.{is_close, is_in_loose_list, is_in_tight_list, is_item_start, nearest, widened, with_header};
 ghost use Rattle.tocmark_containers.specs.FrameOf.{content_view, level_of};
 ghost use Rattle.tocmark_containers.specs.KeptOf.{present, seen};
-ghost use Rattle.tocmark_containers.specs.Nesting.{changed, entered, starts_at};
+ghost use Rattle.tocmark_containers.specs.Nesting.{entered, head_of, is_counted, renumbered, starts_at};
 ghost use Rattle.tocmark_containers.specs.Outside.{outside_of};
 ghost use Rattle.tocmark_containers.specs.declared.kept.Kept.{Kept};
 
 use crate::content::Content;
 use crate::frame::Frame;
-use crate::kept::{Kept, change, forget_all, put, put_back, restore_all};
+use crate::kept::{Kept, add_header, forget_all, put, put_back, restore_all, set_number, widen};
 use crate::outside::Outside;
 use std::alloc::{AllocError, Global};
 use std::marker::Model;
@@ -85,6 +87,46 @@ impl<'a> Containers<'a> {
         self.frames[n - 1].frame.outside
     }
 
+    /// The innermost one.
+    pub fn innermost(&self) -> Option<&Frame<'a>>
+        ensures { option_map (λ f. level_of f.now) result ≡ head_of self.now.path }
+    {
+        let n = self.frames.len();
+        if n == 0 {
+            return None;
+        }
+        Some(&self.frames[n - 1].frame)
+    }
+
+    /// The nearest open emphasis, strong emphasis aside.
+    pub fn nearest_emphasis(&self) -> Option<&Frame<'a>>
+        ensures { option_map (λ f. level_of f.now) result ≡ nearest is_emphasis self.now.path }
+    {
+        match self.outside().emphasis {
+            Some(place) => Some(&self.frames[place].frame),
+            None => None,
+        }
+    }
+
+    /// The nearest open emphasis or strong emphasis.
+    pub fn nearest_delimiter(&self) -> Option<&Frame<'a>>
+        ensures { option_map (λ f. level_of f.now) result
+            ≡ nearest is_emphasis_or_strong self.now.path }
+    {
+        match self.outside().emphasis_or_strong {
+            Some(place) => Some(&self.frames[place].frame),
+            None => None,
+        }
+    }
+
+    /// Whether nothing but openings stand between an item's opening and this place of the text, in
+    /// bytes.
+    pub fn is_item_start(&self, place: usize) -> bool
+        ensures { result ≡ is_item_start place self.now.path }
+    {
+        self.outside().starts_item(place)
+    }
+
     /// Whether the innermost one's opening ended at this place of the text, in bytes.
     pub fn starts_at(&self, place: usize) -> bool
         ensures { result ≡ starts_at place self.now.path }
@@ -133,10 +175,15 @@ impl<'a> Containers<'a> {
         start: usize,
         content: Content,
     ) -> Result<(), AllocError>
-        ensures path { OnOk result (self.new.path ≡ entered (tag_view string_bytes tag.entry.now) (string_bytes prefix) start (content_view content) self.old.path) }
+        ensures path { OnOk result (self.new.path
+            ≡ entered (tag_view string_bytes tag.entry.now) (string_bytes prefix) start
+            (content_view content) self.old.path) }
+        ensures stays { OnErr result (self.new.path ≡ self.old.path) }
         ensures mark { self.new.at_mark ≡ self.old.at_mark }
     {
-        let outside = self.outside().within(tag);
+        let outside = self
+            .outside()
+            .within(tag, start, &content, self.frames.len());
         self.frames.reserve(1)?;
         self.prefix.push_str(prefix.as_str())?;
         let frame = Frame {
@@ -159,7 +206,9 @@ impl<'a> Containers<'a> {
     /// Closes the innermost one, if there is one, and gives it; one that was open at the mark is copied. An `Err` says
     /// that memory ran out; nothing is closed then.
     pub fn pop(&mut self) -> Result<Option<Frame<'a>>, AllocError>
-        ensures top { IfOk result (λ top. MatchOption top ((self.old.path ≡ []) × (self.new.path ≡ [])) (λ frame. self.old.path ≡ level_of frame ∷ self.new.path)) }
+        ensures top { IfOk result (λ top.
+            MatchOption top ((self.old.path ≡ []) × (self.new.path ≡ [])) (λ frame.
+            self.old.path ≡ level_of frame ∷ self.new.path)) }
         ensures stays { OnErr result (self.new.path ≡ self.old.path) }
         ensures mark { self.new.at_mark ≡ self.old.at_mark }
     {
@@ -180,13 +229,40 @@ impl<'a> Containers<'a> {
         Ok(take_last(&mut self.frames, &mut self.prefix))
     }
 
-    /// Replaces the content of one; the innermost is 0.
-    pub fn set_content(&mut self, n: usize, content: Content)
-        requires { n < length self.old.path }
-        ensures path { self.new.path ≡ changed n (content_view content) self.old.path }
+    /// The innermost one, if it is a list, goes on with this number, which has to be none where it
+    /// has none.
+    pub fn set_number(&mut self, number: Option<u64>)
+        requires { is_counted self.old.path ≡ is_some number }
+        ensures path { self.new.path ≡ renumbered number self.old.path }
         ensures mark { self.new.at_mark ≡ self.old.at_mark }
     {
-        change(&mut self.frames, n, content);
+        set_number(&mut self.frames, number);
+    }
+
+    /// Makes the nearest open cell, if there is one, wider by so many characters. An `Err` says that
+    /// memory ran out, or that the count would be too large.
+    pub fn widen(&mut self, characters: usize) -> Result<(), AllocError>
+        ensures path { OnOk result (self.new.path ≡ widened characters self.old.path) }
+        ensures stays { OnErr result (self.new.path ≡ self.old.path) }
+        ensures mark { self.new.at_mark ≡ self.old.at_mark }
+    {
+        match self.outside().cell {
+            Some(place) => widen(self.alloc, &mut self.frames, place, characters),
+            None => Ok(()),
+        }
+    }
+
+    /// Adds to the nearest open table, if there is one, a cell of this width, in characters. An `Err`
+    /// says that memory ran out.
+    pub fn add_header(&mut self, width: usize) -> Result<(), AllocError>
+        ensures path { OnOk result (self.new.path ≡ with_header width self.old.path) }
+        ensures stays { OnErr result (self.new.path ≡ self.old.path) }
+        ensures mark { self.new.at_mark ≡ self.old.at_mark }
+    {
+        match self.outside().table {
+            Some(place) => add_header(self.alloc, &mut self.frames, place, width),
+            None => Ok(()),
+        }
     }
 
     /// Sets the mark here, in place of an earlier one.
@@ -243,7 +319,8 @@ fn is_in_tight_list(frames: &[Kept<'_>], n: usize) -> bool
 fn shift<'a>(frames: &mut Vec<Kept<'a>>, closed: &mut Vec<Kept<'a>>)
     requires some { 0 < length frames.old.items }
     requires room { length closed.old.items < vec_capacity closed.old }
-    ensures moved { (k : Kept) × (frames.old.items ≡ frames.new.items ++ k ∷ []) × (closed.new.items ≡ closed.old.items ++ k ∷ []) }
+    ensures moved { (k : Kept) × (frames.old.items ≡ frames.new.items ++ k ∷ [])
+        × (closed.new.items ≡ closed.old.items ++ k ∷ []) }
     ensures capacity { vec_capacity frames.new ≡ vec_capacity frames.old }
 {
     if let Some(kept) = frames.pop() {
@@ -261,8 +338,11 @@ fn move_last<'a>(
 ) -> Result<Frame<'a>, AllocError>
     requires some { 0 < length frames.old.items }
     requires joined { string_bytes prefix.old ≡ prefix_of (seen present frames.old.items) }
-    ensures moved { IfOk result (λ f. (k : Kept) × (frames.old.items ≡ frames.new.items ++ k ∷ []) × (closed.new.items ≡ closed.old.items ++ k ∷ []) × (level_of f ≡ present k)) }
-    ensures stays { OnErr result ((frames.new.items ≡ frames.old.items) × (closed.new.items ≡ closed.old.items)) }
+    ensures moved { IfOk result (λ f.
+        (k : Kept) × (frames.old.items ≡ frames.new.items ++ k ∷ [])
+        × (closed.new.items ≡ closed.old.items ++ k ∷ []) × (level_of f ≡ present k)) }
+    ensures stays { OnErr result ((frames.new.items ≡ frames.old.items)
+        × (closed.new.items ≡ closed.old.items)) }
     ensures joined { string_bytes prefix.new ≡ prefix_of (seen present frames.new.items) }
     ensures capacity { vec_capacity frames.new ≡ vec_capacity frames.old }
     ensures room { string_capacity prefix.new ≡ string_capacity prefix.old }
@@ -279,7 +359,8 @@ fn take_last<'a>(frames: &mut Vec<Kept<'a>>, prefix: &mut String) -> Option<Fram
     requires some { 0 < length frames.old.items }
     requires joined { string_bytes prefix.old ≡ prefix_of (seen present frames.old.items) }
     ensures some { IsSome result }
-    ensures taken { IfSome result (λ f. (k : Kept) × (frames.old.items ≡ frames.new.items ++ k ∷ []) × (level_of f ≡ present k)) }
+    ensures taken { IfSome result (λ f.
+        (k : Kept) × (frames.old.items ≡ frames.new.items ++ k ∷ []) × (level_of f ≡ present k)) }
     ensures joined { string_bytes prefix.new ≡ prefix_of (seen present frames.new.items) }
     ensures capacity { vec_capacity frames.new ≡ vec_capacity frames.old }
     ensures room { string_capacity prefix.new ≡ string_capacity prefix.old }
@@ -292,7 +373,8 @@ fn take_last<'a>(frames: &mut Vec<Kept<'a>>, prefix: &mut String) -> Option<Fram
 /// Cuts off the end of a text.
 fn shorten(text: &mut String, end: &str)
     requires { (rest : List ℕ) × (string_bytes text.old ≡ rest ++ end.now) }
-    ensures cut { (rest : List ℕ) → string_bytes text.old ≡ rest ++ end.now → string_bytes text.new ≡ rest }
+    ensures cut { (rest : List ℕ) → string_bytes text.old ≡ rest ++ end.now
+        → string_bytes text.new ≡ rest }
     ensures capacity { string_capacity text.new ≡ string_capacity text.old }
 {
     text.truncate(text.len() - end.len());

@@ -1,8 +1,12 @@
 //! What is kept of an open container.
 
-ghost use Rattle.std.specs.Prelude.{◌≡◌, IfOk};
+ghost use Rattle.std.specs.Prelude.{◌≡◌, IfOk, OnErr, OnOk};
 ghost use Rattle.tocmark_containers.specs.FrameOf.{content_view};
-ghost use Rattle.tocmark_spelling.specs.Page.{Delimited};
+ghost use Rattle.tocmark_containers.specs.Outside.{begins_double};
+ghost use Rattle.tocmark_spelling.specs.Opening.{bullet_of};
+ghost use Rattle.tocmark_spelling.specs.Page.{Delimited, Listed};
+ghost use Rattle.tocmark_spelling.specs.Places.{wider, with_width};
+ghost use Rattle.tocmark_spelling.specs.Stretch.{is_bullet_hyphen};
 
 use std::alloc::{AllocError, Global};
 use tocmark_spelling::list_choice::ListChoice;
@@ -56,6 +60,17 @@ fn copied_delimiters(alloc: Global, before: &str, after: &str) -> Result<Content
     })
 }
 
+/// The token of a list without numbers.
+fn bullet_in(choice: ListChoice) -> Option<char>
+    ensures { result ≡ bullet_of (Listed choice) }
+{
+    if choice.number.is_none() {
+        Some(choice.token)
+    } else {
+        None
+    }
+}
+
 impl Content {
     /// An equal content. An `Err` says that memory ran out.
     pub fn copied(&self, alloc: Global) -> Result<Content, AllocError>
@@ -78,5 +93,56 @@ impl Content {
             }
             Content::Named(by_id) => Ok(Content::Named(*by_id)),
         }
+    }
+
+    /// The token of a bullet list.
+    pub fn bullet(&self) -> Option<char>
+        ensures { result ≡ bullet_of (content_view self.now) }
+    {
+        match self {
+            Content::Listed(choice) => bullet_in(*choice),
+            _ => None,
+        }
+    }
+
+    /// Whether it is a bullet list with hyphens as markers.
+    pub fn is_hyphen_list(&self) -> bool
+        ensures { result ≡ is_bullet_hyphen (content_view self.now) }
+    {
+        self.bullet() == Some('-')
+    }
+
+    /// Whether `~~` stands before the body.
+    pub fn is_double(&self) -> bool
+        ensures { result ≡ begins_double (content_view self.now) }
+    {
+        match self {
+            Content::Delimited { before, .. } => before.as_str() == "~~",
+            _ => false,
+        }
+    }
+
+    /// Makes a cell wider by so many characters. An `Err` says that the count would be too large.
+    pub fn widen(&mut self, characters: usize) -> Result<(), AllocError>
+        ensures wider { OnOk result
+            (content_view self.new ≡ wider characters (content_view self.old)) }
+        ensures stays { OnErr result (content_view self.new ≡ content_view self.old) }
+    {
+        if let Content::Width(width) = self {
+            *width = width.checked_add(characters).ok_or(AllocError)?;
+        }
+        Ok(())
+    }
+
+    /// Adds to a table a cell of this width, in characters. An `Err` says that memory ran out.
+    pub fn add_header(&mut self, width: usize) -> Result<(), AllocError>
+        ensures longer { OnOk result
+            (content_view self.new ≡ with_width width (content_view self.old)) }
+        ensures stays { OnErr result (content_view self.new ≡ content_view self.old) }
+    {
+        if let Content::Headers(widths) = self {
+            widths.push(width)?;
+        }
+        Ok(())
     }
 }

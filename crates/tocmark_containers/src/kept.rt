@@ -1,13 +1,15 @@
 //! Open containers, and what their contents were at a mark.
 
-ghost use Rattle.std.specs.Prelude.{◌≡◌, ◌<◌, ◌++◌, ◌∷◌, [], length, ◌+◌, ◌≤◌, map, reverse, vec_capacity};
-ghost use Rattle.tocmark_containers.specs.FrameOf.{content_view};
-ghost use Rattle.tocmark_containers.specs.Nesting.{changed, with_content};
+ghost use Rattle.std.specs.Prelude.{◌≡◌, ◌<◌, ◌++◌, ◌∷◌, [], length, ◌+◌, ◌-◌, ◌≤◌, map, reverse, vec_capacity, IsSome, OnErr, OnOk};
+ghost use Rattle.tocmark_containers.specs.Nesting.{changed, changed_level, numbered, renumbered};
 ghost use Rattle.tocmark_containers.specs.KeptOf.{original, outside_at, present, seen};
+ghost use Rattle.tocmark_spelling.specs.Places.{wider, with_width};
 
 use crate::content::Content;
 use crate::frame::Frame;
+use std::alloc::{AllocError, Global};
 use std::mem;
+use tocmark_spelling::list_choice::ListChoice;
 
 /// An open container.
 #[derive(Drop)]
@@ -18,16 +20,58 @@ pub struct Kept<'a> {
 }
 
 impl<'a> Kept<'a> {
-    /// Replaces the content, and notes what it was.
-    pub fn change(&mut self, content: Content)
-        ensures present { present self.new ≡ with_content (content_view content) (present self.old) }
+    /// Notes the content, if that wasn't done since the mark. An `Err` says that memory ran out.
+    fn note(&mut self, alloc: Global) -> Result<(), AllocError>
+        ensures present { present self.new ≡ present self.old }
+        ensures original { original self.new ≡ original self.old }
+        ensures noted { OnOk result (IsSome self.new.before) }
+        ensures outside { outside_at self.new ≡ outside_at self.old }
+    {
+        if self.before.is_none() {
+            self.before = Some(self.frame.content.copied(alloc)?);
+        }
+        Ok(())
+    }
+
+    /// A list goes on with this number.
+    pub fn set_number(&mut self, number: Option<u64>)
+        ensures present { present self.new ≡ changed_level (numbered number) (present self.old) }
         ensures original { original self.new ≡ original self.old }
         ensures outside { outside_at self.new ≡ outside_at self.old }
     {
-        let old = mem::replace(&mut self.frame.content, content);
+        let Content::Listed(choice) = self.frame.content else {
+            return;
+        };
+        let listed = Content::Listed(ListChoice { number, ..choice });
+        let old = mem::replace(&mut self.frame.content, listed);
         if self.before.is_none() {
             self.before = Some(old);
         }
+    }
+
+    /// Makes a cell wider by so many characters. An `Err` says that memory ran out, or that the count
+    /// would be too large.
+    pub fn widen(&mut self, alloc: Global, characters: usize) -> Result<(), AllocError>
+        ensures present { OnOk result
+            (present self.new ≡ changed_level (wider characters) (present self.old)) }
+        ensures stays { OnErr result (present self.new ≡ present self.old) }
+        ensures original { original self.new ≡ original self.old }
+        ensures outside { outside_at self.new ≡ outside_at self.old }
+    {
+        self.note(alloc)?;
+        self.frame.content.widen(characters)
+    }
+
+    /// Adds to a table a cell of this width, in characters. An `Err` says that memory ran out.
+    pub fn add_header(&mut self, alloc: Global, width: usize) -> Result<(), AllocError>
+        ensures present { OnOk result
+            (present self.new ≡ changed_level (with_width width) (present self.old)) }
+        ensures stays { OnErr result (present self.new ≡ present self.old) }
+        ensures original { original self.new ≡ original self.old }
+        ensures outside { outside_at self.new ≡ outside_at self.old }
+    {
+        self.note(alloc)?;
+        self.frame.content.add_header(width)
     }
 
     /// Drops the note.
@@ -91,14 +135,56 @@ pub fn put<'a>(frames: &mut Vec<Kept<'a>>, kept: Kept<'a>)
     let _room = frames.push(kept);
 }
 
-/// Replaces a content, and notes what it was; the innermost container is 0.
-pub fn change(frames: &mut Vec<Kept<'_>>, n: usize, content: Content)
-    requires { n < length frames.old.items }
-    ensures present { seen present frames.new.items ≡ changed n (content_view content) (seen present frames.old.items) }
+/// The innermost container, if it is a list, goes on with this number.
+pub fn set_number(frames: &mut Vec<Kept<'_>>, number: Option<u64>)
+    ensures present { seen present frames.new.items
+        ≡ renumbered number (seen present frames.old.items) }
     ensures original { map original frames.new.items ≡ map original frames.old.items }
     ensures outside { map outside_at frames.new.items ≡ map outside_at frames.old.items }
     ensures capacity { vec_capacity frames.new ≡ vec_capacity frames.old }
 {
-    let i = frames.len() - 1 - n;
-    frames[i].change(content);
+    let n = frames.len();
+    if n > 0 {
+        frames[n - 1].set_number(number);
+    }
+}
+
+/// Makes one container, if it is a cell, wider by so many characters; the outermost is 0. An `Err`
+/// says that memory ran out, or that the count would be too large.
+pub fn widen(
+    alloc: Global,
+    frames: &mut Vec<Kept<'_>>,
+    place: usize,
+    characters: usize,
+) -> Result<(), AllocError>
+    requires { place < length frames.old.items }
+    ensures present { OnOk result (seen present frames.new.items
+        ≡ changed (length frames.old.items - 1 - place) (wider characters)
+        (seen present frames.old.items)) }
+    ensures stays { OnErr result (seen present frames.new.items ≡ seen present frames.old.items) }
+    ensures original { map original frames.new.items ≡ map original frames.old.items }
+    ensures outside { map outside_at frames.new.items ≡ map outside_at frames.old.items }
+    ensures capacity { vec_capacity frames.new ≡ vec_capacity frames.old }
+{
+    frames[place].widen(alloc, characters)
+}
+
+/// Adds to one container, if it is a table, a cell of this width, in characters; the outermost is 0.
+/// An `Err` says that memory ran out.
+pub fn add_header(
+    alloc: Global,
+    frames: &mut Vec<Kept<'_>>,
+    place: usize,
+    width: usize,
+) -> Result<(), AllocError>
+    requires { place < length frames.old.items }
+    ensures present { OnOk result (seen present frames.new.items
+        ≡ changed (length frames.old.items - 1 - place) (with_width width)
+        (seen present frames.old.items)) }
+    ensures stays { OnErr result (seen present frames.new.items ≡ seen present frames.old.items) }
+    ensures original { map original frames.new.items ≡ map original frames.old.items }
+    ensures outside { map outside_at frames.new.items ≡ map outside_at frames.old.items }
+    ensures capacity { vec_capacity frames.new ≡ vec_capacity frames.old }
+{
+    frames[place].add_header(alloc, width)
 }

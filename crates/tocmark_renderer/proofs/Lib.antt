@@ -2,8 +2,4 @@ pub mod Marks
 pub mod Carries
 pub mod Laid
 pub mod Gaps
-pub mod Steps
-pub mod Events
-pub mod Units
-pub mod NoReferences
-pub mod Jumps
+pub mod Starts

@@ -1,10 +1,10 @@
 -- What the mark needs is kept where the text grows.
-use Rattle.std.proofs.Common.{◌≡◌, ℕ, ◌<◌, ◌≤◌, Option, Some, None, List, ◌++◌, length, length-append, refl, subst, arith, string_bytes, IfSome, String, ◌⊎◌, inl, inr}
+use Rattle.std.proofs.Common.{◌≡◌, ◌∙◌, ap, sym, [], take, unwrap_or, ℕ, ◌<◌, ◌≤◌, Option, Some, None, List, ◌++◌, length, length-append, refl, subst, arith, string_bytes, IfSome, String, ◌⊎◌, inl, inr}
 use Rattle.std.specs.declared.alloc.Global.{Global}
 use Rattle.std.specs.Str.{IsCharBoundary, IsUtf8}
-use Rattle.std.proofs.lemmas.List.{get_or_append_left}
+use Rattle.std.proofs.lemmas.List.{get_or_append_left, take-append-le}
 use Rattle.std.proofs.lemmas.Str.{IsCharBoundary-at_seam}
-use Rattle.tocmark_renderer.specs.RendererOf.{Fits}
+use Rattle.tocmark_renderer.specs.RendererOf.{AreCut, Fits}
 use Rattle.tocmark_renderer.specs.declared.renderer.Renderer.TheInside.{Inside}
 use Rattle.tocmark_renderer.specs.declared.renderer.Snapshot.{Snapshot}
 
@@ -19,7 +19,7 @@ below-or-at : (n m : ℕ) → n ≤ m → ((n < m) ⊎ (n ≡ m))
 below-or-at n m l = grind arith
 
 -- where a text may be cut, it may be cut when it has grown
-cut-grows : (bs more : List ℕ) (n : ℕ) → IsUtf8 more → IsCharBoundary bs n → IsCharBoundary (bs ++ more) n
+pub cut-grows : (bs more : List ℕ) (n : ℕ) → IsUtf8 more → IsCharBoundary bs n → IsCharBoundary (bs ++ more) n
 cut-grows bs more n u c = cut-by bs more n u c.0 (below-or-at n (length bs) c.0) c
 
 -- a renderer whose text has grown
@@ -28,4 +28,5 @@ text-grows a s more None u e f = f
 text-grows a s more (Some m) u e f = record {
   cut = rw e (cut-grows (string_bytes a.text) more m.text u f.cut);
   references = f.references;
+  starts = subst (λ t. AreCut t (unwrap_or a.containers.at_mark [])) (sym (ap (take m.text) e ∙ take-append-le m.text (string_bytes a.text) more f.cut.0)) f.starts;
 }

@@ -1,5 +1,6 @@
 -- What is asked of the writer of a unit, as plain values.
 use Rattle.std.specs.Prelude.{ℕ, List, Option}
+use Rattle.std.specs.Option.{option_map}
 use Rattle.tocmark_event.specs.Options.{options_view, OptionsView}
 use Rattle.tocmark_event.specs.Reading.{ReadingView}
 use Rattle.tocmark_event.specs.declared.event.flags.ParserOptions.{ParserOptions}
@@ -18,9 +19,13 @@ Reading = List ℕ → ParserOptions → ReadingView
 abbrev pub options_in : Job → OptionsView
 options_in job = options_view job.options.now
 
--- a job with this reader, and with the reserved label if there is one
-abbrev pub setting_in : Job → Reading → Option (List ℕ) → Setting
-setting_in job reading label = setting_of (options_in job) job.flags reading label
+-- the label that is reserved for lists, if there is one
+abbrev pub label_in : Job → Option (List ℕ)
+label_in job = option_map (λ l. l.now) job.label
+
+-- a job with this reader
+abbrev pub setting_in : Job → Reading → Setting
+setting_in job reading = setting_of (options_in job) job.flags reading (label_in job)
 
 -- how one spelling is written
 abbrev pub manner_view : Manner → plan.Manner

@@ -1,8 +1,8 @@
 -- What the fields of a renderer mean, and what is true of them.
-use Rattle.std.specs.Prelude.{◌≡◌, ◌≤◌, Option, Some, None, [], IfSome, is_some, length, map, string_bytes, take, unwrap_or}
+use Rattle.std.specs.Prelude.{◌≡◌, ◌≤◌, ℕ, List, ◌∷◌, Option, Some, None, [], IfSome, is_some, length, map, string_bytes, take, unwrap_or}
 use Rattle.std.specs.Option.{option_map}
 use Rattle.std.specs.Str.{IsCharBoundary}
-use Rattle.tocmark_spelling.specs.Page.{Page, Site}
+use Rattle.tocmark_spelling.specs.Page.{Page, Path, Site}
 use Rattle.tocmark_spelling.specs.TrailOf.{trail_of}
 use Rattle.tocmark_renderer.specs.WriterOf.{Rendering, held_view, reference_view}
 use Rattle.tocmark_renderer.specs.declared.renderer.Renderer.TheInside.{Inside}
@@ -43,12 +43,20 @@ site_at a m = record { path = unwrap_or a.containers.at_mark []; page = page_at 
 abbrev pub rendering_of : Inside → Rendering
 rendering_of a = record { site = site_now a; at_mark = option_map (site_at a) a.mark }
 
--- what the mark needs: its text may be cut off, and its definitions are there
+-- each opening ended where a text may be cut
+abbrev pub AreCut : List ℕ → Path → Type 0
+AreCut text [] = Unit {0}
+AreCut text (l ∷ path) = IsCharBoundary text l.start × AreCut text path
+
+-- what the mark needs: its text may be cut off, also where its openings ended, and its definitions are there
 pub record Fits (a : Inside) (m : Snapshot) : Type 0 where
   pub cut : IsCharBoundary (string_bytes a.text) m.text
   pub references : m.references ≤ length a.references.items
+  pub starts : AreCut (take m.text (string_bytes a.text)) (unwrap_or a.containers.at_mark [])
 
--- a mark is set on the containers where it is on the rest, and what it needs is there
+-- a mark is set on the containers where it is on the rest, what it needs is there, and the text may be cut where each
+-- opening ended
 pub record IsNoted (a : Inside) : Type 0 where
   pub both : is_some a.mark ≡ is_some a.containers.at_mark
   pub fits : IfSome a.mark (λ m. Fits a m)
+  pub starts : AreCut (string_bytes a.text) a.containers.path

@@ -16,7 +16,13 @@ use tocmark_spelling::trail::Last;
 impl<'a> Renderer<'a> {
     /// Raises what is owed, for a list, a title or a block.
     fn prepare(&mut self, event: &OwnedEvent)
-        ensures stands { Stands self.new (levels_of self.old) (with_trail (raised_for_block (event_view string_bytes event.now) (raised_for_title (event_view string_bytes event.now) (raised_for_list (event_view string_bytes event.now) (levels_of self.old) (resumed (event_view string_bytes event.now) (page_of self.old).trail)))) (page_of self.old)) }
+        ensures stands { Stands self.new (levels_of self.old)
+            (with_trail
+            (raised_for_block (event_view string_bytes event.now)
+            (raised_for_title (event_view string_bytes event.now)
+            (raised_for_list (event_view string_bytes event.now) (levels_of self.old)
+            (resumed (event_view string_bytes event.now) (page_of self.old).trail))))
+            (page_of self.old)) }
         ensures mark { self.new.at_mark ≡ self.old.at_mark }
     {
         let in_list = self.outside().in_list;
@@ -47,7 +53,9 @@ impl<'a> Renderer<'a> {
 
     /// Takes the line with which a quote goes on, and gives it if it has to go on before the event.
     fn quote_line_for(&mut self, event: &OwnedEvent) -> Result<Option<String>, AllocError>
-        ensures line { IfOk result (λ line. option_map string_bytes line ≡ quote_line_for (event_view string_bytes event.now) (page_of self.old).trail) }
+        ensures line { IfOk result (λ line.
+            option_map string_bytes line
+            ≡ quote_line_for (event_view string_bytes event.now) (page_of self.old).trail) }
         ensures stands { OnOk result (Stands self.new (levels_of self.old) (forget_quote (page_of self.old))) }
         ensures mark { self.new.at_mark ≡ self.old.at_mark }
     {
@@ -58,7 +66,9 @@ impl<'a> Renderer<'a> {
 
     /// Owes at most one line feed, and writes out a quote that has to go on.
     fn close_up(&mut self, event: &OwnedEvent) -> Result<(), AllocError>
-        ensures stands { OnOk result (Stands self.new (levels_of self.old) (close_up (event_view string_bytes event.now) (levels_of self.old) (page_of self.old))) }
+        ensures stands { OnOk result
+            (Stands self.new (levels_of self.old)
+            (close_up (event_view string_bytes event.now) (levels_of self.old) (page_of self.old))) }
         ensures mark { self.new.at_mark ≡ self.old.at_mark }
     {
         match self.quote_line_for(event)? {
@@ -77,7 +87,10 @@ impl<'a> Renderer<'a> {
 
     /// The same where the children are close, else a quote is forgotten.
     fn close_up_where_close(&mut self, event: &OwnedEvent) -> Result<(), AllocError>
-        ensures stands { OnOk result (Stands self.new (levels_of self.old) (closed_up (event_view string_bytes event.now) (levels_of self.old) (page_of self.old))) }
+        ensures stands { OnOk result
+            (Stands self.new (levels_of self.old)
+            (closed_up (event_view string_bytes event.now) (levels_of self.old)
+            (page_of self.old))) }
         ensures mark { self.new.at_mark ≡ self.old.at_mark }
     {
         if !self.carried().open_html && self.is_close() {
@@ -90,7 +103,10 @@ impl<'a> Renderer<'a> {
 
     /// Raises what is owed, for what ended last.
     fn raise(&mut self, event: &OwnedEvent)
-        ensures stands { Stands self.new (levels_of self.old) (with_trail (raised_before (event_view string_bytes event.now) (levels_of self.old) (page_of self.old).trail) (page_of self.old)) }
+        ensures stands { Stands self.new (levels_of self.old)
+            (with_trail
+            (raised_before (event_view string_bytes event.now) (levels_of self.old)
+            (page_of self.old).trail) (page_of self.old)) }
         ensures mark { self.new.at_mark ≡ self.old.at_mark }
     {
         let in_loose_list = self.is_in_loose_list();
@@ -105,7 +121,10 @@ impl<'a> Renderer<'a> {
 
     /// Writes what is owed; a break writes nothing.
     fn separate(&mut self, event: &OwnedEvent) -> Result<(), AllocError>
-        ensures stands { OnOk result (Stands self.new (levels_of self.old) (separated (event_view string_bytes event.now) (levels_of self.old) (page_of self.old))) }
+        ensures stands { OnOk result
+            (Stands self.new (levels_of self.old)
+            (separated (event_view string_bytes event.now) (levels_of self.old)
+            (page_of self.old))) }
         ensures mark { self.new.at_mark ≡ self.old.at_mark }
     {
         if !is_break(event) {
@@ -116,7 +135,10 @@ impl<'a> Renderer<'a> {
     }
 
     fn before_event(&mut self, event: &OwnedEvent) -> Result<(), AllocError>
-        ensures stands { OnOk result (Stands self.new (levels_of self.old) (before_event (event_view string_bytes event.now) (levels_of self.old) (page_of self.old))) }
+        ensures stands { OnOk result
+            (Stands self.new (levels_of self.old)
+            (before_event (event_view string_bytes event.now) (levels_of self.old)
+            (page_of self.old))) }
         ensures mark { self.new.at_mark ≡ self.old.at_mark }
     {
         self.prepare(event);
@@ -125,7 +147,9 @@ impl<'a> Renderer<'a> {
 
     /// Writes the gap before an event that is neither an end nor HTML.
     pub fn write_gap(&mut self, event: &OwnedEvent) -> Result<(), AllocError>
-        ensures stands { OnOk result (Stands self.new (levels_of self.old) (gap (event_view string_bytes event.now) (levels_of self.old) (page_of self.old))) }
+        ensures stands { OnOk result
+            (Stands self.new (levels_of self.old)
+            (gap (event_view string_bytes event.now) (levels_of self.old) (page_of self.old))) }
         ensures mark { self.new.at_mark ≡ self.old.at_mark }
     {
         self.before_event(event)?;

@@ -11,6 +11,8 @@ pub struct Job<'j, 'o> {
     pub alloc: Global,
     pub options: &'j Options<'o>,
     pub flags: ParserOptions,
+    /// The label that is reserved for lists, if there is one.
+    pub label: Option<&'j str>,
 }
 
 /// How one spelling is written.

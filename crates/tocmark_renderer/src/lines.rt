@@ -11,7 +11,10 @@ use std::alloc::AllocError;
 impl<'a> Renderer<'a> {
     /// The prefix, if it is asked for, where a line begins.
     fn begin_line_if(&mut self, prefixed: bool) -> Result<(), AllocError>
-        ensures site { OnOk result (site_of self.new ≡ on_sheet (with_more (lead (prefix_if prefixed (levels_of self.old)) (sheet_of self.old).feeds)) (site_of self.old)) }
+        ensures site { OnOk result (site_of self.new
+            ≡ on_sheet
+            (with_more (lead (prefix_if prefixed (levels_of self.old)) (sheet_of self.old).feeds))
+            (site_of self.old)) }
         ensures mark { self.new.at_mark ≡ self.old.at_mark }
     {
         if prefixed { self.begin_line() } else { Ok(()) }
@@ -20,7 +23,9 @@ impl<'a> Renderer<'a> {
     /// A part of a line.
     fn write_part(&mut self, part: &str, prefixed: bool) -> Result<(), AllocError>
         requires { HasNoFeed part.now }
-        ensures site { OnOk result (site_of self.new ≡ on_sheet (laid (prefix_if prefixed (levels_of self.old)) part.now) (site_of self.old)) }
+        ensures site { OnOk result (site_of self.new
+            ≡ on_sheet (laid (prefix_if prefixed (levels_of self.old)) part.now)
+            (site_of self.old)) }
         ensures mark { self.new.at_mark ≡ self.old.at_mark }
     {
         if part.is_empty() {
@@ -34,7 +39,8 @@ impl<'a> Renderer<'a> {
 
     /// A line feed. An `Err` is also the answer where the line feeds would be too many for a `usize`.
     fn write_feed(&mut self, prefixed: bool) -> Result<(), AllocError>
-        ensures site { OnOk result (site_of self.new ≡ on_sheet (put_byte (prefix_if prefixed (levels_of self.old)) 10) (site_of self.old)) }
+        ensures site { OnOk result (site_of self.new
+            ≡ on_sheet (put_byte (prefix_if prefixed (levels_of self.old)) 10) (site_of self.old)) }
         ensures mark { self.new.at_mark ≡ self.old.at_mark }
     {
         let newlines = self.newlines().checked_add(1).ok_or(AllocError)?;
@@ -46,7 +52,9 @@ impl<'a> Renderer<'a> {
 
     /// A text, each of its lines behind the prefix, if it is asked for.
     fn lay(&mut self, text: &str, prefixed: bool) -> Result<(), AllocError>
-        ensures site { OnOk result (site_of self.new ≡ on_sheet (laid (prefix_if prefixed (levels_of self.old)) text.now) (site_of self.old)) }
+        ensures site { OnOk result (site_of self.new
+            ≡ on_sheet (laid (prefix_if prefixed (levels_of self.old)) text.now)
+            (site_of self.old)) }
         ensures mark { self.new.at_mark ≡ self.old.at_mark }
     {
         let mut rest = text;
@@ -60,7 +68,9 @@ impl<'a> Renderer<'a> {
 
     /// Writes a text inside the open containers. An `Err` says that memory ran out.
     pub fn write(&mut self, text: &str) -> Result<(), AllocError>
-        ensures written { OnOk result (Stands self.new (levels_of self.old) (written (levels_of self.old) text.now (page_of self.old))) }
+        ensures written { OnOk result
+            (Stands self.new (levels_of self.old)
+            (written (levels_of self.old) text.now (page_of self.old))) }
         ensures mark { self.new.at_mark ≡ self.old.at_mark }
     {
         self.lay(text, true)
@@ -68,7 +78,8 @@ impl<'a> Renderer<'a> {
 
     /// Writes a text that is its own prefix. An `Err` says that memory ran out.
     pub fn write_alone(&mut self, text: &str) -> Result<(), AllocError>
-        ensures written { OnOk result (Stands self.new (levels_of self.old) (laid_on [] text.now (page_of self.old))) }
+        ensures written { OnOk result
+            (Stands self.new (levels_of self.old) (laid_on [] text.now (page_of self.old))) }
         ensures mark { self.new.at_mark ≡ self.old.at_mark }
     {
         self.lay(text, false)
@@ -77,7 +88,9 @@ impl<'a> Renderer<'a> {
     /// Writes line feeds until so many stand. Room for all of them is made before the first is written; an `Err` says
     /// that there was none.
     pub fn fill(&mut self, lines: usize) -> Result<(), AllocError>
-        ensures filled { OnOk result (Stands self.new (levels_of self.old) (filled_to lines (levels_of self.old) (page_of self.old))) }
+        ensures filled { OnOk result
+            (Stands self.new (levels_of self.old)
+            (filled_to lines (levels_of self.old) (page_of self.old))) }
         ensures mark { self.new.at_mark ≡ self.old.at_mark }
     {
         let count = lines.saturating_sub(self.newlines());

@@ -1,14 +1,16 @@
 //! What is written of a unit so far, and what it was at a mark. No other file writes these fields.
 
-ghost use Rattle.std.specs.Prelude.{◌≡◌, ℕ, ◌<◌, ◌∷◌, [], Some, None, string_bytes, length, map, IfOk, IsSome, MatchOption, OnErr, OnOk};
+ghost use Rattle.std.specs.Prelude.{◌≡◌, ℕ, ◌==◌, ◌∷◌, [], Some, None, string_bytes, drop, length, map, IfOk, IfSome, IsSome, is_some, MatchOption, OnErr, OnOk};
+ghost use Rattle.std.specs.Str.{IsCharBoundary};
 ghost use Rattle.std.specs.Option.{option_map};
 ghost use Rattle.tocmark_event.specs.View.{tag_view};
 ghost use Rattle.tocmark_containers.specs.FrameOf.{content_view, level_of};
-ghost use Rattle.tocmark_containers.specs.Nesting.{changed, entered};
+ghost use Rattle.tocmark_containers.specs.Nesting.{entered, head_of, is_counted, renumbered};
 ghost use Rattle.tocmark_containers.specs.Outside.{outside_of};
 ghost use Rattle.tocmark_spelling.specs.Gap.{forget_quote};
 ghost use Rattle.tocmark_spelling.specs.Page.{lead, prefix_of};
-ghost use Rattle.tocmark_spelling.specs.Places.{is_after_opening, is_close, is_in_loose_list};
+ghost use Rattle.tocmark_spelling.specs.Kinds.{is_emphasis, is_emphasis_or_strong};
+ghost use Rattle.tocmark_spelling.specs.Places.{at_item_start, is_after_opening, is_close, is_in_loose_list, nearest, widened, with_header};
 ghost use Rattle.tocmark_spelling.specs.Stretch.{at_front};
 ghost use Rattle.tocmark_spelling.specs.TrailOf.{trail_of, trail_view};
 ghost use Rattle.tocmark_renderer.specs.Changes.{carrying, holding, on_page, on_path, on_sheet, quoting, referring, with_feeds, with_more};
@@ -97,7 +99,8 @@ impl<'a> Renderer<'a> {
         ensures text { string_bytes result.text ≡ (sheet_of self.entry).text }
         ensures newlines { result.newlines ≡ (sheet_of self.entry).feeds }
         ensures trail { trail_view result.trail ≡ (page_of self.entry).trail }
-        ensures references { map reference_view result.references.items ≡ (page_of self.entry).references }
+        ensures references { map reference_view result.references.items
+            ≡ (page_of self.entry).references }
     {
         let Renderer {
             text,
@@ -125,6 +128,14 @@ impl<'a> Renderer<'a> {
         self.text.as_str()
     }
 
+    /// The text from a place on, in bytes, where it may be cut.
+    pub fn text_from(&self, start: usize) -> &str
+        requires { IsCharBoundary (sheet_of self.now).text start }
+        ensures { result.now ≡ drop start (sheet_of self.now).text }
+    {
+        &self.text[start..]
+    }
+
     /// How many line feeds end all that is written, prefixes not counted.
     pub fn newlines(&self) -> usize
         ensures { result ≡ (sheet_of self.now).feeds }
@@ -139,11 +150,55 @@ impl<'a> Renderer<'a> {
         &self.references
     }
 
+    /// Whether the text is empty so far.
+    pub fn is_empty(&self) -> bool
+        ensures { result ≡ length (sheet_of self.now).text == 0 }
+    {
+        self.text.is_empty()
+    }
+
     /// What is carried along to what follows.
     pub fn carried(&self) -> Carried
         ensures { trail_of result (page_of self.now).trail.quote_line ≡ (page_of self.now).trail }
     {
         self.carried
+    }
+
+    /// How many containers are open.
+    pub fn depth(&self) -> usize
+        ensures { result ≡ length (levels_of self.now) }
+    {
+        self.containers.depth()
+    }
+
+    /// What stands before each line: the prefixes of the open containers, joined.
+    pub fn prefix(&self) -> &str
+        ensures { result.now ≡ prefix_of (levels_of self.now) }
+    {
+        self.containers.prefix()
+    }
+
+    /// The innermost container.
+    pub fn innermost(&self) -> Option<&Frame<'a>>
+        ensures { option_map (λ f. level_of f.now) result ≡ head_of (levels_of self.now) }
+    {
+        self.containers.innermost()
+    }
+
+    /// The nearest open emphasis, strong emphasis aside.
+    pub fn nearest_emphasis(&self) -> Option<&Frame<'a>>
+        ensures { option_map (λ f. level_of f.now) result
+            ≡ nearest is_emphasis (levels_of self.now) }
+    {
+        self.containers.nearest_emphasis()
+    }
+
+    /// The nearest open emphasis or strong emphasis.
+    pub fn nearest_delimiter(&self) -> Option<&Frame<'a>>
+        ensures { option_map (λ f. level_of f.now) result
+            ≡ nearest is_emphasis_or_strong (levels_of self.now) }
+    {
+        self.containers.nearest_delimiter()
     }
 
     /// What the open containers say of this place.
@@ -166,6 +221,13 @@ impl<'a> Renderer<'a> {
     {
         let begins = self.newlines > 0 || self.text.is_empty();
         begins || self.is_after_opening()
+    }
+
+    /// Whether nothing but openings stand between an item's opening and this place.
+    pub fn at_item_start(&self) -> bool
+        ensures { result ≡ at_item_start (levels_of self.now) (page_of self.now) }
+    {
+        self.containers.is_item_start(self.text.len())
     }
 
     /// Whether no blank lines stand between the children of the innermost container.
@@ -208,7 +270,10 @@ impl<'a> Renderer<'a> {
 
     /// Adds the prefix, where a line begins. An `Err` says that memory ran out.
     pub fn begin_line(&mut self) -> Result<(), AllocError>
-        ensures site { OnOk result (site_of self.new ≡ on_sheet (with_more (lead (prefix_of (levels_of self.old)) (sheet_of self.old).feeds)) (site_of self.old)) }
+        ensures site { OnOk result (site_of self.new
+            ≡ on_sheet
+            (with_more (lead (prefix_of (levels_of self.old)) (sheet_of self.old).feeds))
+            (site_of self.old)) }
         ensures mark { self.new.at_mark ≡ self.old.at_mark }
     {
         if self.newlines > 0 {
@@ -235,7 +300,8 @@ impl<'a> Renderer<'a> {
 
     /// Replaces the line that goes on with a quote.
     pub fn set_quote_line(&mut self, line: Option<String>)
-        ensures site { site_of self.new ≡ on_page (quoting (option_map string_bytes line)) (site_of self.old) }
+        ensures site { site_of self.new
+            ≡ on_page (quoting (option_map string_bytes line)) (site_of self.old) }
         ensures mark { self.new.at_mark ≡ self.old.at_mark }
     {
         let old = mem::replace(&mut self.quote_line, line);
@@ -247,7 +313,8 @@ impl<'a> Renderer<'a> {
     /// Takes the line that goes on with a quote; one of the mark is copied. An `Err` says that memory ran out.
     pub fn take_quote_line(&mut self) -> Result<Option<String>, AllocError>
         ensures site { OnOk result (site_of self.new ≡ on_page forget_quote (site_of self.old)) }
-        ensures line { IfOk result (λ line. option_map string_bytes line ≡ (page_of self.old).trail.quote_line) }
+        ensures line { IfOk result (λ line.
+            option_map string_bytes line ≡ (page_of self.old).trail.quote_line) }
         ensures mark { self.new.at_mark ≡ self.old.at_mark }
     {
         if self.mark.is_none() || self.old_quote_line.is_some() {
@@ -260,7 +327,8 @@ impl<'a> Renderer<'a> {
 
     /// Holds a stretch.
     pub fn hold(&mut self, held: Held)
-        ensures site { site_of self.new ≡ on_page (holding (Some (held_view held))) (site_of self.old) }
+        ensures site { site_of self.new
+            ≡ on_page (holding (Some (held_view held))) (site_of self.old) }
         ensures mark { self.new.at_mark ≡ self.old.at_mark }
     {
         let old = mem::replace(&mut self.held, Some(held));
@@ -288,7 +356,8 @@ impl<'a> Renderer<'a> {
 
     /// Adds a definition that is still to be written. An `Err` says that memory ran out.
     pub fn add_reference(&mut self, reference: Reference) -> Result<(), AllocError>
-        ensures site { OnOk result (site_of self.new ≡ on_page (referring (reference_view reference)) (site_of self.old)) }
+        ensures site { OnOk result (site_of self.new
+            ≡ on_page (referring (reference_view reference)) (site_of self.old)) }
         ensures mark { self.new.at_mark ≡ self.old.at_mark }
     {
         self.references.push(reference)?;
@@ -302,7 +371,10 @@ impl<'a> Renderer<'a> {
         prefix: String,
         content: Content,
     ) -> Result<(), AllocError>
-        ensures site { OnOk result (site_of self.new ≡ on_path (entered (tag_view string_bytes tag.entry.now) (string_bytes prefix) (length (sheet_of self.old).text) (content_view content)) (site_of self.old)) }
+        ensures site { OnOk result (site_of self.new
+            ≡ on_path
+            (entered (tag_view string_bytes tag.entry.now) (string_bytes prefix)
+            (length (sheet_of self.old).text) (content_view content)) (site_of self.old)) }
         ensures mark { self.new.at_mark ≡ self.old.at_mark }
     {
         let start = self.text.len();
@@ -312,21 +384,46 @@ impl<'a> Renderer<'a> {
     /// Closes the innermost container, if there is one, and gives it. An `Err` says that memory ran out; nothing is
     /// closed then.
     pub fn pop_frame(&mut self) -> Result<Option<Frame<'a>>, AllocError>
-        ensures top { IfOk result (λ top. MatchOption top (levels_of self.old ≡ []) (λ frame. levels_of self.old ≡ level_of frame ∷ levels_of self.new)) }
+        ensures top { IfOk result (λ top.
+            MatchOption top (levels_of self.old ≡ []) (λ frame.
+            levels_of self.old ≡ level_of frame ∷ levels_of self.new)) }
         ensures page { page_of self.new ≡ page_of self.old }
         ensures stays { OnErr result (levels_of self.new ≡ levels_of self.old) }
+        ensures start { IfOk result (λ top. IfSome top (λ frame.
+            IsCharBoundary (sheet_of self.old).text frame.start)) }
         ensures mark { self.new.at_mark ≡ self.old.at_mark }
     {
         self.containers.pop()
     }
 
-    /// Replaces the content of an open container; the innermost is 0.
-    pub fn set_content(&mut self, n: usize, content: Content)
-        requires { n < length (levels_of self.old) }
-        ensures site { site_of self.new ≡ on_path (changed n (content_view content)) (site_of self.old) }
+    /// The innermost container, if it is a list, goes on with this number, which has to be none
+    /// where it has none.
+    pub fn set_number(&mut self, number: Option<u64>)
+        requires { is_counted (levels_of self.old) ≡ is_some number }
+        ensures site { site_of self.new ≡ on_path (renumbered number) (site_of self.old) }
         ensures mark { self.new.at_mark ≡ self.old.at_mark }
     {
-        self.containers.set_content(n, content);
+        self.containers.set_number(number);
+    }
+
+    /// Makes the nearest open cell, if there is one, wider by so many characters. An `Err` says that
+    /// memory ran out, or that the count would be too large.
+    pub fn widen(&mut self, characters: usize) -> Result<(), AllocError>
+        ensures site { OnOk result
+            (site_of self.new ≡ on_path (widened characters) (site_of self.old)) }
+        ensures mark { self.new.at_mark ≡ self.old.at_mark }
+    {
+        self.containers.widen(characters)
+    }
+
+    /// Adds to the nearest open table, if there is one, a cell of this width, in characters. An `Err`
+    /// says that memory ran out.
+    pub fn add_header(&mut self, width: usize) -> Result<(), AllocError>
+        ensures site { OnOk result
+            (site_of self.new ≡ on_path (with_header width) (site_of self.old)) }
+        ensures mark { self.new.at_mark ≡ self.old.at_mark }
+    {
+        self.containers.add_header(width)
     }
 
     /// Sets the mark here, in place of an earlier one.

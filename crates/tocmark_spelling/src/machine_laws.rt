@@ -13,6 +13,10 @@ ghost use Rattle.tocmark_spelling.specs.Spelling.{spelling};
 /// where the recursion over its trees does, and refuses what it refuses. So two forests with the same
 /// events have one spelling.
 pub fn machine_follows_trees()
-    ensures follows { (s : Setting) (m : Manner) (next : Option EventView) (f : Trees) (here : Site) → answer_of (run s m next (flat f) (going here [])) ≡ spelling s m f (around [] [] next) here.path here.page }
-    ensures agree { (s : Setting) (m : Manner) (next : Option EventView) (f g : Trees) (here : Site) → flat f ≡ flat g → spelling s m f (around [] [] next) here.path here.page ≡ spelling s m g (around [] [] next) here.path here.page }
+    ensures follows { (s : Setting) (m : Manner) (next : Option EventView) (f : Trees)
+        (here : Site) → answer_of (run s m next (flat f) (going here []))
+        ≡ spelling s m f (around [] [] next) here.path here.page }
+    ensures agree { (s : Setting) (m : Manner) (next : Option EventView) (f g : Trees)
+        (here : Site) → flat f ≡ flat g → spelling s m f (around [] [] next) here.path here.page
+        ≡ spelling s m g (around [] [] next) here.path here.page }
 {}

@@ -166,7 +166,32 @@ impl Carried {
         self
     }
 
-    fn raised(mut self, lines: usize) -> Carried
+    /// The same where the last list is this one, or none.
+    pub fn with_last_list(mut self, list: Option<LastList>) -> Carried
+        ensures { Becomes self result (λ t. record t { last_list = list }) }
+    {
+        self.last_list = list;
+        self
+    }
+
+    /// The same where raw text ended without a line feed, or didn't.
+    pub fn with_raw_end(mut self, raw_end: bool) -> Carried
+        ensures { Becomes self result (λ t. record t { raw_end = raw_end }) }
+    {
+        self.raw_end = raw_end;
+        self
+    }
+
+    /// The same where HTML is open, or isn't.
+    pub fn with_open_html(mut self, open_html: bool) -> Carried
+        ensures { Becomes self result (λ t. record t { open_html = open_html }) }
+    {
+        self.open_html = open_html;
+        self
+    }
+
+    /// The same where at least so many line feeds are owed.
+    pub fn raised(mut self, lines: usize) -> Carried
         ensures { Becomes self result (raised lines) }
     {
         self.owed = self.owed.max(lines);
@@ -230,7 +255,8 @@ impl Carried {
 
     /// Blank lines stand between the items of a list that isn't tight.
     pub fn raised_for_item(self, event: &OwnedEvent, in_loose_list: bool) -> Carried
-        ensures { Becomes self result (raised_in_loose_list (event_view string_bytes event.now) in_loose_list) }
+        ensures { Becomes self result
+            (raised_in_loose_list (event_view string_bytes event.now) in_loose_list) }
     {
         let needed = starts_item(event) && in_loose_list && self.last.is_item_end();
         self.raised_if(needed, 2)
@@ -238,7 +264,9 @@ impl Carried {
 
     /// Whether a quote that was left open goes on before the event.
     pub fn keeps_quote(self, event: &OwnedEvent) -> bool
-        ensures { (line : Option (List ℕ)) → (if result then line else None) ≡ quote_line_for (event_view string_bytes event.now) (trail_of self line) }
+        ensures { (line : Option (List ℕ))
+            → (if result then line else None)
+            ≡ quote_line_for (event_view string_bytes event.now) (trail_of self line) }
     {
         self.last.least(event) == 0 && !starts_item(event)
     }
