@@ -35,14 +35,15 @@ fn is_uniform(layout: Layout) -> bool
 fn reads_subscripts(flags: ParserOptions) -> bool
     ensures { result ≡ has_flag flags 0x4000 }
 {
-    flags.0 & 0x4000 == 0x4000
+    flags.contains(ParserOptions::ENABLE_SUBSCRIPT)
 }
 
 /// What stands before and after a strikethrough: `~~`, but `~` in another layout than the preferred
 /// one where `~` is no subscript and the nearest strikethrough outside is between `~~`.
 pub fn strikethrough_token(layout: Layout, flags: ParserOptions, in_double: bool) -> &'static str
     ensures { (s : Setting) (m : Manner) (path : Path)
-        → IsStruckPlace layout flags in_double s m path → result.now ≡ strikethrough_token s m path }
+        → IsStruckPlace layout flags in_double s m path
+        → result.now ≡ strikethrough_token s m path }
 {
     if !is_preferred(layout) && !reads_subscripts(flags) && in_double {
         "~"

@@ -1,0 +1,3 @@
+-- Definitions.
+pub mod BesideOf
+pub mod Led

@@ -1,0 +1,4 @@
+-- Definitions.
+pub mod AheadOf
+pub mod Between
+pub mod Items

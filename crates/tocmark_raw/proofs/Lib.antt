@@ -1,0 +1,5 @@
+pub mod ClosedLemmas
+pub mod TrimLemmas
+pub mod PlaceLemmas
+pub mod HtmlLemmas
+pub mod RawLemmas

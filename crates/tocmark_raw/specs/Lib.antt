@@ -1,0 +1,6 @@
+-- Definitions.
+pub mod BlockEnds
+pub mod Html
+pub mod HtmlAhead
+pub mod Kinds
+pub mod Raw
