@@ -23,7 +23,7 @@ bytes-whole : (t b : List ℕ) → bytes_eq t (t ++ b) ≡ bytes_eq [] b
 bytes-whole t b = ap (λ x. bytes_eq x (t ++ b)) (sym (append-nil t)) ∙ bytes-front t [] b
 
 -- equal texts in front are taken away
-texts-front : (t r : List ℕ) (es ys : List EventView) → same_events (after_text t es) (Leaf (Text (t ++ r)) ∷ ys) ≡ same_events (after_text [] es) (Leaf (Text r) ∷ ys)
+pub texts-front : (t r : List ℕ) (es ys : List EventView) → same_events (after_text t es) (Leaf (Text (t ++ r)) ∷ ys) ≡ same_events (after_text [] es) (Leaf (Text r) ∷ ys)
 texts-front t r [] ys = ap (λ b. (b && true) && same_events [] ys) (bytes-whole t r)
 texts-front t r (Leaf (Text v) ∷ es) ys = ap (λ b. (b && true) && same_events es ys) (bytes-front t v r)
 texts-front t r (e ∷ es) ys = ap (λ b. (b && true) && same_events (e ∷ es) ys) (bytes-whole t r)
@@ -39,7 +39,7 @@ bytes-differ (x ∷ t) v (y ∷ w) h = by (nat_eq x y) h (bytes-differ t v w)
     by false h rest = refl
 
 -- a text that begins with another one
-starts-splits : (t w : List ℕ) → starts_with nat_eq w t ≡ true → w ≡ t ++ drop (length t) w
+pub starts-splits : (t w : List ℕ) → starts_with nat_eq w t ≡ true → w ≡ t ++ drop (length t) w
 starts-splits [] w h = refl
 starts-splits (x ∷ t) [] h = absurd (false≢true h)
 starts-splits (x ∷ t) (y ∷ w) h = by (nat_eq x y) refl h (starts-splits t w)
@@ -48,19 +48,19 @@ starts-splits (x ∷ t) (y ∷ w) h = by (nat_eq x y) refl h (starts-splits t w)
     by true e h rest = ap (λ z. z ∷ w) (sym (eqb-true x y e)) ∙ ap (λ z. x ∷ z) (rest h)
     by false e h rest = absurd (false≢true h)
 
-texts-differ : (t w : List ℕ) (es ys : List EventView) → starts_with nat_eq w t ≡ false → same_events (after_text t es) (Leaf (Text w) ∷ ys) ≡ false
+pub texts-differ : (t w : List ℕ) (es ys : List EventView) → starts_with nat_eq w t ≡ false → same_events (after_text t es) (Leaf (Text w) ∷ ys) ≡ false
 texts-differ t w [] ys h = ap (λ b. (b && true) && same_events [] ys) (ap (λ x. bytes_eq x w) (sym (append-nil t)) ∙ bytes-differ t [] w h)
 texts-differ t w (Leaf (Text v) ∷ es) ys h = ap (λ b. (b && true) && same_events es ys) (bytes-differ t v w h)
 texts-differ t w (e ∷ es) ys h = ap (λ b. (b && true) && same_events (e ∷ es) ys) (ap (λ x. bytes_eq x w) (sym (append-nil t)) ∙ bytes-differ t [] w h)
 
 -- a text isn't another event
-text-only : (t : List ℕ) (y : EventView) (es ys : List EventView) → begins_with_text (y ∷ []) ≡ false → same_events (after_text t es) (y ∷ ys) ≡ false
+pub text-only : (t : List ℕ) (y : EventView) (es ys : List EventView) → begins_with_text (y ∷ []) ≡ false → same_events (after_text t es) (y ∷ ys) ≡ false
 text-only t (Leaf (Text u)) es ys h = absurd (false≢true (sym h))
 text-only t y [] ys h = refl
 text-only t y (Leaf (Text v) ∷ es) ys h = refl
 text-only t y (e ∷ es) ys h = refl
 
-text-last : (t : List ℕ) (es : List EventView) → same_events (after_text t es) [] ≡ false
+pub text-last : (t : List ℕ) (es : List EventView) → same_events (after_text t es) [] ≡ false
 text-last t [] = refl
 text-last t (Leaf (Text v) ∷ es) = refl
 text-last t (e ∷ es) = refl
@@ -103,17 +103,17 @@ module _ (es ys : List EventView) (matched : Option ℕ) (t : List ℕ) where
   text-differs y h = text-elsewhere es ys y t matched refl
 
 -- behind the text
-merged-begins : (es : List EventView) → begins_with_text es ≡ false → begins_with_text (merged es) ≡ false
+pub merged-begins : (es : List EventView) → begins_with_text es ≡ false → begins_with_text (merged es) ≡ false
 merged-begins [] h = refl
 merged-begins (Leaf (Text t) ∷ es) h = absurd (false≢true (sym h))
 merged-begins (e ∷ es) h = refl
 
-empty-text : (es : List EventView) → begins_with_text es ≡ false → after_text [] es ≡ Leaf (Text []) ∷ es
+pub empty-text : (es : List EventView) → begins_with_text es ≡ false → after_text [] es ≡ Leaf (Text []) ∷ es
 empty-text [] h = refl
 empty-text (Leaf (Text t) ∷ es) h = absurd (false≢true (sym h))
 empty-text (e ∷ es) h = refl
 
-front-merged : (e : EventView) (es : List EventView) → begins_with_text (e ∷ []) ≡ false → merged (e ∷ es) ≡ e ∷ merged es
+pub front-merged : (e : EventView) (es : List EventView) → begins_with_text (e ∷ []) ≡ false → merged (e ∷ es) ≡ e ∷ merged es
 front-merged (Leaf (Text t)) es h = absurd (false≢true (sym h))
 front-merged e es h = refl
 

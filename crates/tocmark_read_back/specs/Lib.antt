@@ -1,2 +1,3 @@
 pub mod InParagraph
 pub mod Agrees
+pub mod Alike

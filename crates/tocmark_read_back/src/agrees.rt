@@ -34,7 +34,9 @@ fn bytes_from(text: &str, from: usize) -> &[u8]
 
 /// How many bytes of a whole text are read with this one, which goes on from a byte on.
 fn read_on(whole: &str, from: usize, text: &str) -> Option<usize>
-    ensures { result ≡ (if starts_with nat_eq (drop from whole.now) text.now then Some (from + length text.now) else None) }
+    ensures { result
+        ≡ (if starts_with nat_eq (drop from whole.now) text.now then Some (from + length text.now)
+        else None) }
 {
     if bytes_from(whole, from).starts_with(text.as_bytes()) {
         Some(from + text.len())
@@ -63,7 +65,8 @@ fn is_read(event: &OwnedEvent, from: usize) -> bool
 
 /// One more text was found.
 fn at_text(expected: &[OwnedEvent], at: Reached, text: &str) -> Option<Reached>
-    ensures { (es : List EventView) → agreed es (map (event_view string_bytes) expected.now) result ≡ agree_from (Leaf (Text text.now) ∷ es) (map (event_view string_bytes) expected.now) at }
+    ensures { (es : List EventView) → agreed es (map (event_view string_bytes) expected.now) result
+        ≡ agree_from (Leaf (Text text.now) ∷ es) (map (event_view string_bytes) expected.now) at }
 {
     if at.next >= expected.len() {
         return None;
@@ -79,7 +82,9 @@ fn at_text(expected: &[OwnedEvent], at: Reached, text: &str) -> Option<Reached>
 
 /// The place behind the text that was begun, if all of it is read.
 fn behind_text(expected: &[OwnedEvent], at: Reached) -> Option<usize>
-    ensures { (es : List EventView) → begins_with_text es ≡ false → agree_beyond es (map (event_view string_bytes) expected.now) result ≡ agree_from es (map (event_view string_bytes) expected.now) at }
+    ensures { (es : List EventView) → begins_with_text es ≡ false
+        → agree_beyond es (map (event_view string_bytes) expected.now) result
+        ≡ agree_from es (map (event_view string_bytes) expected.now) at }
 {
     match at.matched {
         None => Some(at.next),
@@ -99,7 +104,9 @@ fn behind_text(expected: &[OwnedEvent], at: Reached) -> Option<usize>
 /// One more event was found, which is no text.
 fn at_other(expected: &[OwnedEvent], at: Reached, event: &Event<'_>) -> Option<Reached>
     requires other { begins_with_text (event_view text_of event.now ∷ []) ≡ false }
-    ensures { (es : List EventView) → agreed es (map (event_view string_bytes) expected.now) result ≡ agree_from (event_view text_of event.now ∷ es) (map (event_view string_bytes) expected.now) at }
+    ensures { (es : List EventView) → agreed es (map (event_view string_bytes) expected.now) result
+        ≡ agree_from (event_view text_of event.now ∷ es)
+        (map (event_view string_bytes) expected.now) at }
 {
     let next = behind_text(expected, at)?;
     if next >= expected.len() {
@@ -115,7 +122,9 @@ fn at_other(expected: &[OwnedEvent], at: Reached, event: &Event<'_>) -> Option<R
 }
 
 fn after_event(expected: &[OwnedEvent], at: Reached, event: &Event<'_>) -> Option<Reached>
-    ensures { (es : List EventView) → agreed es (map (event_view string_bytes) expected.now) result ≡ agree_from (event_view text_of event.now ∷ es) (map (event_view string_bytes) expected.now) at }
+    ensures { (es : List EventView) → agreed es (map (event_view string_bytes) expected.now) result
+        ≡ agree_from (event_view text_of event.now ∷ es)
+        (map (event_view string_bytes) expected.now) at }
 {
     match event {
         EventOf::Text(text) => at_text(expected, at, text.words()),
@@ -126,7 +135,9 @@ fn after_event(expected: &[OwnedEvent], at: Reached, event: &Event<'_>) -> Optio
 /// Whether what a reader found, each stretch of texts as one, is what must be read. It takes no
 /// memory, and ends at the first difference.
 pub fn agrees(found: &[(Event<'_>, (usize, usize))], expected: &[OwnedEvent]) -> bool
-    ensures { result ≡ same_events (merged (map (λ e. event_view text_of e.0) found.now)) (map (event_view string_bytes) expected.now) }
+    ensures { result
+        ≡ same_events (merged (map (λ e. event_view text_of e.0) found.now))
+        (map (event_view string_bytes) expected.now) }
 {
     let mut at = Reached {
         next: 0,

@@ -38,7 +38,9 @@ fn has_block(events: &[OwnedEvent]) -> bool
 
 /// Inline events in a paragraph, as a reader finds them; events with a block as they are.
 fn in_paragraph(alloc: Global, events: Vec<OwnedEvent>) -> Result<Vec<OwnedEvent>, AllocError>
-    ensures { IfOk result (λ all. map (event_view string_bytes) all.items ≡ in_paragraph (map (event_view string_bytes) events.items)) }
+    ensures { IfOk result (λ all.
+        map (event_view string_bytes) all.items
+        ≡ in_paragraph (map (event_view string_bytes) events.items)) }
 {
     if events.is_empty() || has_block(&events) {
         return Ok(events);
@@ -55,7 +57,9 @@ fn in_paragraph(alloc: Global, events: Vec<OwnedEvent>) -> Result<Vec<OwnedEvent
 /// The events that must be read for a unit: its own without their source texts, each stretch of
 /// texts as one, and inline ones in a paragraph. An `Err` says that memory ran out.
 pub fn expected(alloc: Global, unit: &[BufferedEvent]) -> Result<Vec<OwnedEvent>, AllocError>
-    ensures { IfOk result (λ all. map (event_view string_bytes) all.items ≡ in_paragraph (merged (map unsourced (map buffered_view unit.now)))) }
+    ensures { IfOk result (λ all.
+        map (event_view string_bytes) all.items
+        ≡ in_paragraph (merged (map unsourced (map buffered_view unit.now)))) }
 {
     let mut events: Vec<OwnedEvent> = Vec::new(alloc);
     for buffered in unit {

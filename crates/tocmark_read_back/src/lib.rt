@@ -2,4 +2,5 @@
 #![tactic(auto)]
 
 pub mod agrees;
+pub mod alike;
 pub mod expected;
