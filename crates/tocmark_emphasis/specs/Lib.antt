@@ -1,0 +1,5 @@
+-- Definitions.
+pub mod Widths
+pub mod ColumnsOf
+pub mod NodeOf
+pub mod Low

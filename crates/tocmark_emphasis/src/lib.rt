@@ -1,0 +1,9 @@
+//! Emphasis and strong emphasis, from the events of a unit to the written markers.
+#![tactic(auto)]
+
+pub mod columns;
+mod ends;
+pub mod node;
+pub mod opening;
+pub mod place;
+pub mod widths;

@@ -1,0 +1,140 @@
+//! The place where a node of emphasis or strong emphasis opens.
+
+ghost use Rattle.std.specs.Prelude.{◌≡◌, Some, encode_utf8, slice_index, string_bytes, IfOk};
+ghost use Rattle.std.specs.Option.{option_map};
+ghost use Rattle.tocmark_event.specs.View.{end_of, event_view, tag_view};
+ghost use Rattle.tocmark_containers.specs.FrameOf.{content_view, level_of};
+ghost use Rattle.tocmark_marker.specs.Facts.{IsNearest, IsParent, IsPlace};
+ghost use Rattle.tocmark_renderer.specs.WriterOf.{levels_of, page_of};
+ghost use Rattle.tocmark_spelling.specs.Buffered.{following_view};
+ghost use Rattle.tocmark_spelling.specs.Look.{Look};
+ghost use Rattle.tocmark_spelling.specs.Marker.{is_end, is_token, opening_token, token_of};
+ghost use Rattle.tocmark_spelling.specs.Page.{Page};
+
+use crate::ends::{last_byte, last_character, last_run, run_around};
+use std::alloc::{AllocError, Global};
+use tocmark_ahead::same_events::end_number;
+use tocmark_containers::content::Content;
+use tocmark_containers::frame::Frame;
+use tocmark_event::event::{EventOf, OwnedEvent, TagOf};
+use tocmark_marker::facts::{Parent, Place};
+use tocmark_renderer::renderer::Renderer;
+
+/// What stands before the body of a delimited container.
+fn opening_token(content: &Content) -> &str
+    ensures { result.now ≡ opening_token (content_view content.now) }
+{
+    match content {
+        Content::Delimited { before, .. } => before.as_str(),
+        _ => "",
+    }
+}
+
+fn first_byte(text: &str) -> u8
+    ensures { result ≡ slice_index text.now 0 }
+{
+    match text.as_bytes().first() {
+        Some(byte) => *byte,
+        None => 0,
+    }
+}
+
+fn is_end(event: &OwnedEvent, tag: &TagOf<String>) -> bool
+    ensures { result ≡ is_end (end_of (tag_view string_bytes tag.now))
+        (Some (event_view string_bytes event.now)) }
+{
+    match event {
+        EventOf::End(end) => end_number(*end) == end_number(tag.to_end()),
+        _ => false,
+    }
+}
+
+/// Whether an event is the End of a container with this tag.
+fn ends(event: Option<&OwnedEvent>, tag: &TagOf<String>) -> bool
+    ensures { result ≡ is_end (end_of (tag_view string_bytes tag.now))
+        (following_view event.entry) }
+{
+    match event {
+        Some(event) => is_end(event, tag),
+        None => false,
+    }
+}
+
+fn parent_of(frame: &Frame<'_>, text: &str, next: Option<&OwnedEvent>) -> Result<Parent, AllocError>
+    ensures { (l : Look) (p : Page)
+        → l.next_in_unit ≡ following_view next.entry → p.sheet.text ≡ text.now
+        → IfOk result (λ parent. IsParent parent (level_of frame.now) l p) }
+{
+    let marker = first_byte(opening_token(&frame.content));
+    Ok(Parent {
+        marker: char::from(marker),
+        same_start: frame.start == text.len(),
+        same_finish: ends(next, frame.tag),
+        run: run_around(text, frame.start, marker)?,
+    })
+}
+
+/// What the nearest open emphasis or strong emphasis says, if there is one.
+fn nearest(
+    frame: Option<&Frame<'_>>,
+    text: &str,
+    next: Option<&OwnedEvent>,
+) -> Result<Option<Parent>, AllocError>
+    ensures { (l : Look) (p : Page)
+        → l.next_in_unit ≡ following_view next.entry → p.sheet.text ≡ text.now
+        → IfOk result (λ parent.
+        IsNearest parent (option_map (λ f. level_of f.now) frame.entry) l p) }
+{
+    match frame {
+        None => Ok(None),
+        Some(frame) => {
+            let parent = parent_of(frame, text, next)?;
+            Ok(Some(parent))
+        }
+    }
+}
+
+/// Whether there is such a container, and it opened with this marker.
+fn is_opened_with(
+    alloc: Global,
+    frame: Option<&Frame<'_>>,
+    marker: char,
+) -> Result<bool, AllocError>
+    ensures { IfOk result (λ same. same ≡ is_token
+        (token_of (option_map (λ f. level_of f.now) frame.entry)) (encode_utf8 marker)) }
+{
+    match frame {
+        None => Ok(false),
+        Some(frame) => {
+            let mut text = String::new(alloc);
+            text.push(marker)?;
+            Ok(opening_token(&frame.content) == text.as_str())
+        }
+    }
+}
+
+/// What the written text and the open containers say of this place.
+///
+/// `marker` is the marker of emphasis that is asked for, and `next` the event in the unit just
+/// behind the node that opens here. An `Err` says that memory ran out.
+pub fn place_of(
+    renderer: &Renderer<'_>,
+    alloc: Global,
+    marker: char,
+    next: Option<&OwnedEvent>,
+) -> Result<Place, AllocError>
+    ensures { (l : Look) → l.next_in_unit ≡ following_view next.entry
+        → IfOk result (λ place. IsPlace place (encode_utf8 marker) l
+        (levels_of renderer.now) (page_of renderer.now)) }
+{
+    let text = renderer.text();
+    let in_same = is_opened_with(alloc, renderer.nearest_emphasis(), marker)?;
+    let parent = nearest(renderer.nearest_delimiter(), text, next)?;
+    Ok(Place {
+        last_character: last_character(text),
+        last_byte: last_byte(text),
+        last_run: last_run(text),
+        in_same,
+        parent,
+    })
+}
