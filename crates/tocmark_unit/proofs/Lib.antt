@@ -1,0 +1,5 @@
+pub mod Steps
+pub mod Told
+pub mod Events
+pub mod Units
+pub mod Jumps
