@@ -5,7 +5,7 @@ use Rattle.std.specs.List.{concat}
 use Rattle.tocmark_event.specs.Forest.{empty, leaf, node, flat}
 use Rattle.tocmark_event.specs.View.{EventView, Start, End, Leaf, Text, SourcedEvent, SourcedLeaf, end_of}
 use Rattle.tocmark_escape.specs.Escape.{Place, escaped}
-use Rattle.tocmark_spelling.specs.Body.{Trees, is_broken}
+use Rattle.tocmark_spelling.specs.Body.{Trees, is_broken, some_leaf}
 use Rattle.tocmark_spelling.specs.Closing.{closing}
 use Rattle.tocmark_spelling.specs.Gap.{gap}
 use Rattle.tocmark_spelling.specs.Look.{look}
@@ -17,19 +17,19 @@ use Rattle.tocmark_spelling.specs.Plan.{Setting, Manner}
 use Rattle.tocmark_spelling.specs.Spelling.{spelling, then_site, body_or_id, skips_body}
 use Rattle.tocmark_spelling.specs.Stretch.{leaf_on, place, held_with, stretch_on}
 use Rattle.tocmark_spelling.specs.Runs.{ahead_of, past, beyond}
-use Rattle.tocmark_renderer.specs.Spelled.{is_spelled_tag, is_spelled_forest}
+use Rattle.tocmark_unit.specs.Spelled.{is_spelled_tag, is_spelled_forest}
 use Rattle.tocmark_renderer.proofs.Laid.{laid-part}
-use Rattle.tocmark_render.specs.Candidates.{preferred_manner, has_source}
+use Rattle.tocmark_render.specs.Candidates.{preferred_manner, has_source, is_delimiter_block, is_delimiter_tag, is_math, some_tag}
 use Rattle.tocmark_render.specs.Choice as choice
 use Rattle.tocmark_render.specs.Choice.{page_in, spelled, accepted_if, document_after, has_standard_markers}
 use Rattle.tocmark_render.specs.Document.{DocumentView}
-use Rattle.tocmark_render.specs.Placeholder.{whole}
+use Rattle.tocmark_render.specs.Placeholder.{whole, needs_placeholder, needs_placeholder_at, is_ambiguous_list}
 use Rattle.tocmark_render.specs.Spelled.{choice_if, chosen_if_spelled}
-use Rattle.tocmark_render.proofs.Forests.{chosen-flat}
-use Rattle.tocmark_render.proofs.SpelledUnits.{choice-unasked}
+use Rattle.tocmark_render.proofs.Forests.{chosen-unlabelled}
+use Rattle.tocmark_render.proofs.PlainUnits.{choice-unasked}
 use Rattle.tocmark.specs.TextBlocks.{Kind, ParagraphKind, HeadingKind, Block, HasText, tag_of, mark_of, block_text, place_in, feeds_behind}
 use Rattle.tocmark.proofs.BlockEscapes.{IsFilled, no_feed, escaped_filled}
-use Rattle.tocmark.proofs.Paragraphs.{either-way, laid-plain}
+use Rattle.tocmark.proofs.Paragraphs.{either-way, laid-plain, neither_in}
 
 -- the texts of a block as leaves, without sources
 abbrev pub text_leaf : List ℕ → SourcedLeaf
@@ -277,6 +277,34 @@ block_spelled b = by_kind b.kind
     by_kind ParagraphKind = ap (λ x. x && true) (texts_spelled b.texts)
     by_kind (HeadingKind level) = ap (λ x. x && true) (texts_spelled b.texts)
 
+texts_undelimited : (ts : List (List ℕ)) → is_delimiter_block (text_trees ts) ≡ false
+texts_undelimited [] = refl
+texts_undelimited (t ∷ ts) = texts_undelimited ts
+
+-- no block has delimiters
+block_undelimited : (b : Block) → is_delimiter_block (unit b) ≡ false
+block_undelimited b = by_kind b.kind
+  where
+    none : ((some_tag is_delimiter_tag (text_trees b.texts) || false) || (some_leaf is_math (text_trees b.texts) || false)) ≡ false
+    none = neither_in (some_tag is_delimiter_tag (text_trees b.texts)) (some_leaf is_math (text_trees b.texts)) (texts_undelimited b.texts)
+
+    by_kind : (kind : Kind) → is_delimiter_block (node (tag_of kind) (text_trees b.texts) empty) ≡ false
+    by_kind ParagraphKind = none
+    by_kind (HeadingKind level) = none
+
+-- no block needs a placeholder
+texts_placed : (ts : List (List ℕ)) (a : Around) → needs_placeholder_at (text_trees ts) a ≡ false
+texts_placed [] a = refl
+texts_placed (t ∷ ts) a = texts_placed ts (record a { before = Leaf (text_leaf t) ∷ a.before })
+
+pub block_placed : (b : Block) → needs_placeholder (unit b) ≡ false
+unfolding needs_placeholder
+block_placed b = by_kind b.kind
+  where
+    by_kind : (kind : Kind) → (is_ambiguous_list (tag_of kind) (text_trees b.texts) (record { before = []; after = []; next = None }) || needs_placeholder_at (text_trees b.texts) (record { before = Start (tag_of kind) ∷ []; after = End (end_of (tag_of kind)) ∷ []; next = None }) || false) ≡ false
+    by_kind ParagraphKind = ap (λ x. x || false) (texts_placed b.texts _)
+    by_kind (HeadingKind level) = ap (λ x. x || false) (texts_placed b.texts _)
+
 module _ (s : Setting) (d : DocumentView) (b : Block) (next : Option EventView) where
   abbrev unit_text : ℕ → List ℕ
   unit_text owed = replicate owed 10 ++ block_text s.options s.flags b
@@ -310,13 +338,13 @@ module _ (s : Setting) (d : DocumentView) (b : Block) (next : Option EventView) 
   unasked : (has_source (unit b) && has_standard_markers s.options) ≡ false
   unasked = ap (λ x. (x || false) && has_standard_markers s.options) (no_sources b.texts)
 
-  pub block_chosen : (owed : ℕ) (before : Option Kind) → IsCalm d owed before → HasText b → IsChosen owed
-  block_chosen owed before h some = record {
+  pub block_chosen : s.label ≡ None → (owed : ℕ) (before : Option Kind) → IsCalm d owed before → HasText b → IsChosen owed
+  block_chosen none owed before h some = record {
     document = document_after s d (unit_page owed);
     is =
-        chosen-flat s d (unit b) next
+        chosen-unlabelled s d (unit b) next none (block_placed b)
         ∙ ap (λ x. choice_if x s d (unit b) next) (block_spelled b)
-        ∙ choice-unasked s d (unit b) next (block_spelled b) unasked
+        ∙ choice-unasked s d (unit b) next (block_undelimited b) unasked
         ∙ ap (accepted_if s d) (page_spelled owed before h some);
     after = left_calm owed before h;
   }

@@ -1,5 +1,5 @@
 -- What a document of paragraphs and headings hands: a text for each block.
-use Rattle.std.proofs.Common.{◌≡◌, ℕ, ◌<◌, true, false, ◌||◌, if◌then◌else◌, List, [], ◌∷◌, ◌++◌, length, length-append, replicate, map, refl, ap, subst, ◌∙◌, arith, append_assoc, eq-eqb, Option, Some, None, Result, Ok, Err}
+use Rattle.std.proofs.Common.{◌≡◌, ℕ, ◌<◌, true, false, if◌then◌else◌, List, [], ◌∷◌, ◌++◌, length, length-append, replicate, map, refl, ap, subst, ◌∙◌, arith, append_assoc, eq-eqb, Option, Some, None, Result, Ok, Err}
 use Rattle.std.specs.List.{AllByRecursion, concat}
 use Rattle.tocmark_escape.specs.Escape.{escaped}
 use Rattle.tocmark_event.specs.Ends.{same_end, end_code}
@@ -10,22 +10,20 @@ use Rattle.tocmark_event.specs.View.{EventView, Start, End, Leaf, Text, TagView,
 use Rattle.tocmark_event.specs.declared.event.flags.ParserOptions.{ParserOptions}
 use Rattle.tocmark_event.specs.declared.options.Error.{Error}
 use Rattle.tocmark_event.specs.declared.options.Error.TheVariants as error
-use Rattle.tocmark_spelling.specs.Page.{Around}
 use Rattle.tocmark_spelling.specs.Plan.{Setting}
 use Rattle.tocmark_spelling.specs.PlanOf.{setting_of}
 use Rattle.tocmark_render.specs.Definitions.{definitions_text}
 use Rattle.tocmark_render.specs.Document.{DocumentView, first_document}
 use Rattle.tocmark_render.specs.Ending.{last_texts, holds_raw_block, unless_empty}
-use Rattle.tocmark_render.specs.Placeholder.{needs_placeholder, needs_placeholder_at, is_ambiguous_list}
-use Rattle.tocmark_render.specs.Units.{waits, placeholder_in}
-use Rattle.tocmark_render.proofs.Forests.{trees-flat}
+use Rattle.tocmark_render.specs.Units.{waits}
+use Rattle.tocmark_render.proofs.Forests.{waits-flat}
 use Rattle.tocmark.specs.Ranges.{Pair, unranged}
 use Rattle.tocmark.specs.StateView.{keeping, rendering}
-use Rattle.tocmark.specs.TextBlocks.{Kind, ParagraphKind, HeadingKind, Block, HasText, MakesBlocks, blocks_walk, tag_of, mark_of, block_text, block_events, document_of, feeds_behind, place_in, texts_behind}
+use Rattle.tocmark.specs.TextBlocks.{Kind, Block, HasText, MakesBlocks, blocks_walk, tag_of, mark_of, block_text, block_events, document_of, feeds_behind, place_in, texts_behind}
 use Rattle.tocmark.specs.Walk.{Walk, Done, done, Kept, Rendering, Standing, beginning, nothing_yet, go_on, stay, finished_of, flushed, flushed_before, flushed_or_deferred, flush_of, joins, advance, step, walk, script, ended, with_event}
 use Rattle.tocmark.specs.Writes.{Makes}
 use Rattle.tocmark.proofs.BlockEscapes.{IsFilled, escaped_filled}
-use Rattle.tocmark.proofs.BlockSpelling.{text_leaf, text_trees, unit, IsCalm, IsChosen, block_chosen}
+use Rattle.tocmark.proofs.BlockSpelling.{text_leaf, text_trees, unit, IsCalm, IsChosen, block_placed, block_chosen}
 
 -- a standing in a block, with these events pending
 abbrev inside : Kind → Kept → List SourcedEvent → Standing
@@ -77,21 +75,8 @@ block_walked how source kept b q =
     started how source b.kind kept b.texts q ∙ texts_walked how source b.kind kept (Start (tag_of b.kind) ∷ []) b.texts q
 
 -- no block waits
-texts_placed : (ts : List (List ℕ)) (a : Around) → needs_placeholder_at (text_trees ts) a ≡ false
-texts_placed [] a = refl
-texts_placed (t ∷ ts) a = texts_placed ts (record a { before = Leaf (text_leaf t) ∷ a.before })
-
-block_placed : (b : Block) → needs_placeholder (unit b) ≡ false
-unfolding needs_placeholder
-block_placed b = by_kind b.kind
-  where
-    by_kind : (kind : Kind) → (is_ambiguous_list (tag_of kind) (text_trees b.texts) (record { before = []; after = []; next = None }) || needs_placeholder_at (text_trees b.texts) (record { before = Start (tag_of kind) ∷ []; after = End (end_of (tag_of kind)) ∷ []; next = None }) || false) ≡ false
-    by_kind ParagraphKind = ap (λ x. x || false) (texts_placed b.texts _)
-    by_kind (HeadingKind level) = ap (λ x. x || false) (texts_placed b.texts _)
-
 block_waits : (b : Block) → waits (flat (unit b)) ≡ false
-unfolding waits
-block_waits b = ap placeholder_in (trees-flat (unit b)) ∙ block_placed b
+block_waits b = waits-flat (unit b) ∙ block_placed b
 
 one_text : (text : List ℕ) → 0 < length text → unless_empty text ≡ text ∷ []
 one_text [] h = absurd (omega arith)
@@ -159,9 +144,9 @@ module _ (o : OptionsView) (reading : List ℕ → ParserOptions → ReadingView
 
   -- a block that is pending, and the blocks behind it
   rest_written : (d : DocumentView) (owed : ℕ) (before : Option Kind) (b : Block) (bs : List Block) → IsCalm d owed before → AllByRecursion HasText (b ∷ bs) → at_end (walk how source (behind (kept_of d) (flat (unit b))) (document_of bs)) ≡ record { texts = texts_behind o flags owed (b ∷ bs); outcome = Ok done }
-  rest_written d owed before b [] calm h = last_written d owed b (block_chosen setting d b None owed before calm (h.0)) (h.0)
+  rest_written d owed before b [] calm h = last_written d owed b (block_chosen setting d b None refl owed before calm (h.0)) (h.0)
   rest_written d owed before b (c ∷ cs) calm h =
-      let chosen : IsChosen setting d b (Some (Start (tag_of c.kind))) owed = block_chosen setting d b (Some (Start (tag_of c.kind))) owed before calm (h.0) in
+      let chosen : IsChosen setting d b (Some (Start (tag_of c.kind))) owed = block_chosen setting d b (Some (Start (tag_of c.kind))) refl owed before calm (h.0) in
       ap at_end (step_flushed d owed b (tag_of c.kind) (rest_of c.kind c.texts ++ document_of cs) chosen (h.0))
       ∙ at_end_cons (text_of owed b) (walk how source (beginning (kept_of chosen.document)) (document_of (c ∷ cs)))
       ∙ ap (λ w. cons_walk (text_of owed b) (at_end w)) (block_walked how source (kept_of chosen.document) c (document_of cs))

@@ -1,6 +1,6 @@
 -- What is handed for a paragraph with one text or one code span.
 use Rattle.std.proofs.Common.{◌≡◌, ℕ, List, [], ◌∷◌, ◌++◌, if◌then◌else◌, None, Some, Ok, Bool, true, false, Result, refl, sym, ap, ◌∙◌, chars, append-nil, append_assoc}
-use Rattle.std.specs.Prelude.{◌&&◌, ◌<◌, length, nat_lt}
+use Rattle.std.specs.Prelude.{◌||◌, ◌<◌, length, nat_lt}
 use Rattle.std.specs.List.{concat}
 use Rattle.tocmark_event.specs.Forest.{empty, leaf, node, flat}
 use Rattle.tocmark_event.specs.Options.{OptionsView}
@@ -19,17 +19,19 @@ use Rattle.tocmark_spelling.specs.Marker.{marker}
 use Rattle.tocmark_spelling.specs.Runs.{prefers_underscore}
 use Rattle.tocmark_spelling.specs.Page.{Sheet, laid, put_byte}
 use Rattle.tocmark_spelling.specs.PlanOf.{setting_of}
-use Rattle.tocmark_renderer.specs.Spelled.{is_spelled_leaf, is_spelled_forest}
+use Rattle.tocmark_unit.specs.Spelled.{is_spelled_forest}
 use Rattle.tocmark_spelling.specs.Spelling.{spelling}
 use Rattle.tocmark_spelling.specs.Stretch.{leaf_on}
 use Rattle.tocmark_escape.specs.Unescape.{unescape}
+use Rattle.tocmark_render.specs.Candidates.{is_delimiter_block, is_math}
 use Rattle.tocmark_render.specs.Choice.{preferred, spelled, document_after}
 use Rattle.tocmark_render.specs.Definitions.{definitions_text}
 use Rattle.tocmark_render.specs.Document.{DocumentView, first_document}
 use Rattle.tocmark_render.specs.Ending.{last_texts, holds_raw_block}
+use Rattle.tocmark_render.specs.Placeholder.{needs_placeholder}
 use Rattle.tocmark_render.specs.Spelled.{choice_if, chosen_if_spelled}
-use Rattle.tocmark_render.proofs.Forests.{chosen-flat}
-use Rattle.tocmark_render.proofs.SpelledUnits.{choice-unasked}
+use Rattle.tocmark_render.proofs.Forests.{chosen-unlabelled}
+use Rattle.tocmark_render.proofs.PlainUnits.{choice-unasked}
 use Rattle.tocmark.specs.Paragraphs.{ReadsAs, ReadsAsSpan, paragraph_with, paragraph_of}
 use Rattle.tocmark.specs.StateView.{keeping, rendering}
 use Rattle.tocmark.specs.Walk.{Walk, Done, done, finished_of, handed_text, nothing_yet, script, joins, flushed, flushed_before, advance, step, ended}
@@ -56,9 +58,23 @@ laid-plain (b ∷ bs) s =
     ∙ ap (λ t. (t ++ b ∷ []) ++ bs) (append-nil s.text)
     ∙ append_assoc s.text (b ∷ []) bs
 
-forest-spelled : (l : LeafView) → is_spelled_leaf l ≡ true → is_spelled_forest (unit l) ≡ true
+forest-spelled : (l : LeafView) → is_spelled_forest (unit l) ≡ true
 unfolding is_spelled_forest
-forest-spelled l h = ap (λ b. (b && true) && true) h
+forest-spelled l = refl
+
+-- two truths that are false, each beside another one
+pub neither_in : (a b : Bool) → (a || b) ≡ false → ((a || false) || (b || false)) ≡ false
+neither_in true b h = h
+neither_in false true h = h
+neither_in false false h = refl
+
+-- a paragraph of a leaf that isn't mathematics has no delimiters
+undelimited : (l : LeafView) → is_math l ≡ false → is_delimiter_block (unit l) ≡ false
+undelimited l h = ap (λ b. (b || false) || false) h
+
+no-list : (l : LeafView) → needs_placeholder (unit l) ≡ false
+unfolding needs_placeholder
+no-list l = refl
 
 -- the sheet on which the first unit begins
 abbrev blank : Sheet
@@ -83,11 +99,11 @@ module _ (o : OptionsView) (reading : List ℕ → ParserOptions → ReadingView
   unfolding spelled spelling opening closing leaf_on document_after definitions_text prefers_underscore by_id marker
   written-code text = record { document = _; undefined = refl; preferred_is = refl }
 
-  chosen-preferred : (l : LeafView) → is_spelled_leaf l ≡ true → chosen_if_spelled (setting_of o flags reading None) first_document (flat (unit l)) None ≡ preferred (setting_of o flags reading None) first_document (unit l) None
+  chosen-preferred : (l : LeafView) → is_math l ≡ false → chosen_if_spelled (setting_of o flags reading None) first_document (flat (unit l)) None ≡ preferred (setting_of o flags reading None) first_document (unit l) None
   chosen-preferred l h =
       let s = setting_of o flags reading None in
-      let is = forest-spelled l h in
-      chosen-flat s first_document (unit l) None ∙ ap (λ b. choice_if b s first_document (unit l) None) is ∙ choice-unasked s first_document (unit l) None is refl
+      let is = forest-spelled l in
+      chosen-unlabelled s first_document (unit l) None refl (no-list l) ∙ ap (λ b. choice_if b s first_document (unit l) None) is ∙ choice-unasked s first_document (unit l) None (undelimited l h) refl
 
   -- what the end comes to, by what is chosen for the unit
   abbrev ended_as : LeafView → Result (List ℕ × DocumentView) Error → Walk Done
@@ -97,7 +113,7 @@ module _ (o : OptionsView) (reading : List ℕ → ParserOptions → ReadingView
   unfolding joins flushed flushed_before advance step ended
   scripted source l = refl
 
-  made : (source : List ℕ) (l : LeafView) (text : List ℕ) → is_spelled_leaf l ≡ true → IsWritten l text → script (rendering o reading) source (nothing_yet flags) (paragraph_with l) ≡ record { texts = handed_text text; outcome = Ok done }
+  made : (source : List ℕ) (l : LeafView) (text : List ℕ) → is_math l ≡ false → IsWritten l text → script (rendering o reading) source (nothing_yet flags) (paragraph_with l) ≡ record { texts = handed_text text; outcome = Ok done }
   made source l text h w =
       scripted source l
       ∙ ap (ended_as l) (chosen-preferred l h ∙ w.preferred_is ∙ ap (λ t. Ok (t, w.document)) (laid-plain text blank))

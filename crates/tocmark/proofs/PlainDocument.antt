@@ -10,25 +10,26 @@ use Rattle.tocmark_event.specs.declared.event.TagEnd.TheVariants as end
 use Rattle.tocmark_event.specs.declared.event.flags.ParserOptions.{ParserOptions}
 use Rattle.tocmark_event.specs.declared.options.Error.{Error}
 use Rattle.tocmark_core_reader.specs.PlainTexts.{line_events, lines_paragraph}
-use Rattle.tocmark_spelling.specs.Body.{Trees}
+use Rattle.tocmark_spelling.specs.Body.{Trees, some_leaf}
 use Rattle.tocmark_spelling.specs.Closing.{closing}
 use Rattle.tocmark_spelling.specs.Opening.{opening}
-use Rattle.tocmark_spelling.specs.Page.{Site, Page, Reference}
+use Rattle.tocmark_spelling.specs.Page.{Around, Site, Page, Reference}
 use Rattle.tocmark_spelling.specs.declared.trail.Last.TheVariants.{Other}
 use Rattle.tocmark_spelling.specs.Plan.{Setting, Manner}
 use Rattle.tocmark_spelling.specs.PlanOf.{setting_of}
 use Rattle.tocmark_spelling.specs.Runs.{beyond}
-use Rattle.tocmark_renderer.specs.Spelled.{is_spelled_forest}
+use Rattle.tocmark_unit.specs.Spelled.{is_spelled_forest}
 use Rattle.tocmark_spelling.specs.Spelling.{spelling, then_site}
-use Rattle.tocmark_render.specs.Candidates.{preferred_manner, has_source}
+use Rattle.tocmark_render.specs.Candidates.{preferred_manner, has_source, is_delimiter_block, is_delimiter_tag, is_math, some_tag}
 use Rattle.tocmark_render.specs.Choice as choice
 use Rattle.tocmark_render.specs.Choice.{has_standard_markers, spelled, document_after, accepted_if, preferred}
 use Rattle.tocmark_render.specs.Definitions.{definitions_text}
 use Rattle.tocmark_render.specs.Document.{DocumentView, first_document}
 use Rattle.tocmark_render.specs.Ending.{last_texts, holds_raw_block, unless_empty}
+use Rattle.tocmark_render.specs.Placeholder.{needs_placeholder, needs_placeholder_at}
 use Rattle.tocmark_render.specs.Spelled.{choice_if, chosen_if_spelled}
-use Rattle.tocmark_render.proofs.Forests.{chosen-flat}
-use Rattle.tocmark_render.proofs.SpelledUnits.{choice-unasked}
+use Rattle.tocmark_render.proofs.Forests.{chosen-unlabelled}
+use Rattle.tocmark_render.proofs.PlainUnits.{choice-unasked}
 use Rattle.tocmark_core_scan.proofs.PlainTests.{all_from}
 use Rattle.tocmark.specs.PlainLines.{is_line, paragraph_of_lines, IsReadBack, HandsLines}
 use Rattle.tocmark.specs.Ranges.{Pair, unranged}
@@ -36,6 +37,7 @@ use Rattle.tocmark.specs.StateView.{keeping, rendering}
 use Rattle.tocmark.specs.Walk.{Walk, Done, done, Kept, Rendering, Standing, finished_of, nothing_yet, beginning, go_on, script, stay, walk, joins, flushed_before, advance, step, ended}
 use Rattle.tocmark.specs.Writes.{Makes}
 use Rattle.tocmark.proofs.PlainParagraph.{Escapes, IsLineText, line_from, lines_stand, lines_are_read_back}
+use Rattle.tocmark.proofs.Paragraphs.{neither_in}
 use Rattle.tocmark.proofs.PlainSpelling.{line_trees, in_paragraph, page_of, within, site_of, around, lines_text, lines_spelled, written_some}
 
 -- a standing in a paragraph, with these events pending
@@ -106,6 +108,23 @@ unit_spelled : (l : List ℕ) (ms : List (List ℕ)) → is_spelled_forest (unit
 unfolding is_spelled_forest
 unit_spelled l ms = ap (λ b. b && true) (lines_spelled_forest l ms)
 
+lines_undelimited : (l : List ℕ) (ms : List (List ℕ)) → is_delimiter_block (line_trees l ms) ≡ false
+lines_undelimited l [] = refl
+lines_undelimited l (n ∷ ms) = lines_undelimited n ms
+
+-- the unit has no delimiters
+unit_undelimited : (l : List ℕ) (ms : List (List ℕ)) → is_delimiter_block (unit l ms) ≡ false
+unit_undelimited l ms = neither_in (some_tag is_delimiter_tag (line_trees l ms)) (some_leaf is_math (line_trees l ms)) (lines_undelimited l ms)
+
+lines_placed : (l : List ℕ) (ms : List (List ℕ)) (a : Around) → needs_placeholder_at (line_trees l ms) a ≡ false
+lines_placed l [] a = refl
+lines_placed l (n ∷ ms) a = lines_placed n ms _
+
+-- no list of the unit needs a placeholder
+unit_placed : (l : List ℕ) (ms : List (List ℕ)) → needs_placeholder (unit l ms) ≡ false
+unfolding needs_placeholder
+unit_placed l ms = ap (λ b. b || false) (lines_placed l ms _)
+
 -- the paragraph is opened, its lines are written, and it is closed
 abbrev closed_page : Setting → Manner → Trees → Option Site → Option Page
 closed_page s m kids o = choice.page_of (then_site o (λ full. then_site (closing s.options full.path full.page) (λ here. spelling s m empty (beyond Paragraph kids (around [] [] None)) here.path here.page)))
@@ -174,9 +193,9 @@ module _ (o : OptionsView) (reading : List ℕ → ParserOptions → ReadingView
   chosen : (l : List ℕ) (ms : List (List ℕ)) → chosen_if_spelled setting first_document (flat (unit l ms)) None ≡ preferred setting first_document (unit l ms) None
   chosen l ms =
       let is = unit_spelled l ms in
-      chosen-flat setting first_document (unit l ms) None
+      chosen-unlabelled setting first_document (unit l ms) None refl (unit_placed l ms)
       ∙ ap (λ b. choice_if b setting first_document (unit l ms) None) is
-      ∙ choice-unasked setting first_document (unit l ms) None is (no_source setting l ms)
+      ∙ choice-unasked setting first_document (unit l ms) None (unit_undelimited l ms) (no_source setting l ms)
 
   abbrev ended_as : List ℕ → List (List ℕ) → Result (List ℕ × DocumentView) Error → Walk Done
   ended_as l ms r = finished_of (rendering o reading) (flat (unit l ms)) (keeping flags r)

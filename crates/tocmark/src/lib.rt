@@ -66,14 +66,22 @@ where
     I: IntoIterator<Item = &'a Event<'a>>,
     W: Taker,
     R: Reader + Drop,
-    requires { (it : I.IntoIter) → I.into_iter_gives events it → I.IntoIter.can_next it × IsFinite (I.IntoIter.remaining it) }
+    requires { (it : I.IntoIter) → I.into_iter_gives events it
+        → I.IntoIter.can_next it × IsFinite (I.IntoIter.remaining it) }
     ensures made { (it : I.IntoIter) × (xs : List (Bor ParserEvent)) × I.into_iter_gives events it
-        × DrainsIf I.IntoIter.next_gives (TakesAll result (walk (rendering default_options (R.reading reader)) [] (nothing_yet parser_options) (pairs xs))) it xs
-        × ((source : List ℕ) → Makes W.takes W.refuses writer.old writer.new result done (script (rendering default_options (R.reading reader)) source (nothing_yet parser_options) (pairs xs))) }
+        × DrainsIf I.IntoIter.next_gives
+        (TakesAll result
+        (walk (rendering default_options (R.reading reader)) [] (nothing_yet parser_options)
+        (pairs xs))) it xs
+        × ((source : List ℕ)
+        → Makes W.takes W.refuses writer.old writer.new result done
+        (script (rendering default_options (R.reading reader)) source (nothing_yet parser_options)
+        (pairs xs))) }
     ensures lines { (it : I.IntoIter) × (xs : List (Bor ParserEvent)) × I.into_iter_gives events it
         × DrainsIf I.IntoIter.next_gives (IsOk result) it xs
-        × ((l : List ℕ) (ms : List (List ℕ)) → IsTrue (list_all is_line (l ∷ ms)) → pairs xs ≡ paragraph_of_lines l ms →
-        HandsLines W.takes W.refuses writer.old writer.new result l ms) }
+        × ((l : List ℕ) (ms : List (List ℕ)) → IsTrue (list_all is_line (l ∷ ms))
+        → pairs xs ≡ paragraph_of_lines l ms
+        → HandsLines W.takes W.refuses writer.old writer.new result l ms) }
     ensures blocks { (it : I.IntoIter) × (xs : List (Bor ParserEvent)) × I.into_iter_gives events it
         × DrainsIf I.IntoIter.next_gives (IsOk result) it xs
         × MakesBlocks W.takes W.refuses writer.old writer.new result parser_options (pairs xs) }
@@ -108,10 +116,17 @@ where
     I: IntoIterator<Item = &'a Event<'a>>,
     W: Taker,
     R: Reader + Drop,
-    requires { (it : I.IntoIter) → I.into_iter_gives events it → I.IntoIter.can_next it × IsFinite (I.IntoIter.remaining it) }
+    requires { (it : I.IntoIter) → I.into_iter_gives events it
+        → I.IntoIter.can_next it × IsFinite (I.IntoIter.remaining it) }
     ensures made { (it : I.IntoIter) × (xs : List (Bor ParserEvent)) × I.into_iter_gives events it
-        × DrainsIf I.IntoIter.next_gives (TakesAll result (walk (rendering (options_view options.entry) (R.reading reader)) [] (nothing_yet parser_options) (pairs xs))) it xs
-        × ((source : List ℕ) → Makes W.takes W.refuses writer.old writer.new result done (script (rendering (options_view options.entry) (R.reading reader)) source (nothing_yet parser_options) (pairs xs))) }
+        × DrainsIf I.IntoIter.next_gives
+        (TakesAll result
+        (walk (rendering (options_view options.entry) (R.reading reader)) []
+        (nothing_yet parser_options) (pairs xs))) it xs
+        × ((source : List ℕ)
+        → Makes W.takes W.refuses writer.old writer.new result done
+        (script (rendering (options_view options.entry) (R.reading reader)) source
+        (nothing_yet parser_options) (pairs xs))) }
     ensures finished { IfOk result (λ state. IsFinished state) }
 {
     let events = events.into_iter();
@@ -135,10 +150,17 @@ where
     I: IntoIterator<Item = (&'a Event<'a>, Option<(usize, usize)>)>,
     W: Taker,
     R: Reader + Drop,
-    requires { (it : I.IntoIter) → I.into_iter_gives pairs it → I.IntoIter.can_next it × IsFinite (I.IntoIter.remaining it) }
-    ensures made { (it : I.IntoIter) × (xs : List (Bor ParserEvent × Option Range)) × I.into_iter_gives pairs it
-        × DrainsIf I.IntoIter.next_gives (TakesAll result (walk (rendering default_options (R.reading reader)) source.now (nothing_yet parser_options) (ranged_pairs xs))) it xs
-        × Makes W.takes W.refuses writer.old writer.new result done (script (rendering default_options (R.reading reader)) source.now (nothing_yet parser_options) (ranged_pairs xs)) }
+    requires { (it : I.IntoIter) → I.into_iter_gives pairs it
+        → I.IntoIter.can_next it × IsFinite (I.IntoIter.remaining it) }
+    ensures made { (it : I.IntoIter) × (xs : List (Bor ParserEvent × Option Range))
+        × I.into_iter_gives pairs it
+        × DrainsIf I.IntoIter.next_gives
+        (TakesAll result
+        (walk (rendering default_options (R.reading reader)) source.now
+        (nothing_yet parser_options) (ranged_pairs xs))) it xs
+        × Makes W.takes W.refuses writer.old writer.new result done
+        (script (rendering default_options (R.reading reader)) source.now
+        (nothing_yet parser_options) (ranged_pairs xs)) }
     ensures finished { IfOk result (λ state. IsFinished state) }
 {
     let options = Options::default();
@@ -171,10 +193,17 @@ where
     I: IntoIterator<Item = (&'a Event<'a>, Option<(usize, usize)>)>,
     W: Taker,
     R: Reader + Drop,
-    requires { (it : I.IntoIter) → I.into_iter_gives pairs it → I.IntoIter.can_next it × IsFinite (I.IntoIter.remaining it) }
-    ensures made { (it : I.IntoIter) × (xs : List (Bor ParserEvent × Option Range)) × I.into_iter_gives pairs it
-        × DrainsIf I.IntoIter.next_gives (TakesAll result (walk (rendering (options_view options.entry) (R.reading reader)) source.now (nothing_yet parser_options) (ranged_pairs xs))) it xs
-        × Makes W.takes W.refuses writer.old writer.new result done (script (rendering (options_view options.entry) (R.reading reader)) source.now (nothing_yet parser_options) (ranged_pairs xs)) }
+    requires { (it : I.IntoIter) → I.into_iter_gives pairs it
+        → I.IntoIter.can_next it × IsFinite (I.IntoIter.remaining it) }
+    ensures made { (it : I.IntoIter) × (xs : List (Bor ParserEvent × Option Range))
+        × I.into_iter_gives pairs it
+        × DrainsIf I.IntoIter.next_gives
+        (TakesAll result
+        (walk (rendering (options_view options.entry) (R.reading reader)) source.now
+        (nothing_yet parser_options) (ranged_pairs xs))) it xs
+        × Makes W.takes W.refuses writer.old writer.new result done
+        (script (rendering (options_view options.entry) (R.reading reader)) source.now
+        (nothing_yet parser_options) (ranged_pairs xs)) }
     ensures finished { IfOk result (λ state. IsFinished state) }
 {
     let pairs = pairs.into_iter();

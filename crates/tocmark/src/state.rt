@@ -119,7 +119,8 @@ fn lent_options(options: &OptionsOf<String>) -> Options<'_>
 
 /// Opens or ends a container.
 fn nest(open_tags: &mut Vec<TagEnd>, event: &Event<'_>) -> Result<(), Error>
-    ensures { Answers result (reverse open_tags.new.items) (nested (reverse open_tags.old.items) (event_view text_of event.now)) }
+    ensures { Answers result (reverse open_tags.new.items)
+        (nested (reverse open_tags.old.items) (event_view text_of event.now)) }
 {
     match event {
         EventOf::Start(tag) => {
@@ -142,7 +143,8 @@ fn nest(open_tags: &mut Vec<TagEnd>, event: &Event<'_>) -> Result<(), Error>
 
 /// Hands a text, unless it is empty. Returns its length in bytes.
 fn hand<W: Taker>(writer: &mut W, text: &str) -> Result<usize, Error>
-    ensures handed { Makes W.takes W.refuses writer.old writer.new result done (hand_walk text.now done) }
+    ensures handed { Makes W.takes W.refuses writer.old writer.new result done
+        (hand_walk text.now done) }
     ensures count { IfOk result (λ n. n ≡ length text.now) }
 {
     if !text.is_empty() {
@@ -158,8 +160,13 @@ fn flush<R: Reader, W: Taker>(
     next: Option<&Event<'_>>,
     writer: &mut W,
 ) -> Result<usize, Error>
-    ensures made { Makes W.takes W.refuses writer.old writer.new result (standing_of held.new) (flushed (rendering_with R.reading tools.now) (next_view next.entry) (standing_of held.old)) }
-    ensures count { IfOk result (λ n. n ≡ sum_by length (flushed (rendering_with R.reading tools.now) (next_view next.entry) (standing_of held.old)).texts) }
+    ensures made { Makes W.takes W.refuses writer.old writer.new result (standing_of held.new)
+        (flushed (rendering_with R.reading tools.now) (next_view next.entry)
+        (standing_of held.old)) }
+    ensures count { IfOk result (λ n.
+        n ≡ sum_by length
+        (flushed (rendering_with R.reading tools.now) (next_view next.entry)
+        (standing_of held.old)).texts) }
 {
     let text = held.document.block(
         tools.alloc,
@@ -188,7 +195,9 @@ fn join(
     event: &Event<'_>,
     source: Option<&str>,
 ) -> Result<(), Error>
-    ensures { Answers result (standing_of held.new) (joins (sourced (event_view text_of event.now) (text_now source.entry)) (standing_of held.old)).outcome }
+    ensures { Answers result (standing_of held.new)
+        (joins (sourced (event_view text_of event.now) (text_now source.entry))
+        (standing_of held.old)).outcome }
 {
     nest(&mut held.open_tags, event)?;
     let event = event.copied(alloc)?;
@@ -212,8 +221,13 @@ fn flush_before<R: Reader, W: Taker>(
     next: &Event<'_>,
     writer: &mut W,
 ) -> Result<usize, Error>
-    ensures made { Makes W.takes W.refuses writer.old writer.new result (standing_of held.new) (flushed_before (rendering_with R.reading tools.now) (event_view text_of next.now) (standing_of held.old)) }
-    ensures count { IfOk result (λ n. n ≡ sum_by length (flushed_before (rendering_with R.reading tools.now) (event_view text_of next.now) (standing_of held.old)).texts) }
+    ensures made { Makes W.takes W.refuses writer.old writer.new result (standing_of held.new)
+        (flushed_before (rendering_with R.reading tools.now) (event_view text_of next.now)
+        (standing_of held.old)) }
+    ensures count { IfOk result (λ n.
+        n ≡ sum_by length
+        (flushed_before (rendering_with R.reading tools.now) (event_view text_of next.now)
+        (standing_of held.old)).texts) }
 {
     if !is_due_now(held) {
         return Ok(0);
@@ -235,8 +249,14 @@ fn take<R: Reader, W: Taker>(
     source: Option<&str>,
     writer: &mut W,
 ) -> Result<usize, Error>
-    ensures made { Makes W.takes W.refuses writer.old writer.new result (standing_of held.new) (advance (rendering_with R.reading tools.now) (sourced (event_view text_of event.now) (text_now source.entry)) (standing_of held.old)) }
-    ensures count { IfOk result (λ n. n ≡ sum_by length (advance (rendering_with R.reading tools.now) (sourced (event_view text_of event.now) (text_now source.entry)) (standing_of held.old)).texts) }
+    ensures made { Makes W.takes W.refuses writer.old writer.new result (standing_of held.new)
+        (advance (rendering_with R.reading tools.now)
+        (sourced (event_view text_of event.now) (text_now source.entry)) (standing_of held.old)) }
+    ensures count { IfOk result (λ n.
+        n ≡ sum_by length
+        (advance (rendering_with R.reading tools.now)
+        (sourced (event_view text_of event.now) (text_now source.entry))
+        (standing_of held.old)).texts) }
 {
     let written = flush_before(tools, held, event, writer)?;
     join(tools.alloc, held, event, source)?;
@@ -268,8 +288,15 @@ where
     requires can { I.can_next events }
     requires ends { IsFinite (I.remaining events) }
     ensures { (xs : List (Bor ParserEvent)) × DrainsIf I.next_gives (IsOk result) events xs
-        × ((source : List ℕ) → Makes W.takes W.refuses writer.old writer.new result (standing_of held.new) (walk (rendering_with R.reading tools.now) source (standing_of held.old) (pairs xs)))
-        × ((source : List ℕ) → IfOk result (λ p. Counts p (length xs) (sum_by length (walk (rendering_with R.reading tools.now) source (standing_of held.old) (pairs xs)).texts))) }
+        × ((source : List ℕ)
+        → Makes W.takes W.refuses writer.old writer.new result (standing_of held.new)
+        (walk (rendering_with R.reading tools.now) source (standing_of held.old) (pairs xs)))
+        × ((source : List ℕ)
+        → IfOk result (λ p.
+        Counts p (length xs)
+        (sum_by length
+        (walk (rendering_with R.reading tools.now) source (standing_of held.old)
+        (pairs xs)).texts))) }
 {
     let mut taken = Progress::default();
     for event in events {
@@ -306,7 +333,8 @@ fn text_start(source: &str, range_end: usize, start: usize) -> usize
 /// What stands in the source for a text, with the backslash before it.
 fn text_spelling(source: &str, range_end: usize, range: (usize, usize)) -> &str
     requires { is_good_range source.now range ≡ true }
-    ensures { result.now ≡ slice_range source.now (spelling_start source.now range_end range.0) range.1 }
+    ensures { result.now
+        ≡ slice_range source.now (spelling_start source.now range_end range.0) range.1 }
 {
     let start = text_start(source, range_end, range.0);
     &source[start..range.1]
@@ -319,7 +347,8 @@ fn resolve<'s>(
     event: &Event<'_>,
     range: Option<(usize, usize)>,
 ) -> Result<(Option<&'s str>, usize), Error>
-    ensures { ResolvedAs (event_view text_of event.now) result (resolved_at source.now range_end (event_view text_of event.now) range) }
+    ensures { ResolvedAs (event_view text_of event.now) result
+        (resolved_at source.now range_end (event_view text_of event.now) range) }
 {
     let Some(range) = range else {
         return Ok((None, range_end));
@@ -343,8 +372,13 @@ fn take_ranged<R: Reader, W: Taker>(
     source: &str,
     writer: &mut W,
 ) -> Result<usize, Error>
-    ensures made { Makes W.takes W.refuses writer.old writer.new result (standing_of held.new) (step (rendering_with R.reading tools.now) source.now (event_view text_of event.now, range) (standing_of held.old)) }
-    ensures count { IfOk result (λ n. n ≡ sum_by length (step (rendering_with R.reading tools.now) source.now (event_view text_of event.now, range) (standing_of held.old)).texts) }
+    ensures made { Makes W.takes W.refuses writer.old writer.new result (standing_of held.new)
+        (step (rendering_with R.reading tools.now) source.now (event_view text_of event.now, range)
+        (standing_of held.old)) }
+    ensures count { IfOk result (λ n.
+        n ≡ sum_by length
+        (step (rendering_with R.reading tools.now) source.now (event_view text_of event.now, range)
+        (standing_of held.old)).texts) }
 {
     let (spelling, range_end) = resolve(source, held.range_end, event, range)?;
     held.range_end = range_end;
@@ -365,9 +399,16 @@ where
     W: Taker,
     requires can { I.can_next pairs }
     requires ends { IsFinite (I.remaining pairs) }
-    ensures { (xs : List (Bor ParserEvent × Option Range)) × DrainsIf I.next_gives (IsOk result) pairs xs
-        × Makes W.takes W.refuses writer.old writer.new result (standing_of held.new) (walk (rendering_with R.reading tools.now) source.now (standing_of held.old) (ranged_pairs xs))
-        × IfOk result (λ p. Counts p (length xs) (sum_by length (walk (rendering_with R.reading tools.now) source.now (standing_of held.old) (ranged_pairs xs)).texts)) }
+    ensures { (xs : List (Bor ParserEvent × Option Range))
+        × DrainsIf I.next_gives (IsOk result) pairs xs
+        × Makes W.takes W.refuses writer.old writer.new result (standing_of held.new)
+        (walk (rendering_with R.reading tools.now) source.now (standing_of held.old)
+        (ranged_pairs xs))
+        × IfOk result (λ p.
+        Counts p (length xs)
+        (sum_by length
+        (walk (rendering_with R.reading tools.now) source.now (standing_of held.old)
+        (ranged_pairs xs)).texts)) }
 {
     let mut progress = Progress::default();
     for (event, range) in pairs {
@@ -379,7 +420,9 @@ where
 
 /// The text of all that is pending as one unit, the last one; an empty text where nothing is pending.
 fn last_text<R: Reader>(tools: &Tools<'_, R>, held: &mut Held) -> Result<String, Error>
-    ensures { Chooses result (kept_of held.new.document) (last_choice (rendering_with R.reading tools.now) (standing_of held.old).document (standing_of held.old).pending) }
+    ensures { Chooses result (kept_of held.new.document)
+        (last_choice (rendering_with R.reading tools.now) (standing_of held.old).document
+        (standing_of held.old).pending) }
 {
     if held.pending.is_empty() {
         return Ok(String::new(tools.alloc));
@@ -398,8 +441,10 @@ fn last_text<R: Reader>(tools: &Tools<'_, R>, held: &mut Held) -> Result<String,
 /// Hands two texts, each unless it is empty. Returns how many bytes it handed, at most the greatest
 /// `usize`.
 fn hand_both<W: Taker>(first: &str, second: &str, writer: &mut W) -> Result<usize, Error>
-    ensures made { Makes W.takes W.refuses writer.old writer.new result done (two_texts first.now second.now) }
-    ensures count { IfOk result (λ n. n ≡ at_most (sum_by length (two_texts first.now second.now).texts)) }
+    ensures made { Makes W.takes W.refuses writer.old writer.new result done
+        (two_texts first.now second.now) }
+    ensures count { IfOk result (λ n.
+        n ≡ at_most (sum_by length (two_texts first.now second.now).texts)) }
 {
     let written = hand(writer, first)?;
     let more = hand(writer, second)?;
@@ -423,8 +468,10 @@ fn hand_last<W: Taker>(
     text: &str,
     writer: &mut W,
 ) -> Result<usize, Error>
-    ensures made { Makes W.takes W.refuses writer.old writer.new result done (last_walk holds_raw definitions.now text.now) }
-    ensures count { IfOk result (λ n. n ≡ at_most (sum_by length (last_walk holds_raw definitions.now text.now).texts)) }
+    ensures made { Makes W.takes W.refuses writer.old writer.new result done
+        (last_walk holds_raw definitions.now text.now) }
+    ensures count { IfOk result (λ n.
+        n ≡ at_most (sum_by length (last_walk holds_raw definitions.now text.now).texts)) }
 {
     if stand_in_front(holds_raw, definitions) {
         let whole = with_definitions_in_front(alloc, definitions, text)?;
@@ -439,8 +486,11 @@ fn end<R: Reader, W: Taker>(
     held: &mut Held,
     writer: &mut W,
 ) -> Result<usize, Error>
-    ensures made { Makes W.takes W.refuses writer.old writer.new result done (ended (rendering_with R.reading tools.now) (standing_of held.old)) }
-    ensures count { IfOk result (λ n. n ≡ at_most (sum_by length (ended (rendering_with R.reading tools.now) (standing_of held.old)).texts)) }
+    ensures made { Makes W.takes W.refuses writer.old writer.new result done
+        (ended (rendering_with R.reading tools.now) (standing_of held.old)) }
+    ensures count { IfOk result (λ n.
+        n ≡ at_most
+        (sum_by length (ended (rendering_with R.reading tools.now) (standing_of held.old)).texts)) }
 {
     if !held.open_tags.is_empty() {
         return Err(Error::UnexpectedEvent);
@@ -471,8 +521,11 @@ impl<R: Reader + Drop> State<R> {
         parser_options: ParserOptions,
         options: Options<'_>,
     ) -> Result<State<R>, Error>
-        ensures stands { IfOk result (λ state. (source : List ℕ) → Stands R.reading parser_options source state []) }
-        ensures same { IfOk result (λ state. rendering_of R.reading state ≡ rendering (options_view options.entry) (R.reading reader)) }
+        ensures stands { IfOk result (λ state.
+            (source : List ℕ) → Stands R.reading parser_options source state []) }
+        ensures same { IfOk result (λ state.
+            rendering_of R.reading state
+            ≡ rendering (options_view options.entry) (R.reading reader)) }
         ensures refused { IfErr result (λ e. e ≡ Error.OutOfMemory) }
     {
         let options = owned_options(alloc, options)?;
@@ -519,16 +572,21 @@ impl<R: Reader + Drop> State<R> {
     where
         I: IntoIterator<Item = &'a Event<'a>>,
         W: Taker,
-        requires { (it : I.IntoIter) → I.into_iter_gives events it → I.IntoIter.can_next it × IsFinite (I.IntoIter.remaining it) }
-        ensures active { IsActive self.old → (it : I.IntoIter) × (xs : List (Bor ParserEvent)) × I.into_iter_gives events it
-            × DrainsIf I.IntoIter.next_gives (IsOk result) it xs
-            × ((flags : ParserOptions) (source : List ℕ) (p : List Pair) → Stands R.reading flags source self.old p →
-            Adds W.takes W.refuses writer.old writer.new (rendering_of R.reading self.old) flags source result (place_of self.new) p (pairs xs)) }
+        requires { (it : I.IntoIter) → I.into_iter_gives events it
+            → I.IntoIter.can_next it × IsFinite (I.IntoIter.remaining it) }
+        ensures active { IsActive self.old → (it : I.IntoIter) × (xs : List (Bor ParserEvent))
+            × I.into_iter_gives events it × DrainsIf I.IntoIter.next_gives (IsOk result) it xs
+            × ((flags : ParserOptions) (source : List ℕ) (p : List Pair)
+            → Stands R.reading flags source self.old p
+            → Adds W.takes W.refuses writer.old writer.new (rendering_of R.reading self.old)
+            flags source result (place_of self.new) p (pairs xs)) }
         ensures same { rendering_of R.reading self.new ≡ rendering_of R.reading self.old }
         ensures stands { OnOk result (status_of self.new ≡ status_of self.old) }
         ensures refused { OnErr result (IsFailed self.new) }
-        ensures finished { IsFinished self.old → (result ≡ Err Error.Finished) × (writer.new ≡ writer.old) }
-        ensures failed { IsFailed self.old → (result ≡ Err Error.Failed) × (writer.new ≡ writer.old) }
+        ensures finished { IsFinished self.old
+            → (result ≡ Err Error.Finished) × (writer.new ≡ writer.old) }
+        ensures failed { IsFailed self.old
+            → (result ≡ Err Error.Failed) × (writer.new ≡ writer.old) }
     {
         let events = events.into_iter();
         match self.status {
@@ -581,16 +639,22 @@ impl<R: Reader + Drop> State<R> {
     where
         I: IntoIterator<Item = (&'a Event<'a>, Option<(usize, usize)>)>,
         W: Taker,
-        requires { (it : I.IntoIter) → I.into_iter_gives pairs it → I.IntoIter.can_next it × IsFinite (I.IntoIter.remaining it) }
-        ensures active { IsActive self.old → (it : I.IntoIter) × (xs : List (Bor ParserEvent × Option Range)) × I.into_iter_gives pairs it
-            × DrainsIf I.IntoIter.next_gives (IsOk result) it xs
-            × ((flags : ParserOptions) (p : List Pair) → Stands R.reading flags source.now self.old p →
-            Adds W.takes W.refuses writer.old writer.new (rendering_of R.reading self.old) flags source.now result (place_of self.new) p (ranged_pairs xs)) }
+        requires { (it : I.IntoIter) → I.into_iter_gives pairs it
+            → I.IntoIter.can_next it × IsFinite (I.IntoIter.remaining it) }
+        ensures active { IsActive self.old
+            → (it : I.IntoIter) × (xs : List (Bor ParserEvent × Option Range))
+            × I.into_iter_gives pairs it × DrainsIf I.IntoIter.next_gives (IsOk result) it xs
+            × ((flags : ParserOptions) (p : List Pair)
+            → Stands R.reading flags source.now self.old p
+            → Adds W.takes W.refuses writer.old writer.new (rendering_of R.reading self.old)
+            flags source.now result (place_of self.new) p (ranged_pairs xs)) }
         ensures same { rendering_of R.reading self.new ≡ rendering_of R.reading self.old }
         ensures stands { OnOk result (status_of self.new ≡ status_of self.old) }
         ensures refused { OnErr result (IsFailed self.new) }
-        ensures finished { IsFinished self.old → (result ≡ Err Error.Finished) × (writer.new ≡ writer.old) }
-        ensures failed { IsFailed self.old → (result ≡ Err Error.Failed) × (writer.new ≡ writer.old) }
+        ensures finished { IsFinished self.old
+            → (result ≡ Err Error.Finished) × (writer.new ≡ writer.old) }
+        ensures failed { IsFailed self.old
+            → (result ≡ Err Error.Failed) × (writer.new ≡ writer.old) }
     {
         let pairs = pairs.into_iter();
         match self.status {
@@ -617,13 +681,18 @@ impl<R: Reader + Drop> State<R> {
     /// `UnexpectedEvent` where a container is open, `Failed` after another error (no memory is taken
     /// for it), and else as in `process`; every later call answers `Failed`.
     pub fn finish<W: Taker>(&mut self, writer: &mut W) -> Result<Progress, Error>
-        ensures active { (flags : ParserOptions) (source : List ℕ) (p : List Pair) → Stands R.reading flags source self.old p →
-            Ends W.takes W.refuses writer.old writer.new (rendering_of R.reading self.old) flags source result p }
+        ensures active { (flags : ParserOptions) (source : List ℕ) (p : List Pair)
+            → Stands R.reading flags source self.old p
+            → Ends W.takes W.refuses writer.old writer.new (rendering_of R.reading self.old)
+            flags source result p }
         ensures same { rendering_of R.reading self.new ≡ rendering_of R.reading self.old }
         ensures ok { OnOk result (IsFinished self.new) }
         ensures refused { OnErr result (IsFailed self.new) }
-        ensures finished { IsFinished self.old → (result ≡ Ok (record { events_consumed = 0; bytes_written = 0 })) × (writer.new ≡ writer.old) }
-        ensures failed { IsFailed self.old → (result ≡ Err Error.Failed) × (writer.new ≡ writer.old) }
+        ensures finished { IsFinished self.old
+            → (result ≡ Ok (record { events_consumed = 0; bytes_written = 0 }))
+            × (writer.new ≡ writer.old) }
+        ensures failed { IsFailed self.old
+            → (result ≡ Err Error.Failed) × (writer.new ≡ writer.old) }
     {
         match self.status {
             Status::Active => {

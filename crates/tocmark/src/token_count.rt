@@ -49,7 +49,8 @@ impl Runs {
 
     /// The runs after a text.
     fn after_text(self, token: u8, text: &str) -> Runs
-        ensures { (rest : List ℕ) → onward token result rest ≡ onward token self (text.now ++ rest) }
+        ensures { (rest : List ℕ)
+            → onward token result rest ≡ onward token self (text.now ++ rest) }
     {
         let mut runs = self;
         for byte in text.as_bytes() {
@@ -81,7 +82,8 @@ impl Seen {
 
     /// What is seen after one more event.
     fn after_event(self, event: &Event<'_>) -> Seen
-        ensures { (rest : List EventView) → with_events result rest ≡ with_events self (event_view text_of event.now ∷ rest) }
+        ensures { (rest : List EventView)
+            → with_events result rest ≡ with_events self (event_view text_of event.now ∷ rest) }
     {
         match event {
             EventOf::Start(TagOf::CodeBlock(_)) => Seen {
@@ -117,7 +119,8 @@ where
     requires can { I.can_next events }
     requires ends { IsFinite (I.remaining events) }
     ensures { (xs : List (Bor ParserEvent)) × Drains I.next_gives events xs
-        × (result ≡ at_most (longest_token_run (code_in false (map (λ x. event_view text_of x.now) xs)))) }
+        × (result
+        ≡ at_most (longest_token_run (code_in false (map (λ x. event_view text_of x.now) xs)))) }
 {
     let none = Runs {
         last: 0,
@@ -165,7 +168,8 @@ fn count_beyond(run: usize) -> Option<usize>
 pub fn calculate_code_block_token_count<'a, I>(events: I) -> Option<usize>
 where
     I: IntoIterator<Item = &'a Event<'a>>,
-    requires { (it : I.IntoIter) → I.into_iter_gives events it → I.IntoIter.can_next it × IsFinite (I.IntoIter.remaining it) }
+    requires { (it : I.IntoIter) → I.into_iter_gives events it
+        → I.IntoIter.can_next it × IsFinite (I.IntoIter.remaining it) }
     ensures { (it : I.IntoIter) × (xs : List (Bor ParserEvent)) × I.into_iter_gives events it
         × Drains I.IntoIter.next_gives it xs
         × (result ≡ token_count (map (λ x. event_view text_of x.now) xs)) }

@@ -1,13 +1,11 @@
 -- What calls that take events with ranges hand to the writer, one after the other.
-use Rattle.std.specs.Prelude.{◌≡◌, ℕ, if◌then◌else◌, flat_map, Result, Ok, Err, Option, Some, None, List, [], ◌∷◌}
-use Rattle.tocmark_event.specs.View.{EventView, SourcedEvent}
+use Rattle.std.specs.Prelude.{◌≡◌, ℕ, flat_map, Result, Ok, Err, Option, Some, None, List, [], ◌∷◌}
 use Rattle.tocmark_event.specs.declared.event.flags.ParserOptions.{ParserOptions}
 use Rattle.tocmark_event.specs.declared.options.Error.{Error}
 use Rattle.tocmark_spelling.specs.Plan.{Setting}
 use Rattle.tocmark_render.specs.Definitions.{definitions_text}
 use Rattle.tocmark_render.specs.Document.{DocumentView}
 use Rattle.tocmark_render.specs.Ending.{holds_raw_block}
-use Rattle.tocmark_render.specs.Placeholder.{reserved_label}
 use Rattle.tocmark_render.specs.Units.{chosen, waits}
 use Rattle.tocmark.specs.Ranges.{Pair}
 use Rattle.tocmark.specs.Walk.{Done, done, Kept, Rendering, Standing, walk, ended, script, nothing_yet}
@@ -22,16 +20,10 @@ abbrev pub keeping : ParserOptions → Result (List ℕ × DocumentView) Error �
 keeping flags (Ok x) = Ok (x.0, record { flags = flags; document = x.1 })
 keeping flags (Err e) = Err e
 
--- the last unit, which no event follows, has a label for its lists where it needs one
-abbrev pub label_before : Option EventView → DocumentView → List SourcedEvent → Option (List ℕ)
-label_before None d unit = if waits unit then Some (reserved_label d unit) else None
-label_before (Some e) d unit = None
-
 -- how units are written in a setting
 abbrev pub written_in : Setting → Rendering
 written_in s = record {
-  choice = λ kept unit next. keeping kept.flags (chosen (record s { label = label_before next kept.document unit })
-      kept.document unit next);
+  choice = λ kept unit next. keeping kept.flags (chosen s kept.document unit next);
   waits = waits;
   definitions = λ kept. definitions_text kept.document.references kept.document.feeds;
   holds_raw = holds_raw_block;

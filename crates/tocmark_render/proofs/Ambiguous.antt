@@ -1,5 +1,5 @@
 -- The lists that need a placeholder are found among the events in a row.
-use Rattle.std.proofs.Common.{◌≡◌, ℕ, zero, suc, ◌+◌, ◌<◌, ◌≤◌, Bool, true, false, ◌||◌, ◌&&◌, Option, Some, None, List, [], ◌∷◌, refl, sym, ap, ◌∙◌, map, drop, length, get_or, slice_index, arith, ⊎_elim}
+use Rattle.std.proofs.Common.{◌≡◌, ℕ, zero, suc, ◌+◌, ◌<◌, ◌≤◌, Bool, true, false, ◌||◌, ◌&&◌, Option, Some, None, List, [], ◌∷◌, ◌++◌, refl, sym, ap, ◌∙◌, map, drop, length, get_or, slice_index, arith, ⊎_elim}
 use Rattle.std.specs.Prelude.{is_some}
 use Rattle.std.proofs.lemmas.Bool.{false≢true, true≢false, cases_lt}
 use Rattle.std.proofs.lemmas.Grind.{get_or_default_zero}
@@ -141,6 +141,41 @@ unbalanced-at (Some f) none = absurd (true≢false none)
 pub waits-unbalanced : (es : List SourcedEvent) → is_some (trees_of es) ≡ false → false ≡ waits es
 unfolding waits
 waits-unbalanced es none = unbalanced-at (trees_of es) none
+
+-- ---- what joins a unit
+
+onto-more : (f : Trees) (r more : List SourcedEvent) → flat_onto f r ++ more ≡ flat_onto f (r ++ more)
+onto-more empty r more = refl
+onto-more (leaf l f) r more = ap (λ es. Leaf l ∷ es) (onto-more f r more)
+onto-more (node t kids f) r more =
+    ap (λ es. Start t ∷ es) (onto-more kids (End (end_of t) ∷ flat_onto f r) more ∙ ap (λ es. flat_onto kids (End (end_of t) ∷ es)) (onto-more f r more))
+
+-- which lists need a placeholder doesn't depend on what comes behind them
+needs-before : (f : Trees) (before after later : List SourcedEvent)
+    → needs_placeholder_at f (record { before = before; after = after; next = None }) ≡ needs_placeholder_at f (record { before = before; after = later; next = None })
+needs-before empty before after later = refl
+needs-before (leaf l f) before after later = needs-before f (Leaf l ∷ before) after later
+needs-before (node t kids f) before after later =
+    let list = is_ambiguous_list t kids (record { before = before; after = after; next = None }) in
+    let kids_after = End (end_of t) ∷ flat_onto f after in
+    let kids_later = End (end_of t) ∷ flat_onto f later in
+    let behind = End (end_of t) ∷ back_onto kids (Start t ∷ before) in
+    ap (λ b. list || b || needs_placeholder_at f (record { before = behind; after = after; next = None })) (needs-before kids (Start t ∷ before) kids_after kids_later)
+    ∙ ap (λ b. list || needs_placeholder_at kids (record { before = Start t ∷ before; after = kids_later; next = None }) || b) (needs-before f behind after later)
+
+waiting-at : (es more : List SourcedEvent) (o : Option Trees) → trees_of es ≡ o → placeholder_in o ≡ true → has_ambiguous_list false (es ++ more) ≡ true
+unfolding needs_placeholder
+waiting-at es more None e h = absurd (false≢true h)
+waiting-at es more (Some f) e h =
+    ap (λ xs. has_ambiguous_list false (xs ++ more)) (sym (flat-of-trees es f e))
+    ∙ ap (has_ambiguous_list false) (onto-more f [] more)
+    ∙ all-lists f (record { before = []; after = more; next = None })
+    ∙ ap (λ b. b || has_ambiguous_list (is_inline (back_onto f [])) more) (needs-before f [] more [] ∙ h)
+
+-- a unit that waits goes on waiting, whatever joins it
+pub waits-more : (unit more : List SourcedEvent) → waits unit ≡ true → is_some (trees_of (unit ++ more)) ≡ true → waits (unit ++ more) ≡ true
+unfolding waits
+waits-more unit more h some = sym (waits-balanced (unit ++ more) some) ∙ waiting-at unit more (trees_of unit) refl h
 
 -- ---- the events from an End on, by its place
 

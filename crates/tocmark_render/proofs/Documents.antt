@@ -10,22 +10,21 @@ use Rattle.tocmark_event.specs.declared.event.flags.ParserOptions.{ParserOptions
 use Rattle.tocmark_event.specs.declared.options.Error.TheVariants as error
 use Rattle.tocmark_spelling.specs.Body.{Trees, some_leaf}
 use Rattle.tocmark_spelling.specs.Page as page
-use Rattle.tocmark_spelling.specs.Page.{Page, Site}
+use Rattle.tocmark_spelling.specs.Page.{Page}
 use Rattle.tocmark_spelling.specs.Plan.{Setting}
-use Rattle.tocmark_renderer.specs.Rendered.{Rendered}
-use Rattle.tocmark_renderer.specs.Spelled.{are_spelled, is_spelled_tag, is_spelled_leaf, is_spelled_forest}
+use Rattle.tocmark_unit.specs.Rendered.{Rendered}
+use Rattle.tocmark_unit.specs.Spelled.{are_spelled, is_spelled_tag, is_spelled_forest}
 use Rattle.tocmark_spelling.specs.TrailOf.{trail_view}
 use Rattle.tocmark_renderer.specs.WriterOf.{reference_view}
-use Rattle.tocmark_renderer.specs.declared.block.UnitRenderer.{UnitRenderer}
+use Rattle.tocmark_unit.specs.declared.block.UnitRenderer.{UnitRenderer}
 use Rattle.tocmark_render.specs.Candidates.{has_source, is_delimiter_block, is_delimiter_tag, is_math, is_sourced, some_tag}
 use Rattle.tocmark_render.specs.Choice.{choice, document_after}
 use Rattle.tocmark_render.specs.Definitions.{definitions_text}
-use Rattle.tocmark_render.specs.Document.{DocumentView, is_among, known_in, literal_in}
+use Rattle.tocmark_render.specs.Document.{DocumentView, known_in, literal_in}
 use Rattle.tocmark_render.specs.DocumentOf.{is_delimiter_event, is_sourced_event, page_left}
-use Rattle.tocmark_render.specs.ReadsBack.{is_label, is_taken}
 use Rattle.tocmark_render.specs.Spelled.{choice_if, choice_if_spelled, chosen_if_spelled}
 use Rattle.tocmark_render.specs.TrialOf.{or_no_trees}
-use Rattle.tocmark_render.specs.Units.{trees_of}
+use Rattle.tocmark_render.specs.Units.{labelled, trees_of}
 use Rattle.tocmark_render.proofs.Balanced.{flat-of-trees}
 
 and-assoc : (a b c : Bool) → (a && b) && c ≡ a && (b && c)
@@ -50,8 +49,7 @@ or-false false = refl
 spelled-onto : (f : Trees) (r : List SourcedEvent) → are_spelled (flat_onto f r) ≡ is_spelled_forest f && are_spelled r
 unfolding is_spelled_forest
 spelled-onto empty r = refl
-spelled-onto (leaf l f) r =
-    ap (λ b. is_spelled_leaf l.leaf && b) (spelled-onto f r) ∙ sym (and-assoc (is_spelled_leaf l.leaf) (is_spelled_forest f) (are_spelled r))
+spelled-onto (leaf l f) r = spelled-onto f r
 spelled-onto (node t kids f) r =
     ap (λ b. is_spelled_tag t && b) (spelled-onto kids (End (end_of t) ∷ flat_onto f r))
     ∙ ap (λ b. is_spelled_tag t && (is_spelled_forest kids && b)) (spelled-onto f r)
@@ -102,15 +100,6 @@ delimiters-onto (node t kids f) r =
 pub delimiters-flat : (es : List SourcedEvent) (f : Trees) → flat f ≡ es → is_delimiter_block f ≡ list_any is_delimiter_event es
 delimiters-flat es f e = sym (or-false (is_delimiter_block f)) ∙ sym (delimiters-onto f []) ∙ ap (list_any is_delimiter_event) e
 
--- ---- labels
-
-pub taken-known : (s : Setting) (d : DocumentView) (labels : List (List ℕ)) → s.label ≡ None → list_any (is_taken s d) labels ≡ list_any (is_among d.known) labels
-taken-known s d [] e = refl
-taken-known s d (l ∷ ls) e =
-    ap (λ o. (is_among d.known l || is_label o l) || list_any (is_taken s d) ls) e
-    ∙ ap (λ b. b || list_any (is_taken s d) ls) (or-false (is_among d.known l))
-    ∙ ap (λ b. is_among d.known l || b) (taken-known s d ls e)
-
 -- ---- what a unit leaves
 
 -- the document behind a page, of which the stretch that is held is no part
@@ -155,16 +144,16 @@ kept-is s d reading flags r text references known literal f e is_references is_k
 -- ---- a unit as its events
 
 module _ (s : Setting) (d : DocumentView) (es : List SourcedEvent) (next : Option EventView) where
-  unspelled : (o : Option Trees) → trees_of es ≡ o → are_spelled es ≡ false → choice_if_spelled s d o next ≡ Err error.UnexpectedEvent
+  unspelled : (o : Option Trees) → trees_of es ≡ o → are_spelled es ≡ false → choice_if_spelled (labelled s d es next) d o next ≡ Err error.UnexpectedEvent
   unspelled None e h = refl
-  unspelled (Some f) e h = ap (λ b. choice_if b s d f next) (spelled-flat es f (flat-of-trees es f e) ∙ h)
+  unspelled (Some f) e h = ap (λ b. choice_if b (labelled s d es next) d f next) (spelled-flat es f (flat-of-trees es f e) ∙ h)
 
   -- a unit with an event that isn't written so far
   pub unspelled-refused : are_spelled es ≡ false → chosen_if_spelled s d es next ≡ Err error.UnexpectedEvent
   unfolding chosen_if_spelled
   unspelled-refused h = unspelled (trees_of es) refl h
 
-  unbalanced : (o : Option Trees) → is_some o ≡ false → choice_if_spelled s d o next ≡ Err error.UnexpectedEvent
+  unbalanced : (o : Option Trees) → is_some o ≡ false → choice_if_spelled (labelled s d es next) d o next ≡ Err error.UnexpectedEvent
   unbalanced None h = refl
   unbalanced (Some f) h = absurd (true≢false h)
 
@@ -173,11 +162,11 @@ module _ (s : Setting) (d : DocumentView) (es : List SourcedEvent) (next : Optio
   unfolding chosen_if_spelled
   unbalanced-refused h = unbalanced (trees_of es) h
 
-  trees-chosen : (o : Option Trees) → trees_of es ≡ o → is_some o ≡ true → are_spelled es ≡ true → choice_if_spelled s d o next ≡ choice s d (or_no_trees o) next
+  trees-chosen : (o : Option Trees) → trees_of es ≡ o → is_some o ≡ true → are_spelled es ≡ true → choice_if_spelled (labelled s d es next) d o next ≡ choice (labelled s d es next) d (or_no_trees o) next
   trees-chosen None e some h = absurd (false≢true some)
-  trees-chosen (Some f) e some h = ap (λ b. choice_if b s d f next) (spelled-flat es f (flat-of-trees es f e) ∙ h)
+  trees-chosen (Some f) e some h = ap (λ b. choice_if b (labelled s d es next) d f next) (spelled-flat es f (flat-of-trees es f e) ∙ h)
 
-  -- any other unit takes the choice of its forest
-  pub spelled-chosen : is_some (trees_of es) ≡ true → are_spelled es ≡ true → chosen_if_spelled s d es next ≡ choice s d (or_no_trees (trees_of es)) next
+  -- any other unit takes the choice of its forest, with its label
+  pub spelled-chosen : is_some (trees_of es) ≡ true → are_spelled es ≡ true → chosen_if_spelled s d es next ≡ choice (labelled s d es next) d (or_no_trees (trees_of es)) next
   unfolding chosen_if_spelled
   spelled-chosen some h = trees-chosen (trees_of es) refl some h

@@ -1,14 +1,15 @@
 -- Reading a list of events into trees, and writing trees as a list, undo each other.
-use Rattle.std.proofs.Common.{◌≡◌, true, Option, Some, List, [], refl, sym, ap, ◌∙◌, eq-eqb}
+use Rattle.std.proofs.Common.{◌≡◌, true, false, if◌then◌else◌, Option, Some, None, List, [], refl, sym, ap, ◌∙◌, eq-eqb}
 use Rattle.tocmark_event.specs.Ends.{same_end, end_code}
 use Rattle.tocmark_event.specs.Forest.{empty, leaf, node, flat_onto, flat, joined, Opened, closed_if, then_read, read_all}
 use Rattle.tocmark_event.specs.View.{SourcedEvent, SourcedLeaf, TagView, EventView, end_of}
 use Rattle.tocmark_spelling.specs.Body.{Trees}
 use Rattle.tocmark_spelling.specs.Plan.{Setting}
-use Rattle.tocmark_renderer.specs.Spelled.{is_spelled_forest}
+use Rattle.tocmark_unit.specs.Spelled.{is_spelled_forest}
 use Rattle.tocmark_render.specs.Document.{DocumentView}
+use Rattle.tocmark_render.specs.Placeholder.{needs_placeholder, reserved_label}
 use Rattle.tocmark_render.specs.Spelled.{choice_if, choice_if_spelled, chosen_if_spelled}
-use Rattle.tocmark_render.specs.Units.{trees_of, trees_read}
+use Rattle.tocmark_render.specs.Units.{label_for, labelled, placeholder_in, trees_of, trees_read, waits}
 
 same_end-itself : (t : TagView) → same_end (end_of t) (end_of t) ≡ true
 same_end-itself t = eq-eqb (end_code (end_of t)) (end_code (end_of t)) refl
@@ -41,7 +42,23 @@ pub trees-flat : (f : Trees) → trees_of (flat f) ≡ Some f
 unfolding trees_of
 trees-flat f = ap trees_read (read-flat f [] [] empty)
 
--- so the choice for a forest's events is the forest's
-pub chosen-flat : (s : Setting) (d : DocumentView) (f : Trees) (next : Option EventView) → chosen_if_spelled s d (flat f) next ≡ choice_if (is_spelled_forest f) s d f next
+-- so the choice for a forest's events is the forest's, with the label of these events
+pub chosen-flat : (s : Setting) (d : DocumentView) (f : Trees) (next : Option EventView) → chosen_if_spelled s d (flat f) next ≡ choice_if (is_spelled_forest f) (labelled s d (flat f) next) d f next
 unfolding chosen_if_spelled
-chosen-flat s d f next = ap (λ o. choice_if_spelled s d o next) (trees-flat f)
+chosen-flat s d f next = ap (λ o. choice_if_spelled (labelled s d (flat f) next) d o next) (trees-flat f)
+
+-- a unit waits just where a list of its forest needs a placeholder
+pub waits-flat : (f : Trees) → waits (flat f) ≡ needs_placeholder f
+unfolding waits
+waits-flat f = ap placeholder_in (trees-flat f)
+
+module _ (d : DocumentView) (f : Trees) where
+  -- a unit that needs no placeholder has no label
+  pub no-label : (next : Option EventView) → needs_placeholder f ≡ false → label_for d (flat f) next ≡ None
+  no-label (Some e) h = refl
+  no-label None h = ap (λ b. if b then Some (reserved_label d (flat f)) else None) (waits-flat f ∙ h)
+
+-- without a label the choice is the forest's in the same setting
+pub chosen-unlabelled : (s : Setting) (d : DocumentView) (f : Trees) (next : Option EventView) → s.label ≡ None → needs_placeholder f ≡ false → chosen_if_spelled s d (flat f) next ≡ choice_if (is_spelled_forest f) s d f next
+chosen-unlabelled s d f next e h =
+    chosen-flat s d f next ∙ ap (λ l. choice_if (is_spelled_forest f) (record s { label = l }) d f next) (no-label d f next h ∙ sym e)

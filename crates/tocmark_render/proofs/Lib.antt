@@ -1,6 +1,6 @@
 pub mod Forests
 pub mod LabelLemmas
-pub mod SpelledUnits
+pub mod PlainUnits
 pub mod Balanced
 pub mod ReadBacks
 pub mod Documents

@@ -1,6 +1,6 @@
 -- What one trial of a unit comes to, and that its unit is that of the definitions.
 use Rattle.std.proofs.Common.{◌≡◌, ◌∙◌, sym, ap, refl, subst, ℕ, Bool, true, false, Option, Some, None, Ok, List, [], ◌∷◌, map, string_bytes}
-use Rattle.std.specs.Prelude.{◌&&◌, not, is_none, is_some}
+use Rattle.std.specs.Prelude.{is_none, is_some}
 use Rattle.std.specs.List.{list_any}
 use Rattle.std.proofs.lemmas.Bool.{false≢true}
 use Rattle.tocmark_event.specs.Forest.{flat}
@@ -11,11 +11,9 @@ use Rattle.tocmark_event.specs.declared.event.flags.ParserOptions.{ParserOptions
 use Rattle.tocmark_event.specs.declared.options.Error.{Error}
 use Rattle.tocmark_event.specs.declared.options.Error.TheVariants as error
 use Rattle.tocmark_spelling.specs.Body.{Trees}
-use Rattle.tocmark_spelling.specs.ById.{events_of}
 use Rattle.tocmark_spelling.specs.Page.{Page, Site}
 use Rattle.tocmark_spelling.specs.Plan.{Manner}
-use Rattle.tocmark_spelling.specs.SameEvents.{same_events}
-use Rattle.tocmark_renderer.specs.Rendered.{Rendered, RenderedAt}
+use Rattle.tocmark_unit.specs.Rendered.{Rendered, RenderedAt}
 use Rattle.tocmark_renderer.specs.WriterOf.{reference_view, IsRefusal}
 use Rattle.tocmark_spelling.proofs.Refusals.{none-misplaced}
 use Rattle.tocmark_read_back.specs.InParagraph.{in_paragraph}
@@ -25,14 +23,14 @@ use Rattle.tocmark_render.specs.Definitions.{definitions_text}
 use Rattle.tocmark_render.specs.Document.{DocumentView}
 use Rattle.tocmark_render.specs.DocumentOf.{Refuses, is_delimiter_event, is_sourced_event}
 use Rattle.tocmark_render.specs.Placeholder.{whole}
-use Rattle.tocmark_render.specs.ReadsBack.{expected, flags_at, found_in, is_read_back, reads_back, whole_text}
+use Rattle.tocmark_render.specs.ReadsBack.{flags_at, found_in, is_taken, reads_back, whole_text}
 use Rattle.tocmark_render.specs.TrialOf.{IsReady, Leaves, asked_in, definitions_in, events_in, or_no_trees, reads_back_as, spelled_by}
 use Rattle.tocmark_render.specs.Tries.{Asked, Found, Lost, StopsTrial, first, misplaced}
 use Rattle.tocmark_render.specs.Units.{trees_of}
 use Rattle.tocmark_render.specs.declared.document.Written.{Written}
 use Rattle.tocmark_render.specs.declared.trial.Trial.{Trial}
 use Rattle.tocmark_render.proofs.Balanced.{flat-of-trees}
-use Rattle.tocmark_render.proofs.Documents.{delimiters-flat, page-leaves, source-flat, taken-known}
+use Rattle.tocmark_render.proofs.Documents.{delimiters-flat, page-leaves, source-flat}
 use Rattle.tocmark_render.proofs.Trials.{none-test}
 
 flat-or-none : (es : List SourcedEvent) (o : Option Trees) → trees_of es ≡ o → is_some o ≡ true → flat (or_no_trees o) ≡ es
@@ -62,20 +60,14 @@ module _ {R : Type 0} (t : Trial R) (ready : IsReady t) where
     abbrev q : Asked
     q = asked_in reading t flags
 
-    found-unit : (es : List EventView) (r : ReadingView) → es ≡ in_paragraph (merged (map unsourced (events_in t))) → found_in d.known es r ≡ is_read_back q.setting d trees r
-    found-unit es r e =
-        ap (λ es. found_in d.known es r) e
-        ∙ ap (λ es. found_in d.known (in_paragraph (merged (map unsourced es))) r) (sym trial-flat)
-        ∙ ap (λ b. same_events (merged (events_of r)) (expected trees) && not b) (sym (taken-known q.setting d r.unresolved refl))
-
-    -- a reader that finds the unit, and leaves no known label open, reads it back
-    pub trial-read : (es : List EventView) (defs text defs' text' : List ℕ) (x : ParserOptions) → es ≡ in_paragraph (merged (map unsourced (events_in t))) → defs' ≡ defs → text' ≡ text → x ≡ flags_at q.setting d → found_in d.known es (q.setting.reading (whole_text defs' text') x) ≡ reads_back q.setting d trees defs text
+    -- a reader that finds the unit, and leaves no label open that is taken, reads it back
+    pub trial-read : (es : List EventView) (defs text defs' text' : List ℕ) (x : ParserOptions) → es ≡ in_paragraph (merged (map unsourced (events_in t))) → defs' ≡ defs → text' ≡ text → x ≡ flags_at q.setting d → found_in (is_taken q.setting d) es (q.setting.reading (whole_text defs' text') x) ≡ reads_back q.setting d trees defs text
     unfolding reads_back
     trial-read es defs text defs' text' x e ed et ex =
-        ap (λ v. found_in d.known es (q.setting.reading (whole_text v text') x)) ed
-        ∙ ap (λ v. found_in d.known es (q.setting.reading (whole_text defs v) x)) et
-        ∙ ap (λ v. found_in d.known es (q.setting.reading (whole_text defs text) v)) ex
-        ∙ found-unit es (q.setting.reading (whole_text defs text) (flags_at q.setting d)) e
+        ap (λ v. found_in (is_taken q.setting d) es (q.setting.reading (whole_text v text') x)) ed
+        ∙ ap (λ v. found_in (is_taken q.setting d) es (q.setting.reading (whole_text defs v) x)) et
+        ∙ ap (λ v. found_in (is_taken q.setting d) es (q.setting.reading (whole_text defs text) v)) ex
+        ∙ ap (λ es. found_in (is_taken q.setting d) es (q.setting.reading (whole_text defs text) (flags_at q.setting d))) (e ∙ ap (λ es. in_paragraph (merged (map unsourced es))) (sym trial-flat))
 
 -- ---- one trial
 

@@ -22,9 +22,9 @@ abbrev pub whole_text : List ℕ → List ℕ → List ℕ
 whole_text [] text = text
 whole_text (b ∷ defs) text = (b ∷ defs) ++ codes "\n\n" ++ text
 
--- a reader found just these events, merged, and left none of these folded labels open
-abbrev pub found_in : List (List ℕ) → List EventView → ReadingView → Bool
-found_in known events r = same_events (merged (events_of r)) events && not (list_any (is_among known) r.unresolved)
+-- a reader found just these events, merged, and left no label open that is taken
+abbrev pub found_in : (List ℕ → Bool) → List EventView → ReadingView → Bool
+found_in is_taken events r = same_events (merged (events_of r)) events && not (list_any is_taken r.unresolved)
 
 -- the events that must be read: the unit's, merged, and inline ones in a Paragraph
 abbrev pub expected : Trees → List EventView
@@ -41,10 +41,10 @@ is_taken s d label = is_among d.known label || is_label s.label label
 
 -- a reader found the unit's events, merged, and left no label open that is taken
 abbrev pub is_read_back : Setting → DocumentView → Trees → ReadingView → Bool
-is_read_back s d f r = same_events (merged (events_of r)) (expected f) && not (list_any (is_taken s d) r.unresolved)
+is_read_back s d f r = found_in (is_taken s d) (expected f) r
 
 -- a text with these definitions is read back as the unit: its events are the unit's, and none of its labels that stay
--- open is one that an earlier unit defines
+-- open is the reserved one or one that an earlier unit defines
 unfoldable pub reads_back : Setting → DocumentView → Trees → List ℕ → List ℕ → Bool
 reads_back s d f defs text = is_read_back s d f (s.reading (whole_text defs text) (flags_at s d))
 

@@ -15,14 +15,15 @@ use Rattle.tocmark_spelling.specs.Page.{Site}
 use Rattle.tocmark_spelling.specs.Plan.{Manner}
 use Rattle.tocmark_spelling.specs.PlanOf.{setting_of}
 use Rattle.tocmark_spelling.specs.Spelling.{spelling}
-use Rattle.tocmark_renderer.specs.Rendered.{RenderedAt}
-use Rattle.tocmark_renderer.specs.Spelled.{are_spelled}
+use Rattle.tocmark_unit.specs.Rendered.{RenderedAt}
+use Rattle.tocmark_unit.specs.Spelled.{are_spelled}
 use Rattle.tocmark_renderer.specs.WriterOf.{reference_view, IsRefusal}
 use Rattle.tocmark_read_back.specs.InParagraph.{in_paragraph}
 use Rattle.tocmark_render.specs.Choice.{document_after, page_in, preferred}
 use Rattle.tocmark_render.specs.Definitions.{definitions_text}
 use Rattle.tocmark_render.specs.Document.{DocumentView}
 use Rattle.tocmark_render.specs.DocumentOf.{document_flags, document_view, page_left, Spells}
+use Rattle.tocmark_render.specs.LabelsOf.{label_now}
 use Rattle.tocmark_render.specs.Placeholder.{whole}
 use Rattle.tocmark_render.specs.ReadsBack.{reads_back}
 use Rattle.tocmark_render.specs.Tries.{Asked, Tries}
@@ -47,7 +48,7 @@ options_in t = options_view t.options.now
 -- what is asked of all spellings of the unit, for a document with these flags
 abbrev pub asked_in : {R : Type 0} → (R → List ℕ → ParserOptions → ReadingView) → Trial R → ParserOptions → Asked
 asked_in reading t flags = record {
-  setting = setting_of (options_in t) flags (reading t.reader.now) None;
+  setting = setting_of (options_in t) flags (reading t.reader.now) (label_now t.label);
   unit = or_no_trees (trees_of (events_in t));
   next = following_view t.next;
 }

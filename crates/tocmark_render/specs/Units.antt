@@ -1,12 +1,12 @@
 -- Units as lists of events.
-use Rattle.std.specs.Prelude.{Bool, false, Option, Some, None, Err, List, [], ◌∷◌}
+use Rattle.std.specs.Prelude.{ℕ, Bool, false, if◌then◌else◌, Option, Some, None, Err, List, [], ◌∷◌}
 use Rattle.tocmark_event.specs.Forest.{Opened, Grown, read_all, nothing_read}
 use Rattle.tocmark_event.specs.View.{EventView, SourcedLeaf, SourcedEvent}
 use Rattle.tocmark_event.specs.declared.options.Error.TheVariants.{UnexpectedEvent}
 use Rattle.tocmark_spelling.specs.Plan.{Setting}
 use Rattle.tocmark_spelling.specs.Body.{Trees}
 use Rattle.tocmark_render.specs.Document.{DocumentView}
-use Rattle.tocmark_render.specs.Placeholder.{needs_placeholder}
+use Rattle.tocmark_render.specs.Placeholder.{needs_placeholder, reserved_label}
 use Rattle.tocmark_render.specs.Choice.{Chosen, choice}
 
 -- the forest, if no container is open
@@ -23,15 +23,6 @@ trees_read (Some r) = if_closed r.opens r.since
 unfoldable pub trees_of : List SourcedEvent → Option Trees
 trees_of es = trees_read (read_all es nothing_read)
 
--- the choice for a unit's trees; a refusal where its events aren't balanced
-abbrev pub choice_of : Setting → DocumentView → Option Trees → Option EventView → Chosen
-choice_of s d None next = Err UnexpectedEvent
-choice_of s d (Some f) next = choice s d f next
-
--- the choice for a unit that is given as its events
-unfoldable pub chosen : Setting → DocumentView → List SourcedEvent → Option EventView → Chosen
-chosen s d unit next = choice_of s d (trees_of unit) next
-
 -- whether a unit needs a placeholder; one whose events are not balanced does not
 abbrev pub placeholder_in : Option Trees → Bool
 placeholder_in None = false
@@ -40,3 +31,21 @@ placeholder_in (Some f) = needs_placeholder f
 -- whether a unit that is given as its events waits for a label
 unfoldable pub waits : List SourcedEvent → Bool
 waits unit = placeholder_in (trees_of unit)
+
+-- the label that is reserved for the lists of a unit: the last unit, which no event follows, has one if it waits
+abbrev pub label_for : DocumentView → List SourcedEvent → Option EventView → Option (List ℕ)
+label_for d unit None = if waits unit then Some (reserved_label d unit) else None
+label_for d unit (Some e) = None
+
+-- a setting with the label of a unit, whatever label it had
+abbrev pub labelled : Setting → DocumentView → List SourcedEvent → Option EventView → Setting
+labelled s d unit next = record s { label = label_for d unit next }
+
+-- the choice for a unit's trees; a refusal where its events aren't balanced
+abbrev pub choice_of : Setting → DocumentView → Option Trees → Option EventView → Chosen
+choice_of s d None next = Err UnexpectedEvent
+choice_of s d (Some f) next = choice s d f next
+
+-- the choice for a unit that is given as its events, which have a label if they need one
+unfoldable pub chosen : Setting → DocumentView → List SourcedEvent → Option EventView → Chosen
+chosen s d unit next = choice_of (labelled s d unit next) d (trees_of unit) next

@@ -13,7 +13,8 @@ use tocmark_spelling::buffered::BufferedEvent;
 
 /// Takes off the innermost container that is open, and tells whether this is its end.
 fn ends_innermost(awaited: &mut Vec<TagEnd>, end: TagEnd) -> bool
-    ensures { if_fits result (reverse awaited.new.items) ≡ left_open (reverse awaited.old.items) end }
+    ensures { if_fits result (reverse awaited.new.items)
+        ≡ left_open (reverse awaited.old.items) end }
 {
     match awaited.pop() {
         Some(innermost) => end_number(end) == end_number(innermost),
@@ -24,7 +25,9 @@ fn ends_innermost(awaited: &mut Vec<TagEnd>, end: TagEnd) -> bool
 /// Opens or ends a container, and tells whether the event can stand where these Ends are awaited,
 /// the innermost last. An `Err` says that memory ran out.
 fn nest(awaited: &mut Vec<TagEnd>, event: &OwnedEvent) -> Result<bool, AllocError>
-    ensures { IfOk result (λ fits. if_fits fits (reverse awaited.new.items) ≡ open_after (reverse awaited.old.items) (event_view string_bytes event.now)) }
+    ensures { IfOk result (λ fits.
+        if_fits fits (reverse awaited.new.items)
+        ≡ open_after (reverse awaited.old.items) (event_view string_bytes event.now)) }
 {
     match event {
         EventOf::Start(tag) => {
@@ -42,7 +45,8 @@ fn nest(awaited: &mut Vec<TagEnd>, event: &OwnedEvent) -> Result<bool, AllocErro
 /// A paragraph's Start, a text and a paragraph's End are balanced, and so are no events at all; the
 /// Start and the text alone aren't, nor is a paragraph's Start with a heading's End.
 pub fn are_balanced(alloc: Global, events: &[BufferedEvent]) -> Result<bool, AllocError>
-    ensures { IfOk result (λ balanced. balanced ≡ is_some (trees_of (map buffered_view events.now))) }
+    ensures { IfOk result (λ balanced.
+        balanced ≡ is_some (trees_of (map buffered_view events.now))) }
 {
     let mut awaited: Vec<TagEnd> = Vec::new(alloc);
     for buffered in events {

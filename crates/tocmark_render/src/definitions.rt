@@ -27,7 +27,8 @@ pub fn copied_references(
     alloc: Global,
     references: &[Reference],
 ) -> Result<Vec<Reference>, AllocError>
-    ensures { IfOk result (λ copies. map reference_view copies.items ≡ map reference_view references.now) }
+    ensures { IfOk result (λ copies.
+        map reference_view copies.items ≡ map reference_view references.now) }
 {
     let mut copies = Vec::new(alloc);
     for reference in references {
@@ -56,7 +57,8 @@ fn key_of(reference: &Reference) -> Key<'_>
 
 /// Each reference once, in order of first use.
 fn distinct(alloc: Global, references: &[Reference]) -> Result<IndexSet<Key<'_>>, AllocError>
-    ensures { IfOk result (λ keys. map key_view keys.keys ≡ distinct (map reference_view references.now)) }
+    ensures { IfOk result (λ keys.
+        map key_view keys.keys ≡ distinct (map reference_view references.now)) }
 {
     let mut keys = IndexSet::new(alloc);
     for reference in references {
@@ -66,7 +68,8 @@ fn distinct(alloc: Global, references: &[Reference]) -> Result<IndexSet<Key<'_>>
 }
 
 fn push_closing(text: &mut String, destination: &str, title: &str) -> Result<(), AllocError>
-    ensures { OnOk result (string_bytes text.new ≡ string_bytes text.old ++ definition_closing destination.now title.now) }
+    ensures { OnOk result (string_bytes text.new
+        ≡ string_bytes text.old ++ definition_closing destination.now title.now) }
 {
     match close_link(destination, title, text, LinkType::Shortcut) {
         Ok(()) => Ok(()),
@@ -80,7 +83,9 @@ fn push_definition(
     destination: &str,
     title: &str,
 ) -> Result<(), AllocError>
-    ensures { OnOk result (string_bytes text.new ≡ string_bytes text.old ++ definition (record { label = label.now; destination = destination.now; title = title.now })) }
+    ensures { OnOk result (string_bytes text.new
+        ≡ string_bytes text.old ++ definition
+        (record { label = label.now; destination = destination.now; title = title.now })) }
 {
     text.push_str("[")?;
     text.push_str(label)?;
@@ -89,7 +94,9 @@ fn push_definition(
 
 /// One more definition, on a line of its own behind others.
 fn push_line(text: &mut String, is_first: bool, key: &Key<'_>) -> Result<(), AllocError>
-    ensures { OnOk result (string_bytes text.new ≡ (if is_first then string_bytes text.old else string_bytes text.old ++ codes "\n") ++ definition (key_view key.now)) }
+    ensures { OnOk result (string_bytes text.new
+        ≡ (if is_first then string_bytes text.old else string_bytes text.old ++ codes "\n")
+        ++ definition (key_view key.now)) }
 {
     if !is_first {
         text.push_str("\n")?;
@@ -99,7 +106,8 @@ fn push_line(text: &mut String, is_first: bool, key: &Key<'_>) -> Result<(), All
 
 /// Definitions, one a line.
 fn push_lines(text: &mut String, keys: &[Key<'_>]) -> Result<(), AllocError>
-    ensures { OnOk result (string_bytes text.new ≡ string_bytes text.old ++ lines_of (map key_view keys.now)) }
+    ensures { OnOk result (string_bytes text.new
+        ≡ string_bytes text.old ++ lines_of (map key_view keys.now)) }
 {
     let mut is_first = true;
     for key in keys {
@@ -131,7 +139,8 @@ pub fn definitions_text(
     references: &[Reference],
     feeds: usize,
 ) -> Result<String, AllocError>
-    ensures { IfOk result (λ text. string_bytes text ≡ definitions_text (map reference_view references.now) feeds) }
+    ensures { IfOk result (λ text.
+        string_bytes text ≡ definitions_text (map reference_view references.now) feeds) }
 {
     let mut text = String::new(alloc);
     if references.is_empty() {

@@ -1,41 +1,44 @@
 //! The text that is chosen for a unit, and what the unit leaves to later ones.
 
-ghost use Rattle.std.specs.Prelude.{◌≡◌, ◌∷◌, ◌==◌, [], string_bytes, IfOk, OnOk, map, is_some, None, true};
+ghost use Rattle.std.specs.Prelude.{◌≡◌, ◌∷◌, ◌==◌, [], string_bytes, IfOk, OnOk, map, option_map, is_some, None, true};
 ghost use Rattle.std.specs.List.{list_any};
 ghost use Rattle.tocmark_event.specs.Options.{options_view};
 ghost use Rattle.tocmark_spelling.specs.Buffered.{buffered_view, following_view, next_view};
 ghost use Rattle.tocmark_spelling.specs.Plan.{Setting};
 ghost use Rattle.tocmark_spelling.specs.PlanOf.{setting_of};
 ghost use Rattle.tocmark_renderer.specs.JobOf.{manner_view};
-ghost use Rattle.tocmark_renderer.specs.Rendered.{page_before};
-ghost use Rattle.tocmark_renderer.specs.Spelled.{are_spelled};
+ghost use Rattle.tocmark_unit.specs.Rendered.{page_before};
+ghost use Rattle.tocmark_unit.specs.Spelled.{are_spelled};
 ghost use Rattle.tocmark_render.specs.Choice.{choice, document_after, page_in};
 ghost use Rattle.tocmark_render.specs.Definitions.{definitions_text};
 ghost use Rattle.tocmark_render.specs.Document.{first_document, known_in, literal_in};
 ghost use Rattle.tocmark_render.specs.DocumentOf.{document_view, document_flags, Gives, Spells, kept_view, page_left};
-ghost use Rattle.tocmark_render.specs.LabelsOf.{labels_of};
+ghost use Rattle.tocmark_render.specs.LabelsOf.{label_now, labels_of};
 ghost use Rattle.tocmark_render.specs.ReadsBack.{flags_at};
 ghost use Rattle.tocmark_render.specs.Spelled.{chosen_if_spelled};
 ghost use Rattle.tocmark_render.specs.TrialOf.{Expects, IsReady, Leaves, TriesIn, Writes, WritesPreferred, asked_of, or_no_trees, reads_back_as, spelled_by};
-ghost use Rattle.tocmark_render.specs.Units.{trees_of};
+ghost use Rattle.tocmark_render.specs.Units.{label_for, trees_of};
 ghost use Rattle.tocmark_render.specs.Validates.{validates};
 
 use crate::balance::are_balanced;
 use crate::definitions::{copied_references, definitions_text};
 use crate::labels::Labels;
 use crate::manners::preferred_manner;
+use crate::placeholder::needs_list_placeholder;
 use crate::read_back::reads_back;
+use crate::reserved_label::reserve_list_label;
 use crate::search::choose;
+use crate::taken::Taken;
 use crate::trial::Trial;
 use std::alloc::{AllocError, Global};
 use tocmark_event::event::{Event, EventOf, OwnedEvent, ParserOptions};
 use tocmark_event::options::{Error, Options};
 use tocmark_event::reader::Reader;
-use tocmark_renderer::block::UnitRenderer;
 use tocmark_renderer::job::{Job, Manner};
 use tocmark_renderer::parts::Reference;
-use tocmark_renderer::spelled::are_spelled;
 use tocmark_spelling::buffered::BufferedEvent;
+use tocmark_unit::block::UnitRenderer;
+use tocmark_unit::spelled::are_spelled;
 
 /// The flags of both kinds of metadata blocks, which stand only at a document's beginning.
 const METADATA_BLOCKS: ParserOptions = ParserOptions(
@@ -84,6 +87,15 @@ fn lent_event(event: &Option<OwnedEvent>) -> Option<&OwnedEvent>
     }
 }
 
+fn lent_label(label: &Option<String>) -> Option<&str>
+    ensures { label_now result ≡ option_map string_bytes label.now }
+{
+    match label {
+        None => None,
+        Some(label) => Some(label.as_str()),
+    }
+}
+
 fn has_bracket(text: &str) -> bool
     ensures { result ≡ list_any (λ b. b == 91) text.now }
 {
@@ -99,7 +111,8 @@ fn note_known_labels<R: Reader>(
     definitions: &str,
     flags: ParserOptions,
 ) -> Result<(), AllocError>
-    ensures { OnOk result (labels_of known.new ≡ known_in (R.reading reader.now) flags (labels_of known.old) definitions.now) }
+    ensures { OnOk result (labels_of known.new
+        ≡ known_in (R.reading reader.now) flags (labels_of known.old) definitions.now) }
 {
     if definitions.is_empty() {
         return Ok(());
@@ -117,7 +130,8 @@ fn note_open_labels<R: Reader>(
     text: &str,
     flags: ParserOptions,
 ) -> Result<(), AllocError>
-    ensures { OnOk result (labels_of literal.new ≡ literal_in (R.reading reader.now) flags (labels_of literal.old) text.now) }
+    ensures { OnOk result (labels_of literal.new
+        ≡ literal_in (R.reading reader.now) flags (labels_of literal.old) text.now) }
 {
     if !has_bracket(text) {
         return Ok(());
@@ -159,7 +173,8 @@ impl Document {
 
     /// The flags under which the next unit is read.
     fn reading_flags(&self) -> ParserOptions
-        ensures { (s : Setting) → s.flags ≡ document_flags self.now → result ≡ flags_at s (document_view self.now) }
+        ensures { (s : Setting) → s.flags ≡ document_flags self.now
+            → result ≡ flags_at s (document_view self.now) }
     {
         if self.flushed {
             ParserOptions(self.flags.0 & !METADATA_BLOCKS.0)
@@ -172,8 +187,10 @@ impl Document {
     /// defined, the labels that the reader finds defined in its definitions, and those that nothing
     /// defines in its text. An `Err` says that memory ran out or the reader answered it.
     fn keep<R: Reader>(&mut self, alloc: Global, reader: &R, text: &str) -> Result<(), AllocError>
-        ensures kept { (s : Setting) → s.flags ≡ document_flags self.old → s.reading ≡ R.reading reader.now →
-            OnOk result (document_view self.new ≡ document_after s (document_view self.old) (page_left self.old.renderer text.now)) }
+        ensures kept { (s : Setting) → s.flags ≡ document_flags self.old
+            → s.reading ≡ R.reading reader.now
+            → OnOk result (document_view self.new
+            ≡ document_after s (document_view self.old) (page_left self.old.renderer text.now)) }
         ensures flags { document_flags self.new ≡ document_flags self.old }
     {
         let unit = &mut self.renderer;
@@ -224,6 +241,7 @@ impl Document {
             alloc: trial.alloc,
             options: trial.options,
             flags: self.flags,
+            label: trial.label,
         };
         let text = renderer.render_block(job, trial.reader, trial.unit, trial.next, *manner)?;
         Ok(Written { text, renderer })
@@ -244,11 +262,15 @@ impl Document {
     {
         let references = &written.renderer.references;
         let definitions = definitions_text(trial.alloc, references, written.renderer.newlines)?;
+        let taken = Taken {
+            known: &self.known,
+            reserved: trial.label,
+        };
         reads_back(
             trial.alloc,
             trial.reader,
             self.reading_flags(),
-            &self.known,
+            taken,
             expected,
             definitions.as_str(),
             written.text.as_str(),
@@ -308,6 +330,42 @@ impl Document {
         Ok(self.accept(trial, written)?)
     }
 
+    /// The label that is reserved for the lists of the last unit, if it waits. An `Err` says that memory
+    /// ran out.
+    fn label_at_end(
+        &self,
+        alloc: Global,
+        unit: &[BufferedEvent],
+    ) -> Result<Option<String>, AllocError>
+        ensures { IfOk result (λ label. option_map string_bytes label ≡
+            label_for (document_view self.now) (map buffered_view unit.now) None) }
+    {
+        if needs_list_placeholder(alloc, unit)? {
+            let label = reserve_list_label(alloc, &self.known, &self.literal, unit)?;
+            Ok(Some(label))
+        } else {
+            Ok(None)
+        }
+    }
+
+    /// The label that is reserved for the lists of a unit: the last unit, which no event follows, has
+    /// one if it waits. An `Err` says that memory ran out.
+    fn label_for(
+        &self,
+        alloc: Global,
+        unit: &[BufferedEvent],
+        next: Option<&Event<'_>>,
+    ) -> Result<Option<String>, AllocError>
+        ensures { let unit = map buffered_view unit.now in
+            IfOk result (λ label. option_map string_bytes label ≡
+            label_for (document_view self.now) unit (next_view next.entry)) }
+    {
+        match next {
+            Some(_) => Ok(None),
+            None => self.label_at_end(alloc, unit),
+        }
+    }
+
     /// Writes a unit of which each event is written so far. An `Err` is as in `block`.
     fn chosen<'u, R: Reader>(
         &mut self,
@@ -315,12 +373,14 @@ impl Document {
         reader: &'u R,
         unit: &'u [BufferedEvent],
         next: Option<&'u OwnedEvent>,
+        label: Option<&'u str>,
         options: &'u Options<'_>,
     ) -> Result<String, Error>
         requires spelled { are_spelled (map buffered_view unit.now) ≡ true }
         requires balanced { is_some (trees_of (map buffered_view unit.now)) ≡ true }
         ensures chosen { let flags = document_flags self.old in
-            let s = setting_of (options_view options.now) flags (R.reading reader.now) None in
+            let label = label_now label.entry in
+            let s = setting_of (options_view options.now) flags (R.reading reader.now) label in
             let f = or_no_trees (trees_of (map buffered_view unit.now)) in
             Spells (document_view self.new) result
             (choice s (document_view self.old) f (following_view next.entry)) }
@@ -331,6 +391,7 @@ impl Document {
             reader,
             unit,
             next,
+            label,
             options,
         };
         choose(&trial, self)
@@ -342,7 +403,8 @@ impl Document {
     /// reads, spellings are tried in order, and the first is taken in which the reader finds the unit:
     /// from the source, where some text is known there, and for a unit with delimiters the preferred
     /// one and those by other plans and markers. Where none is found, a unit without delimiters is written in the
-    /// preferred spelling, as is one whose options aren't accepted, and any with other markers.
+    /// preferred spelling, as is one whose options aren't accepted, and any with other markers. The last
+    /// unit, which no event follows, has a label that is reserved for its lists, if one needs a placeholder.
     ///
     /// An `Err` is `UnexpectedEvent` where the unit has an event that isn't written so far, where its
     /// events aren't balanced, and where a heading stands in a heading; `Unrepresentable` where no
@@ -369,14 +431,23 @@ impl Document {
         if !are_balanced(alloc, unit)? {
             return Err(Error::UnexpectedEvent);
         }
+        let label = self.label_for(alloc, unit, next)?;
         let next = kept_event(alloc, next)?;
-        self.chosen(alloc, reader, unit, lent_event(&next), options)
+        self.chosen(
+            alloc,
+            reader,
+            unit,
+            lent_event(&next),
+            lent_label(&label),
+            options,
+        )
     }
 
     /// The definitions that are left: of each unit so far those that it needs, each once, one a line,
     /// behind a blank line; an empty text where no unit needs one. An `Err` says that memory ran out.
     pub fn finish(&self, alloc: Global) -> Result<String, Error>
-        ensures { Gives result (definitions_text (document_view self.now).references (document_view self.now).feeds) }
+        ensures { Gives result
+            (definitions_text (document_view self.now).references (document_view self.now).feeds) }
     {
         Ok(definitions_text(alloc, &self.references, self.renderer.newlines)?)
     }

@@ -50,7 +50,8 @@ pub fn with_definitions_in_front(
     definitions: &str,
     text: &str,
 ) -> Result<String, AllocError>
-    ensures { IfOk result (λ whole. string_bytes whole ≡ with_definitions_in_front definitions.now text.now) }
+    ensures { IfOk result (λ whole.
+        string_bytes whole ≡ with_definitions_in_front definitions.now text.now) }
 {
     let mut whole = String::from_str(alloc, leading_feeds(text))?;
     whole.push_str(without_leading_feeds(definitions))?;

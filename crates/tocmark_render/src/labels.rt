@@ -1,7 +1,6 @@
 //! Folded labels.
 
 ghost use Rattle.std.specs.Prelude.{◌≡◌, [], length, map, string_bytes, IfOk, OnOk};
-ghost use Rattle.std.specs.List.{list_any};
 ghost use Rattle.tocmark_render.specs.Document.{is_among, with_label, with_labels};
 ghost use Rattle.tocmark_render.specs.LabelsOf.{labels_of};
 
@@ -49,18 +48,6 @@ impl Labels {
         Ok(self.folded.contains(&folded))
     }
 
-    /// Whether one of these labels is among them. An `Err` says that memory ran out.
-    pub fn contains_any(&self, alloc: Global, labels: &[String]) -> Result<bool, AllocError>
-        ensures { IfOk result (λ b. b ≡ list_any (is_among (labels_of self.now)) (map string_bytes labels.now)) }
-    {
-        for label in labels {
-            if self.contains(alloc, label.as_str())? {
-                return Ok(true);
-            }
-        }
-        Ok(false)
-    }
-
     /// The same labels. An `Err` says that memory ran out.
     pub fn copied(&self) -> Result<Labels, AllocError>
         ensures { IfOk result (λ copy. labels_of copy ≡ labels_of self.now) }
@@ -72,7 +59,8 @@ impl Labels {
 
     /// Adds labels in turn. An `Err` says that memory ran out.
     pub fn add_all(&mut self, alloc: Global, labels: &[String]) -> Result<(), AllocError>
-        ensures { OnOk result (labels_of self.new ≡ with_labels (labels_of self.old) (map string_bytes labels.now)) }
+        ensures { OnOk result (labels_of self.new
+            ≡ with_labels (labels_of self.old) (map string_bytes labels.now)) }
     {
         for label in labels {
             self.add(alloc, label.as_str())?;

@@ -12,4 +12,5 @@ pub mod placeholder;
 pub mod read_back;
 pub mod reserved_label;
 mod search;
+pub mod taken;
 mod trial;

@@ -54,7 +54,8 @@ pub fn preferred_manner<'a>(options: &Options<'a>, source: bool) -> Manner<'a>
 
 /// Delimiters by runs, with these markers.
 pub fn by_runs(emphasis: char, strong: &str, source: bool) -> Manner<'_>
-    ensures { manner_view result ≡ in_manner layout.Runs text_spelling.Escaped (pair emphasis strong.now) source }
+    ensures { manner_view result
+        ≡ in_manner layout.Runs text_spelling.Escaped (pair emphasis strong.now) source }
 {
     Manner {
         delimiters: Delimiters {

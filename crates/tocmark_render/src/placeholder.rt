@@ -13,9 +13,9 @@ use crate::balance::are_balanced;
 use std::alloc::{AllocError, Global};
 use tocmark_ahead::ends::matching_ends;
 use tocmark_event::event::{EventOf, TagOf};
-use tocmark_renderer::turn::rest_of;
 use tocmark_spelling::buffered::BufferedEvent;
 use tocmark_spelling::kinds::is_inline_end;
+use tocmark_unit::turn::rest_of;
 
 /// Whether inline content stands before what follows the event.
 fn is_inline_end_or_leaf(event: &BufferedEvent) -> bool
@@ -77,7 +77,8 @@ fn begins_three_ends(events: &[BufferedEvent]) -> bool
 /// Whether an item comes that holds a paragraph alone and is the only one in its list; `behind` are
 /// the events from the end of the paragraph.
 fn begins_only_item(events: &[BufferedEvent], behind: &[BufferedEvent]) -> bool
-    ensures { result ≡ begins_only_item (map buffered_view events.now) (map buffered_view behind.now) }
+    ensures { result
+        ≡ begins_only_item (map buffered_view events.now) (map buffered_view behind.now) }
 {
     match events {
         [item, paragraph, ..] => {
@@ -94,7 +95,9 @@ fn starts_ambiguous_list(
     rest: &[BufferedEvent],
     behind: &[BufferedEvent],
 ) -> bool
-    ensures { result ≡ starts_ambiguous_list behind_inline (buffered_view event.now) (map buffered_view rest.now) (map buffered_view behind.now) }
+    ensures { result
+        ≡ starts_ambiguous_list behind_inline (buffered_view event.now)
+        (map buffered_view rest.now) (map buffered_view behind.now) }
 {
     starts_list(event)
         && ((begins_empty_item(rest) && behind_inline) || begins_only_item(rest, behind))
@@ -116,7 +119,8 @@ fn end_after(ends: &[usize], i: usize) -> usize
 /// The events from the end of the container that is innermost behind the second event after a place.
 fn from_end_after<'a>(events: &'a [BufferedEvent], ends: &[usize], i: usize) -> &'a [BufferedEvent]
     requires ends { AreEnds (map buffered_view events.now) ends.now }
-    ensures { map buffered_view result.now ≡ from_end (drop 2 (drop (i + 1) (map buffered_view events.now))) }
+    ensures { map buffered_view result.now
+        ≡ from_end (drop 2 (drop (i + 1) (map buffered_view events.now))) }
 {
     rest_of(events, end_after(ends, i))
 }

@@ -2,33 +2,33 @@
 
 ghost use Rattle.std.specs.Prelude.{◌≡◌, ◌++◌, codes, map, string_bytes, IfOk};
 ghost use Rattle.tocmark_event.specs.View.{event_view};
-ghost use Rattle.tocmark_render.specs.LabelsOf.{labels_of};
+ghost use Rattle.tocmark_render.specs.LabelsOf.{is_taken_in};
 ghost use Rattle.tocmark_render.specs.ReadsBack.{found_in, whole_text};
 
-use crate::labels::Labels;
+use crate::taken::Taken;
 use std::alloc::{AllocError, Global};
 use tocmark_event::event::{OwnedEvent, ParserOptions};
 use tocmark_event::reader::{Reader, Reading};
 use tocmark_read_back::agrees::agrees;
 
-/// Whether a reader finds these events in a text, and leaves no label open that is known already.
+/// Whether a reader finds these events in a text, and leaves no label open that is taken.
 fn finds<R: Reader>(
     alloc: Global,
     reader: &R,
     flags: ParserOptions,
-    known: &Labels,
+    taken: Taken<'_, '_>,
     expected: &[OwnedEvent],
     text: &str,
 ) -> Result<bool, AllocError>
     ensures { let events = map (event_view string_bytes) expected.now in
         let reading = R.reading reader.now text.now flags in
-        IfOk result (λ b. b ≡ found_in (labels_of known.now) events reading) }
+        IfOk result (λ b. b ≡ found_in (is_taken_in taken.entry) events reading) }
 {
     let reading = reader.read(alloc, text, flags)?;
     if !agrees(&reading.events, expected) {
         return Ok(false);
     }
-    let is_taken = known.contains_any(alloc, &reading.unresolved)?;
+    let is_taken = taken.contains_any(alloc, &reading.unresolved)?;
     Ok(!is_taken)
 }
 
@@ -43,23 +43,23 @@ fn behind_definitions(alloc: Global, definitions: &str, text: &str) -> Result<St
 }
 
 /// Whether a reader finds these events in a text that stands behind these definitions, and leaves no
-/// label open that is known already. An `Err` says that memory ran out or the reader answered it.
+/// label open that is taken. An `Err` says that memory ran out or the reader answered it.
 pub fn reads_back<R: Reader>(
     alloc: Global,
     reader: &R,
     flags: ParserOptions,
-    known: &Labels,
+    taken: Taken<'_, '_>,
     expected: &[OwnedEvent],
     definitions: &str,
     text: &str,
 ) -> Result<bool, AllocError>
     ensures { let events = map (event_view string_bytes) expected.now in
         let reading = R.reading reader.now (whole_text definitions.now text.now) flags in
-        IfOk result (λ b. b ≡ found_in (labels_of known.now) events reading) }
+        IfOk result (λ b. b ≡ found_in (is_taken_in taken.entry) events reading) }
 {
     if definitions.is_empty() {
-        return finds(alloc, reader, flags, known, expected, text);
+        return finds(alloc, reader, flags, taken, expected, text);
     }
     let all = behind_definitions(alloc, definitions, text)?;
-    finds(alloc, reader, flags, known, expected, all.as_str())
+    finds(alloc, reader, flags, taken, expected, all.as_str())
 }

@@ -37,7 +37,8 @@ fn started_ids(alloc: Global, events: &[BufferedEvent]) -> Result<Vec<&str>, All
 }
 
 fn label_set(alloc: Global, ids: &[&str]) -> Result<Labels, AllocError>
-    ensures { IfOk result (λ labels. (label : List ℕ) → is_among (labels_of labels) label ≡ is_among (folded_ids ids.now) label) }
+    ensures { IfOk result (λ labels.
+        (label : List ℕ) → is_among (labels_of labels) label ≡ is_among (folded_ids ids.now) label) }
 {
     let mut labels = Labels::new(alloc);
     for id in ids {
@@ -60,7 +61,9 @@ fn is_used(
     ids: &Labels,
     label: &str,
 ) -> Result<bool, AllocError>
-    ensures { IfOk result (λ used. used ≡ is_among (labels_of known.now ++ labels_of literal.now ++ labels_of ids.now) label.now) }
+    ensures { IfOk result (λ used.
+        used ≡ is_among (labels_of known.now ++ labels_of literal.now ++ labels_of ids.now)
+        label.now) }
 {
     if known.contains(alloc, label)? {
         return Ok(true);
@@ -79,7 +82,9 @@ fn free_label(
     ids: &Labels,
     count: usize,
 ) -> Result<String, AllocError>
-    ensures { IfOk result (λ label. string_bytes label ≡ free_label count 1 (labels_of known.now ++ labels_of literal.now ++ labels_of ids.now)) }
+    ensures { IfOk result (λ label.
+        string_bytes label
+        ≡ free_label count 1 (labels_of known.now ++ labels_of literal.now ++ labels_of ids.now)) }
 {
     for n in 0..count {
         let label = numbered_label(alloc, n + 1)?;
@@ -104,8 +109,10 @@ fn free_beside(
     literal: &Labels,
     ids: &[&str],
 ) -> Result<String, AllocError>
-    ensures { IfOk result (λ label. (d : DocumentView) → d.known ≡ labels_of known.now → d.literal ≡ labels_of literal.now →
-        (pending : List SourcedEvent) → folded_ids ids.now ≡ ids_of pending → string_bytes label ≡ reserved_label d pending) }
+    ensures { IfOk result (λ label.
+        (d : DocumentView) → d.known ≡ labels_of known.now → d.literal ≡ labels_of literal.now
+        → (pending : List SourcedEvent) → folded_ids ids.now ≡ ids_of pending
+        → string_bytes label ≡ reserved_label d pending) }
 {
     let count = sum_of(known.len(), literal.len(), ids.len())?;
     let set = label_set(alloc, ids)?;
@@ -121,8 +128,9 @@ pub fn reserve_list_label(
     literal: &Labels,
     pending: &[BufferedEvent],
 ) -> Result<String, AllocError>
-    ensures { IfOk result (λ label. (d : DocumentView) → d.known ≡ labels_of known.now → d.literal ≡ labels_of literal.now →
-        string_bytes label ≡ reserved_label d (map buffered_view pending.now)) }
+    ensures { IfOk result (λ label.
+        (d : DocumentView) → d.known ≡ labels_of known.now → d.literal ≡ labels_of literal.now
+        → string_bytes label ≡ reserved_label d (map buffered_view pending.now)) }
 {
     let ids = started_ids(alloc, pending)?;
     free_beside(alloc, known, literal, &ids)

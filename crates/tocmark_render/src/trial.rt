@@ -13,5 +13,7 @@ pub struct Trial<'t, 'o, R> {
     pub unit: &'t [BufferedEvent],
     /// The event after the unit, if there is one.
     pub next: Option<&'t OwnedEvent>,
+    /// The label that is reserved for lists, if there is one.
+    pub label: Option<&'t str>,
     pub options: &'t Options<'o>,
 }

@@ -4,22 +4,21 @@ use Rattle.tocmark_event.specs.Merged.{merged}
 use Rattle.tocmark_event.specs.Text.{text_of}
 use Rattle.tocmark_event.specs.View.{event_view}
 use Rattle.tocmark_spelling.specs.SameEvents.{same_events}
-use Rattle.tocmark_render.specs.Document.{is_among}
-use Rattle.tocmark_render.specs.LabelsOf.{labels_of}
+use Rattle.tocmark_render.specs.LabelsOf.{is_taken_in}
 use Rattle.tocmark_render.proofs.ReadBacks.{not-found, found-open}
 use Rattle.tocmark_render.proofs.read_back.finds.Goals as goal
 
 pub returns-then-not-agrees : goal.returns-then-not-agrees
 returns-then-not-agrees g c =
     let expected = map (event_view string_bytes) c.args.expected.now in
-    not-found (labels_of c.args.known.now) expected c.in_ok-reading.reading (g.R.Reader.reading c.args.reader.now c.args.text.now c.args.flags) c.in_ok-reading.ensures
+    not-found (is_taken_in c.args.taken) expected c.in_ok-reading.reading (g.R.Reader.reading c.args.reader.now c.args.text.now c.args.flags) c.in_ok-reading.ensures
     (sym (ap (λ xs. same_events (merged (map (λ e. event_view text_of e.0) xs)) expected) c.deref.ensures.value)
     ∙ sym c.agrees.ensures ∙ c.if-not-agrees.true)
 
 pub returns : goal.returns
 returns g c =
     let expected = map (event_view string_bytes) c.args.expected.now in
-    found-open (labels_of c.args.known.now) expected c.in_ok-reading.reading (g.R.Reader.reading c.args.reader.now c.args.text.now c.args.flags) c.in_ok-reading.ensures c.in_ok-is_taken.is_taken
+    found-open (is_taken_in c.args.taken) expected c.in_ok-reading.reading (g.R.Reader.reading c.args.reader.now c.args.text.now c.args.flags) c.in_ok-reading.ensures c.in_ok-is_taken.is_taken
     (sym (ap (λ xs. same_events (merged (map (λ e. event_view text_of e.0) xs)) expected) c.deref.ensures.value)
     ∙ sym c.agrees.ensures ∙ c.if-not-agrees.false)
-    (c.in_ok-is_taken.ensures ∙ ap (λ xs. list_any (is_among (labels_of c.args.known.now)) (map string_bytes xs)) c.deref-2.ensures.value)
+    (c.in_ok-is_taken.ensures ∙ ap (λ xs. list_any (is_taken_in c.args.taken) (map string_bytes xs)) c.deref-2.ensures.value)

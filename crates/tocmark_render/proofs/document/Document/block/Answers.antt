@@ -1,12 +1,12 @@
-use Rattle.std.proofs.Common.{◌∙◌, sym, subst, map, None, Option}
+use Rattle.std.proofs.Common.{◌∙◌, ℕ, List, sym, subst, map, None, Option}
 use Rattle.tocmark_event.specs.Options.{options_view}
 use Rattle.tocmark_event.specs.View.{EventView}
-use Rattle.tocmark_spelling.specs.Buffered.{buffered_view, next_view}
+use Rattle.tocmark_spelling.specs.Buffered.{buffered_view, following_view, next_view}
 use Rattle.tocmark_spelling.specs.PlanOf.{setting_of}
 use Rattle.tocmark_render.specs.Choice.{choice}
 use Rattle.tocmark_render.specs.DocumentOf.{document_view, Spells}
 use Rattle.tocmark_render.specs.TrialOf.{or_no_trees}
-use Rattle.tocmark_render.specs.Units.{trees_of}
+use Rattle.tocmark_render.specs.Units.{labelled, trees_of}
 use Rattle.tocmark_render.proofs.Documents.{unspelled-refused, unbalanced-refused, spelled-chosen}
 use Rattle.tocmark_render.proofs.document.Document.block.Goals as goal
 
@@ -29,9 +29,14 @@ returns-clause-chosen g c =
     let s = setting_of (options_view c.args.options.now) c.args.self.now.flags (g.R.Reader.reading c.args.reader.now) None in
     let d = document_view c.args.self.now in
     let es = map buffered_view c.args.unit.now in
+    let f = or_no_trees (trees_of es) in
+    let next = next_view c.args.next in
     let new = document_view c.chosen.new.self in
+    let result = c.chosen.result in
     let after = c.lent_event.ensures ∙ c.in_ok-next.ensures in
+    let labels = c.lent_label.ensures ∙ c.in_ok-label.ensures in
     let spelled = sym c.are_spelled.ensures ∙ c.if-not-are_spelled.false in
-    let P : Option EventView → Type 0 = λ n. Spells new c.chosen.result (choice s d (or_no_trees (trees_of es)) n) in
-    subst (Spells new c.chosen.result) (sym (spelled-chosen s d es (next_view c.args.next) (sym c.in_ok-are_balanced.ensures ∙ c.if-not-branch.false) spelled))
-    (subst P after c.chosen.ensures.chosen)
+    let P : Option EventView → Type 0 = λ n. Spells new result (choice (labelled s d es next) d f n) in
+    let Q : Option (List ℕ) → Type 0 = λ l. Spells new result (choice (record s { label = l }) d f (following_view c.lent_event.result)) in
+    subst (Spells new result) (sym (spelled-chosen s d es next (sym c.in_ok-are_balanced.ensures ∙ c.if-not-branch.false) spelled))
+    (subst P after (subst Q labels c.chosen.ensures.chosen))

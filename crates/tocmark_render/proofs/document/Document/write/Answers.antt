@@ -1,11 +1,11 @@
-use Rattle.std.proofs.Common.{subst, string_bytes, None, []}
+use Rattle.std.proofs.Common.{subst, string_bytes, []}
 use Rattle.std.proofs.lemmas.Result.{err_from_is_err_and}
 use Rattle.tocmark_spelling.specs.Body.{Trees}
 use Rattle.tocmark_spelling.specs.Machine.{around}
 use Rattle.tocmark_spelling.specs.Page.{Page}
 use Rattle.tocmark_spelling.specs.Spelling.{spelling}
 use Rattle.tocmark_renderer.specs.JobOf.{manner_view}
-use Rattle.tocmark_renderer.specs.Rendered.{page_before, RenderedAt}
+use Rattle.tocmark_unit.specs.Rendered.{page_before, RenderedAt}
 use Rattle.tocmark_renderer.specs.WriterOf.{IsRefusal}
 use Rattle.tocmark_render.specs.TrialOf.{asked_of}
 use Rattle.tocmark_render.proofs.TrialUnits.{trial-written}
@@ -20,7 +20,7 @@ returns-in_err-text g c =
     let e = c.in_err-text.field-0.0 in
     let P : Trees → Type 0 = λ f. IsRefusal e (spelling q.setting m f (around [] [] q.next) [] (page_before c.in_ok-renderer.renderer)) in
     let Q : Page → Type 0 = λ p. IsRefusal e (spelling q.setting m q.unit (around [] [] q.next) [] p) in
-    rw (p.1, p.2) (subst Q c.in_ok-renderer.ensures (trial-written t c.requires.ready P (λ f is. c.in_err-text.ensures.spelled None f c.requires.ready.spelled is)))
+    rw (p.1, p.2) (subst Q c.in_ok-renderer.ensures (trial-written t c.requires.ready P (λ f is. c.in_err-text.ensures.spelled f c.requires.ready.spelled is)))
 
 pub returns : goal.returns
 returns g c =
@@ -31,4 +31,4 @@ returns g c =
     let new = c.render_block.new.self in
     let P : Trees → Type 0 = λ f. RenderedAt text new (spelling q.setting m f (around [] [] q.next) [] (page_before c.in_ok-renderer.renderer)) in
     let Q : Page → Type 0 = λ p. RenderedAt text new (spelling q.setting m q.unit (around [] [] q.next) [] p) in
-    subst Q c.in_ok-renderer.ensures (trial-written t c.requires.ready P (λ f is. c.in_ok-text.ensures.spelled None f c.requires.ready.spelled is))
+    subst Q c.in_ok-renderer.ensures (trial-written t c.requires.ready P (λ f is. c.in_ok-text.ensures.spelled f c.requires.ready.spelled is))
