@@ -18,6 +18,7 @@ use tocmark_pieces::headings::attributes_text;
 use tocmark_pieces::html::{is_blank_terminated, is_html_closed};
 use tocmark_pieces::lists::{ListPlace, Marker, item_marker, item_prefix, list_token, next_number};
 use tocmark_pieces::notes::footnote_mark;
+use tocmark_pieces::repeated::repeated;
 use tocmark_pieces::tables::alignment_row;
 use tocmark_spelling::buffered::BufferedEvent;
 use tocmark_spelling::plan::{Delimiters, Layout, TextSpelling};
@@ -173,6 +174,8 @@ fn alignment_rows(rt: HostRuntime) -> Result<(), Fail> {
 fn marks(rt: HostRuntime) -> Result<(), Fail> {
     let alloc = rt.alloc();
     assert!(rt; same(footnote_mark(alloc, "n"), "[^n]: ")?);
+    assert!(rt; same(repeated(alloc, 'é', 2), "éé")?);
+    assert!(rt; repeated(alloc, 'é', 0x8000_0000_0000_0000).is_err());
     let none = ParserOptions::empty();
     assert!(rt; strikethrough_token(Layout::Runs, none, true) == "~");
     let options = Options::default();

@@ -41,7 +41,8 @@ fn rewritten(alloc: Global, text: &str) -> Result<String, Error>
 fn converted<I: Read>(alloc: Global, input: &mut I) -> Result<String, Fault>
     ensures fault { IfErr result (λ fault. (status_of fault ≡ 1) × ¬ (IsWriteFault fault)) }
     ensures text { IfSome (I.remaining input.old) (λ bytes. OnOk result (IsUtf8 bytes)) }
-    ensures rewritten { IfSome (I.remaining input.old) (λ bytes. IfOk result (λ output. IsRewritten bytes (string_bytes output))) }
+    ensures rewritten { IfSome (I.remaining input.old) (λ bytes.
+        IfOk result (λ output. IsRewritten bytes (string_bytes output))) }
 {
     let mut bytes = Vec::new(alloc);
     if input.read_to_end(&mut bytes).is_err() {
@@ -73,11 +74,14 @@ fn answer<I: Read, O: Write>(
     input: &mut I,
     output: &mut O,
 ) -> Result<(), Fault>
-    ensures usage { is_right words.now ≡ false → (result ≡ Err Fault.Usage) × (input.new ≡ input.old) × (output.new ≡ output.old) }
+    ensures usage { is_right words.now ≡ false
+        → (result ≡ Err Fault.Usage) × (input.new ≡ input.old) × (output.new ≡ output.old) }
     ensures right { is_right words.now ≡ true → IfErr result (λ fault. status_of fault ≡ 1) }
     ensures unwritten { IfErr result (λ fault. ¬ (IsWriteFault fault) → output.new ≡ output.old) }
-    ensures done { OnOk result ((text : List ℕ) × Appends (O.contents output.old) (O.contents output.new) text) }
-    ensures wrote { IfSome (I.remaining input.old) (λ bytes. OnOk result (Wrote bytes (O.contents output.old) (O.contents output.new))) }
+    ensures done { OnOk result ((text : List ℕ)
+        × Appends (O.contents output.old) (O.contents output.new) text) }
+    ensures wrote { IfSome (I.remaining input.old) (λ bytes.
+        OnOk result (Wrote bytes (O.contents output.old) (O.contents output.new))) }
     ensures late { OnErr result (WritesLate (I.remaining input.old) output.old output.new) }
 {
     if !are_right(words) {
@@ -101,10 +105,13 @@ pub fn run<I: Read, O: Write, F: Write>(
     faults: &mut F,
 ) -> u8
     ensures status { result ≤ 2 }
-    ensures usage { is_right words.now ≡ false → (result ≡ 2) × (input.new ≡ input.old) × (output.new ≡ output.old) }
+    ensures usage { is_right words.now ≡ false → (result ≡ 2) × (input.new ≡ input.old)
+        × (output.new ≡ output.old) }
     ensures right { is_right words.now ≡ true → result ≤ 1 }
-    ensures done { result ≡ 0 → (text : List ℕ) × Appends (O.contents output.old) (O.contents output.new) text }
-    ensures wrote { IfSome (I.remaining input.old) (λ bytes. result ≡ 0 → Wrote bytes (O.contents output.old) (O.contents output.new)) }
+    ensures done { result ≡ 0
+        → (text : List ℕ) × Appends (O.contents output.old) (O.contents output.new) text }
+    ensures wrote { IfSome (I.remaining input.old) (λ bytes.
+        result ≡ 0 → Wrote bytes (O.contents output.old) (O.contents output.new)) }
     ensures late { result ≡ 1 → WritesLate (I.remaining input.old) output.old output.new }
 {
     match answer(alloc, words, input, output) {

@@ -6,10 +6,10 @@ use std::test::Fail;
 use tocmark_core_reader::CoreReader;
 use tocmark_event::event::{EventOf, OwnedEvent, ParserOptions, TagEnd, TagOf};
 use tocmark_event::options::Options;
-use tocmark_renderer::block::UnitRenderer;
 use tocmark_renderer::job::{Job, Manner};
 use tocmark_spelling::buffered::BufferedEvent;
 use tocmark_spelling::plan::{Delimiters, Layout, TextSpelling};
+use tocmark_unit::block::{UnitRenderer, write_unit};
 
 const PREFERRED: Manner<'static> = Manner {
     delimiters: Delimiters {
@@ -47,16 +47,17 @@ fn a_unit_taken_back_leaves_nothing(rt: HostRuntime) -> Result<(), Fail> {
         alloc,
         options: &options,
         flags: ParserOptions(0),
+        label: None,
     };
     let unit = paragraph(alloc)?;
     let mut units = UnitRenderer::new(alloc);
     let mut renderer = units.begin(alloc);
     renderer.mark();
-    renderer.write_unit(job, &CoreReader, &unit, None, PREFERRED)?;
+    write_unit(&mut renderer, job, &CoreReader, &unit, None, PREFERRED)?;
     assert_eq!(rt; renderer.text(), "a\n\\- b");
     renderer.back();
     assert_eq!(rt; renderer.text(), "");
-    renderer.write_unit(job, &CoreReader, &unit, None, PREFERRED)?;
+    write_unit(&mut renderer, job, &CoreReader, &unit, None, PREFERRED)?;
     assert_eq!(rt; renderer.text(), "a\n\\- b");
     let text = units.finish(renderer);
     assert_eq!(rt; text.as_str(), "a\n\\- b");

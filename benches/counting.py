@@ -1,0 +1,37 @@
+"""What the benches share: a program is proved and built, run, and its instructions counted by valgrind."""
+import os
+import re
+import subprocess
+import sys
+
+TOP = os.path.dirname(os.path.dirname(os.path.abspath(__file__)))
+NAME = f"benches/{os.path.basename(sys.argv[0])}"
+CACHEGRIND = ["valgrind", "--tool=cachegrind", "--cache-sim=no", "--cachegrind-out-file=/dev/null"]
+
+
+def built(crate):
+    """The path of a crate's program, which is proved and built where that isn't done."""
+    folder = f"{TOP}/crates/{crate}"
+    program = f"{folder}/out/{crate}"
+    with open(f"{folder}/args", encoding="utf-8") as file:
+        words = file.read().split()
+    command = ["rt", "run", "--", *words]
+    made = subprocess.run(command, cwd=folder, stdin=subprocess.DEVNULL, capture_output=True, text=True)
+    if made.returncode or not os.path.exists(program):
+        sys.exit(f"{NAME}: the program can't be built:\n{made.stdout[-2000:]}{made.stderr[-2000:]}")
+    return program
+
+
+def run(words, text=""):
+    """What a command did that read this text."""
+    ran = subprocess.run(words, input=text.encode(), capture_output=True)
+    if ran.returncode:
+        sys.exit(f"{NAME}: {words[0]} ended with status {ran.returncode}")
+    return ran
+
+
+def counted(words, text=""):
+    """The first line that a command wrote, and the number of instructions that it took."""
+    ran = run([*CACHEGRIND, *words], text)
+    instructions = re.search(rb"I\s+refs:\s+([\d,]+)", ran.stderr)
+    return ran.stdout.split(b"\n")[0].decode(), int(instructions[1].replace(b",", b""))

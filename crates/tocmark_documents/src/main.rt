@@ -1,0 +1,81 @@
+//! Reads documents of Markdown on standard input, each ended by a line `%`, and writes each one back. Behind it
+//! stands a line that begins with `%`: what is wrong, or nothing more where it is read as the document is.
+#![tactic(auto)]
+
+use std::alloc::{AllocError, Global};
+use std::io::{self, Read, Write};
+use std::process::ExitCode;
+use tocmark::{Error, cmark};
+use tocmark_ahead::same_events::same_events;
+use tocmark_core_reader::CoreReader;
+use tocmark_event::event::{OwnedEvent, ParserOptions, merge_all};
+use tocmark_event::reader::Reader;
+
+const FLAGS: ParserOptions = ParserOptions(0);
+
+/// The events of a text, each stretch of texts as one.
+fn merged(alloc: Global, text: &str) -> Result<Vec<OwnedEvent>, AllocError> {
+    let reading = CoreReader.read(alloc, text, FLAGS)?;
+    let mut events: Vec<OwnedEvent> = Vec::new(alloc);
+    for (event, _range) in &reading.events {
+        events.push(event.copied(alloc)?)?;
+    }
+    merge_all(alloc, &events)
+}
+
+/// Whether two texts are read as the same events.
+fn are_read_alike(alloc: Global, left: &str, right: &str) -> Result<bool, AllocError> {
+    let left = merged(alloc, left)?;
+    let right = merged(alloc, right)?;
+    Ok(same_events(&left, &right))
+}
+
+/// The text, read and written back.
+fn rewritten(alloc: Global, text: &str) -> Result<String, Error> {
+    let reading = CoreReader.read(alloc, text, FLAGS)?;
+    let mut output = String::new(alloc);
+    let state = cmark(alloc, reading.events(), &mut output, CoreReader, FLAGS)?;
+    drop(state);
+    Ok(output)
+}
+
+/// Writes a document back, and a line behind it.
+fn answer<W: Write>(alloc: Global, output: &mut W, document: &str) -> io::Result<()> {
+    let text = match rewritten(alloc, document) {
+        Ok(text) => text,
+        Err(error) => return writeln!(output, "% {error}"),
+    };
+    if are_read_alike(alloc, document, text.as_str())? {
+        writeln!(output, "{text}\n%")
+    } else {
+        writeln!(output, "{text}\n% is read otherwise")
+    }
+}
+
+/// Writes each document of a text back. Lines behind the last `%` are no document.
+fn answer_all<W: Write>(alloc: Global, output: &mut W, text: &str) -> io::Result<()> {
+    let mut document = String::new(alloc);
+    for line in text.split('\n') {
+        if line == "%" {
+            answer(alloc, output, document.as_str())?;
+            document = String::new(alloc);
+        } else {
+            document.push_str(line)?;
+            document.push('\n')?;
+        }
+    }
+    Ok(())
+}
+
+fn run<R: Read, W: Write>(alloc: Global, input: &mut R, output: &mut W) -> io::Result<()> {
+    let mut text = String::new(alloc);
+    input.read_to_string(&mut text)?;
+    answer_all(alloc, output, text.as_str())
+}
+
+fn main(rt: HostRuntime) -> ExitCode {
+    match run(rt.alloc(), &mut rt.stdin(), &mut rt.stdout()) {
+        Ok(()) => ExitCode::SUCCESS,
+        Err(_) => ExitCode::FAILURE,
+    }
+}
