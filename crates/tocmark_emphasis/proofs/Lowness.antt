@@ -1,24 +1,23 @@
 -- The markers that may be chosen are ASCII, and so is the one that is chosen.
-use Rattle.std.proofs.Common.{◌≡◌, ◌<◌, ◌==◌, ℕ, Bool, true, false, if◌then◌else◌, Option, Some, None, IfSome, List, [], ◌∷◌, refl, sym, ap, ◌∙◌, subst, arith, slice_index, unwrap_or}
+use Rattle.std.proofs.Common.{◌≡◌, ◌<◌, ◌==◌, ℕ, Bool, true, false, if◌then◌else◌, Option, Some, None, IfSome, List, [], ◌∷◌, refl, subst, arith, slice_index, unwrap_or}
 use Rattle.std.proofs.lemmas.Bool.{false≢true}
 use Rattle.std.specs.Prelude.{not}
 use Rattle.tocmark_escape.specs.Characters.{underscore}
 use Rattle.tocmark_event.specs.View.{TagView, Emphasis, Strong}
 use Rattle.tocmark_spelling.specs.Kinds.{is_emphasis_or_strong}
 use Rattle.tocmark_spelling.specs.Look.{Look}
-use Rattle.tocmark_spelling.specs.Marker.{fits_underscore, opening_token, other_marker, asked_marker, marker_of, beside_parent, marker_by_runs, after_closing, inside_parent, marker_by_sharing, literal_marker, in_width, marker_in, marker, ends_delimiter}
-use Rattle.tocmark_spelling.specs.Page.{Delimited, Level, Path, Page}
+use Rattle.tocmark_spelling.specs.Marker.{fits_underscore, other_marker, asked_marker, marker_of, beside_parent, marker_by_runs, after_closing, inside_parent, marker_by_sharing, literal_marker, in_width, marker_in, marker, ends_delimiter}
+use Rattle.tocmark_spelling.specs.Page.{Level, Path, Page}
 use Rattle.tocmark_spelling.specs.Places.{nearest}
 use Rattle.tocmark_spelling.specs.Plan.{Setting, Manner}
-use Rattle.tocmark_spelling.specs.PlanOf.{manner_of}
-use Rattle.tocmark_spelling.specs.Runs.{Run, is_marker}
+use Rattle.tocmark_spelling.specs.Runs.{is_marker}
 use Rattle.tocmark_spelling.specs.Words.{last_byte, or_else}
 use Rattle.tocmark_spelling.specs.declared.plan.Delimiters.{Delimiters}
 use Rattle.tocmark_spelling.specs.declared.plan.Layout.{Layout}
 use Rattle.tocmark_spelling.specs.declared.plan.Layout.TheVariants.{Preferred, Runs, Uniform, Shared, RuleThree}
 use Rattle.tocmark_spelling.specs.declared.plan.TextSpelling.{TextSpelling}
 use Rattle.tocmark_spelling.specs.declared.plan.TextSpelling.TheVariants.{Escaped, Literal, Entities, LiteralEntities}
-use Rattle.tocmark_marker.specs.Facts.{AreLow, HasLow, IsNearest, IsNode, IsPlace, asked_by, tag_of}
+use Rattle.tocmark_marker.specs.Facts.{AreLow, HasLow, IsNearest, IsPlace, asked_by}
 use Rattle.tocmark_marker.specs.declared.facts.Node.{Node}
 use Rattle.tocmark_marker.specs.declared.facts.Parent.{Parent}
 use Rattle.tocmark_marker.specs.declared.facts.Place.{Place}
@@ -26,7 +25,7 @@ use Rattle.tocmark_emphasis.proofs.Nodes.{marker-bound}
 use Rattle.tocmark_emphasis.specs.Low.{chooses_bytes, AreLowAsked, AreLowLevels, AsksLow, HasLowLiterals, OpensLow}
 
 -- the nearest open one
-nearest-low : (path : Path) → AreLowLevels path → IfSome (nearest is_emphasis_or_strong path) (λ l. marker_of l < 128)
+pub nearest-low : (path : Path) → AreLowLevels path → IfSome (nearest is_emphasis_or_strong path) (λ l. marker_of l < 128)
 nearest-low [] h = tt
 nearest-low (l ∷ path) h = by_case (is_emphasis_or_strong l.tag) h.0 (nearest-low path h.1)
   where
@@ -34,21 +33,21 @@ nearest-low (l ∷ path) h = by_case (is_emphasis_or_strong l.tag) h.0 (nearest-
     by_case true h rest = h refl
     by_case false h rest = rest
 
-parent-low : (f : Option Parent) (o : Option Level) (l : Look) (p : Page) → IsNearest f o l p → IfSome o (λ l. marker_of l < 128) → IfSome f (λ f. f.marker < 128)
-parent-low None o l p is h = tt
-parent-low (Some f) None l p is h = absurd is
-parent-low (Some f) (Some parent) l p is h = subst (λ c. c < 128) is.marker h
+parent-low : (layout : Layout) (f : Option Parent) (o : Option Level) (l : Look) (p : Page) → IsNearest layout f o l p → IfSome o (λ l. marker_of l < 128) → IfSome f (λ f. f.marker < 128)
+parent-low layout None o l p is h = tt
+parent-low layout (Some f) None l p is h = absurd is
+parent-low layout (Some f) (Some parent) l p is h = subst (λ c. c < 128) is.marker h
 
-asked-low : (d : Delimiters) (strong : Bool) → AreLowAsked d → asked_by d strong < 128
+pub asked-low : (d : Delimiters) (strong : Bool) → AreLowAsked d → asked_by d strong < 128
 asked-low d true h = h.strong
 asked-low d false h = h.emphasis
 
-are-low : (d : Delimiters) (node : Node) (place : Place) (token : List ℕ) (l : Look) (path : Path) (p : Page)
-    → AreLowAsked d → AreLowLevels path → HasLowLiterals node → IsPlace place token l path p → AreLow (asked_by d node.strong) node place
-are-low d node place token l path p asked levels literals is =
+are-low : (d : Delimiters) (layout : Layout) (node : Node) (place : Place) (token : List ℕ) (l : Look) (path : Path) (p : Page)
+    → AreLowAsked d → AreLowLevels path → HasLowLiterals node → IsPlace layout place token l path p → AreLow (asked_by d node.strong) node place
+are-low d layout node place token l path p asked levels literals is =
     record {
       asked_is = asked-low d node.strong asked;
-      parent = parent-low place.parent (nearest is_emphasis_or_strong path) l p is.parent (nearest-low path levels);
+      parent = parent-low layout place.parent (nearest is_emphasis_or_strong path) l p is.parent (nearest-low path levels);
       before = literals.before;
       after = literals.after;
     }
@@ -62,9 +61,9 @@ where-low RuleThree asked node place h = h refl
 
 -- the markers that may be chosen at a place
 pub has-low : (d : Delimiters) (node : Node) (place : Place) (token : List ℕ) (l : Look) (path : Path) (p : Page)
-    → AsksLow d → OpensLow d path → HasLowLiterals node → IsPlace place token l path p → HasLow d.layout (asked_by d node.strong) node place
+    → AsksLow d → OpensLow d path → HasLowLiterals node → IsPlace d.layout place token l path p → HasLow d.layout (asked_by d node.strong) node place
 has-low d node place token l path p asked levels literals is =
-    where-low d.layout (asked_by d node.strong) node place (λ e. are-low d node place token l path p (asked e) (levels e) literals is)
+    where-low d.layout (asked_by d node.strong) node place (λ e. are-low d d.layout node place token l path p (asked e) (levels e) literals is)
 
 -- ---- the marker that is chosen
 
@@ -139,21 +138,8 @@ in-low (Shared ends adjacent split) s m t l path p e asked parent before after =
 in-low RuleThree s m t l path p e asked parent before after =
     first-low t _ (unwrap-low (literal_marker m.plan.text l) _ (literal-low m.plan.text l before after) (sharing-low s RuleThree (asked_marker m.markers t) t l path p asked parent))
 
-marker-low : (s : Setting) (m : Manner) (t : TagView) (l : Look) (path : Path) (p : Page)
+pub marker-low : (s : Setting) (m : Manner) (t : TagView) (l : Look) (path : Path) (p : Page)
     → chooses_bytes m.plan.layout ≡ true → asked_marker m.markers t < 128 → IfSome (nearest is_emphasis_or_strong path) (λ l. marker_of l < 128) → IsLow l.opening.literal_before → IsLow l.closing.literal_after
     → slice_index (marker s m t l path p) 0 < 128
 unfolding marker
 marker-low s m t l path p e asked parent before after = in-low m.plan.layout s m t l path p e asked parent before after
-
--- one more open container, with the marker that was chosen
-pub opens-more : (d : Delimiters) (source : Bool) (s : Setting) (node : Node) (l : Look) (path new : Path) (p : Page) (level : Level) (token : List ℕ)
-    → AsksLow d → OpensLow d path → HasLowLiterals node → IsNode node l
-    → token ≡ marker s (manner_of d source) (tag_of node.strong) l path p → level.content ≡ Delimited token token → new ≡ level ∷ path → OpensLow d new
-opens-more d source s node l path new p level token asked opens literals is token_is content_is new_is e =
-    let R : Run → Type 0 = λ r. IsLow r.literal_before in
-    let Q : Run → Type 0 = λ r. IsLow r.literal_after in
-    let low : slice_index (marker s (manner_of d source) (tag_of node.strong) l path p) 0 < 128 =
-    marker-low s (manner_of d source) (tag_of node.strong) l path p e (asked-low d node.strong (asked e)) (nearest-low path (opens e)) (subst R (sym is.opening) literals.before) (subst Q (sym is.closing) literals.after) in
-    let same : marker_of level ≡ slice_index (marker s (manner_of d source) (tag_of node.strong) l path p) 0 =
-    ap (λ c. slice_index (opening_token c) 0) content_is ∙ ap (λ t. slice_index t 0) token_is in
-    subst AreLowLevels (sym new_is) ((λ delimits. subst (λ c. c < 128) (sym same) low), opens e)

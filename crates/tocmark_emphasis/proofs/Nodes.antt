@@ -87,7 +87,7 @@ before-end es rest i end t at q =
     ∙ ap (λ x. reverse (body_in rest) ++ x) (place-before es rest i (Start t) at)
 
 -- the events behind it
-behind-end : (es rest : List SourcedEvent) (i end : ℕ) (t : TagView) → drop i es ≡ Start t ∷ rest → end ≡ i + 1 + span 0 rest → drop (end + 1) es ≡ behind_body rest
+pub behind-end : (es rest : List SourcedEvent) (i end : ℕ) (t : TagView) → drop i es ≡ Start t ∷ rest → end ≡ i + 1 + span 0 rest → drop (end + 1) es ≡ behind_body rest
 behind-end es rest i end t at q =
     let place : end + 1 ≡ i + 1 + suc (span 0 rest) = omega (arith, q) in
     ap (λ n. drop n es) place ∙ sym (drop-drop (suc (span 0 rest)) (i + 1) es) ∙ ap (drop (suc (span 0 rest))) (place-rest es rest i (Start t) at)
@@ -196,16 +196,16 @@ marker-bound c e = by_case (c == 42) refl e
     by_case true q e = let same = eqb-true c 42 q in omega (arith, same)
     by_case false q e = let same = eqb-true c 95 e in omega (arith, same)
 
-marker-low : (o : Option ℕ) → IfSome (marker_only o) (λ c. c < 128)
-marker-low None = tt
-marker-low (Some c) = by_case (is_marker c) (marker-bound c)
+pub marker_only-low : (o : Option ℕ) → IfSome (marker_only o) (λ c. c < 128)
+marker_only-low None = tt
+marker_only-low (Some c) = by_case (is_marker c) (marker-bound c)
   where
     by_case : (b : Bool) → (b ≡ true → c < 128) → IfSome (if b then Some c else None) (λ c. c < 128)
     by_case true h = h refl
     by_case false h = tt
 
 side-low : (first : Bool) (width : SourcedEvent → ℕ) (es : List SourcedEvent) → IfSome (side_at first width es).literal (λ c. c < 128)
-side-low first width es = marker-low (edge (picked first) (text_only (front (behind_run width es))))
+side-low first width es = marker_only-low (edge (picked first) (text_only (front (behind_run width es))))
 
 pub literals-low : (reading : Readings) (es : List SourcedEvent) (c : Columns) → AreColumns reading es c → (i end own own' : ℕ) (before first last after : Side) (n : Node) → i < length es
     → run_view n.opening ≡ run_of own before first → run_view n.closing ≡ run_of own' last after

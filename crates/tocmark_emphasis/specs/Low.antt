@@ -1,8 +1,9 @@
 -- Where the markers that may be chosen are ASCII.
-use Rattle.std.specs.Prelude.{◌≡◌, ◌<◌, Bool, true, false, IfSome, [], ◌∷◌}
+use Rattle.std.specs.Prelude.{◌≡◌, ◌<◌, Bool, true, false, Option, Some, None, IfSome, [], ◌∷◌}
 use Rattle.tocmark_spelling.specs.Kinds.{is_emphasis_or_strong}
+use Rattle.tocmark_spelling.specs.Machine.{Machine, going, skipping, refused}
 use Rattle.tocmark_spelling.specs.Marker.{marker_of}
-use Rattle.tocmark_spelling.specs.Page.{Path}
+use Rattle.tocmark_spelling.specs.Page.{Path, Site}
 use Rattle.tocmark_spelling.specs.declared.plan.Delimiters.{Delimiters}
 use Rattle.tocmark_spelling.specs.declared.plan.Layout.{Layout}
 use Rattle.tocmark_spelling.specs.declared.plan.Layout.TheVariants.{Preferred, Uniform}
@@ -37,3 +38,9 @@ OpensLow d path = chooses_bytes d.layout ≡ true → AreLowLevels path
 pub record HasLowLiterals (node : Node) : Type 0 where
   pub before : IfSome node.opening.literal_before (λ c. c < 128)
   pub after : IfSome node.closing.literal_after (λ c. c < 128)
+
+-- where a machine stands; none where it has refused an event
+abbrev pub site_in : Machine → Option Site
+site_in (going here before) = Some here
+site_in (skipping d here before) = Some here
+site_in refused = None

@@ -29,6 +29,21 @@ pub struct Columns {
     pub by_neighbours: Vec<bool>,
 }
 
+impl Columns {
+    /// The columns over no events.
+    pub fn none(alloc: Global) -> Self {
+        Columns {
+            starts_before: Vec::new(alloc),
+            ends_before: Vec::new(alloc),
+            starts_ahead: Vec::new(alloc),
+            ends_ahead: Vec::new(alloc),
+            widths: Vec::new(alloc),
+            by_runs: Vec::new(alloc),
+            by_neighbours: Vec::new(alloc),
+        }
+    }
+}
+
 /// The columns over these events. `ends` says where the containers end.
 ///
 /// An `Err` says that memory ran out.

@@ -144,7 +144,7 @@ fn edge_after(event: Option<&OwnedEvent>) -> Option<char>
 }
 
 /// The event behind a place, or else the one after the unit.
-fn following<'e>(
+pub fn following<'e>(
     events: &'e [BufferedEvent],
     place: usize,
     next: Option<&'e OwnedEvent>,

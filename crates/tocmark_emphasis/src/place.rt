@@ -1,15 +1,16 @@
 //! The place where a node of emphasis or strong emphasis opens.
 
-ghost use Rattle.std.specs.Prelude.{◌≡◌, Some, encode_utf8, slice_index, string_bytes, IfOk};
+ghost use Rattle.std.specs.Prelude.{◌≡◌, Some, encode_utf8, slice_index, string_bytes, true, IfOk};
 ghost use Rattle.std.specs.Option.{option_map};
 ghost use Rattle.tocmark_event.specs.View.{end_of, event_view, tag_view};
 ghost use Rattle.tocmark_containers.specs.FrameOf.{content_view, level_of};
-ghost use Rattle.tocmark_marker.specs.Facts.{IsNearest, IsParent, IsPlace};
+ghost use Rattle.tocmark_marker.specs.Facts.{IsNearest, IsParent, IsPlace, asks_runs};
 ghost use Rattle.tocmark_renderer.specs.WriterOf.{levels_of, page_of};
 ghost use Rattle.tocmark_spelling.specs.Buffered.{following_view};
 ghost use Rattle.tocmark_spelling.specs.Look.{Look};
 ghost use Rattle.tocmark_spelling.specs.Marker.{is_end, is_token, opening_token, token_of};
 ghost use Rattle.tocmark_spelling.specs.Page.{Page};
+ghost use Rattle.tocmark_spelling.specs.Runs.{last_run, run_around};
 
 use crate::ends::{last_byte, last_character, last_run, run_around};
 use std::alloc::{AllocError, Global};
@@ -17,8 +18,9 @@ use tocmark_ahead::same_events::end_number;
 use tocmark_containers::content::Content;
 use tocmark_containers::frame::Frame;
 use tocmark_event::event::{EventOf, OwnedEvent, TagOf};
-use tocmark_marker::facts::{Parent, Place};
+use tocmark_marker::facts::{Parent, Place, asks_runs};
 use tocmark_renderer::renderer::Renderer;
+use tocmark_spelling::plan::{Delimiters, Layout};
 
 /// What stands before the body of a delimited container.
 fn opening_token(content: &Content) -> &str
@@ -60,22 +62,46 @@ fn ends(event: Option<&OwnedEvent>, tag: &TagOf<String>) -> bool
     }
 }
 
-fn parent_of(frame: &Frame<'_>, text: &str, next: Option<&OwnedEvent>) -> Result<Parent, AllocError>
+/// Where the layout asks for runs, that of a byte round a place of a text; else 0.
+fn asked_run(layout: Layout, text: &str, place: usize, byte: u8) -> Result<usize, AllocError>
+    ensures { asks_runs layout ≡ true → IfOk result (λ run. run ≡ run_around byte place text.now) }
+{
+    if asks_runs(layout) {
+        run_around(text, place, byte)
+    } else {
+        Ok(0)
+    }
+}
+
+/// Where the layout asks for runs, the last one of markers in a text; else 0.
+fn asked_last_run(layout: Layout, text: &str) -> usize
+    ensures { asks_runs layout ≡ true → result ≡ last_run text.now }
+{
+    if asks_runs(layout) { last_run(text) } else { 0 }
+}
+
+fn parent_of(
+    layout: Layout,
+    frame: &Frame<'_>,
+    text: &str,
+    next: Option<&OwnedEvent>,
+) -> Result<Parent, AllocError>
     ensures { (l : Look) (p : Page)
         → l.next_in_unit ≡ following_view next.entry → p.sheet.text ≡ text.now
-        → IfOk result (λ parent. IsParent parent (level_of frame.now) l p) }
+        → IfOk result (λ parent. IsParent layout parent (level_of frame.now) l p) }
 {
     let marker = first_byte(opening_token(&frame.content));
     Ok(Parent {
         marker: char::from(marker),
         same_start: frame.start == text.len(),
         same_finish: ends(next, frame.tag),
-        run: run_around(text, frame.start, marker)?,
+        run: asked_run(layout, text, frame.start, marker)?,
     })
 }
 
 /// What the nearest open emphasis or strong emphasis says, if there is one.
 fn nearest(
+    layout: Layout,
     frame: Option<&Frame<'_>>,
     text: &str,
     next: Option<&OwnedEvent>,
@@ -83,12 +109,12 @@ fn nearest(
     ensures { (l : Look) (p : Page)
         → l.next_in_unit ≡ following_view next.entry → p.sheet.text ≡ text.now
         → IfOk result (λ parent.
-        IsNearest parent (option_map (λ f. level_of f.now) frame.entry) l p) }
+        IsNearest layout parent (option_map (λ f. level_of f.now) frame.entry) l p) }
 {
     match frame {
         None => Ok(None),
         Some(frame) => {
-            let parent = parent_of(frame, text, next)?;
+            let parent = parent_of(layout, frame, text, next)?;
             Ok(Some(parent))
         }
     }
@@ -113,27 +139,29 @@ fn is_opened_with(
     }
 }
 
-/// What the written text and the open containers say of this place.
+/// What the written text and the open containers say of this place, as far as the layout of these
+/// delimiters asks.
 ///
-/// `marker` is the marker of emphasis that is asked for, and `next` the event in the unit just
-/// behind the node that opens here. An `Err` says that memory ran out.
+/// `next` is the event in the unit just behind the node that opens here. An `Err` says that memory
+/// ran out.
 pub fn place_of(
     renderer: &Renderer<'_>,
     alloc: Global,
-    marker: char,
+    delimiters: &Delimiters<'_>,
     next: Option<&OwnedEvent>,
 ) -> Result<Place, AllocError>
     ensures { (l : Look) → l.next_in_unit ≡ following_view next.entry
-        → IfOk result (λ place. IsPlace place (encode_utf8 marker) l
-        (levels_of renderer.now) (page_of renderer.now)) }
+        → IfOk result (λ place. IsPlace delimiters.now.layout place
+        (encode_utf8 delimiters.now.emphasis) l (levels_of renderer.now) (page_of renderer.now)) }
 {
     let text = renderer.text();
-    let in_same = is_opened_with(alloc, renderer.nearest_emphasis(), marker)?;
-    let parent = nearest(renderer.nearest_delimiter(), text, next)?;
+    let layout = delimiters.layout;
+    let in_same = is_opened_with(alloc, renderer.nearest_emphasis(), delimiters.emphasis)?;
+    let parent = nearest(layout, renderer.nearest_delimiter(), text, next)?;
     Ok(Place {
         last_character: last_character(text),
         last_byte: last_byte(text),
-        last_run: last_run(text),
+        last_run: asked_last_run(layout, text),
         in_same,
         parent,
     })

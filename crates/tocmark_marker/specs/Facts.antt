@@ -13,7 +13,7 @@ use Rattle.tocmark_spelling.specs.Marker.{token_of, is_token, ends_delimiter, sa
 use Rattle.tocmark_spelling.specs.Page.{Level, Path, Page}
 use Rattle.tocmark_spelling.specs.Plan.{Markers, Setting, Manner}
 use Rattle.tocmark_spelling.specs.declared.plan.Layout.{Layout}
-use Rattle.tocmark_spelling.specs.declared.plan.Layout.TheVariants.{Preferred, Uniform}
+use Rattle.tocmark_spelling.specs.declared.plan.Layout.TheVariants.{Preferred, Uniform, RuleThree}
 use Rattle.tocmark_spelling.specs.declared.plan.Delimiters.{Delimiters}
 use Rattle.tocmark_spelling.specs.PlanOf.{setting_of}
 use Rattle.tocmark_spelling.specs.Places.{nearest}
@@ -65,34 +65,39 @@ pub record IsNode (node : Node) (l : Look) : Type 0 where
   pub width : l.width ≡ node.width
   pub prefers : l.prefers ≡ node.prefers
 
--- what is told of an open container is so, beside this node and on this page
-pub record IsParent (f : Parent) (parent : Level) (l : Look) (p : Page) : Type 0 where
+-- whether a layout asks how long the runs of markers in the text are (the rule of three of CommonMark, section 6.2)
+abbrev pub asks_runs : Layout → Bool
+asks_runs RuleThree = true
+asks_runs layout = false
+
+-- what is told of an open container is so, beside this node and on this page, as far as the layout asks
+pub record IsParent (layout : Layout) (f : Parent) (parent : Level) (l : Look) (p : Page) : Type 0 where
   -- the first byte of what it opened with
   pub marker : marker_of parent ≡ f.marker
   -- whether nothing was written since its opening, and whether its End is the event behind the node
   pub same_start : same_start parent p ≡ f.same_start
   pub same_finish : same_finish parent l ≡ f.same_finish
-  -- the run of its marker round the end of its opening
-  pub run : run_around (marker_of parent) parent.start p.sheet.text ≡ f.run
+  -- where runs are asked, that of its marker round the end of its opening
+  pub run : asks_runs layout ≡ true → run_around (marker_of parent) parent.start p.sheet.text ≡ f.run
 
 -- there is such a container, and what is told of it is so; or there is none
-abbrev pub IsNearest : Option Parent → Option Level → Look → Page → Type 0
-IsNearest None None l p = Unit {0}
-IsNearest None (Some parent) l p = ⊥
-IsNearest (Some f) None l p = ⊥
-IsNearest (Some f) (Some parent) l p = IsParent f parent l p
+abbrev pub IsNearest : Layout → Option Parent → Option Level → Look → Page → Type 0
+IsNearest layout None None l p = Unit {0}
+IsNearest layout None (Some parent) l p = ⊥
+IsNearest layout (Some f) None l p = ⊥
+IsNearest layout (Some f) (Some parent) l p = IsParent layout f parent l p
 
--- what is told of a place is what the open containers and the page say; the token is the marker of Emphasis that is
--- asked for
-pub record IsPlace (place : Place) (token : List ℕ) (l : Look) (path : Path) (p : Page) : Type 0 where
-  -- what the text ends with: its last character, its last byte, its last run of markers
+-- what is told of a place is what the open containers and the page say, as far as the layout asks; the token is the
+-- marker of Emphasis that is asked for
+pub record IsPlace (layout : Layout) (place : Place) (token : List ℕ) (l : Look) (path : Path) (p : Page) : Type 0 where
+  -- what the text ends with: its last character, its last byte, where runs are asked its last run of markers
   pub last_character : last_character p.sheet.text ≡ place.last_character
   pub last_byte : last_byte p.sheet.text ≡ place.last_byte
-  pub last_run : last_run p.sheet.text ≡ place.last_run
+  pub last_run : asks_runs layout ≡ true → last_run p.sheet.text ≡ place.last_run
   -- whether the nearest open Emphasis opened with this token
   pub in_same : is_token (token_of (nearest is_emphasis path)) token ≡ place.in_same
   -- the nearest open Emphasis or Strong
-  pub parent : IsNearest place.parent (nearest is_emphasis_or_strong path) l p
+  pub parent : IsNearest layout place.parent (nearest is_emphasis_or_strong path) l p
 
 -- the markers that may be chosen are ASCII: the one asked for, the parent's, and those that stand beside the node in
 -- Texts

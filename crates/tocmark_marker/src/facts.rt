@@ -3,9 +3,9 @@
 ghost use Rattle.std.specs.Prelude.{◌≡◌, slice_index};
 ghost use Rattle.tocmark_spelling.specs.Marker.{other_marker, is_divisible};
 ghost use Rattle.tocmark_spelling.specs.Runs.{is_marker};
-ghost use Rattle.tocmark_marker.specs.Facts.{asked_by};
+ghost use Rattle.tocmark_marker.specs.Facts.{asked_by, asks_runs};
 
-use tocmark_spelling::plan::Delimiters;
+use tocmark_spelling::plan::{Delimiters, Layout};
 
 /// A run of delimiters in the events of a unit.
 #[derive(Clone, Copy, Debug, PartialEq, Eq)]
@@ -48,7 +48,8 @@ pub struct Parent {
     pub same_start: bool,
     /// Whether its End is the event behind the node.
     pub same_finish: bool,
-    /// How long the run of its marker is in the text round the end of its opening.
+    /// Where the layout asks for runs: how long the run of its marker is in the text round the end
+    /// of its opening, in bytes.
     pub run: usize,
 }
 
@@ -58,13 +59,23 @@ pub struct Place {
     pub last_character: Option<char>,
     /// The last byte; 0 where nothing is written.
     pub last_byte: u8,
-    /// How long the last run of `*` or of `_` is.
+    /// Where the layout asks for runs: how long the last run of `*` or of `_` is, in bytes.
     pub last_run: usize,
     /// Whether the nearest open emphasis, strong emphasis aside, opened with the marker that is asked
     /// for.
     pub in_same: bool,
     /// The nearest open emphasis or strong emphasis.
     pub parent: Option<Parent>,
+}
+
+/// Whether a layout asks how long the runs of markers in the text are.
+pub fn asks_runs(layout: Layout) -> bool
+    ensures { result ≡ asks_runs layout }
+{
+    match layout {
+        Layout::RuleThree => true,
+        _ => false,
+    }
 }
 
 /// The other one of the two markers.

@@ -55,7 +55,8 @@ fn in_preferred<R: Reader>(
     place: &Place,
 ) -> Result<String, AllocError>
     ensures { (source : Bool) (l : Look) (path : Path) (p : Page)
-        → IsNode node.now l → IsPlace place.now (encode_utf8 delimiters.now.emphasis) l path p
+        → IsNode node.now l
+        → IsPlace Preferred place.now (encode_utf8 delimiters.now.emphasis) l path p
         → GivesText (R.reading reader.now) result (λ s.
         marker_in Preferred s (manner_of delimiters.now source) (tag_at node.now) l path p) }
 {
@@ -74,7 +75,8 @@ fn in_runs<R: Reader>(
     place: &Place,
 ) -> Result<String, AllocError>
     ensures { (source : Bool) (l : Look) (path : Path) (p : Page)
-        → IsNode node.now l → IsPlace place.now (encode_utf8 delimiters.now.emphasis) l path p
+        → IsNode node.now l
+        → IsPlace Runs place.now (encode_utf8 delimiters.now.emphasis) l path p
         → AreLow (asked_by delimiters.now node.now.strong) node.now place.now
         → GivesText (R.reading reader.now) result (λ s.
         marker_in Runs s (manner_of delimiters.now source) (tag_at node.now) l path p) }
@@ -92,7 +94,8 @@ fn in_sharing<R: Reader>(
     place: &Place,
 ) -> Result<String, AllocError>
     ensures { (source : Bool) (l : Look) (path : Path) (p : Page)
-        → IsNode node.now l → IsPlace place.now (encode_utf8 delimiters.now.emphasis) l path p
+        → IsNode node.now l
+        → IsPlace delimiters.now.layout place.now (encode_utf8 delimiters.now.emphasis) l path p
         → AreLow (asked_by delimiters.now node.now.strong) node.now place.now
         → GivesText (R.reading reader.now) result (λ s.
         shared_token s (manner_of delimiters.now source) (tag_at node.now) l path p) }
@@ -118,7 +121,8 @@ pub fn marker<R: Reader>(
     place: &Place,
 ) -> Result<String, AllocError>
     ensures { (source : Bool) (l : Look) (path : Path) (p : Page)
-        → IsNode node.now l → IsPlace place.now (encode_utf8 delimiters.now.emphasis) l path p
+        → IsNode node.now l
+        → IsPlace delimiters.now.layout place.now (encode_utf8 delimiters.now.emphasis) l path p
         → HasLow delimiters.now.layout
         (asked_by delimiters.now node.now.strong) node.now place.now
         → GivesText (R.reading reader.now) result (λ s.

@@ -3,6 +3,7 @@
 ghost use Rattle.std.specs.Prelude.{◌≡◌, if◌then◌else◌, bytes_eq, codes, encode_utf8};
 ghost use Rattle.tocmark_spelling.specs.Look.{Look};
 ghost use Rattle.tocmark_spelling.specs.Page.{Path, Page};
+ghost use Rattle.tocmark_spelling.specs.declared.plan.Layout.TheVariants.{Preferred};
 ghost use Rattle.tocmark_spelling.specs.Marker.{preferred_marker};
 ghost use Rattle.tocmark_marker.specs.Facts.{IsNode, IsPlace, GivesText};
 
@@ -36,7 +37,7 @@ pub fn preferred_marker<R: Reader>(
     place: &Place,
 ) -> Result<String, AllocError>
     ensures { (l : Look) (path : Path) (p : Page)
-        → IsNode node.now l → IsPlace place.now (encode_utf8 asked) l path p
+        → IsNode node.now l → IsPlace Preferred place.now (encode_utf8 asked) l path p
         → GivesText (R.reading reader.now) result (λ s.
         preferred_marker s (encode_utf8 asked) l path p) }
 {

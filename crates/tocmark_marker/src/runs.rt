@@ -3,6 +3,7 @@
 ghost use Rattle.std.specs.Prelude.{◌≡◌, ◌<◌, ◌||◌, ℕ, List, Option, IfOk};
 ghost use Rattle.tocmark_spelling.specs.Look.{Look};
 ghost use Rattle.tocmark_spelling.specs.Page.{Level, Path, Page};
+ghost use Rattle.tocmark_spelling.specs.declared.plan.Layout.TheVariants.{Runs};
 ghost use Rattle.tocmark_spelling.specs.Edges.{is_punctuation};
 ghost use Rattle.tocmark_spelling.specs.Marker.{fits_underscore, beside_parent, marker_by_runs};
 ghost use Rattle.tocmark_spelling.specs.Words.{same_truth};
@@ -82,7 +83,7 @@ fn beside_parent<R: Reader>(
     parent: Option<Parent>,
 ) -> Result<char, AllocError>
     ensures marker { (l : Look) (level : Option Level) (p : Page)
-        → l.opening.after ≡ after → IsNearest parent level l p
+        → l.opening.after ≡ after → IsNearest Runs parent level l p
         → Gives (R.reading reader.now) result (λ s. beside_parent s asked l level p) }
     ensures low { asked < 128 → IfOk result (λ marker. marker < 128) }
 {
@@ -110,7 +111,7 @@ pub fn marker_by_runs<R: Reader>(
     place: &Place,
 ) -> Result<char, AllocError>
     ensures marker { (token : List ℕ) (l : Look) (path : Path) (p : Page)
-        → IsNode node.now l → IsPlace place.now token l path p
+        → IsNode node.now l → IsPlace Runs place.now token l path p
         → Gives (R.reading reader.now) result (λ s. marker_by_runs s asked l path p) }
     ensures low { asked < 128 → IfOk result (λ marker. marker < 128) }
 {

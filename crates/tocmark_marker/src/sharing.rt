@@ -16,7 +16,7 @@ use tocmark_spelling::plan::{Layout, TextSpelling};
 /// Whether a node that follows a closing takes the marker written last.
 fn copies_marker(layout: Layout, node: &Node, place: &Place) -> bool
     ensures { (token : List ℕ) (l : Look) (path : Path) (p : Page)
-        → IsNode node.now l → IsPlace place.now token l path p
+        → IsNode node.now l → IsPlace layout place.now token l path p
         → result ≡ copies_marker layout l p }
 {
     match layout {
@@ -31,7 +31,7 @@ fn copies_marker(layout: Layout, node: &Node, place: &Place) -> bool
 /// The marker of a node that follows a closing: the one written last, or the other one.
 fn after_closing(layout: Layout, node: &Node, place: &Place) -> char
     ensures marker { (token : List ℕ) (l : Look) (path : Path) (p : Page)
-        → IsNode node.now l → IsPlace place.now token l path p
+        → IsNode node.now l → IsPlace layout place.now token l path p
         → result ≡ after_closing layout l p }
     ensures low { result < 128 }
 {
@@ -109,7 +109,8 @@ fn shares_start<R: Reader>(
 /// By the rule of three: whether the parent's run and what the node opens with make up a multiple of
 /// three.
 fn completes_three(layout: Layout, node: &Node, parent: Parent) -> bool
-    ensures { (l : Look) (level : Level) (p : Page) → IsNode node.now l → IsParent parent level l p
+    ensures { (l : Look) (level : Level) (p : Page)
+        → IsNode node.now l → IsParent layout parent level l p
         → result ≡ completes_three layout l level p }
 {
     match layout {
@@ -126,7 +127,8 @@ fn shares_marker<R: Reader>(
     node: &Node,
     parent: Parent,
 ) -> Result<bool, AllocError>
-    ensures { (l : Look) (level : Level) (p : Page) → IsNode node.now l → IsParent parent level l p
+    ensures { (l : Look) (level : Level) (p : Page)
+        → IsNode node.now l → IsParent layout parent level l p
         → Gives (R.reading reader.now) result (λ s.
         shares_marker s layout (tag_at node.now) l level p) }
 {
@@ -149,7 +151,7 @@ fn inside_parent<R: Reader>(
     parent: Option<Parent>,
 ) -> Result<char, AllocError>
     ensures marker { (l : Look) (level : Option Level) (p : Page)
-        → IsNode node.now l → IsNearest parent level l p
+        → IsNode node.now l → IsNearest layout parent level l p
         → Gives (R.reading reader.now) result (λ s.
         inside_parent s layout asked (tag_at node.now) l level p) }
     ensures low { asked < 128 → IfSome parent (λ f. f.marker < 128)
@@ -176,7 +178,7 @@ fn by_sharing<R: Reader>(
     place: &Place,
 ) -> Result<char, AllocError>
     ensures marker { (token : List ℕ) (l : Look) (path : Path) (p : Page)
-        → IsNode node.now l → IsPlace place.now token l path p
+        → IsNode node.now l → IsPlace layout place.now token l path p
         → Gives (R.reading reader.now) result (λ s.
         marker_by_sharing s layout asked (tag_at node.now) l path p) }
     ensures low { AreLow asked node.now place.now → IfOk result (λ marker. marker < 128) }
@@ -213,7 +215,7 @@ pub fn shared_marker<R: Reader>(
     place: &Place,
 ) -> Result<char, AllocError>
     ensures marker { (token : List ℕ) (l : Look) (path : Path) (p : Page)
-        → IsNode node.now l → IsPlace place.now token l path p
+        → IsNode node.now l → IsPlace layout place.now token l path p
         → Gives (R.reading reader.now) result (λ s.
         unwrap_or (literal_marker text l)
         (marker_by_sharing s layout asked (tag_at node.now) l path p)) }

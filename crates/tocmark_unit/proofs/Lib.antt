@@ -3,3 +3,4 @@ pub mod Told
 pub mod Events
 pub mod Units
 pub mod Jumps
+pub mod Found

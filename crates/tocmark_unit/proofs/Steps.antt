@@ -6,6 +6,7 @@ use Rattle.tocmark_event.specs.View.{TagView, Paragraph, Heading, BlockQuote, Co
 use Rattle.tocmark_event.specs.declared.event.TagEnd.{TagEnd}
 use Rattle.tocmark_event.specs.declared.options.Error.{Error}
 use Rattle.tocmark_event.specs.declared.options.Error.TheVariants as error
+use Rattle.tocmark_emphasis.specs.Low.{site_in}
 use Rattle.tocmark_spelling.specs.Body.{Trees}
 use Rattle.tocmark_spelling.specs.ById.{by_id}
 use Rattle.tocmark_spelling.specs.Plan.{Setting, Manner}
@@ -16,7 +17,6 @@ use Rattle.tocmark_spelling.specs.Closing.{closing}
 use Rattle.tocmark_spelling.specs.Stretch.{leaf_on}
 use Rattle.tocmark_spelling.specs.Spelling.{id_on, skips_body}
 use Rattle.tocmark_unit.specs.NeighboursOf.{is_leaf_event, opening_at}
-use Rattle.tocmark_unit.specs.Spelled.{is_spelled_tag}
 use Rattle.tocmark_spelling.specs.Scans.{span}
 use Rattle.tocmark_spelling.specs.Machine.{Machine, going, skipping, refused, arrive, entered, started, around, begun_if, kids_of, step, run, answer_of}
 use Rattle.tocmark_unit.specs.Turn.{Goes, GoesOn, IsRefused, Moves, Passes}
@@ -39,6 +39,7 @@ pub moves-on : (w : Rendering) (s : Setting) (m : Manner) (next : Option EventVi
 moves-on w s m next machine rest before goes =
     record {
       within = omega arith;
+      site_is = ap site_in goes;
       run_is = ap (λ x. answer_of (run s m next rest x)) goes;
     }
 
@@ -81,31 +82,31 @@ module _ (s : Setting) (m : Manner) (kids : Trees) (a : Around) (path : Path) (p
   opened-as : (t : TagView) → is_opened t ≡ true → SkipsAs false (opening s m t (look s m t kids a) path p)
   opened-as t e = opened-skips (opening s m t (look s m t kids a) path p) (opening-opened s m t (look s m t kids a) path p e)
 
-  skips-as : (t : TagView) → is_spelled_tag t ≡ true → SkipsAs (by_id s t kids) (opening s m t (look s m t kids a) path p)
+  skips-as : (t : TagView) → SkipsAs (by_id s t kids) (opening s m t (look s m t kids a) path p)
   unfolding by_id opening
-  skips-as Paragraph e = opened-as Paragraph refl
-  skips-as (Heading level id classes attrs) e = opened-as (Heading level id classes attrs) refl
-  skips-as (BlockQuote k) e = opened-as (BlockQuote k) refl
-  skips-as (CodeBlock k) e = opened-as (CodeBlock k) refl
-  skips-as HtmlBlock e = opened-as HtmlBlock refl
-  skips-as (ListOf n) e = opened-as (ListOf n) refl
-  skips-as Item e = opened-as Item refl
-  skips-as (FootnoteDefinition label) e = opened-as (FootnoteDefinition label) refl
-  skips-as DefinitionList e = opened-as DefinitionList refl
-  skips-as DefinitionListTitle e = opened-as DefinitionListTitle refl
-  skips-as DefinitionListDefinition e = opened-as DefinitionListDefinition refl
-  skips-as (Table cs) e = opened-as (Table cs) refl
-  skips-as TableHead e = opened-as TableHead refl
-  skips-as TableRow e = opened-as TableRow refl
-  skips-as TableCell e = opened-as TableCell refl
-  skips-as Emphasis e = absurd (false≢true e)
-  skips-as Strong e = absurd (false≢true e)
-  skips-as Strikethrough e = opened-as Strikethrough refl
-  skips-as Superscript e = opened-as Superscript refl
-  skips-as Subscript e = opened-as Subscript refl
-  skips-as (Link k d u i) e = refl
-  skips-as (Image k d u i) e = refl
-  skips-as (MetadataBlock k) e = opened-as (MetadataBlock k) refl
+  skips-as Paragraph = opened-as Paragraph refl
+  skips-as (Heading level id classes attrs) = opened-as (Heading level id classes attrs) refl
+  skips-as (BlockQuote k) = opened-as (BlockQuote k) refl
+  skips-as (CodeBlock k) = opened-as (CodeBlock k) refl
+  skips-as HtmlBlock = opened-as HtmlBlock refl
+  skips-as (ListOf n) = opened-as (ListOf n) refl
+  skips-as Item = opened-as Item refl
+  skips-as (FootnoteDefinition label) = opened-as (FootnoteDefinition label) refl
+  skips-as DefinitionList = opened-as DefinitionList refl
+  skips-as DefinitionListTitle = opened-as DefinitionListTitle refl
+  skips-as DefinitionListDefinition = opened-as DefinitionListDefinition refl
+  skips-as (Table cs) = opened-as (Table cs) refl
+  skips-as TableHead = opened-as TableHead refl
+  skips-as TableRow = opened-as TableRow refl
+  skips-as TableCell = opened-as TableCell refl
+  skips-as Emphasis = refl
+  skips-as Strong = refl
+  skips-as Strikethrough = opened-as Strikethrough refl
+  skips-as Superscript = opened-as Superscript refl
+  skips-as Subscript = opened-as Subscript refl
+  skips-as (Link k d u i) = refl
+  skips-as (Image k d u i) = refl
+  skips-as (MetadataBlock k) = opened-as (MetadataBlock k) refl
 
 -- behind an opening the writer stands where the machine does
 entered-at : (b : Bool) (t : TagView) (w : Rendering) (o : Option Site) (before : List SourcedEvent) → SkipsAs b o → Arrives w o → started t o before ≡ entered b t (site_of w) before
@@ -124,12 +125,12 @@ module _ (s : Setting) (m : Manner) (next : Option EventView) (t : TagView) (res
   pub start-fails : (e : Error) → IsRefusal e (opening_at s m next t rest before here) → IsRefused e stepped
   start-fails e r = subst (IsRefused e) (sym starts) (refuses-started e t (opening_at s m next t rest before here) (Start t ∷ before) r)
 
-  module _ (spelled : is_spelled_tag t ≡ true) (mid : Rendering) (opened : Arrives mid (opening_at s m next t rest before here)) where
+  module _ (mid : Rendering) (opened : Arrives mid (opening_at s m next t rest before here)) where
     entered-as : (b : Bool) → b ≡ by_id s t (kids_of rest) → stepped ≡ entered b t (site_of mid) (Start t ∷ before)
     entered-as b is =
         let o = opening_at s m next t rest before here in
         let a = around before (drop (suc (span 0 rest)) rest) next in
-        let skips : SkipsAs (by_id s t (kids_of rest)) o = skips-as s m (kids_of rest) a here.path _ t spelled in
+        let skips : SkipsAs (by_id s t (kids_of rest)) o = skips-as s m (kids_of rest) a here.path _ t in
         starts ∙ entered-at b t mid o (Start t ∷ before) (subst (λ x. SkipsAs x o) (sym is) skips) opened
 
     -- its body comes
@@ -144,6 +145,7 @@ module _ (s : Setting) (m : Manner) (next : Option EventView) (t : TagView) (res
         entered-as true is ∙ ap (λ x. skipping 0 x (Start t ∷ before)) (site-of-stands w _ _ named) in
         record {
           within = omega (arith, width, lt);
+          site_is = ap site_in at;
           run_is = ap (λ x. answer_of (run s m next rest x)) at
               ∙ ap answer_of (passes-body s m next rest there (Start t ∷ before) lt)
               ∙ ap (λ k. answer_of (run s m next (drop k rest) (going there (reverse (take k rest) ++ Start t ∷ before)))) (sym width);

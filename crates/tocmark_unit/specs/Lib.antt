@@ -1,5 +1,5 @@
 -- Definitions.
-pub mod Spelled
+pub mod FindingsOf
 pub mod NeighboursOf
 pub mod Turn
 pub mod Rendered

@@ -1,23 +1,47 @@
 -- What stands around an event, as plain values.
-use Rattle.std.specs.Prelude.{◌≡◌, ℕ, suc, Bool, true, false, ◌∷◌, drop, slice_index_or, List, Option, map}
-use Rattle.tocmark_ahead.specs.BodyFacts.{facts_of}
+use Rattle.std.specs.Prelude.{◌≡◌, ◌<◌, ◌+◌, ℕ, suc, Bool, true, false, ◌∷◌, drop, length, reverse, slice_index_or, take, List, Option, map}
+use Rattle.tocmark_emphasis.specs.NodeOf.{look_at}
+use Rattle.tocmark_event.specs.Forest.{flat}
 use Rattle.tocmark_event.specs.Options.{OptionsView}
 use Rattle.tocmark_event.specs.View.{TagView, EventView, SourcedEvent, Start, Leaf}
-use Rattle.tocmark_raw.specs.Raw.{IsRaw}
-use Rattle.tocmark_spelling.specs.Buffered.{buffered_view}
+use Rattle.tocmark_event.specs.declared.event.flags.ParserOptions.{ParserOptions}
+use Rattle.tocmark_renderer.specs.JobOf.{Reading}
+use Rattle.tocmark_spelling.specs.Body.{Trees}
+use Rattle.tocmark_spelling.specs.Buffered.{buffered_view, following_view}
 use Rattle.tocmark_spelling.specs.ById.{by_id}
 use Rattle.tocmark_spelling.specs.Gap.{gap}
-use Rattle.tocmark_spelling.specs.Look.{look}
+use Rattle.tocmark_spelling.specs.Look.{Look, look}
 use Rattle.tocmark_spelling.specs.Machine.{around, kids_of}
 use Rattle.tocmark_spelling.specs.Opening.{opening}
 use Rattle.tocmark_spelling.specs.Page.{Site}
 use Rattle.tocmark_spelling.specs.Plan.{Setting, Manner}
 use Rattle.tocmark_spelling.specs.Scans.{span}
+use Rattle.tocmark_unit.specs.FindingsOf.{AreFindings}
 use Rattle.tocmark_unit.specs.declared.turn.Neighbours.{Neighbours}
 
--- the events behind it
+-- the unit's events
+abbrev pub unit_in : Neighbours → List SourcedEvent
+unit_in n = map buffered_view n.unit.now
+
+-- those behind this one
 abbrev pub rest_in : Neighbours → List SourcedEvent
-rest_in n = map buffered_view n.rest.now
+rest_in n = drop (n.place + 1) (unit_in n)
+
+-- those before it, the last one first
+abbrev pub before_in : Neighbours → List SourcedEvent
+before_in n = reverse (take n.place (unit_in n))
+
+-- what follows the unit
+abbrev pub next_in : Neighbours → Option EventView
+next_in n = following_view n.next
+
+-- the unit's events are those of a forest
+abbrev pub IsForest : Trees → Neighbours → Type 0
+IsForest f n = flat f ≡ unit_in n
+
+-- what the opening of a container that begins here is told
+abbrev pub look_in : Setting → Manner → TagView → Neighbours → Look
+look_in s m t n = look_at s m (unit_in n) n.place t (rest_in n) (next_in n)
 
 -- where the opening of a container leads that begins here, before these events and behind those, the last one first
 abbrev pub opening_at : Setting → Manner → Option EventView → TagView → List SourcedEvent → List SourcedEvent → Site → Option Site
@@ -25,10 +49,9 @@ opening_at s m next t rest before here =
     opening s m t (look s m t (kids_of rest) (around before (drop (suc (span 0 rest)) rest) next)) here.path
     (gap (Start t) here.path here.page)
 
--- it is said whether the id of the container that an event starts stands in place of its body
-abbrev pub IsNamed : Setting → SourcedEvent → List SourcedEvent → Bool → Type 0
-IsNamed s (Start t) rest named = named ≡ by_id s t (kids_of rest)
-IsNamed s e rest named = Unit {0}
+-- the same of an event and what stands around it
+abbrev pub opening_in : Setting → Manner → TagView → Neighbours → Site → Option Site
+opening_in s m t n here = opening_at s m (next_in n) t (rest_in n) (before_in n) here
 
 -- whether an event is a leaf
 abbrev pub is_leaf_event : SourcedEvent → Bool
@@ -40,8 +63,8 @@ pub record AreById (s : Setting) (es : List SourcedEvent) (named : List Bool) : 
   pub at : (i : ℕ) (t : TagView) (rest : List SourcedEvent) → drop i es ≡ Start t ∷ rest
       → slice_index_or named i false ≡ by_id s t (kids_of rest)
 
--- what is said of the events behind an event is found in them
-pub record AreFound (o : OptionsView) (e : SourcedEvent) (n : Neighbours) : Type 0 where
-  pub width_is : n.width ≡ span 0 (rest_in n)
-  pub body_is : n.body ≡ facts_of (kids_of (rest_in n))
-  pub raw_is : IsRaw o e (kids_of (rest_in n)) n.raw
+-- this event stands at the place, and what is found out of the unit's events is so of them
+pub record AreFound (reading : Reading) (o : OptionsView) (flags : ParserOptions) (e : SourcedEvent) (n : Neighbours) : Type 0 where
+  pub within : n.place < length n.unit.now
+  pub at : drop n.place (unit_in n) ≡ e ∷ rest_in n
+  pub found : AreFindings reading o flags (unit_in n) n.found.now

@@ -1,29 +1,25 @@
 //! Writes the events of one unit, and carries along what it leaves to the next.
 
-ghost use Rattle.std.specs.Prelude.{◌≡◌, ℕ, List, [], map, string_bytes, true, false, IfOk, Option, None};
+ghost use Rattle.std.specs.Prelude.{◌≡◌, [], map, string_bytes, IfOk, Option, None};
+ghost use Rattle.tocmark_emphasis.specs.Low.{AsksLow, OpensLow};
 ghost use Rattle.tocmark_event.specs.Forest.{flat};
-ghost use Rattle.tocmark_renderer.specs.JobOf.{manner_view, setting_in};
+ghost use Rattle.tocmark_renderer.specs.JobOf.{manner_view, options_in, setting_in};
 ghost use Rattle.tocmark_spelling.specs.Body.{Trees};
 ghost use Rattle.tocmark_spelling.specs.Buffered.{buffered_view, following_view};
 ghost use Rattle.tocmark_spelling.specs.Machine.{around};
 ghost use Rattle.tocmark_spelling.specs.Page.{first_trail};
+ghost use Rattle.tocmark_unit.specs.FindingsOf.{AreFindings};
 ghost use Rattle.tocmark_unit.specs.Rendered.{page_before, Rendered, Renders};
-ghost use Rattle.tocmark_unit.specs.Spelled.{are_spelled};
 ghost use Rattle.tocmark_spelling.specs.Spelling.{spelling};
-ghost use Rattle.tocmark_spelling.specs.TrailOf.{trail_view};
 ghost use Rattle.tocmark_renderer.specs.WriterOf.{reference_view, page_of, levels_of, Comes};
 
-use crate::spelled::are_spelled;
-use crate::turn::{Columns, write_events};
+use crate::findings::Findings;
+use crate::turn::{Neighbours, turn};
 use std::alloc::{AllocError, Global};
 use std::mem;
-use tocmark_ahead::body_facts::body_facts;
-use tocmark_ahead::ends::matching_ends;
 use tocmark_event::event::OwnedEvent;
 use tocmark_event::options::Error;
 use tocmark_event::reader::Reader;
-use tocmark_links::named::named;
-use tocmark_raw::raw_facts::raw_facts;
 use tocmark_renderer::job::{Job, Manner};
 use tocmark_renderer::parts::{Parts, Reference};
 use tocmark_renderer::renderer::Renderer;
@@ -128,60 +124,61 @@ impl UnitRenderer {
         &mut self,
         job: Job<'_, '_>,
         reader: &R,
-        events: &[BufferedEvent],
+        unit: &[BufferedEvent],
+        found: &Findings,
         next: Option<&OwnedEvent>,
         manner: Manner<'_>,
     ) -> Result<String, Error>
-        ensures unspelled { are_spelled (map buffered_view events.now) ≡ false
-            → Renders result self.new None }
-        ensures spelled { (f : Trees) → are_spelled (map buffered_view events.now) ≡ true
-            → flat f ≡ map buffered_view events.now
+        requires found { AreFindings (R.reading reader.now) (options_in job) job.flags
+            (map buffered_view unit.now) found.now }
+        requires asked { AsksLow manner.delimiters }
+        ensures { (f : Trees) → flat f ≡ map buffered_view unit.now
             → Renders result self.new
             (spelling (setting_in job.entry (R.reading reader.now)) (manner_view manner.entry) f
             (around [] [] (following_view next.entry)) [] (page_before self.old)) }
     {
         let mut renderer = self.begin(job.alloc);
-        write_unit(&mut renderer, job, reader, events, next, manner)?;
+        write_unit(&mut renderer, job, reader, unit, found, next, manner)?;
         Ok(self.finish(renderer))
     }
 }
 
 /// Writes a unit.
 ///
-/// Spelled is every unit without emphasis and strong emphasis. `next` is the event after the unit, if there
-/// is one. An `Err` is `UnexpectedEvent` where the unit has another event, a node that stands where it may not, an End
-/// too many or a container that isn't closed, and `OutOfMemory` where memory ran out; some of the unit may be written
-/// then.
+/// `found` are the findings over its events, and `next` is the event after it, if there is one. An `Err` is
+/// `UnexpectedEvent` where the unit has a node that stands where it may not, an End too many or a container that isn't
+/// closed, and `OutOfMemory` where memory ran out; some of the unit may be written then.
 pub fn write_unit<'a, R: Reader>(
     renderer: &mut Renderer<'a>,
     job: Job<'_, '_>,
     reader: &R,
     unit: &'a [BufferedEvent],
+    found: &Findings,
     next: Option<&OwnedEvent>,
     manner: Manner<'_>,
 ) -> Result<(), Error>
-    ensures unspelled { are_spelled (map buffered_view unit.entry.now) ≡ false
-        → Comes result renderer.new None }
-    ensures spelled { (f : Trees) → are_spelled (map buffered_view unit.entry.now) ≡ true
-        → flat f ≡ map buffered_view unit.entry.now
+    requires found { AreFindings (R.reading reader.now) (options_in job) job.flags
+        (map buffered_view unit.now) found.now }
+    requires asked { AsksLow manner.delimiters }
+    ensures spelled { (f : Trees) → flat f ≡ map buffered_view unit.entry.now
+        → OpensLow manner.entry.delimiters (levels_of renderer.old)
         → let s = setting_in job.entry (R.reading reader.now) in
+        let m = manner_view manner.entry in
         let a = around [] [] (following_view next.entry) in
         Comes result renderer.new
-        (spelling s (manner_view manner.entry) f a (levels_of renderer.old) (page_of renderer.old)) }
+        (spelling s m f a (levels_of renderer.old) (page_of renderer.old)) }
     ensures mark { renderer.new.at_mark ≡ renderer.old.at_mark }
 {
-    if !are_spelled(unit) {
-        return Err(Error::UnexpectedEvent);
+    let mut place = 0usize;
+    while place < unit.len() {
+        let around = Neighbours {
+            unit,
+            place,
+            found,
+            next,
+        };
+        let passed = turn(renderer, job, reader, manner, &unit[place], around)?;
+        place += 1 + passed;
     }
-    let ends = matching_ends(job.alloc, unit)?;
-    let facts = body_facts(job.alloc, unit)?;
-    let raw = raw_facts(job.alloc, job.options, unit)?;
-    let named = named(job.alloc, reader, job.flags, unit, &ends)?;
-    let columns = Columns {
-        ends: &ends,
-        facts: &facts,
-        raw: &raw,
-        named: &named,
-    };
-    write_events(renderer, job, manner, unit, columns, next)
+    Ok(())
 }

@@ -1,4 +1,4 @@
-//! Laws of what is written so far: calls that do nothing, whose contracts are the laws.
+//! Laws of what is written: calls that do nothing, whose contracts are the laws.
 
 ghost use Rattle.std.specs.Prelude.{◌≡◌, ◌<◌, ◌++◌, List, Option, drop, length, reverse, take};
 ghost use Rattle.tocmark_event.specs.View.{EventView, SourcedEvent};
@@ -13,5 +13,6 @@ pub fn skipped_bodies_can_be_passed()
     ensures { (s : Setting) (m : Manner) (next : Option EventView) (es : List SourcedEvent)
         (here : Site) (before : List SourcedEvent) → span 0 es < length es
         → run s m next es (skipping 0 here before)
-        ≡ run s m next (drop (span 0 es) es) (going here (reverse (take (span 0 es) es) ++ before)) }
+        ≡ run s m next (drop (span 0 es) es)
+        (going here (reverse (take (span 0 es) es) ++ before)) }
 {}

@@ -1,79 +1,61 @@
-//! One event of a unit after the other.
+//! One event of a unit.
 
-ghost use Rattle.std.specs.Prelude.{◌≡◌, ◌<◌, ◌≤◌, ◌+◌, ◌-◌, List, ◌∷◌, [], map, drop, take, reverse, length, slice_index, slice_index_or, string_bytes, true, false, Option, IfOk, OnOk};
+ghost use Rattle.std.specs.Prelude.{◌≡◌, ◌<◌, ◌≤◌, ◌+◌, ◌-◌, map, drop, take, reverse, length, slice_index, slice_index_or, string_bytes, true, false, IfOk, OnOk};
 ghost use Rattle.std.specs.Str.{IsCharBoundary};
-ghost use Rattle.tocmark_ahead.specs.BodyFacts.{AreFacts};
-ghost use Rattle.tocmark_event.specs.Options.{options_view};
-ghost use Rattle.tocmark_event.specs.View.{event_view, tag_view, Start, EventView, SourcedEvent};
-ghost use Rattle.tocmark_openings.specs.AheadOf.{IsAhead};
-ghost use Rattle.tocmark_raw.specs.Raw.{AreRaw};
-ghost use Rattle.tocmark_spelling.specs.Buffered.{buffered_view, following_view};
 ghost use Rattle.tocmark_closings.specs.Leads.{Closes, is_closed};
 ghost use Rattle.tocmark_containers.specs.FrameOf.{level_of};
-ghost use Rattle.tocmark_spelling.specs.ById.{by_id};
-ghost use Rattle.tocmark_spelling.specs.Closing.{closing, closing_of};
-ghost use Rattle.tocmark_spelling.specs.Kinds.{is_text, and_is};
-ghost use Rattle.tocmark_spelling.specs.Look.{Look};
-ghost use Rattle.tocmark_spelling.specs.Machine.{step, going, run, answer_of, kids_of};
-ghost use Rattle.tocmark_spelling.specs.Opening.{opening, opening_of};
-ghost use Rattle.tocmark_spelling.specs.Plan.{Setting, Manner as AnyManner};
-ghost use Rattle.tocmark_spelling.specs.Page.{front};
+ghost use Rattle.tocmark_emphasis.specs.Low.{AsksLow, OpensLow};
+ghost use Rattle.tocmark_event.specs.Options.{options_view, OptionsView};
+ghost use Rattle.tocmark_event.specs.View.{event_view, tag_view, Start, TagView};
+ghost use Rattle.tocmark_event.specs.declared.event.flags.ParserOptions.{ParserOptions};
+ghost use Rattle.tocmark_openings.specs.AheadOf.{IsAhead};
 ghost use Rattle.tocmark_renderer.specs.JobOf.{Reading, manner_view, options_in, setting_in};
-ghost use Rattle.tocmark_spelling.specs.Scans.{AreEnds};
-ghost use Rattle.tocmark_unit.specs.Spelled.{is_spelled, are_spelled, is_spelled_tag};
-ghost use Rattle.tocmark_unit.specs.Turn.{Passes};
-ghost use Rattle.tocmark_unit.specs.NeighboursOf.{AreById, AreFound, IsNamed, is_leaf_event, opening_at, rest_in};
-ghost use Rattle.tocmark_spelling.specs.Words.{or_else};
 ghost use Rattle.tocmark_renderer.specs.WriterOf.{levels_of, page_of, sheet_of, site_of, Arrives, Comes};
+ghost use Rattle.tocmark_spelling.specs.Body.{Trees};
+ghost use Rattle.tocmark_spelling.specs.Buffered.{buffered_view, following_view};
+ghost use Rattle.tocmark_spelling.specs.Closing.{closing, closing_of};
+ghost use Rattle.tocmark_spelling.specs.Kinds.{is_emphasis_or_strong, is_text, and_is};
+ghost use Rattle.tocmark_spelling.specs.Look.{is_preferred, Look};
+ghost use Rattle.tocmark_spelling.specs.Opening.{opening, opening_of};
+ghost use Rattle.tocmark_spelling.specs.Page.{front};
+ghost use Rattle.tocmark_spelling.specs.Plan.{Setting, Manner as AnyManner};
+ghost use Rattle.tocmark_unit.specs.NeighboursOf.{is_leaf_event, look_in, opening_in, rest_in, AreFound, IsForest};
+ghost use Rattle.tocmark_unit.specs.Turn.{Turns};
 
+use crate::findings::Findings;
 use std::alloc::{AllocError, Global};
-use tocmark_ahead::body_facts::{BodyFacts, facts_at};
+use tocmark_ahead::body_facts::facts_at;
 use tocmark_closings::close::close;
 use tocmark_containers::frame::Frame;
+use tocmark_emphasis::node::{following, next_in_unit, node_at};
+use tocmark_emphasis::opening::open_emphasis;
 use tocmark_event::event::{EventOf, OwnedEvent, TagOf};
 use tocmark_event::options::{Error, Options};
+use tocmark_event::reader::Reader;
 use tocmark_leaves::leaf::{Beside, write_leaf};
 use tocmark_links::closing::close_named;
 use tocmark_links::opening::{open_image, open_link, write_id};
 use tocmark_openings::ahead::Ahead;
 use tocmark_openings::open::open;
-use tocmark_raw::raw_facts::{RawFacts, raw_at};
+use tocmark_raw::raw_facts::raw_at;
 use tocmark_renderer::job::{Job, Manner};
 use tocmark_renderer::renderer::Renderer;
 use tocmark_spelling::buffered::BufferedEvent;
 use tocmark_spelling::kinds::is_text;
+use tocmark_spelling::plan::Layout;
 use tocmark_spelling::trail::Last;
 
 /// What stands around an event of a unit.
 #[derive(Clone, Copy)]
 pub struct Neighbours<'e> {
-    /// The event before it.
-    pub previous: Option<&'e OwnedEvent>,
-    /// The events behind it.
-    pub rest: &'e [BufferedEvent],
-    /// How many of them stand before the end of the container that is innermost behind it.
-    pub width: usize,
-    /// What these are like.
-    pub body: BodyFacts,
-    /// What a code or HTML block asks of the texts among them.
-    pub raw: RawFacts,
-    /// Whether the id of the link or image that starts here stands in place of its body.
-    pub named: bool,
+    /// The unit's events.
+    pub unit: &'e [BufferedEvent],
+    /// The event's place among them.
+    pub place: usize,
+    /// What was found out of them.
+    pub found: &'e Findings,
     /// The event that follows the unit.
     pub next: Option<&'e OwnedEvent>,
-}
-
-/// What is found out of a unit's events before they are written, for each of them.
-#[derive(Clone, Copy)]
-pub struct Columns<'e> {
-    /// Where the containers end.
-    pub ends: &'e [usize],
-    /// What their bodies are like.
-    pub facts: &'e [BodyFacts],
-    /// What code and HTML blocks ask of their texts.
-    pub raw: &'e [RawFacts],
-    /// Which links and images are written by their ids.
-    pub named: &'e [bool],
 }
 
 /// The opening of a link or image; `named` says whether its id will stand in place of its body.
@@ -114,62 +96,115 @@ fn start_named<'a>(
     open_named(renderer, alloc, tag, named)
 }
 
-/// A container's opening; `named` says whether its id will stand in place of its body.
-fn open_container<'a>(
+/// Whether the layout is the preferred one.
+fn is_preferred(layout: Layout) -> bool
+    ensures { result ≡ is_preferred layout }
+{
+    matches!(layout, Layout::Preferred)
+}
+
+/// Opens emphasis or strong emphasis; what is written before it is no inline content.
+#[tactic(auto, unfolding(tocmark_spelling::specs::Opening::opening))]
+fn start_emphasis<'a, R: Reader>(
     renderer: &mut Renderer<'a>,
     job: Job<'_, '_>,
+    reader: &R,
     manner: Manner<'_>,
     tag: &'a TagOf<String>,
-    ahead: Ahead<'_>,
-    named: bool,
+    around: Neighbours<'_>,
+) -> Result<(), AllocError>
+    requires delimits { is_emphasis_or_strong (tag_view string_bytes tag.now) ≡ true }
+    requires asked { AsksLow manner.delimiters }
+    requires around { AreFound (R.reading reader.now) (options_in job) job.flags
+        (Start (tag_view string_bytes tag.now)) around }
+    ensures stands { (f : Trees)
+        → IsForest f around.entry
+        → OpensLow manner.entry.delimiters (levels_of renderer.old)
+        → let t = tag_view string_bytes tag.entry.now in let m = manner_view manner.entry in
+        let s = setting_in job.entry (R.reading reader.now) in let l = look_in s m t around.entry in
+        OnOk result (Arrives renderer.new
+        (opening s m t l (levels_of renderer.old) (page_of renderer.old))) }
+    ensures mark { renderer.new.at_mark ≡ renderer.old.at_mark }
+{
+    renderer.set_last(Last::Other);
+    let Neighbours {
+        unit,
+        place,
+        found,
+        next,
+    } = around;
+    let preferred = is_preferred(manner.delimiters.layout);
+    let node = node_at(&found.emphasis, unit, &found.ends, place, preferred, next)?;
+    let behind = next_in_unit(unit, &found.ends, place);
+    open_emphasis(renderer, job, reader, manner, tag, &node, behind)
+}
+
+/// A container's opening.
+fn open_container<'a, R: Reader>(
+    renderer: &mut Renderer<'a>,
+    job: Job<'_, '_>,
+    reader: &R,
+    manner: Manner<'_>,
+    tag: &'a TagOf<String>,
+    around: Neighbours<'_>,
 ) -> Result<(), Error>
-    requires spelled { is_spelled_tag (tag_view string_bytes tag.now) ≡ true }
-    ensures comes { (reading : Reading) (l : Look)
-        → let t = tag_view string_bytes tag.entry.now in
-        IsAhead (options_in job.entry) t l ahead.entry → l.named ≡ named
-        → Comes result renderer.new
-        (opening (setting_in job.entry reading) (manner_view manner.entry) t l
-        (levels_of renderer.old) (page_of renderer.old)) }
+    requires asked { AsksLow manner.delimiters }
+    requires around { AreFound (R.reading reader.now) (options_in job) job.flags
+        (Start (tag_view string_bytes tag.now)) around }
+    ensures comes { (f : Trees)
+        → IsForest f around.entry
+        → OpensLow manner.entry.delimiters (levels_of renderer.old)
+        → let t = tag_view string_bytes tag.entry.now in let m = manner_view manner.entry in
+        let s = setting_in job.entry (R.reading reader.now) in let l = look_in s m t around.entry in
+        Comes result renderer.new
+        (opening s m t l (levels_of renderer.old) (page_of renderer.old)) }
     ensures mark { renderer.new.at_mark ≡ renderer.old.at_mark }
 {
     match tag {
         TagOf::Link { .. } => {
-            start_named(renderer, job.alloc, tag, named)?;
+            start_named(renderer, job.alloc, tag, is_named(around))?;
             Ok(())
         }
         TagOf::Image { .. } => {
-            start_named(renderer, job.alloc, tag, named)?;
+            start_named(renderer, job.alloc, tag, is_named(around))?;
             Ok(())
         }
-        _ => open(renderer, job, manner, tag, ahead),
+        TagOf::Emphasis => {
+            start_emphasis(renderer, job, reader, manner, tag, around)?;
+            Ok(())
+        }
+        TagOf::Strong => {
+            start_emphasis(renderer, job, reader, manner, tag, around)?;
+            Ok(())
+        }
+        _ => open(renderer, job, manner, tag, ahead_of(around)),
     }
 }
 
 /// A container's start: its gap, and its opening.
-fn start<'a>(
+fn start<'a, R: Reader>(
     renderer: &mut Renderer<'a>,
     job: Job<'_, '_>,
+    reader: &R,
     manner: Manner<'_>,
     event: &OwnedEvent,
     tag: &'a TagOf<String>,
     around: Neighbours<'_>,
 ) -> Result<(), Error>
     requires start { event_view string_bytes event.now ≡ Start (tag_view string_bytes tag.now) }
-    requires spelled { is_spelled_tag (tag_view string_bytes tag.now) ≡ true }
-    requires closed { around.width < length around.rest.now }
-    requires around { AreFound (options_in job) (Start (tag_view string_bytes tag.now)) around }
-    ensures comes { (reading : Reading) (before : List SourcedEvent)
-        → let t = tag_view string_bytes tag.entry.now in
-        let s = setting_in job.entry reading in
-        let m = manner_view manner.entry in
-        let rest = rest_in around.entry in
-        around.entry.named ≡ by_id s t (kids_of rest)
+    requires asked { AsksLow manner.delimiters }
+    requires around { AreFound (R.reading reader.now) (options_in job) job.flags
+        (Start (tag_view string_bytes tag.now)) around }
+    ensures comes { (f : Trees)
+        → IsForest f around.entry
+        → OpensLow manner.entry.delimiters (levels_of renderer.old)
         → Comes result renderer.new
-        (opening_at s m (following_view around.entry.next) t rest before (site_of renderer.old)) }
+        (opening_in (setting_in job.entry (R.reading reader.now)) (manner_view manner.entry)
+        (tag_view string_bytes tag.entry.now) around.entry (site_of renderer.old)) }
     ensures mark { renderer.new.at_mark ≡ renderer.old.at_mark }
 {
     renderer.write_gap(event)?;
-    open_container(renderer, job, manner, tag, ahead_of(around), around.named)
+    open_container(renderer, job, reader, manner, tag, around)
 }
 
 /// A container's closing.
@@ -208,59 +243,63 @@ fn end(renderer: &mut Renderer<'_>, alloc: Global, options: &Options<'_>) -> Res
     }
 }
 
-/// What the opening of a container is told, if these events stand around its start.
+/// What the opening of a container that starts here is told.
 fn ahead_of<'e>(around: Neighbours<'e>) -> Ahead<'e>
-    requires closed { around.width < length around.rest.now }
-    ensures body { result.body ≡ around.entry.body }
-    ensures next { following_view result.next
-        ≡ or_else (front (drop (around.entry.width + 1) (rest_in around.entry)))
-        (following_view around.entry.next) }
-    ensures longest { result.longest ≡ around.entry.raw.longest }
-    ensures blank { result.blank ≡ around.entry.raw.blank }
-    ensures closed { result.closed ≡ around.entry.raw.closed }
+    requires within { around.place < length around.unit.now }
+    requires ends { length around.found.now.ends.items ≡ length around.unit.now }
+    ensures { (reading : Reading) (o : OptionsView) (flags : ParserOptions)
+        (s : Setting) (m : AnyManner) (t : TagView)
+        → AreFound reading o flags (Start t) around.entry
+        → IsAhead o t (look_in s m t around.entry) result }
 {
+    let Neighbours {
+        unit,
+        place,
+        found,
+        next,
+    } = around;
+    let raw = raw_at(&found.raw, place);
     Ahead {
-        body: around.body,
-        next: following(rest_of(around.rest, around.width + 1), around.next),
-        longest: around.raw.longest,
-        blank: around.raw.blank,
-        closed: around.raw.closed,
+        body: facts_at(&found.facts, place),
+        next: following(unit, end_of(around), next),
+        longest: raw.longest,
+        blank: raw.blank,
+        closed: raw.closed,
     }
 }
 
 /// A container's start, and how many further events are passed with it: those of its body, if its id stands in its
 /// place. One that isn't closed is unexpected.
-fn start_before<'a>(
+fn start_before<'a, R: Reader>(
     renderer: &mut Renderer<'a>,
     job: Job<'_, '_>,
+    reader: &R,
     manner: Manner<'_>,
     event: &OwnedEvent,
     tag: &'a TagOf<String>,
     around: Neighbours<'_>,
 ) -> Result<usize, Error>
     requires start { event_view string_bytes event.now ≡ Start (tag_view string_bytes tag.now) }
-    requires spelled { is_spelled_tag (tag_view string_bytes tag.now) ≡ true }
-    requires around { AreFound (options_in job) (Start (tag_view string_bytes tag.now)) around }
-    ensures passed { IfOk result (λ passed. passed ≤ length around.entry.rest.now) }
-    ensures moves { (reading : Reading) (before : List SourcedEvent)
-        → let t = tag_view string_bytes tag.entry.now in
-        let s = setting_in job.entry reading in
-        let m = manner_view manner.entry in
-        let next = following_view around.entry.next in
-        let rest = rest_in around.entry in
-        around.entry.named ≡ by_id s t (kids_of rest)
-        → Passes result renderer.new s m next
-        (step s m next (Start t) rest (going (site_of renderer.old) before)) rest
-        (Start t ∷ before) }
+    requires asked { AsksLow manner.delimiters }
+    requires around { AreFound (R.reading reader.now) (options_in job) job.flags
+        (Start (tag_view string_bytes tag.now)) around }
+    ensures passed { IfOk result (λ passed. passed ≤ length (rest_in around.entry)) }
+    ensures moves { (f : Trees)
+        → IsForest f around.entry
+        → OpensLow manner.entry.delimiters (levels_of renderer.old)
+        → Turns (setting_in job.entry (R.reading reader.now)) (manner_view manner.entry)
+        (Start (tag_view string_bytes tag.entry.now)) around.entry
+        result renderer.old renderer.new }
     ensures mark { renderer.new.at_mark ≡ renderer.old.at_mark }
 {
-    if around.width >= around.rest.len() {
+    let width = width_of(around);
+    if width >= rest_of(around).len() {
         return Err(Error::UnexpectedEvent);
     }
-    start(renderer, job, manner, event, tag, around)?;
-    if around.named {
+    start(renderer, job, reader, manner, event, tag, around)?;
+    if is_named(around) {
         write_id(renderer, tag)?;
-        Ok(around.width)
+        Ok(width)
     } else {
         Ok(0)
     }
@@ -275,133 +314,101 @@ fn leaf(
     around: Neighbours<'_>,
 ) -> Result<usize, Error>
     requires leaf { is_leaf_event (buffered_view event.now) ≡ true }
+    requires within { around.place < length around.unit.now }
     ensures passed { IfOk result (λ passed. passed ≡ 0) }
-    ensures moves { (reading : Reading) (before : List SourcedEvent)
-        → let s = setting_in job.entry reading in
-        let m = manner_view manner.entry in
-        let next = following_view around.entry.next in
-        let e = buffered_view event.entry.now in
-        let rest = rest_in around.entry in
-        following_view around.entry.previous ≡ front before
-        → Passes result renderer.new s m next
-        (step s m next e rest (going (site_of renderer.old) before)) rest (e ∷ before) }
+    ensures moves { (reading : Reading)
+        → Turns (setting_in job.entry reading) (manner_view manner.entry)
+        (buffered_view event.entry.now) around.entry result renderer.old renderer.new }
     ensures mark { renderer.new.at_mark ≡ renderer.old.at_mark }
 {
+    let Neighbours {
+        unit,
+        place,
+        next,
+        ..
+    } = around;
     let beside = Beside {
-        previous: around.previous,
-        text_follows: goes_on(around.rest),
-        next: following(around.rest, around.next),
+        previous: previous_of(unit, place),
+        text_follows: goes_on(rest_of(around)),
+        next: following(unit, place, next),
     };
     write_leaf(renderer, job, manner, event, beside)?;
     Ok(0)
 }
 
 /// One event, and how many further ones are passed with it. An `Err` is as in `write_unit`.
-fn turn<'a>(
+pub fn turn<'a, R: Reader>(
     renderer: &mut Renderer<'a>,
     job: Job<'_, '_>,
+    reader: &R,
     manner: Manner<'_>,
     event: &'a BufferedEvent,
     around: Neighbours<'_>,
 ) -> Result<usize, Error>
-    requires spelled { is_spelled (buffered_view event.now) ≡ true }
-    requires around { AreFound (options_in job) (buffered_view event.now) around }
-    ensures passed { IfOk result (λ passed. passed ≤ length around.entry.rest.now) }
-    ensures moves { (reading : Reading) (before : List SourcedEvent)
-        → let s = setting_in job.entry reading in
-        let m = manner_view manner.entry in
-        let next = following_view around.entry.next in
-        let e = buffered_view event.entry.now in
-        let rest = rest_in around.entry in
-        following_view around.entry.previous ≡ front before
-        → IsNamed s e rest around.entry.named
-        → Passes result renderer.new s m next
-        (step s m next e rest (going (site_of renderer.old) before)) rest (e ∷ before) }
+    requires asked { AsksLow manner.delimiters }
+    requires around { AreFound (R.reading reader.now) (options_in job) job.flags
+        (buffered_view event.now) around }
+    ensures passed { IfOk result (λ passed. passed ≤ length (rest_in around.entry)) }
+    ensures moves { (f : Trees)
+        → IsForest f around.entry
+        → OpensLow manner.entry.delimiters (levels_of renderer.old)
+        → Turns (setting_in job.entry (R.reading reader.now)) (manner_view manner.entry)
+        (buffered_view event.entry.now) around.entry result renderer.old renderer.new }
     ensures mark { renderer.new.at_mark ≡ renderer.old.at_mark }
 {
     match &event.event {
-        EventOf::Start(tag) => start_before(renderer, job, manner, &event.event, tag, around),
+        EventOf::Start(tag) => {
+            start_before(renderer, job, reader, manner, &event.event, tag, around)
+        }
         EventOf::End(_) => end(renderer, job.alloc, job.options),
         _ => leaf(renderer, job, manner, event, around),
     }
 }
 
-/// All events of a unit, given what was found out of them; `next` follows the unit.
-pub fn write_events<'a>(
-    renderer: &mut Renderer<'a>,
-    job: Job<'_, '_>,
-    manner: Manner<'_>,
-    events: &'a [BufferedEvent],
-    columns: Columns<'_>,
-    next: Option<&OwnedEvent>,
-) -> Result<(), Error>
-    requires spelled { are_spelled (map buffered_view events.now) ≡ true }
-    requires ends { AreEnds (map buffered_view events.now) columns.ends.now }
-    requires facts { AreFacts (map buffered_view events.now) columns.facts.now }
-    requires raw { AreRaw (options_in job) (map buffered_view events.now) columns.raw.now }
-    ensures comes { (reading : Reading)
-        → let s = setting_in job.entry reading in
-        let m = manner_view manner.entry in
-        AreById s (map buffered_view events.entry.now) columns.entry.named.now
-        → Comes result renderer.new
-        (answer_of (run s m (following_view next.entry) (map buffered_view events.entry.now)
-        (going (site_of renderer.old) []))) }
-    ensures mark { renderer.new.at_mark ≡ renderer.old.at_mark }
+/// The events behind this one.
+fn rest_of<'e>(around: Neighbours<'e>) -> &'e [BufferedEvent]
+    requires { around.place < length around.unit.now }
+    ensures { result.now ≡ drop (around.entry.place + 1) around.entry.unit.now }
 {
-    let mut i = 0usize;
-    while i < events.len() {
-        let previous = previous_of(events, i);
-        let rest = rest_of(events, i + 1);
-        let width = width_of(columns.ends, i);
-        let body = facts_at(columns.facts, i);
-        let raw = raw_at(columns.raw, i);
-        let named = named_at(columns.named, i);
-        let around = Neighbours {
-            previous,
-            rest,
-            width,
-            body,
-            raw,
-            named,
-            next,
-        };
-        let passed = turn(renderer, job, manner, &events[i], around)?;
-        i += 1 + passed;
-    }
-    Ok(())
+    &around.unit[around.place + 1..]
 }
 
-/// What follows a place of a unit.
-pub fn rest_of(events: &[BufferedEvent], start: usize) -> &[BufferedEvent]
-    ensures { result.now ≡ drop start events.now }
+/// The place of the end of the container that is innermost behind it.
+fn end_of(around: Neighbours<'_>) -> usize
+    requires within { around.place < length around.unit.now }
+    requires ends { length around.found.now.ends.items ≡ length around.unit.now }
+    ensures { result ≡ slice_index around.entry.found.now.ends.items around.entry.place }
 {
-    if start <= events.len() {
-        &events[start..]
+    around.found.ends[around.place]
+}
+
+/// How many events stand between.
+fn width_of(around: Neighbours<'_>) -> usize
+    requires within { around.place < length around.unit.now }
+    requires ends { length around.found.now.ends.items ≡ length around.unit.now }
+    ensures { result
+        ≡ slice_index around.entry.found.now.ends.items around.entry.place
+        - (around.entry.place + 1) }
+{
+    end_of(around).saturating_sub(around.place + 1)
+}
+
+/// Whether the id of the link or image that starts here stands in place of its body.
+fn is_named(around: Neighbours<'_>) -> bool
+    ensures { result ≡ slice_index_or around.entry.found.now.named.items around.entry.place false }
+{
+    let named = &around.found.named;
+    if around.place < named.len() {
+        named[around.place]
     } else {
-        &[]
+        false
     }
-}
-
-/// How many events stand between the one at a place and the end of the container that is innermost
-/// behind it.
-fn width_of(ends: &[usize], i: usize) -> usize
-    requires { i < length ends.now }
-    ensures { result ≡ slice_index ends.now i - (i + 1) }
-{
-    ends[i].saturating_sub(i + 1)
-}
-
-/// Whether the link or image that starts at a place is written by its id.
-fn named_at(named: &[bool], i: usize) -> bool
-    ensures { result ≡ slice_index_or named.now i false }
-{
-    if i < named.len() { named[i] } else { false }
 }
 
 /// The event before a place of a unit.
 fn previous_of(events: &[BufferedEvent], i: usize) -> Option<&OwnedEvent>
     requires { i ≤ length events.now }
-    ensures { following_view result ≡ front (reverse (map buffered_view (take i events.now))) }
+    ensures { following_view result ≡ front (reverse (take i (map buffered_view events.now))) }
 {
     if i == 0 {
         None
@@ -417,16 +424,5 @@ fn goes_on(rest: &[BufferedEvent]) -> bool
     match rest {
         [] => false,
         [after, ..] => is_text(&after.event),
-    }
-}
-
-/// The first event of the rest of a unit, or else the one after the unit.
-fn following<'a>(rest: &'a [BufferedEvent], next: Option<&'a OwnedEvent>) -> Option<&'a OwnedEvent>
-    ensures { following_view result
-        ≡ or_else (front (map buffered_view rest.now)) (following_view next.entry) }
-{
-    match rest {
-        [] => next,
-        [after, ..] => Some(&after.event),
     }
 }

@@ -1,19 +1,21 @@
-use Rattle.std.proofs.Common.{refl, string_bytes}
-use Rattle.std.proofs.lemmas.Result.{on_ok_weaker}
-use Rattle.tocmark_renderer.specs.JobOf.{label_in, options_in, setting_in}
-use Rattle.tocmark_renderer.specs.WriterOf.{levels_of, page_of}
-use Rattle.tocmark_emphasis.proofs.Lowness.{opens-more}
+use Rattle.std.proofs.Common.{List, ℕ, ◌∙◌, ap, sym, subst, string_bytes, OnOk}
+use Rattle.tocmark_event.specs.View.{tag_view}
+use Rattle.tocmark_renderer.specs.JobOf.{label_in, manner_view, options_in, setting_in}
+use Rattle.tocmark_renderer.specs.WriterOf.{levels_of, page_of, Arrives}
+use Rattle.tocmark_spelling.specs.Marker.{marker}
+use Rattle.tocmark_spelling.specs.Opening.{open_delimited}
 use Rattle.tocmark_emphasis.proofs.opening.open_emphasis.Goals as goal
 
-pub returns-clause-opened : goal.returns-clause-opened
-returns-clause-opened g c = λ l node next.
+pub returns-clause-stands : goal.returns-clause-stands
+returns-clause-stands g c = λ l asked opens literals tag node next.
     let a = c.args in
-    let d = a.manner.delimiters in
     let path = levels_of a.renderer.now in
     let p = page_of a.renderer.now in
     let s = setting_in a.job (g.R.Reader.reading a.reader.now) in
-    let token = c.in_ok-text.ensures a.manner.source l node next (options_in a.job) a.job.flags (label_in a.job) in
-    on_ok_weaker
-    c.open_delimited.result
-    (λ h. opens-more d a.manner.source s a.node.now l path (levels_of c.open_delimited.new.renderer) p _ (string_bytes c.in_ok-text.text) c.requires.asked c.requires.opened c.requires.literals node token refl h.path_is)
-    c.open_delimited.ensures.stands
+    let m = manner_view a.manner in
+    let t = tag_view string_bytes a.tag.now in
+    let marked = marker s m t l path p in
+    let token = c.in_ok-text.ensures a.manner.source l asked opens literals node next (options_in a.job) a.job.flags (label_in a.job) ∙ ap (λ x. marker s m x l path p) (sym tag) in
+    let P : List ℕ → Type 0 = λ x. OnOk c.open_between.result (Arrives c.open_between.new.renderer (open_delimited t x c.as_str-2.result.now path p)) in
+    let Q : List ℕ → Type 0 = λ x. OnOk c.open_between.result (Arrives c.open_between.new.renderer (open_delimited t marked x path p)) in
+    subst Q (c.as_str-2.ensures.value ∙ token) (subst P (c.as_str.ensures.value ∙ token) c.open_between.ensures.stands)

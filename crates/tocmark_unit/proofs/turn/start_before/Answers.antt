@@ -1,32 +1,62 @@
-use Rattle.std.proofs.Common.{◌∙◌, sym, map, arith, string_bytes}
+use Rattle.std.proofs.Common.{◌<◌, ◌∙◌, sym, length, arith, string_bytes}
 use Rattle.std.proofs.lemmas.Result.{err_from_is_err_and}
 use Rattle.tocmark_event.specs.View.{tag_view}
-use Rattle.tocmark_spelling.specs.Buffered.{buffered_view, following_view}
-use Rattle.tocmark_renderer.specs.JobOf.{manner_view, setting_in}
+use Rattle.tocmark_renderer.specs.JobOf.{label_in, manner_view, options_in, setting_in}
 use Rattle.tocmark_renderer.specs.WriterOf.{site_of}
 use Rattle.tocmark_spelling.proofs.Turns.{length-events}
+use Rattle.tocmark_spelling.specs.Scans.{span}
+use Rattle.tocmark_unit.proofs.Events.{by-id-found}
+use Rattle.tocmark_unit.proofs.Found.{rest-length, width-at}
 use Rattle.tocmark_unit.proofs.Steps.{start-fails, start-moves, start-passes, start-refused}
+use Rattle.tocmark_unit.specs.NeighboursOf.{before_in, next_in, rest_in, unit_in}
 use Rattle.tocmark_unit.proofs.turn.start_before.Goals as goal
 
-pub returns-then-around-clause-moves : goal.returns-then-around-clause-moves
-returns-then-around-clause-moves c =
-    λ reading before named. start-refused (setting_in c.args.job reading) (manner_view c.args.manner) (following_view c.args.around.next) (tag_view string_bytes c.args.tag.now) (map buffered_view c.args.around.rest.now) before (site_of c.args.renderer.now) (omega (arith, length-events c.args.around.rest.now, c.requires.around.width_is, c.if-around.true))
+pub returns-then-width-rest_of-clause-moves : goal.returns-then-width-rest_of-clause-moves
+returns-then-width-rest_of-clause-moves g c = λ f forest opens.
+    let a = c.args in
+    let n = a.around in
+    let is = c.requires.around in
+    let rest = rest_in n in
+    let width = c.width_of-width.ensures ∙ width-at (unit_in n) n.found.now.ends.items n.place is.found.ends (omega (arith, is.within, length-events n.unit.now)) in
+    start-refused (setting_in a.job (g.R.Reader.reading a.reader.now)) (manner_view a.manner) (next_in n) (tag_view string_bytes a.tag.now) rest (before_in n) (site_of a.renderer.now) (omega (arith, width, rest-length n.unit.now n.place c.rest_of.result.now c.rest_of.ensures, c.if-width-rest_of.true))
 
 pub returns-in_err-start-clause-moves : goal.returns-in_err-start-clause-moves
-returns-in_err-start-clause-moves c =
+returns-in_err-start-clause-moves g c = λ f forest opens.
+    let a = c.args in
+    let n = a.around in
+    let is = c.requires.around in
+    let rest = rest_in n in
+    let width = c.width_of-width.ensures ∙ width-at (unit_in n) n.found.now.ends.items n.place is.found.ends (omega (arith, is.within, length-events n.unit.now)) in
+    let lt : span 0 rest < length rest = omega (arith, width, rest-length n.unit.now n.place c.rest_of.result.now c.rest_of.ensures, c.if-width-rest_of.false) in
     let p = err_from_is_err_and c.from_residual.result c.from_residual.ensures.1 in
-    let rest = map buffered_view c.args.around.rest.now in
-    λ reading before named.
-    rw (p.1, p.2) (start-fails (setting_in c.args.job reading) (manner_view c.args.manner) (following_view c.args.around.next) (tag_view string_bytes c.args.tag.now) rest before (site_of c.args.renderer.now) (omega (arith, length-events c.args.around.rest.now, c.requires.around.width_is, c.if-around.false)) c.in_err-start.field-0.0 (c.in_err-start.ensures.comes reading before named))
+    rw (p.1, p.2) (start-fails (setting_in a.job (g.R.Reader.reading a.reader.now)) (manner_view a.manner) (next_in n) (tag_view string_bytes a.tag.now) rest (before_in n) (site_of a.renderer.now) lt c.in_err-start.field-0.0 (c.in_err-start.ensures.comes f forest opens))
 
 pub returns-in_ok-write_id-clause-moves : goal.returns-in_ok-write_id-clause-moves
-returns-in_ok-write_id-clause-moves c =
-    let rest = map buffered_view c.args.around.rest.now in
-    λ reading before named.
-    start-passes (setting_in c.args.job reading) (manner_view c.args.manner) (following_view c.args.around.next) (tag_view string_bytes c.args.tag.now) rest before (site_of c.args.renderer.now) (omega (arith, length-events c.args.around.rest.now, c.requires.around.width_is, c.if-around.false)) c.requires.spelled c.start.new.renderer (c.in_ok-start.ensures.comes reading before named) c.write_id.new.renderer c.args.around.width c.requires.around.width_is (sym c.if-around-2.true ∙ named) c.in_ok-write_id.ensures.stands
+returns-in_ok-write_id-clause-moves g c = λ f forest opens.
+    let a = c.args in
+    let n = a.around in
+    let is = c.requires.around in
+    let rest = rest_in n in
+    let reading = g.R.Reader.reading a.reader.now in
+    let t = tag_view string_bytes a.tag.now in
+    let s = setting_in a.job reading in
+    let m = manner_view a.manner in
+    let width = c.width_of-width.ensures ∙ width-at (unit_in n) n.found.now.ends.items n.place is.found.ends (omega (arith, is.within, length-events n.unit.now)) in
+    let lt : span 0 rest < length rest = omega (arith, width, rest-length n.unit.now n.place c.rest_of.result.now c.rest_of.ensures, c.if-width-rest_of.false) in
+    let named = c.is_named.ensures ∙ (by-id-found m (options_in a.job) a.job.flags (label_in a.job) reading (next_in n) f (unit_in n) n.found.now.named.items forest is.found.named).at n.place t rest is.at in
+    start-passes s m (next_in n) t rest (before_in n) (site_of a.renderer.now) lt c.start.new.renderer (c.in_ok-start.ensures.comes f forest opens) c.write_id.new.renderer c.width_of-width.result width (sym c.if-is_named.true ∙ named) c.in_ok-write_id.ensures.stands
 
-pub returns-else-around-2-clause-moves : goal.returns-else-around-2-clause-moves
-returns-else-around-2-clause-moves c =
-    let rest = map buffered_view c.args.around.rest.now in
-    λ reading before named.
-    start-moves (setting_in c.args.job reading) (manner_view c.args.manner) (following_view c.args.around.next) (tag_view string_bytes c.args.tag.now) rest before (site_of c.args.renderer.now) (omega (arith, length-events c.args.around.rest.now, c.requires.around.width_is, c.if-around.false)) c.requires.spelled c.start.new.renderer (c.in_ok-start.ensures.comes reading before named) (sym c.if-around-2.false ∙ named)
+pub returns-else-is_named-clause-moves : goal.returns-else-is_named-clause-moves
+returns-else-is_named-clause-moves g c = λ f forest opens.
+    let a = c.args in
+    let n = a.around in
+    let is = c.requires.around in
+    let rest = rest_in n in
+    let reading = g.R.Reader.reading a.reader.now in
+    let t = tag_view string_bytes a.tag.now in
+    let s = setting_in a.job reading in
+    let m = manner_view a.manner in
+    let width = c.width_of-width.ensures ∙ width-at (unit_in n) n.found.now.ends.items n.place is.found.ends (omega (arith, is.within, length-events n.unit.now)) in
+    let lt : span 0 rest < length rest = omega (arith, width, rest-length n.unit.now n.place c.rest_of.result.now c.rest_of.ensures, c.if-width-rest_of.false) in
+    let named = c.is_named.ensures ∙ (by-id-found m (options_in a.job) a.job.flags (label_in a.job) reading (next_in n) f (unit_in n) n.found.now.named.items forest is.found.named).at n.place t rest is.at in
+    start-moves s m (next_in n) t rest (before_in n) (site_of a.renderer.now) lt c.start.new.renderer (c.in_ok-start.ensures.comes f forest opens) (sym c.if-is_named.false ∙ named)
