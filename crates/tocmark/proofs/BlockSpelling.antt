@@ -17,15 +17,14 @@ use Rattle.tocmark_spelling.specs.Plan.{Setting, Manner}
 use Rattle.tocmark_spelling.specs.Spelling.{spelling, then_site, body_or_id, skips_body}
 use Rattle.tocmark_spelling.specs.Stretch.{leaf_on, place, held_with, stretch_on}
 use Rattle.tocmark_spelling.specs.Runs.{ahead_of, past, beyond}
-use Rattle.tocmark_unit.specs.Spelled.{is_spelled_tag, is_spelled_forest}
 use Rattle.tocmark_renderer.proofs.Laid.{laid-part}
 use Rattle.tocmark_render.specs.Candidates.{preferred_manner, has_source, is_delimiter_block, is_delimiter_tag, is_math, some_tag}
 use Rattle.tocmark_render.specs.Choice as choice
 use Rattle.tocmark_render.specs.Choice.{page_in, spelled, accepted_if, document_after, has_standard_markers}
-use Rattle.tocmark_render.specs.Document.{DocumentView}
-use Rattle.tocmark_render.specs.Placeholder.{whole, needs_placeholder, needs_placeholder_at, is_ambiguous_list}
-use Rattle.tocmark_render.specs.Spelled.{choice_if, chosen_if_spelled}
-use Rattle.tocmark_render.proofs.Forests.{chosen-unlabelled}
+use Rattle.tocmark_labels.specs.Document.{DocumentView}
+use Rattle.tocmark_labels.specs.Placeholder.{whole, needs_placeholder, needs_placeholder_at, is_ambiguous_list}
+use Rattle.tocmark_render.specs.Chosen.{chosen}
+use Rattle.tocmark_render.proofs.Chosen.{chosen-unlabelled}
 use Rattle.tocmark_render.proofs.PlainUnits.{choice-unasked}
 use Rattle.tocmark.specs.TextBlocks.{Kind, ParagraphKind, HeadingKind, Block, HasText, tag_of, mark_of, block_text, place_in, feeds_behind}
 use Rattle.tocmark.proofs.BlockEscapes.{IsFilled, no_feed, escaped_filled}
@@ -264,19 +263,6 @@ no_sources : (ts : List (List ℕ)) → has_source (text_trees ts) ≡ false
 no_sources [] = refl
 no_sources (t ∷ ts) = no_sources ts
 
-texts_spelled : (ts : List (List ℕ)) → is_spelled_forest (text_trees ts) ≡ true
-unfolding is_spelled_forest
-texts_spelled [] = refl
-texts_spelled (t ∷ ts) = texts_spelled ts
-
-block_spelled : (b : Block) → is_spelled_forest (unit b) ≡ true
-unfolding is_spelled_forest
-block_spelled b = by_kind b.kind
-  where
-    by_kind : (kind : Kind) → ((is_spelled_tag (tag_of kind) && is_spelled_forest (text_trees b.texts)) && true) ≡ true
-    by_kind ParagraphKind = ap (λ x. x && true) (texts_spelled b.texts)
-    by_kind (HeadingKind level) = ap (λ x. x && true) (texts_spelled b.texts)
-
 texts_undelimited : (ts : List (List ℕ)) → is_delimiter_block (text_trees ts) ≡ false
 texts_undelimited [] = refl
 texts_undelimited (t ∷ ts) = texts_undelimited ts
@@ -315,7 +301,7 @@ module _ (s : Setting) (d : DocumentView) (b : Block) (next : Option EventView) 
   -- the choice for a block is the line feeds that are owed, its mark and the escape of its texts
   pub record IsChosen (owed : ℕ) : Type 0 where
     pub document : DocumentView
-    pub is : chosen_if_spelled s d (flat (unit b)) next ≡ Ok (unit_text owed, document)
+    pub is : chosen s d (flat (unit b)) next ≡ Ok (unit_text owed, document)
     pub after : IsCalm document (feeds_behind s.options b.kind) (Some b.kind)
 
   page_spelled : (owed : ℕ) (before : Option Kind) → IsCalm d owed before → HasText b → spelled s d (unit b) next (preferred_manner s.options) ≡ Some (unit_page owed)
@@ -343,7 +329,6 @@ module _ (s : Setting) (d : DocumentView) (b : Block) (next : Option EventView) 
     document = document_after s d (unit_page owed);
     is =
         chosen-unlabelled s d (unit b) next none (block_placed b)
-        ∙ ap (λ x. choice_if x s d (unit b) next) (block_spelled b)
         ∙ choice-unasked s d (unit b) next (block_undelimited b) unasked
         ∙ ap (accepted_if s d) (page_spelled owed before h some);
     after = left_calm owed before h;

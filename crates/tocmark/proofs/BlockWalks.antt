@@ -12,11 +12,11 @@ use Rattle.tocmark_event.specs.declared.options.Error.{Error}
 use Rattle.tocmark_event.specs.declared.options.Error.TheVariants as error
 use Rattle.tocmark_spelling.specs.Plan.{Setting}
 use Rattle.tocmark_spelling.specs.PlanOf.{setting_of}
-use Rattle.tocmark_render.specs.Definitions.{definitions_text}
-use Rattle.tocmark_render.specs.Document.{DocumentView, first_document}
-use Rattle.tocmark_render.specs.Ending.{last_texts, holds_raw_block, unless_empty}
-use Rattle.tocmark_render.specs.Units.{waits}
-use Rattle.tocmark_render.proofs.Forests.{waits-flat}
+use Rattle.tocmark_labels.specs.Definitions.{definitions_text}
+use Rattle.tocmark_labels.specs.Document.{DocumentView, first_document}
+use Rattle.tocmark_labels.specs.Ending.{last_texts, holds_raw_block, unless_empty}
+use Rattle.tocmark_labels.specs.Units.{waits}
+use Rattle.tocmark_labels.proofs.Forests.{waits-flat}
 use Rattle.tocmark.specs.Ranges.{Pair, unranged}
 use Rattle.tocmark.specs.StateView.{keeping, rendering}
 use Rattle.tocmark.specs.TextBlocks.{Kind, Block, HasText, MakesBlocks, blocks_walk, tag_of, mark_of, block_text, block_events, document_of, feeds_behind, place_in, texts_behind}

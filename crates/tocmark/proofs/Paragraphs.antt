@@ -19,18 +19,17 @@ use Rattle.tocmark_spelling.specs.Marker.{marker}
 use Rattle.tocmark_spelling.specs.Runs.{prefers_underscore}
 use Rattle.tocmark_spelling.specs.Page.{Sheet, laid, put_byte}
 use Rattle.tocmark_spelling.specs.PlanOf.{setting_of}
-use Rattle.tocmark_unit.specs.Spelled.{is_spelled_forest}
 use Rattle.tocmark_spelling.specs.Spelling.{spelling}
 use Rattle.tocmark_spelling.specs.Stretch.{leaf_on}
 use Rattle.tocmark_escape.specs.Unescape.{unescape}
 use Rattle.tocmark_render.specs.Candidates.{is_delimiter_block, is_math}
 use Rattle.tocmark_render.specs.Choice.{preferred, spelled, document_after}
-use Rattle.tocmark_render.specs.Definitions.{definitions_text}
-use Rattle.tocmark_render.specs.Document.{DocumentView, first_document}
-use Rattle.tocmark_render.specs.Ending.{last_texts, holds_raw_block}
-use Rattle.tocmark_render.specs.Placeholder.{needs_placeholder}
-use Rattle.tocmark_render.specs.Spelled.{choice_if, chosen_if_spelled}
-use Rattle.tocmark_render.proofs.Forests.{chosen-unlabelled}
+use Rattle.tocmark_labels.specs.Definitions.{definitions_text}
+use Rattle.tocmark_labels.specs.Document.{DocumentView, first_document}
+use Rattle.tocmark_labels.specs.Ending.{last_texts, holds_raw_block}
+use Rattle.tocmark_labels.specs.Placeholder.{needs_placeholder}
+use Rattle.tocmark_render.specs.Chosen.{chosen}
+use Rattle.tocmark_render.proofs.Chosen.{chosen-unlabelled}
 use Rattle.tocmark_render.proofs.PlainUnits.{choice-unasked}
 use Rattle.tocmark.specs.Paragraphs.{ReadsAs, ReadsAsSpan, paragraph_with, paragraph_of}
 use Rattle.tocmark.specs.StateView.{keeping, rendering}
@@ -57,10 +56,6 @@ laid-plain (b ∷ bs) s =
     ∙ ap (λ x. ((s.text ++ x) ++ b ∷ []) ++ bs) (either-way (nat_lt 0 s.feeds) [])
     ∙ ap (λ t. (t ++ b ∷ []) ++ bs) (append-nil s.text)
     ∙ append_assoc s.text (b ∷ []) bs
-
-forest-spelled : (l : LeafView) → is_spelled_forest (unit l) ≡ true
-unfolding is_spelled_forest
-forest-spelled l = refl
 
 -- two truths that are false, each beside another one
 pub neither_in : (a b : Bool) → (a || b) ≡ false → ((a || false) || (b || false)) ≡ false
@@ -99,17 +94,16 @@ module _ (o : OptionsView) (reading : List ℕ → ParserOptions → ReadingView
   unfolding spelled spelling opening closing leaf_on document_after definitions_text prefers_underscore by_id marker
   written-code text = record { document = _; undefined = refl; preferred_is = refl }
 
-  chosen-preferred : (l : LeafView) → is_math l ≡ false → chosen_if_spelled (setting_of o flags reading None) first_document (flat (unit l)) None ≡ preferred (setting_of o flags reading None) first_document (unit l) None
+  chosen-preferred : (l : LeafView) → is_math l ≡ false → chosen (setting_of o flags reading None) first_document (flat (unit l)) None ≡ preferred (setting_of o flags reading None) first_document (unit l) None
   chosen-preferred l h =
       let s = setting_of o flags reading None in
-      let is = forest-spelled l in
-      chosen-unlabelled s first_document (unit l) None refl (no-list l) ∙ ap (λ b. choice_if b s first_document (unit l) None) is ∙ choice-unasked s first_document (unit l) None (undelimited l h) refl
+      chosen-unlabelled s first_document (unit l) None refl (no-list l) ∙ choice-unasked s first_document (unit l) None (undelimited l h) refl
 
   -- what the end comes to, by what is chosen for the unit
   abbrev ended_as : LeafView → Result (List ℕ × DocumentView) Error → Walk Done
   ended_as l r = finished_of (rendering o reading) (flat (unit l)) (keeping flags r)
 
-  scripted : (source : List ℕ) (l : LeafView) → script (rendering o reading) source (nothing_yet flags) (paragraph_with l) ≡ ended_as l (chosen_if_spelled (setting_of o flags reading None) first_document (flat (unit l)) None)
+  scripted : (source : List ℕ) (l : LeafView) → script (rendering o reading) source (nothing_yet flags) (paragraph_with l) ≡ ended_as l (chosen (setting_of o flags reading None) first_document (flat (unit l)) None)
   unfolding joins flushed flushed_before advance step ended
   scripted source l = refl
 

@@ -18,17 +18,16 @@ use Rattle.tocmark_spelling.specs.declared.trail.Last.TheVariants.{Other}
 use Rattle.tocmark_spelling.specs.Plan.{Setting, Manner}
 use Rattle.tocmark_spelling.specs.PlanOf.{setting_of}
 use Rattle.tocmark_spelling.specs.Runs.{beyond}
-use Rattle.tocmark_unit.specs.Spelled.{is_spelled_forest}
 use Rattle.tocmark_spelling.specs.Spelling.{spelling, then_site}
 use Rattle.tocmark_render.specs.Candidates.{preferred_manner, has_source, is_delimiter_block, is_delimiter_tag, is_math, some_tag}
 use Rattle.tocmark_render.specs.Choice as choice
 use Rattle.tocmark_render.specs.Choice.{has_standard_markers, spelled, document_after, accepted_if, preferred}
-use Rattle.tocmark_render.specs.Definitions.{definitions_text}
-use Rattle.tocmark_render.specs.Document.{DocumentView, first_document}
-use Rattle.tocmark_render.specs.Ending.{last_texts, holds_raw_block, unless_empty}
-use Rattle.tocmark_render.specs.Placeholder.{needs_placeholder, needs_placeholder_at}
-use Rattle.tocmark_render.specs.Spelled.{choice_if, chosen_if_spelled}
-use Rattle.tocmark_render.proofs.Forests.{chosen-unlabelled}
+use Rattle.tocmark_labels.specs.Definitions.{definitions_text}
+use Rattle.tocmark_labels.specs.Document.{DocumentView, first_document}
+use Rattle.tocmark_labels.specs.Ending.{last_texts, holds_raw_block, unless_empty}
+use Rattle.tocmark_labels.specs.Placeholder.{needs_placeholder, needs_placeholder_at}
+use Rattle.tocmark_render.specs.Chosen.{chosen}
+use Rattle.tocmark_render.proofs.Chosen.{chosen-unlabelled}
 use Rattle.tocmark_render.proofs.PlainUnits.{choice-unasked}
 use Rattle.tocmark_core_scan.proofs.PlainTests.{all_from}
 use Rattle.tocmark.specs.PlainLines.{is_line, paragraph_of_lines, IsReadBack, HandsLines}
@@ -98,15 +97,6 @@ no_source s l ms = ap (λ b. (b || false) && has_standard_markers s.options) (no
 one_text : (text : List ℕ) → 0 < length text → unless_empty text ≡ text ∷ []
 one_text [] h = absurd (omega arith)
 one_text (b ∷ bs) h = refl
-
-lines_spelled_forest : (l : List ℕ) (ms : List (List ℕ)) → is_spelled_forest (line_trees l ms) ≡ true
-unfolding is_spelled_forest
-lines_spelled_forest l [] = refl
-lines_spelled_forest l (n ∷ ms) = lines_spelled_forest n ms
-
-unit_spelled : (l : List ℕ) (ms : List (List ℕ)) → is_spelled_forest (unit l ms) ≡ true
-unfolding is_spelled_forest
-unit_spelled l ms = ap (λ b. b && true) (lines_spelled_forest l ms)
 
 lines_undelimited : (l : List ℕ) (ms : List (List ℕ)) → is_delimiter_block (line_trees l ms) ≡ false
 lines_undelimited l [] = refl
@@ -190,18 +180,16 @@ module _ (o : OptionsView) (reading : List ℕ → ParserOptions → ReadingView
         none = taken.none;
       }
 
-  chosen : (l : List ℕ) (ms : List (List ℕ)) → chosen_if_spelled setting first_document (flat (unit l ms)) None ≡ preferred setting first_document (unit l ms) None
-  chosen l ms =
-      let is = unit_spelled l ms in
+  chosen-preferred : (l : List ℕ) (ms : List (List ℕ)) → chosen setting first_document (flat (unit l ms)) None ≡ preferred setting first_document (unit l ms) None
+  chosen-preferred l ms =
       chosen-unlabelled setting first_document (unit l ms) None refl (unit_placed l ms)
-      ∙ ap (λ b. choice_if b setting first_document (unit l ms) None) is
       ∙ choice-unasked setting first_document (unit l ms) None (unit_undelimited l ms) (no_source setting l ms)
 
   abbrev ended_as : List ℕ → List (List ℕ) → Result (List ℕ × DocumentView) Error → Walk Done
   ended_as l ms r = finished_of (rendering o reading) (flat (unit l ms)) (keeping flags r)
 
   -- the unit's choice is what the end comes to
-  scripted : (source l : List ℕ) (ms : List (List ℕ)) → script (rendering o reading) source (nothing_yet flags) (paragraph_of_lines l ms) ≡ ended_as l ms (chosen_if_spelled setting first_document (flat (unit l ms)) None)
+  scripted : (source l : List ℕ) (ms : List (List ℕ)) → script (rendering o reading) source (nothing_yet flags) (paragraph_of_lines l ms) ≡ ended_as l ms (chosen setting first_document (flat (unit l ms)) None)
   scripted source l ms =
       ap (ended_walk (rendering o reading)) (paragraph_walked (rendering o reading) source (record { flags = flags; document = first_document }) l ms)
       ∙ unit_ended (rendering o reading) (record { flags = flags; document = first_document }) l ms
@@ -211,7 +199,7 @@ module _ (o : OptionsView) (reading : List ℕ → ParserOptions → ReadingView
   made source l ms h =
       let w = lines_preferred l ms h in
       scripted source l ms
-      ∙ ap (ended_as l ms) (chosen l ms ∙ w.is)
+      ∙ ap (ended_as l ms) (chosen-preferred l ms ∙ w.is)
       ∙ ap (λ (defs : List ℕ). record { texts = last_texts (holds_raw_block (flat (unit l ms))) defs (written l ms); outcome = Ok done }) w.none
 
   -- and the core reader reads it as that paragraph

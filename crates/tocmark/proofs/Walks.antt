@@ -11,8 +11,8 @@ use Rattle.tocmark_event.specs.declared.options.Error.{Error}
 use Rattle.tocmark_event.specs.declared.options.Error.TheVariants as error
 use Rattle.tocmark_spelling.specs.Buffered.{sourced}
 use Rattle.tocmark_event.specs.declared.event.flags.ParserOptions.{ParserOptions}
-use Rattle.tocmark_render.specs.Document.{DocumentView}
-use Rattle.tocmark_render.specs.Ending.{last_texts, leading_feeds, unless_empty, with_definitions_in_front}
+use Rattle.tocmark_labels.specs.Document.{DocumentView}
+use Rattle.tocmark_labels.specs.Ending.{last_texts, leading_feeds, unless_empty, with_definitions_in_front}
 use Rattle.tocmark_render.specs.DocumentOf.{Refuses, Gives}
 use Rattle.tocmark.specs.StateView.{keeping}
 use Rattle.tocmark.specs.Ranges.{Pair, resolved, unranged}

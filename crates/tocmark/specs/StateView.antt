@@ -13,12 +13,12 @@ use Rattle.tocmark_event.specs.declared.event.flags.ParserOptions.{ParserOptions
 use Rattle.tocmark_event.specs.declared.options.Error.{Error}
 use Rattle.tocmark_spelling.specs.Buffered.{buffered_view, sourced}
 use Rattle.tocmark_spelling.specs.PlanOf.{setting_of}
-use Rattle.tocmark_render.specs.Definitions.{definitions_text}
-use Rattle.tocmark_render.specs.Document.{DocumentView}
+use Rattle.tocmark_labels.specs.Definitions.{definitions_text}
+use Rattle.tocmark_labels.specs.Document.{DocumentView}
 use Rattle.tocmark_render.specs.DocumentOf.{Refuses, document_view, document_flags}
-use Rattle.tocmark_render.specs.Ending.{holds_raw_block}
-use Rattle.tocmark_render.specs.Spelled.{chosen_if_spelled}
-use Rattle.tocmark_render.specs.Units.{waits}
+use Rattle.tocmark_labels.specs.Ending.{holds_raw_block}
+use Rattle.tocmark_render.specs.Chosen.{chosen}
+use Rattle.tocmark_labels.specs.Units.{waits}
 use Rattle.tocmark_render.specs.declared.document.Document.{Document}
 use Rattle.tocmark.specs.declared.state.Progress.{Progress}
 use Rattle.tocmark.specs.declared.state.Held.{Held}
@@ -43,7 +43,7 @@ keeping flags (Err e) = Err e
 -- how units are written with these options and a reader with these readings
 abbrev pub rendering : OptionsView → (List ℕ → ParserOptions → ReadingView) → Rendering
 rendering options reading = record {
-  choice = λ kept unit next. keeping kept.flags (chosen_if_spelled (setting_of options kept.flags reading None) kept.document unit next);
+  choice = λ kept unit next. keeping kept.flags (chosen (setting_of options kept.flags reading None) kept.document unit next);
   waits = waits;
   definitions = λ kept. definitions_text kept.document.references kept.document.feeds;
   holds_raw = holds_raw_block;

@@ -6,8 +6,8 @@ use Rattle.tocmark_event.specs.declared.event.TagEnd.{TagEnd}
 use Rattle.tocmark_event.specs.declared.event.flags.ParserOptions.{ParserOptions}
 use Rattle.tocmark_event.specs.declared.options.Error.{Error}
 use Rattle.tocmark_event.specs.declared.options.Error.TheVariants as error
-use Rattle.tocmark_render.specs.Document.{DocumentView, first_document}
-use Rattle.tocmark_render.specs.Ending.{unless_empty, last_texts}
+use Rattle.tocmark_labels.specs.Document.{DocumentView, first_document}
+use Rattle.tocmark_labels.specs.Ending.{unless_empty, last_texts}
 use Rattle.tocmark.specs.Ranges.{Pair, resolved}
 
 -- a document: the parser's flags, and what earlier units left

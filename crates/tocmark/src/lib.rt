@@ -2,9 +2,8 @@
 //!
 //! `cmark` writes a whole list, and `State` takes a list in parts; both have a form for events with
 //! ranges in a source, whose texts are then written as they stand in it. A unit, a tree at the top of
-//! the list, is written where each of its events is one of these, and is else refused as
-//! `UnexpectedEvent`: paragraphs, headings without id, classes and attributes, texts, code, inline HTML,
-//! and soft and hard breaks.
+//! the list, is written as a whole, or refused: as `UnexpectedEvent` where an event stands in it that
+//! may not stand there, and as `Unrepresentable` where no spelling of it reads back.
 //!
 //! ```
 //! let events = [

@@ -20,9 +20,9 @@ use tocmark_ahead::same_events::end_number;
 use tocmark_event::event::{Event, EventOf, ParserOptions, TagEnd};
 use tocmark_event::options::{Error, Options, OptionsOf};
 use tocmark_event::reader::Reader;
+use tocmark_labels::ending::{holds_raw_block, with_definitions_in_front};
+use tocmark_labels::placeholder::needs_list_placeholder;
 use tocmark_render::document::Document;
-use tocmark_render::ending::{holds_raw_block, with_definitions_in_front};
-use tocmark_render::placeholder::needs_list_placeholder;
 use tocmark_spelling::buffered::BufferedEvent;
 
 /// How much a call did. Both counts stop at the greatest `usize`.

@@ -19,10 +19,10 @@ use Rattle.tocmark_spelling.specs.Opening.{opening}
 use Rattle.tocmark_spelling.specs.Closing.{closing}
 use Rattle.tocmark_spelling.specs.Stretch.{leaf_on}
 use Rattle.tocmark_spelling.specs.Spelling.{is_misplaced, spelling}
-use Rattle.tocmark_render.specs.Definitions.{definitions_text}
+use Rattle.tocmark_labels.specs.Definitions.{definitions_text}
 use Rattle.tocmark_render.specs.Candidates.{candidates}
 use Rattle.tocmark_render.specs.ReadsBack.{reads_back}
-use Rattle.tocmark_render.specs.Placeholder.{needs_placeholder, reserved_label}
+use Rattle.tocmark_labels.specs.Placeholder.{needs_placeholder, reserved_label}
 use Rattle.tocmark_render.specs.Choice.{spelled, first_that_reads_back, document_after, choice}
 use Rattle.tocmark_examples.specs.Script.{AreWritten}
 use Rattle.tocmark_examples.specs.Delimiters.{delimiters}

@@ -11,10 +11,10 @@ use Rattle.tocmark_spelling.specs.Body.{Trees}
 use Rattle.tocmark_spelling.specs.Page.{front}
 use Rattle.tocmark_render.specs.Candidates.{some_tag}
 use Rattle.tocmark_render.specs.Choice.{Chosen, choice}
-use Rattle.tocmark_render.specs.Definitions.{definitions_text}
-use Rattle.tocmark_render.specs.Ending.{is_raw_block, last_texts}
-use Rattle.tocmark_render.specs.Document.{DocumentView, first_document}
-use Rattle.tocmark_render.specs.Placeholder.{needs_placeholder, reserved_label}
+use Rattle.tocmark_labels.specs.Definitions.{definitions_text}
+use Rattle.tocmark_labels.specs.Ending.{is_raw_block, last_texts}
+use Rattle.tocmark_labels.specs.Document.{DocumentView, first_document}
+use Rattle.tocmark_labels.specs.Placeholder.{needs_placeholder, reserved_label}
 
 -- the texts that are written, and the error that ends them, if one does
 pub record Outcome : Type 0 where

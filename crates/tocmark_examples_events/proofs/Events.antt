@@ -19,12 +19,13 @@ use Rattle.tocmark_spelling.specs.Opening.{opening}
 use Rattle.tocmark_spelling.specs.Closing.{closing}
 use Rattle.tocmark_spelling.specs.Stretch.{leaf_on}
 use Rattle.tocmark_spelling.specs.Spelling.{is_misplaced, spelling}
-use Rattle.tocmark_render.specs.Definitions.{definitions_text}
+use Rattle.tocmark_labels.specs.Definitions.{definitions_text}
 use Rattle.tocmark_render.specs.Candidates.{candidates}
 use Rattle.tocmark_render.specs.ReadsBack.{reads_back}
-use Rattle.tocmark_render.specs.Placeholder.{needs_placeholder, reserved_label}
+use Rattle.tocmark_labels.specs.Placeholder.{needs_placeholder, reserved_label}
 use Rattle.tocmark_render.specs.Choice.{spelled, first_that_reads_back, document_after, choice}
-use Rattle.tocmark_render.specs.Units.{trees_of, chosen, waits}
+use Rattle.tocmark_labels.specs.Units.{trees_of, waits}
+use Rattle.tocmark_render.specs.Chosen.{chosen}
 use Rattle.tocmark.specs.Walk.{joins, flushed, flushed_before, advance, step, ended}
 use Rattle.tocmark_examples_events.specs.Answers.{AreAnswered}
 use Rattle.tocmark_examples_events.specs.Events.{calls}

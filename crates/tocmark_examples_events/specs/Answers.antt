@@ -3,10 +3,11 @@ use Rattle.std.specs.Prelude.{◌≡◌, ℕ, flat_map, Result, Ok, Err, Option,
 use Rattle.tocmark_event.specs.declared.event.flags.ParserOptions.{ParserOptions}
 use Rattle.tocmark_event.specs.declared.options.Error.{Error}
 use Rattle.tocmark_spelling.specs.Plan.{Setting}
-use Rattle.tocmark_render.specs.Definitions.{definitions_text}
-use Rattle.tocmark_render.specs.Document.{DocumentView}
-use Rattle.tocmark_render.specs.Ending.{holds_raw_block}
-use Rattle.tocmark_render.specs.Units.{chosen, waits}
+use Rattle.tocmark_labels.specs.Definitions.{definitions_text}
+use Rattle.tocmark_labels.specs.Document.{DocumentView}
+use Rattle.tocmark_labels.specs.Ending.{holds_raw_block}
+use Rattle.tocmark_labels.specs.Units.{waits}
+use Rattle.tocmark_render.specs.Chosen.{chosen}
 use Rattle.tocmark.specs.Ranges.{Pair}
 use Rattle.tocmark.specs.Walk.{Done, done, Kept, Rendering, Standing, walk, ended, script, nothing_yet}
 

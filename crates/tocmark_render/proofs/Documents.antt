@@ -1,39 +1,26 @@
 -- What is written for a unit is what is chosen for it.
 use Rattle.std.proofs.Common.{◌≡◌, ℕ, Bool, true, false, Option, Some, None, Err, List, [], ◌∷◌, ◌++◌, map, refl, sym, ap, ◌∙◌}
-use Rattle.std.specs.Prelude.{◌&&◌, ◌||◌, is_some}
+use Rattle.std.specs.Prelude.{◌||◌, is_some}
 use Rattle.std.specs.List.{list_any}
 use Rattle.std.proofs.lemmas.Bool.{false≢true, true≢false}
 use Rattle.tocmark_event.specs.Forest.{empty, leaf, node, flat, flat_onto}
-use Rattle.tocmark_event.specs.Reading.{ReadingView}
 use Rattle.tocmark_event.specs.View.{EventView, SourcedEvent, End, end_of}
-use Rattle.tocmark_event.specs.declared.event.flags.ParserOptions.{ParserOptions}
 use Rattle.tocmark_event.specs.declared.options.Error.TheVariants as error
 use Rattle.tocmark_spelling.specs.Body.{Trees, some_leaf}
 use Rattle.tocmark_spelling.specs.Page as page
 use Rattle.tocmark_spelling.specs.Page.{Page}
 use Rattle.tocmark_spelling.specs.Plan.{Setting}
 use Rattle.tocmark_unit.specs.Rendered.{Rendered}
-use Rattle.tocmark_unit.specs.Spelled.{are_spelled, is_spelled_tag, is_spelled_forest}
 use Rattle.tocmark_spelling.specs.TrailOf.{trail_view}
 use Rattle.tocmark_renderer.specs.WriterOf.{reference_view}
 use Rattle.tocmark_unit.specs.declared.block.UnitRenderer.{UnitRenderer}
 use Rattle.tocmark_render.specs.Candidates.{has_source, is_delimiter_block, is_delimiter_tag, is_math, is_sourced, some_tag}
 use Rattle.tocmark_render.specs.Choice.{choice, document_after}
-use Rattle.tocmark_render.specs.Definitions.{definitions_text}
-use Rattle.tocmark_render.specs.Document.{DocumentView, known_in, literal_in}
+use Rattle.tocmark_labels.specs.Document.{DocumentView, known_in, literal_in}
 use Rattle.tocmark_render.specs.DocumentOf.{is_delimiter_event, is_sourced_event, page_left}
-use Rattle.tocmark_render.specs.Spelled.{choice_if, choice_if_spelled, chosen_if_spelled}
-use Rattle.tocmark_render.specs.TrialOf.{or_no_trees}
-use Rattle.tocmark_render.specs.Units.{labelled, trees_of}
-use Rattle.tocmark_render.proofs.Balanced.{flat-of-trees}
-
-and-assoc : (a b c : Bool) → (a && b) && c ≡ a && (b && c)
-and-assoc true b c = refl
-and-assoc false b c = refl
-
-and-true : (b : Bool) → b && true ≡ b
-and-true true = refl
-and-true false = refl
+use Rattle.tocmark_render.specs.Chosen.{choice_of, chosen}
+use Rattle.tocmark_render.specs.TrialOf.{definitions_left, or_no_trees}
+use Rattle.tocmark_labels.specs.Units.{labelled, trees_of}
 
 or-assoc : (a b c : Bool) → (a || b) || c ≡ a || (b || c)
 or-assoc true b c = refl
@@ -44,20 +31,6 @@ or-false true = refl
 or-false false = refl
 
 -- ---- what a forest's events say of it
-
--- a forest is spelled so far just where its events are
-spelled-onto : (f : Trees) (r : List SourcedEvent) → are_spelled (flat_onto f r) ≡ is_spelled_forest f && are_spelled r
-unfolding is_spelled_forest
-spelled-onto empty r = refl
-spelled-onto (leaf l f) r = spelled-onto f r
-spelled-onto (node t kids f) r =
-    ap (λ b. is_spelled_tag t && b) (spelled-onto kids (End (end_of t) ∷ flat_onto f r))
-    ∙ ap (λ b. is_spelled_tag t && (is_spelled_forest kids && b)) (spelled-onto f r)
-    ∙ sym (and-assoc (is_spelled_tag t) (is_spelled_forest kids) (is_spelled_forest f && are_spelled r))
-    ∙ sym (and-assoc (is_spelled_tag t && is_spelled_forest kids) (is_spelled_forest f) (are_spelled r))
-
-pub spelled-flat : (es : List SourcedEvent) (f : Trees) → flat f ≡ es → is_spelled_forest f ≡ are_spelled es
-spelled-flat es f e = sym (and-true (is_spelled_forest f)) ∙ sym (spelled-onto f []) ∙ ap are_spelled e
 
 source-onto : (f : Trees) (r : List SourcedEvent) → list_any is_sourced_event (flat_onto f r) ≡ has_source f || list_any is_sourced_event r
 source-onto empty r = refl
@@ -130,43 +103,32 @@ abbrev left : UnitRenderer → List page.Reference → List (List ℕ) → List 
 left r references known literal = record { trail = trail_view r.trail; feeds = r.newlines; references = references; known = known; literal = literal; flushed = true }
 
 -- a document that kept what its last unit leaves is the one after it
-pub kept-is : (s : Setting) (d : DocumentView) (reading : List ℕ → ParserOptions → ReadingView) (flags : ParserOptions) (r : UnitRenderer) (text : List ℕ) (references : List page.Reference) (known literal : List (List ℕ)) → s.flags ≡ flags → s.reading ≡ reading
-    → references ≡ d.references ++ map reference_view r.references.items → known ≡ known_in reading flags d.known (definitions_text (map reference_view r.references.items) r.newlines) → literal ≡ literal_in reading flags d.literal text
+pub kept-is : (s : Setting) (d : DocumentView) (r : UnitRenderer) (definitions text : List ℕ) (references : List page.Reference) (known literal : List (List ℕ))
+    → definitions ≡ definitions_left r → references ≡ d.references ++ map reference_view r.references.items → known ≡ known_in s.reading s.flags d.known definitions → literal ≡ literal_in s.reading s.flags d.literal text
     → left r references known literal ≡ document_after s d (page_left r text)
 unfolding document_after
-kept-is s d reading flags r text references known literal f e is_references is_known is_literal =
+kept-is s d r definitions text references known literal defined is_references is_known is_literal =
     ap (λ rs. left r rs known literal) is_references
-    ∙ ap (λ ks. left r (d.references ++ map reference_view r.references.items) ks literal) is_known
-    ∙ ap (λ ls. left r (d.references ++ map reference_view r.references.items) (known_in reading flags d.known (definitions_text (map reference_view r.references.items) r.newlines)) ls) is_literal
-    ∙ ap (λ fl. document_after (record s { flags = fl; reading = reading }) d (page_left r text)) (sym f)
-    ∙ ap (λ reads. document_after (record s { reading = reads }) d (page_left r text)) (sym e)
+    ∙ ap (λ ks. left r (d.references ++ map reference_view r.references.items) ks literal) (is_known ∙ ap (known_in s.reading s.flags d.known) defined)
+    ∙ ap (λ ls. left r (d.references ++ map reference_view r.references.items) (known_in s.reading s.flags d.known (definitions_left r)) ls) is_literal
 
 -- ---- a unit as its events
 
 module _ (s : Setting) (d : DocumentView) (es : List SourcedEvent) (next : Option EventView) where
-  unspelled : (o : Option Trees) → trees_of es ≡ o → are_spelled es ≡ false → choice_if_spelled (labelled s d es next) d o next ≡ Err error.UnexpectedEvent
-  unspelled None e h = refl
-  unspelled (Some f) e h = ap (λ b. choice_if b (labelled s d es next) d f next) (spelled-flat es f (flat-of-trees es f e) ∙ h)
-
-  -- a unit with an event that isn't written so far
-  pub unspelled-refused : are_spelled es ≡ false → chosen_if_spelled s d es next ≡ Err error.UnexpectedEvent
-  unfolding chosen_if_spelled
-  unspelled-refused h = unspelled (trees_of es) refl h
-
-  unbalanced : (o : Option Trees) → is_some o ≡ false → choice_if_spelled (labelled s d es next) d o next ≡ Err error.UnexpectedEvent
+  unbalanced : (o : Option Trees) → is_some o ≡ false → choice_of (labelled s d es next) d o next ≡ Err error.UnexpectedEvent
   unbalanced None h = refl
   unbalanced (Some f) h = absurd (true≢false h)
 
   -- a unit whose events aren't balanced
-  pub unbalanced-refused : is_some (trees_of es) ≡ false → chosen_if_spelled s d es next ≡ Err error.UnexpectedEvent
-  unfolding chosen_if_spelled
+  pub unbalanced-refused : is_some (trees_of es) ≡ false → chosen s d es next ≡ Err error.UnexpectedEvent
+  unfolding chosen
   unbalanced-refused h = unbalanced (trees_of es) h
 
-  trees-chosen : (o : Option Trees) → trees_of es ≡ o → is_some o ≡ true → are_spelled es ≡ true → choice_if_spelled (labelled s d es next) d o next ≡ choice (labelled s d es next) d (or_no_trees o) next
-  trees-chosen None e some h = absurd (false≢true some)
-  trees-chosen (Some f) e some h = ap (λ b. choice_if b (labelled s d es next) d f next) (spelled-flat es f (flat-of-trees es f e) ∙ h)
+  balanced : (o : Option Trees) → is_some o ≡ true → choice_of (labelled s d es next) d o next ≡ choice (labelled s d es next) d (or_no_trees o) next
+  balanced None some = absurd (false≢true some)
+  balanced (Some f) some = refl
 
   -- any other unit takes the choice of its forest, with its label
-  pub spelled-chosen : is_some (trees_of es) ≡ true → are_spelled es ≡ true → chosen_if_spelled s d es next ≡ choice (labelled s d es next) d (or_no_trees (trees_of es)) next
-  unfolding chosen_if_spelled
-  spelled-chosen some h = trees-chosen (trees_of es) refl some h
+  pub balanced-chosen : is_some (trees_of es) ≡ true → chosen s d es next ≡ choice (labelled s d es next) d (or_no_trees (trees_of es)) next
+  unfolding chosen
+  balanced-chosen some = balanced (trees_of es) some

@@ -1,12 +1,9 @@
-pub mod Forests
-pub mod LabelLemmas
+pub mod Chosen
 pub mod PlainUnits
-pub mod Balanced
 pub mod ReadBacks
 pub mod Documents
-pub mod Ambiguous
-pub mod DefinitionTexts
-pub mod Feeds
-pub mod ReservedLabels
 pub mod Trials
 pub mod TrialUnits
+pub mod Refused
+pub mod LowManners
+pub mod CandidateLists

@@ -1,12 +1,13 @@
 -- A search over candidates that goes on where an earlier one found nothing.
-use Rattle.std.proofs.Common.{◌≡◌, ◌∙◌, sym, ap, refl, subst, ℕ, ◌+◌, ◌<◌, ◌≤◌, Bool, true, false, ◌&&◌, ◌||◌, Option, Some, None, Result, Ok, Err, List, [], ◌∷◌, ◌++◌, length, map, drop, flat_map, get_or, append-nil, string_bytes, String}
+use Rattle.std.proofs.Common.{◌≡◌, ◌∙◌, sym, ap, refl, subst, ℕ, ◌+◌, ◌<◌, ◌≤◌, Bool, true, false, ◌&&◌, ◌||◌, Option, Some, None, Result, Ok, Err, List, [], ◌∷◌, ◌++◌, length, map, drop, get_or, arith, string_bytes, String}
 use Rattle.std.specs.Global.{Global}
 use Rattle.std.proofs.lemmas.List.{drop_more, drop_all}
 use Rattle.tocmark_event.specs.declared.options.Error.{Error}
 use Rattle.tocmark_spelling.specs.Page.{Page}
 use Rattle.tocmark_spelling.specs.Plan.{Setting, Manner}
-use Rattle.std.specs.Prelude.{is_none, ◌↔◌, if◌then◌else◌}
-use Rattle.std.proofs.lemmas.Bool.{true≢false}
+use Rattle.std.specs.Prelude.{is_none, ◌↔◌, ◌==◌, if◌then◌else◌}
+use Rattle.std.proofs.lemmas.Bool.Decides.{nat_tests}
+use Rattle.std.proofs.lemmas.Bool.{false≢true, true≢false}
 use Rattle.tocmark_event.specs.Options.{OptionsView}
 use Rattle.tocmark_event.specs.declared.options.Error.TheVariants as error
 use Rattle.tocmark_spelling.specs.Body.{Trees}
@@ -16,10 +17,15 @@ use Rattle.tocmark_spelling.proofs.Refusals.{none-misplaced}
 use Rattle.tocmark_render.specs.Candidates.{candidates, has_source, is_delimiter_block, preferred_manner, source_manners, delimiter_manners}
 use Rattle.tocmark_render.specs.Choice.{Chosen, choice, preferred, accepted_if, page_of, page_in, by_markers, unless_misplaced, first_or, document_after, has_standard_markers, first_that_reads_back, page_read_back, spelled}
 use Rattle.tocmark_render.specs.DocumentOf.{Refuses, Spells}
-use Rattle.tocmark_render.specs.Placeholder.{whole}
+use Rattle.tocmark_labels.specs.Placeholder.{whole}
 use Rattle.tocmark_render.specs.Validates.{validates}
-use Rattle.tocmark_render.specs.Document.{DocumentView}
+use Rattle.tocmark_labels.specs.Document.{DocumentView}
 use Rattle.tocmark_render.specs.Tries.{Asked, Found, Lost, PlacedIfTried, StopsTrial, Tries, first, manners_for, misplaced}
+
+-- two truths, each by itself
+pub both_true : (a b : Bool) → (a && b) ≡ true → (a ≡ true) × (b ≡ true)
+both_true true b h = (refl, h)
+both_true false b h = absurd (false≢true h)
 
 -- what was found, or else this
 abbrev pub found_or_else : Option Page → Option Page → Option Page
@@ -29,10 +35,6 @@ found_or_else None o = o
 or-assoc : (a b c : Option Page) → found_or_else a (found_or_else b c) ≡ found_or_else (found_or_else a b) c
 or-assoc None b c = refl
 or-assoc (Some p) b c = refl
-
-or-none : (a : Option Page) → found_or_else a None ≡ a
-or-none None = refl
-or-none (Some p) = refl
 
 module _ (q : Asked) (d : DocumentView) where
   abbrev read : Manner → Option Page
@@ -58,21 +60,10 @@ module _ (q : Asked) (d : DocumentView) where
       first-step m (a ++ b) ∙ ap (found_or_else (read m)) (first-more a b) ∙ or-assoc (read m) (first q d a) (first q d b) ∙ ap (λ o. found_or_else o (first q d b)) (sym (first-step m a))
 
 -- of all these candidates, those before the rest came to nothing
-pub record GoesOn (q now : Asked) (old new : DocumentView) (all rest : List Manner) : Type 0 where
-  pub asked : now ≡ q
+pub record GoesOn (q : Asked) (old new : DocumentView) (all rest : List Manner) : Type 0 where
   pub kept : new ≡ old
   pub same : first q old all ≡ first q old rest
   pub placed : PlacedIfTried q rest → PlacedIfTried q all
-
-pub goes-first : (q now : Asked) (old new : DocumentView) (all : List Manner) → now ≡ q → new ≡ old → GoesOn q now old new all all
-goes-first q now old new all a b = record { asked = a; kept = b; same = refl; placed = λ p. p }
-
--- in place of a question and a document, equal ones
-found-same : (q now : Asked) (old mid new : DocumentView) (text : List ℕ) (a : List Manner) → now ≡ q → mid ≡ old → Found now mid new text a → Found q old new text a
-found-same q now old mid new text a e k h = subst (λ x. Found x old new text a) e (subst (λ x. Found now x new text a) k h)
-
-lost-same : (q now : Asked) (old mid new : DocumentView) (a : List Manner) → now ≡ q → mid ≡ old → Lost now mid new a → Lost q old new a
-lost-same q now old mid new a e k h = subst (λ x. Lost x old new a) e (subst (λ x. Lost now x new a) k h)
 
 placed-more : (q : Asked) (a b : List Manner) → PlacedIfTried q a → PlacedIfTried q b → PlacedIfTried q (a ++ b)
 placed-more q [] b x y = y
@@ -92,93 +83,65 @@ module _ (q : Asked) (old new : DocumentView) where
   found-of : (text : List ℕ) (all rest : List Manner) → first q old all ≡ first q old rest → Found q old new text rest → Found q old new text all
   found-of text all rest e h = record { page = h.page; is_first = e ∙ h.is_first; text_is = h.text_is; left_is = h.left_is; placed = h.placed }
 
-module _ (q now : Asked) (old mid new : DocumentView) (all rest a b : List Manner) (before : GoesOn q now old mid all rest) (splits : rest ≡ a ++ b) where
-  -- one of the next ones reads back
-  pub found-in : (text : List ℕ) → Found now mid new text a → Found q old new text all
-  found-in text h =
-      found-of q old new text all (a ++ b) (before.same ∙ ap (first q old) splits)
-      (found-before q old new text a b (found-same q now old mid new text a before.asked before.kept h))
-
-  -- none of the next ones does
-  pub lost-in : (later : Asked) → later ≡ now → Lost now mid new a → GoesOn q later old new all b
-  lost-in later e h =
-      let l = lost-same q now old mid new a before.asked before.kept h in
-      record {
-        asked = e ∙ before.asked;
-        kept = l.kept;
-        same = before.same ∙ ap (first q old) splits ∙ first-more q old a b ∙ ap (λ o. found_or_else o (first q old b)) l.none;
-        placed = λ p. before.placed (subst (PlacedIfTried q) (sym splits) (placed-more q a b l.placed p));
-      }
-
 -- all of them came to nothing
-pub lost-all : (q now : Asked) (old new : DocumentView) (all rest : List Manner) → GoesOn q now old new all rest → rest ≡ [] → Lost q old new all
-lost-all q now old new all rest h e = record {
+pub lost-all : (q : Asked) (old new : DocumentView) (all rest : List Manner) → GoesOn q old new all rest → rest ≡ [] → Lost q old new all
+lost-all q old new all rest h e = record {
   none = h.same ∙ ap (first q old) e ∙ first-none q old;
   kept = h.kept;
   placed = h.placed (subst (PlacedIfTried q) (sym e) tt);
 }
 
-pub stops-same : (q now : Asked) (e : Error) → now ≡ q → StopsTrial now e → StopsTrial q e
-stops-same q now e is h = subst (λ x. StopsTrial x e) is h
-
--- candidates and then others
-pub tries-then : (q now : Asked) (old mid new : DocumentView) (a b : List Manner) (r : Result (Option (String Global)) Error) → Lost q old mid a → now ≡ q → Tries now mid new b r → Tries q old new (a ++ b) r
-tries-then q now old mid new a b (Ok (Some t)) l e h = found-in q now old mid new (a ++ b) b b [] (lost-in q q old old mid (a ++ b) (a ++ b) a b (goes-first q q old old (a ++ b) refl refl) refl now e l) (sym (append-nil b)) (string_bytes t) h
-tries-then q now old mid new a b (Ok None) l e h = lost-all q now old new (a ++ b) [] (lost-in q now old mid new (a ++ b) b b [] (lost-in q q old old mid (a ++ b) (a ++ b) a b (goes-first q q old old (a ++ b) refl refl) refl now e l) (sym (append-nil b)) now refl h) refl
-tries-then q now old mid new a b (Err e) l is h = stops-same q now e is h
-
-pub tries-first : (q : Asked) (old new : DocumentView) (a b : List Manner) (t : String Global) → Found q old new (string_bytes t) a → Found q old new (string_bytes t) (a ++ b)
-tries-first q old new a b t h = found-before q old new (string_bytes t) a b h
-
 -- candidates from a place on
-pub views-at : {C : Type 0} (f : C → Manner) (xs : List C) (i : ℕ) (d : C) → i < length xs → map f (drop i xs) ≡ (f (get_or xs i d) ∷ []) ++ map f (drop (i + 1) xs)
+views-at : {C : Type 0} (f : C → Manner) (xs : List C) (i : ℕ) (d : C) → i < length xs → map f (drop i xs) ≡ (f (get_or xs i d) ∷ []) ++ map f (drop (i + 1) xs)
 views-at f xs i d lt = ap (map f) (drop_more xs i d lt)
 
 pub views-end : {C : Type 0} (f : C → Manner) (xs : List C) (i : ℕ) → length xs ≤ i → map f (drop i xs) ≡ []
 views-end f xs i past = ap (map f) (drop_all i xs past)
 
--- the next candidates, of a slice that is tried from a place on, were tried
-module _ {C : Type 0} (f : C → List Manner) (cs : List C) (i : ℕ) (d : C) (q now : Asked) (old mid new : DocumentView)
-    (lt : i < length cs) (before : GoesOn q now old mid (flat_map f cs) (flat_map f (drop i cs))) (r : Option (String Global)) (tried : Tries now mid new (f (get_or cs i d)) (Ok r)) where
-  chunk-at : flat_map f (drop i cs) ≡ f (get_or cs i d) ++ flat_map f (drop (i + 1) cs)
-  chunk-at = ap (flat_map f) (drop_more cs i d lt)
+-- the next candidate, of a list that is tried from a place on, was tried
+module _ {C : Type 0} (f : C → Manner) (cs : List C) (i : ℕ) (d : C) (q : Asked) (old mid new : DocumentView)
+    (lt : i < length cs) (before : GoesOn q old mid (map f cs) (map f (drop i cs))) (r : Option (String Global)) (tried : Tries q mid new (f (get_or cs i d) ∷ []) (Ok r)) where
+  abbrev next : Manner
+  next = f (get_or cs i d)
 
-  pub chunk-found : (text : String Global) → r ≡ Some text → Found q old new (string_bytes text) (flat_map f cs)
-  chunk-found text e =
-      found-in q now old mid new (flat_map f cs) (flat_map f (drop i cs)) (f (get_or cs i d)) (flat_map f (drop (i + 1) cs)) before chunk-at (string_bytes text) (subst (λ o. Tries now mid new (f (get_or cs i d)) (Ok o)) e tried)
+  abbrev rest : List Manner
+  rest = map f (drop (i + 1) cs)
 
-  pub chunk-lost : (later : Asked) → r ≡ None → later ≡ now → GoesOn q later old new (flat_map f cs) (flat_map f (drop (i + 1) cs))
-  chunk-lost later e is =
-      lost-in q now old mid new (flat_map f cs) (flat_map f (drop i cs)) (f (get_or cs i d)) (flat_map f (drop (i + 1) cs)) before chunk-at later is (subst (λ o. Tries now mid new (f (get_or cs i d)) (Ok o)) e tried)
+  same-from : first q old (map f cs) ≡ first q old ((next ∷ []) ++ rest)
+  same-from = before.same ∙ ap (first q old) (views-at f cs i d lt)
 
-pub chunks-end : {C : Type 0} (f : C → List Manner) (cs : List C) (i : ℕ) (q now : Asked) (old new : DocumentView) → length cs ≤ i → GoesOn q now old new (flat_map f cs) (flat_map f (drop i cs)) → Lost q old new (flat_map f cs)
-chunks-end f cs i q now old new past before = lost-all q now old new (flat_map f cs) (flat_map f (drop i cs)) before (ap (flat_map f) (drop_all i cs past))
-
--- the same where a candidate is one manner
-module _ {C : Type 0} (f : C → Manner) (cs : List C) (i : ℕ) (d : C) (q now : Asked) (old mid new : DocumentView)
-    (lt : i < length cs) (before : GoesOn q now old mid (map f cs) (map f (drop i cs))) (r : Option (String Global)) (tried : Tries now mid new (f (get_or cs i d) ∷ []) (Ok r)) where
+  -- it reads back
   pub one-found : (text : String Global) → r ≡ Some text → Found q old new (string_bytes text) (map f cs)
   one-found text e =
-      found-in q now old mid new (map f cs) (map f (drop i cs)) (f (get_or cs i d) ∷ []) (map f (drop (i + 1) cs)) before (views-at f cs i d lt) (string_bytes text) (subst (λ o. Tries now mid new (f (get_or cs i d) ∷ []) (Ok o)) e tried)
+      let found : Found q mid new (string_bytes text) (next ∷ []) = subst (λ o. Tries q mid new (next ∷ []) (Ok o)) e tried in
+      found-of q old new (string_bytes text) (map f cs) ((next ∷ []) ++ rest) same-from
+      (found-before q old new (string_bytes text) (next ∷ []) rest (subst (λ x. Found q x new (string_bytes text) (next ∷ [])) before.kept found))
 
-  pub one-lost : (later : Asked) → r ≡ None → later ≡ now → GoesOn q later old new (map f cs) (map f (drop (i + 1) cs))
-  one-lost later e is =
-      lost-in q now old mid new (map f cs) (map f (drop i cs)) (f (get_or cs i d) ∷ []) (map f (drop (i + 1) cs)) before (views-at f cs i d lt) later is (subst (λ o. Tries now mid new (f (get_or cs i d) ∷ []) (Ok o)) e tried)
+  -- it doesn't
+  pub one-lost : r ≡ None → GoesOn q old new (map f cs) rest
+  one-lost e =
+      let lost : Lost q mid new (next ∷ []) = subst (λ o. Tries q mid new (next ∷ []) (Ok o)) e tried in
+      let l : Lost q old new (next ∷ []) = subst (λ x. Lost q x new (next ∷ [])) before.kept lost in
+      record {
+        kept = l.kept;
+        same = same-from ∙ first-more q old (next ∷ []) rest ∙ ap (λ o. found_or_else o (first q old rest)) l.none;
+        placed = λ p. before.placed (subst (PlacedIfTried q) (sym (views-at f cs i d lt)) (placed-more q (next ∷ []) rest l.placed p));
+      }
 
--- tables of plans
-pub flat_of-map : {A B C : Type 0} (f : B → List C) (g : A → B) (xs : List A) → flat_map (λ x. f (g x)) xs ≡ flat_map f (map g xs)
-flat_of-map f g [] = refl
-flat_of-map f g (x ∷ xs) = ap (λ ys. f (g x) ++ ys) (flat_of-map f g xs)
+-- where none reads back, the document stays
+pub stays-lost : (q : Asked) (old new : DocumentView) (ms : List Manner) (r : Option (String Global)) → Tries q old new ms (Ok r) → r ≡ None → old ≡ new
+stays-lost q old new ms r h e = sym (subst (λ o. Tries q old new ms (Ok o)) e h).kept
 
 pub tries-same : (q : Asked) (old new : DocumentView) (a b : List Manner) (r : Result (Option (String Global)) Error) → a ≡ b → Tries q old new a r → Tries q old new b r
 tries-same q old new a b r e h = subst (λ ms. Tries q old new ms r) e h
 
--- two searches in a row
-pub ends-first : (q : Asked) (old new : DocumentView) (a b : List Manner) (r : Option (String Global)) (text : String Global) → Tries q old new a (Ok r) → r ≡ Some text → Found q old new (string_bytes text) (a ++ b)
-ends-first q old new a b r text h e = tries-first q old new a b text (subst (λ o. Tries q old new a (Ok o)) e h)
+lost-none : (q : Asked) (d : DocumentView) (ms : List Manner) → ms ≡ [] → Lost q d d ms
+lost-none q d ms e = lost-all q d d ms ms (record { kept = refl; same = refl; placed = λ p. p }) e
 
-pub goes-then : (q now : Asked) (old mid new : DocumentView) (a b : List Manner) (r : Option (String Global)) (last : Result (Option (String Global)) Error) → Tries q old mid a (Ok r) → r ≡ None → now ≡ q → Tries now mid new b last → Tries q old new (a ++ b) last
-goes-then q now old mid new a b r last h e is t = tries-then q now old mid new a b last (subst (λ o. Tries q old mid a (Ok o)) e h) is t
+-- there is nothing to try
+pub lost-empty : {C : Type 0} (f : C → Manner) (xs : List C) (q : Asked) (d : DocumentView) (ms : List Manner) → (length xs == 0) ≡ true → map f xs ≡ ms → Lost q d d ms
+lost-empty f [] q d ms h e = lost-none q d ms (sym e)
+lost-empty f (x ∷ xs) q d ms h e = absurd (grind (arith, nat_tests))
 
 -- a unit without delimiters of which no source is known has no candidate
 pub none-to-try : (q : Asked) (d : DocumentView) (o : OptionsView) (src del : Bool) → (src || del) ≡ false → Lost q d d (manners_for o src del)

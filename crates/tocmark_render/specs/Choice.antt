@@ -8,11 +8,11 @@ use Rattle.tocmark_spelling.specs.Plan.{Setting, Manner}
 use Rattle.tocmark_spelling.specs.Body.{Trees}
 use Rattle.tocmark_spelling.specs.Page.{Page, Site}
 use Rattle.tocmark_spelling.specs.Spelling.{spelling, is_misplaced}
-use Rattle.tocmark_render.specs.Definitions.{definitions_text}
-use Rattle.tocmark_render.specs.Document.{DocumentView, known_in, literal_in}
+use Rattle.tocmark_labels.specs.Definitions.{definitions_text}
+use Rattle.tocmark_labels.specs.Document.{DocumentView, known_in, literal_in}
 use Rattle.tocmark_render.specs.Candidates.{candidates, preferred_manner, is_delimiter_block}
 use Rattle.tocmark_render.specs.ReadsBack.{reads_back}
-use Rattle.tocmark_render.specs.Placeholder.{whole}
+use Rattle.tocmark_labels.specs.Placeholder.{whole}
 use Rattle.tocmark_render.specs.Validates.{validates}
 
 -- an empty page in a document

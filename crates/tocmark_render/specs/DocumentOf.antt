@@ -12,8 +12,8 @@ use Rattle.tocmark_render.specs.Candidates.{is_delimiter_tag, is_math, is_source
 use Rattle.tocmark_render.specs.Choice.{Chosen, choice}
 use Rattle.tocmark_renderer.specs.WriterOf.{reference_view}
 use Rattle.tocmark_unit.specs.declared.block.UnitRenderer.{UnitRenderer}
-use Rattle.tocmark_render.specs.Document.{DocumentView}
-use Rattle.tocmark_render.specs.LabelsOf.{labels_of}
+use Rattle.tocmark_labels.specs.Document.{DocumentView}
+use Rattle.tocmark_labels.specs.LabelsOf.{labels_of}
 use Rattle.tocmark_render.specs.declared.document.Document.{Document}
 
 -- a document's fields as plain values

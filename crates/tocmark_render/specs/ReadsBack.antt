@@ -1,5 +1,5 @@
 -- When a spelling is read back as its unit.
-use Rattle.std.specs.Prelude.{◌≡◌, ℕ, Bool, true, false, not, ◌&&◌, ◌||◌, if◌then◌else◌, Option, Some, None, List, [], ◌∷◌, ◌++◌, bytes_eq, codes}
+use Rattle.std.specs.Prelude.{◌≡◌, ℕ, Bool, true, not, ◌&&◌, ◌||◌, if◌then◌else◌, List, [], ◌∷◌, ◌++◌, codes}
 use Rattle.std.specs.List.{list_any}
 use Rattle.tocmark_event.specs.View.{EventView}
 use Rattle.tocmark_event.specs.Flags.{metadata_flags, union_of, without}
@@ -11,7 +11,7 @@ use Rattle.tocmark_spelling.specs.SameEvents.{same_events}
 use Rattle.tocmark_spelling.specs.ById.{events_of, merged_trees}
 use Rattle.tocmark_spelling.specs.Body.{Trees}
 use Rattle.tocmark_read_back.specs.InParagraph.{in_paragraph}
-use Rattle.tocmark_render.specs.Document.{DocumentView, folded, is_among}
+use Rattle.tocmark_labels.specs.Document.{DocumentView, is_among, is_label}
 
 -- the flags under which a unit is read: metadata stands only at a document's beginning
 abbrev pub flags_at : Setting → DocumentView → ParserOptions
@@ -29,11 +29,6 @@ found_in is_taken events r = same_events (merged (events_of r)) events && not (l
 -- the events that must be read: the unit's, merged, and inline ones in a Paragraph
 abbrev pub expected : Trees → List EventView
 expected f = in_paragraph (merged_trees f)
-
--- whether a label is the reserved one, as labels are compared (CommonMark, section 6.3)
-abbrev pub is_label : Option (List ℕ) → List ℕ → Bool
-is_label None label = false
-is_label (Some reserved) label = bytes_eq (folded reserved) (folded label)
 
 -- the labels that a unit may not leave open: those of earlier units, and the reserved one
 abbrev pub is_taken : Setting → DocumentView → List ℕ → Bool

@@ -8,37 +8,36 @@ ghost use Rattle.tocmark_spelling.specs.Plan.{Setting};
 ghost use Rattle.tocmark_spelling.specs.PlanOf.{setting_of};
 ghost use Rattle.tocmark_renderer.specs.JobOf.{manner_view};
 ghost use Rattle.tocmark_unit.specs.Rendered.{page_before};
-ghost use Rattle.tocmark_unit.specs.Spelled.{are_spelled};
 ghost use Rattle.tocmark_render.specs.Choice.{choice, document_after, page_in};
-ghost use Rattle.tocmark_render.specs.Definitions.{definitions_text};
-ghost use Rattle.tocmark_render.specs.Document.{first_document, known_in, literal_in};
+ghost use Rattle.tocmark_render.specs.Chosen.{chosen};
+ghost use Rattle.tocmark_labels.specs.Definitions.{definitions_text};
+ghost use Rattle.tocmark_labels.specs.Document.{first_document, known_in, literal_in};
 ghost use Rattle.tocmark_render.specs.DocumentOf.{document_view, document_flags, Gives, Spells, kept_view, page_left};
-ghost use Rattle.tocmark_render.specs.LabelsOf.{label_now, labels_of};
+ghost use Rattle.tocmark_labels.specs.LabelsOf.{label_now, labels_of};
 ghost use Rattle.tocmark_render.specs.ReadsBack.{flags_at};
-ghost use Rattle.tocmark_render.specs.Spelled.{chosen_if_spelled};
-ghost use Rattle.tocmark_render.specs.TrialOf.{Expects, IsReady, Leaves, TriesIn, Writes, WritesPreferred, asked_of, or_no_trees, reads_back_as, spelled_by};
-ghost use Rattle.tocmark_render.specs.Units.{label_for, trees_of};
-ghost use Rattle.tocmark_render.specs.Validates.{validates};
+ghost use Rattle.tocmark_render.specs.TrialOf.{AreRefused, Expects, IsDefined, IsLow, IsReady, Leaves, TriesIn, Writes, WritesPreferred, asked_of, definitions_left, or_no_trees, reads_back_as, spelled_by};
+ghost use Rattle.tocmark_labels.specs.Units.{label_for, trees_of};
 
-use crate::balance::are_balanced;
-use crate::definitions::{copied_references, definitions_text};
-use crate::labels::Labels;
 use crate::manners::preferred_manner;
-use crate::placeholder::needs_list_placeholder;
 use crate::read_back::reads_back;
-use crate::reserved_label::reserve_list_label;
 use crate::search::choose;
-use crate::taken::Taken;
 use crate::trial::Trial;
+use crate::written::{Refused, Spelling, Written};
 use std::alloc::{AllocError, Global};
 use tocmark_event::event::{Event, EventOf, OwnedEvent, ParserOptions};
 use tocmark_event::options::{Error, Options};
 use tocmark_event::reader::Reader;
+use tocmark_labels::balance::are_balanced;
+use tocmark_labels::definitions::{copied_references, definitions_text};
+use tocmark_labels::labels::Labels;
+use tocmark_labels::placeholder::needs_list_placeholder;
+use tocmark_labels::reserved_label::reserve_list_label;
+use tocmark_labels::taken::Taken;
 use tocmark_renderer::job::{Job, Manner};
 use tocmark_renderer::parts::Reference;
 use tocmark_spelling::buffered::BufferedEvent;
 use tocmark_unit::block::UnitRenderer;
-use tocmark_unit::spelled::are_spelled;
+use tocmark_unit::findings::findings_of;
 
 /// The flags of both kinds of metadata blocks, which stand only at a document's beginning.
 const METADATA_BLOCKS: ParserOptions = ParserOptions(
@@ -59,14 +58,6 @@ pub struct Document {
     literal: Labels,
     /// Whether a unit was written.
     flushed: bool,
-}
-
-/// A unit as it is written, which isn't kept yet.
-#[derive(Drop)]
-pub(crate) struct Written {
-    pub(crate) text: String,
-    /// What it leaves to the renderer.
-    pub(crate) renderer: UnitRenderer,
 }
 
 fn kept_event(alloc: Global, event: Option<&Event<'_>>) -> Result<Option<OwnedEvent>, AllocError>
@@ -106,38 +97,48 @@ fn has_bracket(text: &str) -> bool
 /// out or the reader answered it.
 fn note_known_labels<R: Reader>(
     known: &mut Labels,
-    alloc: Global,
-    reader: &R,
+    trial: &Trial<'_, '_, R>,
     definitions: &str,
-    flags: ParserOptions,
 ) -> Result<(), AllocError>
-    ensures { OnOk result (labels_of known.new
-        ≡ known_in (R.reading reader.now) flags (labels_of known.old) definitions.now) }
+    ensures { let reading = R.reading trial.now.reader.now in
+        OnOk result (labels_of known.new
+        ≡ known_in reading trial.now.flags (labels_of known.old) definitions.now) }
 {
     if definitions.is_empty() {
         return Ok(());
     }
-    let found = reader.read(alloc, definitions, flags)?;
-    known.add_all(alloc, &found.defined)
+    let found = trial.reader.read(trial.alloc, definitions, trial.flags)?;
+    known.add_all(trial.alloc, &found.defined)
 }
 
 /// Adds the labels that a reader finds in a unit's text and nothing defines. Only a text with a
-/// bracket is read. An `Err` says that memory ran out.
+/// bracket is read. An `Err` says that memory ran out or the reader answered it.
 fn note_open_labels<R: Reader>(
     literal: &mut Labels,
-    alloc: Global,
-    reader: &R,
+    trial: &Trial<'_, '_, R>,
     text: &str,
-    flags: ParserOptions,
 ) -> Result<(), AllocError>
-    ensures { OnOk result (labels_of literal.new
-        ≡ literal_in (R.reading reader.now) flags (labels_of literal.old) text.now) }
+    ensures { let reading = R.reading trial.now.reader.now in
+        OnOk result (labels_of literal.new
+        ≡ literal_in reading trial.now.flags (labels_of literal.old) text.now) }
 {
     if !has_bracket(text) {
         return Ok(());
     }
-    let found = reader.read(alloc, text, flags)?;
-    literal.add_all(alloc, &found.unresolved)
+    let found = trial.reader.read(trial.alloc, text, trial.flags)?;
+    literal.add_all(trial.alloc, &found.unresolved)
+}
+
+/// A text with what it left to the renderer, and the definitions that it needs. An `Err` says that
+/// memory ran out.
+fn written(alloc: Global, text: String, renderer: UnitRenderer) -> Result<Written, AllocError>
+    ensures text { IfOk result (λ w. string_bytes w.spelling.text ≡ string_bytes text) }
+    ensures renderer { IfOk result (λ w. w.renderer ≡ renderer) }
+    ensures defined { IfOk result (λ w. IsDefined w) }
+{
+    let definitions = definitions_text(alloc, &renderer.references, renderer.newlines)?;
+    let spelling = Spelling { definitions, text };
+    Ok(Written { spelling, renderer })
 }
 
 impl Document {
@@ -171,48 +172,39 @@ impl Document {
         })
     }
 
-    /// The flags under which the next unit is read.
-    fn reading_flags(&self) -> ParserOptions
-        ensures { (s : Setting) → s.flags ≡ document_flags self.now
+    /// The flags under which the next unit is read, for events of a parser with these flags.
+    fn reading_flags(&self, flags: ParserOptions) -> ParserOptions
+        ensures { (s : Setting) → s.flags ≡ flags
             → result ≡ flags_at s (document_view self.now) }
     {
         if self.flushed {
-            ParserOptions(self.flags.0 & !METADATA_BLOCKS.0)
+            ParserOptions(flags.0 & !METADATA_BLOCKS.0)
         } else {
-            self.flags
+            flags
         }
     }
 
-    /// Keeps what the unit that was written last leaves, whose text this is: what it leaves to be
+    /// Keeps what the unit that was written last leaves, in this spelling: what it leaves to be
     /// defined, the labels that the reader finds defined in its definitions, and those that nothing
     /// defines in its text. An `Err` says that memory ran out or the reader answered it.
-    fn keep<R: Reader>(&mut self, alloc: Global, reader: &R, text: &str) -> Result<(), AllocError>
-        ensures kept { (s : Setting) → s.flags ≡ document_flags self.old
-            → s.reading ≡ R.reading reader.now
-            → OnOk result (document_view self.new
-            ≡ document_after s (document_view self.old) (page_left self.old.renderer text.now)) }
+    fn keep<R: Reader>(
+        &mut self,
+        trial: &Trial<'_, '_, R>,
+        spelling: &Spelling,
+    ) -> Result<(), AllocError>
+        ensures kept { let q = asked_of R.reading trial.now in
+            let text = string_bytes spelling.now.text in
+            string_bytes spelling.now.definitions ≡ definitions_left self.old.renderer
+            → OnOk result (document_view self.new ≡ document_after q.setting
+            (document_view self.old) (page_left self.old.renderer text)) }
         ensures flags { document_flags self.new ≡ document_flags self.old }
     {
         let unit = &mut self.renderer;
-        let definitions = definitions_text(alloc, &unit.references, unit.newlines)?;
         self.references.append(&mut unit.references)?;
-        note_known_labels(
-            &mut self.known,
-            alloc,
-            reader,
-            definitions.as_str(),
-            self.flags,
-        )?;
-        note_open_labels(&mut self.literal, alloc, reader, text, self.flags)?;
+        note_known_labels(&mut self.known, trial, spelling.definitions.as_str())?;
+        note_open_labels(&mut self.literal, trial, spelling.text.as_str())?;
         self.flushed = true;
         Ok(())
-    }
-
-    /// Whether options are accepted with the flags of this document.
-    pub(crate) fn accepts(&self, options: &Options<'_>) -> bool
-        ensures { result ≡ validates (options_view options.now) (document_flags self.now) }
-    {
-        options.validate(self.flags).is_ok()
     }
 
     /// A renderer of the next unit, without the definitions of the last one.
@@ -232,36 +224,36 @@ impl Document {
         trial: &Trial<'_, '_, R>,
         manner: &Manner<'_>,
     ) -> Result<Written, Error>
-        requires ready { IsReady trial.now }
-        ensures { let q = asked_of R.reading trial.now self.now in
+        requires ready { IsReady R.reading trial.now }
+        requires low { IsLow (manner_view manner.now) }
+        ensures { let q = asked_of R.reading trial.now in
             Writes result (spelled_by q (document_view self.now) (manner_view manner.now)) }
     {
         let mut renderer = self.next_renderer(trial.alloc)?;
         let job = Job {
             alloc: trial.alloc,
             options: trial.options,
-            flags: self.flags,
+            flags: trial.flags,
             label: trial.label,
         };
-        let text = renderer.render_block(job, trial.reader, trial.unit, trial.next, *manner)?;
-        Ok(Written { text, renderer })
+        let (reader, unit, found) = (trial.reader, trial.unit, trial.found);
+        let text = renderer.render_block(job, reader, unit, found, trial.next, *manner)?;
+        Ok(written(trial.alloc, text, renderer)?)
     }
 
-    /// Whether the reader finds the unit of a trial in what was written, behind its definitions. An
-    /// `Err` says that memory ran out or the reader answered it.
+    /// Whether the reader finds the unit of a trial in a spelling. An `Err` says that memory ran out or
+    /// the reader answered it.
     fn is_read_back<R: Reader>(
         &self,
         trial: &Trial<'_, '_, R>,
         expected: &[OwnedEvent],
-        written: &Written,
+        spelling: &Spelling,
     ) -> Result<bool, AllocError>
-        requires ready { IsReady trial.now }
+        requires ready { IsReady R.reading trial.now }
         requires expected { Expects trial.now expected.now }
-        ensures { let q = asked_of R.reading trial.now self.now in
-            IfOk result (λ b. b ≡ reads_back_as q (document_view self.now) written.now) }
+        ensures { let q = asked_of R.reading trial.now in
+            IfOk result (λ b. b ≡ reads_back_as q (document_view self.now) spelling.now) }
     {
-        let references = &written.renderer.references;
-        let definitions = definitions_text(trial.alloc, references, written.renderer.newlines)?;
         let taken = Taken {
             known: &self.known,
             reserved: trial.label,
@@ -269,11 +261,11 @@ impl Document {
         reads_back(
             trial.alloc,
             trial.reader,
-            self.reading_flags(),
+            self.reading_flags(trial.flags),
             taken,
             expected,
-            definitions.as_str(),
-            written.text.as_str(),
+            spelling.definitions.as_str(),
+            spelling.text.as_str(),
         )
     }
 
@@ -284,33 +276,64 @@ impl Document {
         trial: &Trial<'_, '_, R>,
         written: Written,
     ) -> Result<String, AllocError>
-        ensures text { IfOk result (λ text. string_bytes text ≡ string_bytes written.text) }
-        ensures left { let q = asked_of R.reading trial.now self.old in
-            OnOk result (Leaves q (document_view self.old) (document_view self.new) written) }
+        ensures text { IfOk result (λ text. string_bytes text ≡ string_bytes written.spelling.text) }
+        ensures left { let q = asked_of R.reading trial.now in
+            IsDefined written
+            → OnOk result (Leaves q (document_view self.old) (document_view self.new) written) }
         ensures flags { document_flags self.new ≡ document_flags self.old }
     {
-        let Written { text, renderer } = written;
+        let Written { spelling, renderer } = written;
         self.renderer = renderer;
-        self.keep(trial.alloc, trial.reader, text.as_str())?;
-        Ok(text)
+        self.keep(trial, &spelling)?;
+        Ok(spelling.text)
+    }
+
+    /// Whether the reader finds the unit of a trial in a spelling; one that came before isn't read again.
+    /// An `Err` says that memory ran out or the reader answered it.
+    fn is_found<R: Reader>(
+        &self,
+        trial: &Trial<'_, '_, R>,
+        expected: &[OwnedEvent],
+        refused: &Refused,
+        spelling: &Spelling,
+    ) -> Result<bool, AllocError>
+        requires ready { IsReady R.reading trial.now }
+        requires expected { Expects trial.now expected.now }
+        requires refused { let q = asked_of R.reading trial.now in
+            AreRefused q (document_view self.now) refused.now }
+        ensures { let q = asked_of R.reading trial.now in
+            IfOk result (λ b. b ≡ reads_back_as q (document_view self.now) spelling.now) }
+    {
+        if refused.contains(spelling) {
+            return Ok(false);
+        }
+        self.is_read_back(trial, expected, spelling)
     }
 
     /// Writes the unit of a trial in one manner, and keeps it if the reader finds these events in that.
-    /// The answer is none elsewhere, and the document is then as it was. An `Err` is as in `block`.
+    /// The answer is none elsewhere; the document is then as it was, and the spelling is one of those
+    /// that were refused. An `Err` is as in `block`.
     pub(crate) fn try_one<R: Reader>(
         &mut self,
         trial: &Trial<'_, '_, R>,
         expected: &[OwnedEvent],
+        refused: &mut Refused,
         manner: &Manner<'_>,
     ) -> Result<Option<String>, Error>
-        requires ready { IsReady trial.now }
+        requires ready { IsReady R.reading trial.now }
         requires expected { Expects trial.now expected.now }
+        requires low { IsLow (manner_view manner.now) }
+        requires refused { let q = asked_of R.reading trial.now in
+            AreRefused q (document_view self.old) refused.old }
         ensures tried { TriesIn R.reading trial.now self.old self.new
             (manner_view manner.now ∷ []) result }
+        ensures refused { let q = asked_of R.reading trial.now in
+            OnOk result (AreRefused q (document_view self.old) refused.new) }
         ensures flags { document_flags self.new ≡ document_flags self.old }
     {
         let written = self.write(trial, manner)?;
-        if !self.is_read_back(trial, expected, &written)? {
+        if !self.is_found(trial, expected, refused, &written.spelling)? {
+            refused.insert(written.spelling)?;
             return Ok(None);
         }
         Ok(Some(self.accept(trial, written)?))
@@ -321,7 +344,7 @@ impl Document {
         &mut self,
         trial: &Trial<'_, '_, R>,
     ) -> Result<String, Error>
-        requires ready { IsReady trial.now }
+        requires ready { IsReady R.reading trial.now }
         ensures written { WritesPreferred R.reading trial.now self.old self.new result }
         ensures flags { document_flags self.new ≡ document_flags self.old }
     {
@@ -366,7 +389,7 @@ impl Document {
         }
     }
 
-    /// Writes a unit of which each event is written so far. An `Err` is as in `block`.
+    /// Writes a unit whose events are balanced. An `Err` is as in `block`.
     fn chosen<'u, R: Reader>(
         &mut self,
         alloc: Global,
@@ -376,7 +399,6 @@ impl Document {
         label: Option<&'u str>,
         options: &'u Options<'_>,
     ) -> Result<String, Error>
-        requires spelled { are_spelled (map buffered_view unit.now) ≡ true }
         requires balanced { is_some (trees_of (map buffered_view unit.now)) ≡ true }
         ensures chosen { let flags = document_flags self.old in
             let label = label_now label.entry in
@@ -386,10 +408,13 @@ impl Document {
             (choice s (document_view self.old) f (following_view next.entry)) }
         ensures flags { document_flags self.new ≡ document_flags self.old }
     {
+        let found = findings_of(alloc, reader, options, self.flags, unit)?;
         let trial = Trial {
             alloc,
             reader,
+            flags: self.flags,
             unit,
+            found: &found,
             next,
             label,
             options,
@@ -406,10 +431,10 @@ impl Document {
     /// preferred spelling, as is one whose options aren't accepted, and any with other markers. The last
     /// unit, which no event follows, has a label that is reserved for its lists, if one needs a placeholder.
     ///
-    /// An `Err` is `UnexpectedEvent` where the unit has an event that isn't written so far, where its
-    /// events aren't balanced, and where a heading stands in a heading; `Unrepresentable` where no
-    /// spelling of a unit with delimiters is read back, though the options are accepted; and
-    /// `OutOfMemory` where memory ran out or the reader answered it. The document is of no use after it.
+    /// An `Err` is `UnexpectedEvent` where the unit's events aren't balanced, and where one stands where it
+    /// may not, as a heading in a heading; `Unrepresentable` where no spelling of a unit with delimiters
+    /// is read back, though the options are accepted; and `OutOfMemory` where memory ran out or the
+    /// reader answered it. The document is of no use after it.
     pub fn block<R: Reader>(
         &mut self,
         alloc: Global,
@@ -422,12 +447,9 @@ impl Document {
             let s = setting_of (options_view options.now) flags (R.reading reader.now) None in
             let unit = map buffered_view unit.now in
             Spells (document_view self.new) result
-            (chosen_if_spelled s (document_view self.old) unit (next_view next.entry)) }
+            (chosen s (document_view self.old) unit (next_view next.entry)) }
         ensures flags { document_flags self.new ≡ document_flags self.old }
     {
-        if !are_spelled(unit) {
-            return Err(Error::UnexpectedEvent);
-        }
         if !are_balanced(alloc, unit)? {
             return Err(Error::UnexpectedEvent);
         }

@@ -1,14 +1,15 @@
 //! The manners in which a unit may be written.
 
-ghost use Rattle.std.specs.Prelude.{◌≡◌, ℕ, List, map, false};
+ghost use Rattle.std.specs.Prelude.{◌≡◌, ◌++◌, ℕ, List, map, false, IfOk, OnOk, flat_map};
 ghost use Rattle.tocmark_event.specs.Options.{options_view};
 ghost use Rattle.tocmark_renderer.specs.JobOf.{manner_view};
 ghost use Rattle.tocmark_spelling.specs.declared.plan.Layout.TheVariants as layout;
 ghost use Rattle.tocmark_spelling.specs.declared.plan.TextSpelling.TheVariants as text_spelling;
-ghost use Rattle.tocmark_render.specs.Candidates.{fallback_manners, fallbacks, in_manner, other_emphasis, other_strong, own_markers, pair, preferred_manner};
+ghost use Rattle.tocmark_render.specs.Candidates.{delimiter_manners, fallback_manners, fallbacks, in_manner, other_emphasis, other_strong, own_markers, pair, source_manners};
 ghost use Rattle.tocmark_render.specs.Choice.{has_standard_markers};
-ghost use Rattle.tocmark_render.specs.Tries.{plan_view};
+ghost use Rattle.tocmark_render.specs.Tries.{manners_for, plan_view, run_manners};
 
+use std::alloc::{AllocError, Global};
 use tocmark_event::options::Options;
 use tocmark_renderer::job::Manner;
 use tocmark_spelling::plan::{Delimiters, Layout, TextSpelling};
@@ -23,14 +24,14 @@ pub fn has_standard_markers(options: &Options<'_>) -> bool
 }
 
 /// The other marker of emphasis.
-pub fn other_emphasis(token: char) -> char
+fn other_emphasis(token: char) -> char
     ensures { result ≡ other_emphasis token }
 {
     if token == '*' { '_' } else { '*' }
 }
 
 /// The other marker of strong emphasis.
-pub fn other_strong(token: &str) -> &'static str
+fn other_strong(token: &str) -> &'static str
     ensures { result.now ≡ other_strong token.now }
 {
     if token == "**" { "__" } else { "**" }
@@ -53,7 +54,7 @@ pub fn preferred_manner<'a>(options: &Options<'a>, source: bool) -> Manner<'a>
 }
 
 /// Delimiters by runs, with these markers.
-pub fn by_runs(emphasis: char, strong: &str, source: bool) -> Manner<'_>
+fn by_runs(emphasis: char, strong: &str, source: bool) -> Manner<'_>
     ensures { manner_view result
         ≡ in_manner layout.Runs text_spelling.Escaped (pair emphasis strong.now) source }
 {
@@ -84,7 +85,7 @@ fn fallback(plan: (Layout, TextSpelling), emphasis: char, strong: &str) -> Manne
 }
 
 /// One fallback with each pair of markers.
-pub fn with_all_markers(plan: (Layout, TextSpelling)) -> [Manner<'static>; 4]
+fn with_all_markers<'a>(plan: (Layout, TextSpelling)) -> [Manner<'a>; 4]
     ensures { map manner_view result ≡ fallback_manners (plan_view plan) }
 {
     [
@@ -96,7 +97,7 @@ pub fn with_all_markers(plan: (Layout, TextSpelling)) -> [Manner<'static>; 4]
 }
 
 /// The fourteen fallbacks.
-pub fn fallback_plans() -> [(Layout, TextSpelling); 14]
+fn fallback_plans() -> [(Layout, TextSpelling); 14]
     ensures { map plan_view result ≡ fallbacks }
 {
     let shared = |ends: bool, adjacent: bool, split: bool| Layout::Shared {
@@ -120,4 +121,70 @@ pub fn fallback_plans() -> [(Layout, TextSpelling); 14]
         (shared(false, false, true), TextSpelling::Escaped),
         (shared(true, false, true), TextSpelling::Escaped),
     ]
+}
+
+/// Adds the manners of a unit that is taken from the source: the preferred one, and for a unit with
+/// delimiters one by runs.
+fn push_from_source<'a>(
+    manners: &mut Vec<Manner<'a>>,
+    options: &Options<'a>,
+    has_delimiters: bool,
+) -> Result<(), AllocError>
+    ensures { OnOk result (map manner_view manners.new.items ≡ map manner_view manners.old.items
+        ++ source_manners (options_view options.now) has_delimiters) }
+{
+    manners.push(preferred_manner(options, true))?;
+    if has_delimiters {
+        manners.push(by_runs(options.emphasis_token, options.strong_token, true))?;
+    }
+    Ok(())
+}
+
+/// Adds the preferred manner of a unit with delimiters, and four by runs.
+fn push_runs<'a>(manners: &mut Vec<Manner<'a>>, options: &Options<'a>) -> Result<(), AllocError>
+    ensures { OnOk result (map manner_view manners.new.items
+        ≡ map manner_view manners.old.items ++ run_manners (options_view options.now)) }
+{
+    let emphasis = options.emphasis_token;
+    let strong = options.strong_token;
+    manners.extend_from_slice(&[
+        preferred_manner(options, false),
+        by_runs(emphasis, strong, false),
+        by_runs(other_emphasis(emphasis), strong, false),
+        by_runs(emphasis, other_strong(strong), false),
+        by_runs(other_emphasis(emphasis), other_strong(strong), false),
+    ])
+}
+
+/// Adds the fallbacks, each with all markers.
+fn push_fallbacks(manners: &mut Vec<Manner<'_>>) -> Result<(), AllocError>
+    ensures { OnOk result (map manner_view manners.new.items
+        ≡ map manner_view manners.old.items ++ flat_map fallback_manners fallbacks) }
+{
+    for plan in fallback_plans() {
+        manners.extend_from_slice(&with_all_markers(plan))?;
+    }
+    Ok(())
+}
+
+/// The manners in which a unit is tried, in order: from the source, where some text is known there, and
+/// escaped for a unit with delimiters. An `Err` says that memory ran out.
+pub fn candidates<'a>(
+    alloc: Global,
+    options: &Options<'a>,
+    has_source: bool,
+    has_delimiters: bool,
+) -> Result<Vec<Manner<'a>>, AllocError>
+    ensures { IfOk result (λ manners. map manner_view manners.items
+        ≡ manners_for (options_view options.now) has_source has_delimiters) }
+{
+    let mut manners = Vec::new(alloc);
+    if has_source {
+        push_from_source(&mut manners, options, has_delimiters)?;
+    }
+    if has_delimiters {
+        push_runs(&mut manners, options)?;
+        push_fallbacks(&mut manners)?;
+    }
+    Ok(manners)
 }

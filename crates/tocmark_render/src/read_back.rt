@@ -2,13 +2,13 @@
 
 ghost use Rattle.std.specs.Prelude.{◌≡◌, ◌++◌, codes, map, string_bytes, IfOk};
 ghost use Rattle.tocmark_event.specs.View.{event_view};
-ghost use Rattle.tocmark_render.specs.LabelsOf.{is_taken_in};
+ghost use Rattle.tocmark_labels.specs.LabelsOf.{is_taken_in};
 ghost use Rattle.tocmark_render.specs.ReadsBack.{found_in, whole_text};
 
-use crate::taken::Taken;
 use std::alloc::{AllocError, Global};
 use tocmark_event::event::{OwnedEvent, ParserOptions};
 use tocmark_event::reader::{Reader, Reading};
+use tocmark_labels::taken::Taken;
 use tocmark_read_back::agrees::agrees;
 
 /// Whether a reader finds these events in a text, and leaves no label open that is taken.

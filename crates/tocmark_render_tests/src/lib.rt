@@ -1,12 +1,9 @@
-//! Tests of what a unit leaves to be defined, of the comparison with what a reader found, and of the marks of a
-//! renderer and of containers.
+//! Tests of the comparison with what a reader found, and of the marks of a renderer and of containers.
 #![tactic(auto)]
 
 #[cfg(test)]
 mod agrees_tests;
 #[cfg(test)]
 mod copy_tests;
-#[cfg(test)]
-mod definitions_tests;
 #[cfg(test)]
 mod mark_tests;

@@ -10,6 +10,7 @@ use tocmark_renderer::job::{Job, Manner};
 use tocmark_spelling::buffered::BufferedEvent;
 use tocmark_spelling::plan::{Delimiters, Layout, TextSpelling};
 use tocmark_unit::block::{UnitRenderer, write_unit};
+use tocmark_unit::findings::findings_of;
 
 const PREFERRED: Manner<'static> = Manner {
     delimiters: Delimiters {
@@ -50,14 +51,31 @@ fn a_unit_taken_back_leaves_nothing(rt: HostRuntime) -> Result<(), Fail> {
         label: None,
     };
     let unit = paragraph(alloc)?;
+    let found = findings_of(alloc, &CoreReader, &options, job.flags, &unit)?;
     let mut units = UnitRenderer::new(alloc);
     let mut renderer = units.begin(alloc);
     renderer.mark();
-    write_unit(&mut renderer, job, &CoreReader, &unit, None, PREFERRED)?;
+    write_unit(
+        &mut renderer,
+        job,
+        &CoreReader,
+        &unit,
+        &found,
+        None,
+        PREFERRED,
+    )?;
     assert_eq!(rt; renderer.text(), "a\n\\- b");
     renderer.back();
     assert_eq!(rt; renderer.text(), "");
-    write_unit(&mut renderer, job, &CoreReader, &unit, None, PREFERRED)?;
+    write_unit(
+        &mut renderer,
+        job,
+        &CoreReader,
+        &unit,
+        &found,
+        None,
+        PREFERRED,
+    )?;
     assert_eq!(rt; renderer.text(), "a\n\\- b");
     let text = units.finish(renderer);
     assert_eq!(rt; text.as_str(), "a\n\\- b");

@@ -1,7 +1,7 @@
 use Rattle.std.proofs.Common.{◌∙◌, refl, ap, subst, length, map, sum_by, string_bytes}
 use Rattle.std.proofs.lemmas.Result.{IfOk-weaker, err_from_is_err_and}
 use Rattle.tocmark_spelling.specs.Buffered.{buffered_view}
-use Rattle.tocmark_render.specs.Ending.{holds_raw_block}
+use Rattle.tocmark_labels.specs.Ending.{holds_raw_block}
 use Rattle.tocmark.specs.Walk.{Walk, Done, done, ended, last_choice}
 use Rattle.tocmark.specs.Writes.{Makes}
 use Rattle.tocmark.specs.StateView.{at_most, kept_of, standing_of, rendering_with}

@@ -2,7 +2,7 @@ use Rattle.std.proofs.Common.{◌∙◌, ap, map, sym, refl}
 use Rattle.tocmark_event.specs.Text.{text_of}
 use Rattle.tocmark_event.specs.View.{event_view}
 use Rattle.tocmark_spelling.specs.Buffered.{buffered_view}
-use Rattle.tocmark_render.specs.Units.{waits}
+use Rattle.tocmark_labels.specs.Units.{waits}
 use Rattle.tocmark.specs.StateView.{standing_of, rendering_with}
 use Rattle.tocmark.proofs.Walks.{before_not_due, before_waiting, before_due}
 use Rattle.tocmark.proofs.state.flush_before.Goals as goal

@@ -1,4 +1,4 @@
-use Rattle.tocmark_render.proofs.Forests.{chosen-flat}
+use Rattle.tocmark_render.proofs.Chosen.{chosen-flat}
 use Rattle.tocmark_render.proofs.laws.events_are_chosen_as_forests.Goals as goal
 
 pub returns : goal.returns

@@ -4,7 +4,7 @@ use Rattle.tocmark_event.specs.Merged.{merged}
 use Rattle.tocmark_event.specs.Text.{text_of}
 use Rattle.tocmark_event.specs.View.{event_view}
 use Rattle.tocmark_spelling.specs.SameEvents.{same_events}
-use Rattle.tocmark_render.specs.LabelsOf.{is_taken_in}
+use Rattle.tocmark_labels.specs.LabelsOf.{is_taken_in}
 use Rattle.tocmark_render.proofs.ReadBacks.{not-found, found-open}
 use Rattle.tocmark_render.proofs.read_back.finds.Goals as goal
 

@@ -1,11 +1,24 @@
-use Rattle.std.proofs.Common.{◌∙◌, sym}
-use Rattle.tocmark_event.specs.Options.{options_view}
+use Rattle.std.proofs.Common.{◌∙◌, ap, map}
+use Rattle.tocmark_renderer.specs.JobOf.{manner_view}
 use Rattle.tocmark_render.specs.DocumentOf.{document_view}
-use Rattle.tocmark_render.specs.TrialOf.{asked_of}
-use Rattle.tocmark_render.proofs.Trials.{none-to-try}
+use Rattle.tocmark_render.specs.TrialOf.{asked_of, options_in}
+use Rattle.tocmark_render.specs.Tries.{manners_for}
+use Rattle.tocmark_render.proofs.LowManners.{low-candidates}
+use Rattle.tocmark_render.proofs.Trials.{lost-empty, tries-same}
 use Rattle.tocmark_render.proofs.search.search.Goals as goal
 
-pub returns-then-not-has_candidates-clause-tried : goal.returns-then-not-has_candidates-clause-tried
-returns-then-not-has_candidates-clause-tried g c =
-    let t = c.args.trial.now in
-    none-to-try (asked_of g.R.Reader.reading t c.args.document.now) (document_view c.args.document.now) (options_view t.options.now) c.args.has_source c.args.has_delimiters (sym c.has_candidates.ensures ∙ c.if-not-has_candidates.true)
+pub try_all-requires-clause-low : goal.try_all-requires-clause-low
+try_all-requires-clause-low g c =
+    low-candidates (options_in c.args.trial.now) c.requires.standard c.args.has_source c.args.has_delimiters (map manner_view c.deref-2.result.now) (ap (map manner_view) c.deref-2.ensures.value ∙ c.in_ok-manners.ensures)
+
+pub returns-then-is_empty-clause-tried : goal.returns-then-is_empty-clause-tried
+returns-then-is_empty-clause-tried g c =
+    let q = asked_of g.R.Reader.reading c.args.trial.now in
+    let ms = c.in_ok-manners.manners in
+    lost-empty manner_view ms.items q (document_view c.args.document.now) (manners_for q.setting.options c.args.has_source c.args.has_delimiters) (cc (ms.ok.0, c.if-is_empty.ensures)) c.in_ok-manners.ensures
+
+pub returns-clause-tried : goal.returns-clause-tried
+returns-clause-tried g c =
+    let q = asked_of g.R.Reader.reading c.args.trial.now in
+    tries-same q (document_view c.args.document.now) (document_view c.try_all.new.document) (map manner_view c.deref-2.result.now) (manners_for q.setting.options c.args.has_source c.args.has_delimiters) c.try_all.result
+    (ap (map manner_view) c.deref-2.ensures.value ∙ c.in_ok-manners.ensures) c.try_all.ensures.tried

@@ -6,16 +6,9 @@ use Rattle.tocmark_spelling.specs.PlanOf.{setting_of}
 use Rattle.tocmark_render.specs.Choice.{choice}
 use Rattle.tocmark_render.specs.DocumentOf.{document_view, Spells}
 use Rattle.tocmark_render.specs.TrialOf.{or_no_trees}
-use Rattle.tocmark_render.specs.Units.{labelled, trees_of}
-use Rattle.tocmark_render.proofs.Documents.{unspelled-refused, unbalanced-refused, spelled-chosen}
+use Rattle.tocmark_labels.specs.Units.{labelled, trees_of}
+use Rattle.tocmark_render.proofs.Documents.{unbalanced-refused, balanced-chosen}
 use Rattle.tocmark_render.proofs.document.Document.block.Goals as goal
-
-pub returns-then-not-are_spelled-clause-chosen : goal.returns-then-not-are_spelled-clause-chosen
-returns-then-not-are_spelled-clause-chosen g c =
-    let s = setting_of (options_view c.args.options.now) c.args.self.now.flags (g.R.Reader.reading c.args.reader.now) None in
-    let d = document_view c.args.self.now in
-    let es = map buffered_view c.args.unit.now in
-    unspelled-refused s d es (next_view c.args.next) (sym c.are_spelled.ensures ∙ c.if-not-are_spelled.true)
 
 pub returns-then-not-branch-clause-chosen : goal.returns-then-not-branch-clause-chosen
 returns-then-not-branch-clause-chosen g c =
@@ -35,8 +28,7 @@ returns-clause-chosen g c =
     let result = c.chosen.result in
     let after = c.lent_event.ensures ∙ c.in_ok-next.ensures in
     let labels = c.lent_label.ensures ∙ c.in_ok-label.ensures in
-    let spelled = sym c.are_spelled.ensures ∙ c.if-not-are_spelled.false in
     let P : Option EventView → Type 0 = λ n. Spells new result (choice (labelled s d es next) d f n) in
     let Q : Option (List ℕ) → Type 0 = λ l. Spells new result (choice (record s { label = l }) d f (following_view c.lent_event.result)) in
-    subst (Spells new result) (sym (spelled-chosen s d es next (sym c.in_ok-are_balanced.ensures ∙ c.if-not-branch.false) spelled))
+    subst (Spells new result) (sym (balanced-chosen s d es next (sym c.in_ok-are_balanced.ensures ∙ c.if-not-branch.false)))
     (subst P after (subst Q labels c.chosen.ensures.chosen))

@@ -1,0 +1,7 @@
+pub mod Forests
+pub mod LabelLemmas
+pub mod Balanced
+pub mod Ambiguous
+pub mod DefinitionTexts
+pub mod Feeds
+pub mod ReservedLabels

@@ -1,0 +1,9 @@
+pub mod Definitions
+pub mod DefinitionsOf
+pub mod Ending
+pub mod Document
+pub mod LabelsOf
+pub mod Placeholder
+pub mod Units
+pub mod Waiting
+pub mod Balanced

@@ -1,0 +1,70 @@
+//! Folded labels.
+
+ghost use Rattle.std.specs.Prelude.{◌≡◌, [], length, map, string_bytes, IfOk, OnOk};
+ghost use Rattle.tocmark_labels.specs.Document.{is_among, with_label, with_labels};
+ghost use Rattle.tocmark_labels.specs.LabelsOf.{labels_of};
+
+use caseless::default_case_fold_str;
+use indexmap::IndexSet;
+use std::alloc::{AllocError, Global};
+
+/// Labels as Markdown compares them, in full case folding: each once, in order of arrival.
+#[derive(Drop)]
+pub struct Labels {
+    folded: IndexSet<String>,
+}
+
+impl Labels {
+    /// No labels.
+    pub fn new(alloc: Global) -> Labels
+        ensures { labels_of result ≡ [] }
+    {
+        Labels {
+            folded: IndexSet::new(alloc),
+        }
+    }
+
+    /// How many labels these are.
+    pub fn len(&self) -> usize
+        ensures { result ≡ length (labels_of self.now) }
+    {
+        self.folded.len()
+    }
+
+    /// Adds a label, unless one like it is there. An `Err` says that memory ran out.
+    pub fn add(&mut self, alloc: Global, label: &str) -> Result<(), AllocError>
+        ensures { OnOk result (labels_of self.new ≡ with_label (labels_of self.old) label.now) }
+    {
+        let folded = default_case_fold_str(alloc, label)?;
+        self.folded.insert(folded)?;
+        Ok(())
+    }
+
+    /// Whether a label, as Markdown compares them, is among these. An `Err` says that memory ran out.
+    pub fn contains(&self, alloc: Global, label: &str) -> Result<bool, AllocError>
+        ensures { IfOk result (λ b. b ≡ is_among (labels_of self.now) label.now) }
+    {
+        let folded = default_case_fold_str(alloc, label)?;
+        Ok(self.folded.contains(&folded))
+    }
+
+    /// The same labels. An `Err` says that memory ran out.
+    pub fn copied(&self) -> Result<Labels, AllocError>
+        ensures { IfOk result (λ copy. labels_of copy ≡ labels_of self.now) }
+    {
+        Ok(Labels {
+            folded: self.folded.clone()?,
+        })
+    }
+
+    /// Adds labels in turn. An `Err` says that memory ran out.
+    pub fn add_all(&mut self, alloc: Global, labels: &[String]) -> Result<(), AllocError>
+        ensures { OnOk result (labels_of self.new
+            ≡ with_labels (labels_of self.old) (map string_bytes labels.now)) }
+    {
+        for label in labels {
+            self.add(alloc, label.as_str())?;
+        }
+        Ok(())
+    }
+}

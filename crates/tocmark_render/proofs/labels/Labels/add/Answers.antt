@@ -1,8 +1,0 @@
-use Rattle.std.proofs.Common.{ap, map, ◌∙◌, string_bytes}
-use Rattle.tocmark_render.proofs.LabelLemmas.{label-inserted}
-use Rattle.tocmark_render.proofs.labels.Labels.add.Goals as goal
-
-pub returns : goal.returns
-returns c =
-    ap (map string_bytes) c.in_ok-insert.ensures.keys
-    ∙ label-inserted c.in_ok-folded.folded c.args.self.now.folded.keys c.args.label.now c.in_ok-folded.ensures
