@@ -1,0 +1,7 @@
+pub mod Alone
+pub mod Appended
+pub mod Links
+pub mod Fences
+pub mod CodeBlocks
+pub mod Unexpected
+pub mod Causes

@@ -1,0 +1,3 @@
+pub mod CodeBlocks
+pub mod Links
+pub mod Unexpected
