@@ -1,11 +1,12 @@
-//! Reads documents of Markdown on standard input, each ended by a line `%`, and writes each one back. Behind it
-//! stands a line that begins with `%`: what is wrong, or nothing more where it is read as the document is.
+//! Reads documents of Markdown on standard input, each ended by a line `%`, and writes each one back twice: escaped,
+//! and with its texts as they stand in it. Behind each stands a line that begins with `%`: what is wrong, or
+//! nothing more where it is read as the document is.
 #![tactic(auto)]
 
 use std::alloc::{AllocError, Global};
 use std::io::{self, Read, Write};
 use std::process::ExitCode;
-use tocmark::{Error, cmark};
+use tocmark::{Error, cmark, cmark_with_source_range};
 use tocmark_ahead::same_events::same_events;
 use tocmark_core_reader::CoreReader;
 use tocmark_event::event::{OwnedEvent, ParserOptions, merge_all};
@@ -31,7 +32,7 @@ fn are_read_alike(alloc: Global, left: &str, right: &str) -> Result<bool, AllocE
 }
 
 /// The text, read and written back.
-fn rewritten(alloc: Global, text: &str) -> Result<String, Error> {
+fn escaped(alloc: Global, text: &str) -> Result<String, Error> {
     let reading = CoreReader.read(alloc, text, FLAGS)?;
     let mut output = String::new(alloc);
     let state = cmark(alloc, reading.events(), &mut output, CoreReader, FLAGS)?;
@@ -39,9 +40,24 @@ fn rewritten(alloc: Global, text: &str) -> Result<String, Error> {
     Ok(output)
 }
 
-/// Writes a document back, and a line behind it.
-fn answer<W: Write>(alloc: Global, output: &mut W, document: &str) -> io::Result<()> {
-    let text = match rewritten(alloc, document) {
+/// The text, read and written back from itself.
+fn from_source(alloc: Global, text: &str) -> Result<String, Error> {
+    let reading = CoreReader.read(alloc, text, FLAGS)?;
+    let mut output = String::new(alloc);
+    let pairs = reading.pairs();
+    let state = cmark_with_source_range(alloc, pairs, text, &mut output, CoreReader, FLAGS)?;
+    drop(state);
+    Ok(output)
+}
+
+/// Writes what a document is written back as, and a line behind it.
+fn answer<W: Write>(
+    alloc: Global,
+    output: &mut W,
+    document: &str,
+    written: Result<String, Error>,
+) -> io::Result<()> {
+    let text = match written {
         Ok(text) => text,
         Err(error) => return writeln!(output, "% {error}"),
     };
@@ -57,7 +73,9 @@ fn answer_all<W: Write>(alloc: Global, output: &mut W, text: &str) -> io::Result
     let mut document = String::new(alloc);
     for line in text.split('\n') {
         if line == "%" {
-            answer(alloc, output, document.as_str())?;
+            let whole = document.as_str();
+            answer(alloc, output, whole, escaped(alloc, whole))?;
+            answer(alloc, output, whole, from_source(alloc, whole))?;
             document = String::new(alloc);
         } else {
             document.push_str(line)?;

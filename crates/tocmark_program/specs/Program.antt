@@ -1,22 +1,24 @@
 -- What the program is asked, and what it answers.
-use Rattle.std.specs.Prelude.{◌≡◌, ◌⊎◌, ℕ, List, [], ◌∷◌, map, Bool, true, false, Ok, Some, None, String}
+use Rattle.std.specs.Prelude.{◌≡◌, ◌⊎◌, ℕ, List, [], ◌∷◌, map, if◌then◌else◌, Ok, Some, None, String, codes, bytes_eq, string_bytes, Option}
 use Rattle.std.specs.Global.{Global}
 use Rattle.std.specs.Io.KnownBytes.{Appends}
 use Rattle.std.specs.List.{concat}
 use Rattle.std.specs.Str.{IsUtf8}
-use Rattle.std.specs.Prelude.{Option}
 use Rattle.tocmark_event.specs.Options.{default_options}
 use Rattle.tocmark_core_reader.specs.Reading.{core_reading}
 use Rattle.tocmark.specs.Ranges.{Pair, unranged}
 use Rattle.tocmark.specs.StateView.{rendering}
 use Rattle.tocmark.specs.Walk.{Walk, Done, done, nothing_yet, script}
+use Rattle.tocmark_program.specs.declared.arguments.Spelling.{Spelling}
+use Rattle.tocmark_program.specs.declared.arguments.Spelling.TheVariants.{Escaped, FromSource}
 use Rattle.tocmark_program.specs.declared.fault.Fault.{Fault}
 use Rattle.tocmark_program.specs.declared.fault.Fault.TheVariants.{Usage, Read, NotUtf8, Markdown, Write}
 
--- no argument is right
-abbrev pub is_right : List (String Global) → Bool
-is_right [] = true
-is_right (w ∷ ws) = false
+-- no argument asks for escapes, `--source` alone for the input's spellings; any others are wrong
+abbrev pub asked : List (String Global) → Option Spelling
+asked [] = Some Escaped
+asked (w ∷ []) = if bytes_eq (string_bytes w) (codes "--source") then Some FromSource else None
+asked (w ∷ v ∷ ws) = None
 
 -- 2 for wrong arguments, 1 for any other fault
 abbrev pub status_of : Fault → ℕ
@@ -34,33 +36,35 @@ IsWriteFault Read = ⊥
 IsWriteFault NotUtf8 = ⊥
 IsWriteFault (Markdown e) = ⊥
 
--- the events that the core reader finds in a text, without their ranges
-abbrev pub events_in : List ℕ → List Pair
-events_in text = map (λ e. unranged e.0) (core_reading text).events
+-- the events that the core reader finds in a text, with their ranges where the text's spellings are wanted
+abbrev pub events_in : Spelling → List ℕ → List Pair
+events_in Escaped text = map (λ e. unranged e.0) (core_reading text).events
+events_in FromSource text = map (λ e. (e.0, Some e.1)) (core_reading text).events
 
--- what these events come to, by the default options and without flags
-abbrev pub rewriting : List ℕ → Walk Done
-rewriting text = script (rendering default_options (λ t flags. core_reading t)) [] (nothing_yet (record { 0 = 0 })) (events_in text)
+-- what these events come to over the text, by the default options and without flags
+abbrev pub rewriting : Spelling → List ℕ → Walk Done
+rewriting spelling text =
+    script (rendering default_options (λ t flags. core_reading t)) text (nothing_yet (record { 0 = 0 })) (events_in spelling text)
 
 -- the text, read and written back, is this one
-pub record IsRewritten (text output : List ℕ) : Type 0 where
-  pub ends_well : (rewriting text).outcome ≡ Ok done
-  pub joined : output ≡ concat (rewriting text).texts
+pub record IsRewritten (spelling : Spelling) (text output : List ℕ) : Type 0 where
+  pub ends_well : (rewriting spelling text).outcome ≡ Ok done
+  pub joined : output ≡ concat (rewriting spelling text).texts
 
 -- the input is text, and was read and written back behind what the output held
-pub record Wrote (input : List ℕ) (old new : Option (List ℕ)) : Type 0 where
+pub record Wrote (spelling : Spelling) (input : List ℕ) (old new : Option (List ℕ)) : Type 0 where
   pub output : List ℕ
   pub is_text : IsUtf8 input
-  pub rewritten : IsRewritten input output
+  pub rewritten : IsRewritten spelling input output
   pub appended : Appends old new output
 
 -- the input is text, and what is written back for it is a text
-pub record IsRewritable (input : List ℕ) : Type 0 where
+pub record IsRewritable (spelling : Spelling) (input : List ℕ) : Type 0 where
   pub output : List ℕ
   pub is_text : IsUtf8 input
-  pub rewritten : IsRewritten input output
+  pub rewritten : IsRewritten spelling input output
 
 -- nothing was written, or the input, if it is known, can be written back
-abbrev pub WritesLate : {O : Type 0} → Option (List ℕ) → O → O → Type 0
-WritesLate (Some input) old new = (new ≡ old) ⊎ IsRewritable input
-WritesLate None old new = Unit {0}
+abbrev pub WritesLate : {O : Type 0} → Spelling → Option (List ℕ) → O → O → Type 0
+WritesLate spelling (Some input) old new = (new ≡ old) ⊎ IsRewritable spelling input
+WritesLate spelling None old new = Unit {0}

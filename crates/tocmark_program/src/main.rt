@@ -1,13 +1,16 @@
-//! Reads Markdown on standard input, and writes it back on standard output.
+//! Reads Markdown on standard input, and writes it back on standard output; with `--source` each text as it
+//! stands in the input, where that reads back.
 #![tactic(auto)]
 
+mod arguments;
 mod fault;
 
-ghost use Rattle.std.specs.Prelude.{◌≡◌, ◌≤◌, ℕ, List, true, false, IfErr, IfOk, IfSome, OnErr, OnOk, string_bytes};
+ghost use Rattle.std.specs.Prelude.{◌≡◌, ◌≤◌, ℕ, List, None, IfErr, IfOk, IfSome, OnErr, OnOk, string_bytes};
 ghost use Rattle.std.specs.Str.{IsUtf8};
 ghost use Rattle.std.specs.Io.KnownBytes.{Appends};
-ghost use Rattle.tocmark_program.specs.Program.{is_right, status_of, IsWriteFault, IsRewritten, WritesLate, Wrote};
+ghost use Rattle.tocmark_program.specs.Program.{asked, status_of, IsWriteFault, IsRewritten, WritesLate, Wrote};
 
+use arguments::{Spelling, asked};
 use fault::Fault;
 use std::alloc::Global;
 use std::io::{Read, Write};
@@ -16,33 +19,31 @@ use std::{env, io};
 use tocmark::core_reader::CoreReader;
 use tocmark::event::ParserOptions;
 use tocmark::reader::Reader;
-use tocmark::{Error, cmark};
-
-/// Whether the arguments are those of a call: none.
-fn are_right(words: &[String]) -> bool
-    ensures { result ≡ is_right words.now }
-{
-    words.is_empty()
-}
+use tocmark::{Error, cmark, cmark_with_source_range};
 
 /// The text, read and written back.
-fn rewritten(alloc: Global, text: &str) -> Result<String, Error>
-    ensures { IfOk result (λ output. IsRewritten text.now (string_bytes output)) }
+fn rewritten(alloc: Global, spelling: Spelling, text: &str) -> Result<String, Error>
+    ensures { IfOk result (λ output. IsRewritten spelling text.now (string_bytes output)) }
 {
     let flags = ParserOptions::empty();
     let reading = CoreReader.read(alloc, text, flags)?;
     let mut output = String::new(alloc);
-    let state = cmark(alloc, reading.events(), &mut output, CoreReader, flags)?;
+    let state = match spelling {
+        Spelling::Escaped => cmark(alloc, reading.events(), &mut output, CoreReader, flags)?,
+        Spelling::FromSource => {
+            cmark_with_source_range(alloc, reading.pairs(), text, &mut output, CoreReader, flags)?
+        }
+    };
     drop(state);
     Ok(output)
 }
 
 /// The input, read and written back. Nothing of it is written yet.
-fn converted<I: Read>(alloc: Global, input: &mut I) -> Result<String, Fault>
+fn converted<I: Read>(alloc: Global, spelling: Spelling, input: &mut I) -> Result<String, Fault>
     ensures fault { IfErr result (λ fault. (status_of fault ≡ 1) × ¬ (IsWriteFault fault)) }
     ensures text { IfSome (I.remaining input.old) (λ bytes. OnOk result (IsUtf8 bytes)) }
     ensures rewritten { IfSome (I.remaining input.old) (λ bytes.
-        IfOk result (λ output. IsRewritten bytes (string_bytes output))) }
+        IfOk result (λ output. IsRewritten spelling bytes (string_bytes output))) }
 {
     let mut bytes = Vec::new(alloc);
     if input.read_to_end(&mut bytes).is_err() {
@@ -51,7 +52,7 @@ fn converted<I: Read>(alloc: Global, input: &mut I) -> Result<String, Fault>
     let Ok(text) = std::str::from_utf8(&bytes) else {
         return Err(Fault::NotUtf8);
     };
-    match rewritten(alloc, text) {
+    match rewritten(alloc, spelling, text) {
         Ok(output) => Ok(output),
         Err(error) => Err(Fault::Markdown(error)),
     }
@@ -67,33 +68,54 @@ fn write_out<O: Write>(output: &mut O, text: &str) -> Result<(), Fault>
     Ok(())
 }
 
-/// The whole call. Output is written only after the input was read and rendered.
+/// A call with right arguments. Output is written only after the input was read and rendered.
+fn rewrite<I: Read, O: Write>(
+    alloc: Global,
+    spelling: Spelling,
+    input: &mut I,
+    output: &mut O,
+) -> Result<(), Fault>
+    ensures fault { IfErr result (λ fault. status_of fault ≡ 1) }
+    ensures unwritten { IfErr result (λ fault. ¬ (IsWriteFault fault) → output.new ≡ output.old) }
+    ensures done { OnOk result ((text : List ℕ)
+        × Appends (O.contents output.old) (O.contents output.new) text) }
+    ensures wrote { IfSome (I.remaining input.old) (λ bytes.
+        OnOk result (Wrote spelling bytes (O.contents output.old) (O.contents output.new))) }
+    ensures late { OnErr result (WritesLate spelling (I.remaining input.old) output.old output.new) }
+{
+    let text = converted(alloc, spelling, input)?;
+    write_out(output, text.as_str())
+}
+
+/// The whole call.
 fn answer<I: Read, O: Write>(
     alloc: Global,
     words: &[String],
     input: &mut I,
     output: &mut O,
 ) -> Result<(), Fault>
-    ensures usage { is_right words.now ≡ false
+    ensures usage { asked words.now ≡ None
         → (result ≡ Err Fault.Usage) × (input.new ≡ input.old) × (output.new ≡ output.old) }
-    ensures right { is_right words.now ≡ true → IfErr result (λ fault. status_of fault ≡ 1) }
+    ensures right { IfSome (asked words.now) (λ spelling.
+        IfErr result (λ fault. status_of fault ≡ 1)) }
     ensures unwritten { IfErr result (λ fault. ¬ (IsWriteFault fault) → output.new ≡ output.old) }
     ensures done { OnOk result ((text : List ℕ)
         × Appends (O.contents output.old) (O.contents output.new) text) }
-    ensures wrote { IfSome (I.remaining input.old) (λ bytes.
-        OnOk result (Wrote bytes (O.contents output.old) (O.contents output.new))) }
-    ensures late { OnErr result (WritesLate (I.remaining input.old) output.old output.new) }
+    ensures wrote { IfSome (asked words.now) (λ spelling. IfSome (I.remaining input.old) (λ bytes.
+        OnOk result (Wrote spelling bytes (O.contents output.old) (O.contents output.new)))) }
+    ensures late { IfSome (asked words.now) (λ spelling.
+        OnErr result (WritesLate spelling (I.remaining input.old) output.old output.new)) }
 {
-    if !are_right(words) {
-        return Err(Fault::Usage);
+    match asked(words) {
+        Some(spelling) => rewrite(alloc, spelling, input, output),
+        None => Err(Fault::Usage),
     }
-    let text = converted(alloc, input)?;
-    write_out(output, text.as_str())
 }
 
 /// The program: the status that it ends with.
 ///
-/// `words` are the arguments without the program's name, `input` is read whole, `output` gets the
+/// `words` are the arguments without the program's name: none, or `--source` alone, with which each text is
+/// written as it stands in the input, where that reads back. `input` is read whole, `output` gets the
 /// Markdown after success alone, and `faults` one line for a fault. The answer is 0 after success, 2 for
 /// wrong arguments, where no input is read, and 1 for any other fault: the input can't be read, it isn't
 /// UTF-8, its events are refused or memory runs out, or the output can't be written.
@@ -105,14 +127,15 @@ pub fn run<I: Read, O: Write, F: Write>(
     faults: &mut F,
 ) -> u8
     ensures status { result ≤ 2 }
-    ensures usage { is_right words.now ≡ false → (result ≡ 2) × (input.new ≡ input.old)
+    ensures usage { asked words.now ≡ None → (result ≡ 2) × (input.new ≡ input.old)
         × (output.new ≡ output.old) }
-    ensures right { is_right words.now ≡ true → result ≤ 1 }
+    ensures right { IfSome (asked words.now) (λ spelling. result ≤ 1) }
     ensures done { result ≡ 0
         → (text : List ℕ) × Appends (O.contents output.old) (O.contents output.new) text }
-    ensures wrote { IfSome (I.remaining input.old) (λ bytes.
-        result ≡ 0 → Wrote bytes (O.contents output.old) (O.contents output.new)) }
-    ensures late { result ≡ 1 → WritesLate (I.remaining input.old) output.old output.new }
+    ensures wrote { IfSome (asked words.now) (λ spelling. IfSome (I.remaining input.old) (λ bytes.
+        result ≡ 0 → Wrote spelling bytes (O.contents output.old) (O.contents output.new))) }
+    ensures late { IfSome (asked words.now) (λ spelling.
+        result ≡ 1 → WritesLate spelling (I.remaining input.old) output.old output.new) }
 {
     match answer(alloc, words, input, output) {
         Ok(()) => 0,
