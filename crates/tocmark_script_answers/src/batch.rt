@@ -2,14 +2,14 @@
 
 use crate::cuts::write_cuts;
 use crate::fault::Fault;
-use crate::question::answers;
 use crate::runs::run;
 use std::alloc::{AllocError, Global};
 use std::io::Write;
-use tocmark_script_lines::fault::{LineFault, NumberedFault};
 use tocmark_script_lines::gathering::Gathering;
 use tocmark_script_lines::script::Script;
 use tocmark_script_lines::statement::statement_in_line;
+use tocmark_script_questions::question::answers;
+use tocmark_script_words::fault::{LineFault, NumberedFault};
 
 /// Scripts whose lines come one after the other.
 #[derive(Drop)]

@@ -3,12 +3,8 @@
 
 mod batch;
 mod cuts;
-mod events;
 pub mod fault;
-mod faults;
-mod question;
 mod runs;
-mod valid;
 
 use crate::batch::Batch;
 use crate::fault::Fault;

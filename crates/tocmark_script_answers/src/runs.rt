@@ -3,10 +3,14 @@
 use std::alloc::{AllocError, Global};
 use std::fmt;
 use tocmark::{Error, Progress, State};
-use tocmark_script_lines::event::{Events, RangedEvent, RangedEvents};
+use tocmark_script_events::event::{Events, RangedEvent, RangedEvents};
 use tocmark_script_lines::script::{Call, Script};
-use tocmark_script_lines::string::Quoted;
-use tocmark_script_reader::readers::ScriptReader;
+use tocmark_script_questions::errors::error_name;
+use tocmark_script_reader::readers::{CountedReader, ScriptReader};
+use tocmark_script_words::string::Quoted;
+
+/// The reader of one run.
+type RunReader<'r, 's> = CountedReader<'r, ScriptReader<'s>>;
 
 /// Writes each text that it takes as a line of an answer, and refuses one.
 #[derive(Drop)]
@@ -35,19 +39,6 @@ impl fmt::Write for Tape {
     }
 }
 
-/// The name of an error, as a script answers it.
-pub fn error_name(error: &Error) -> &'static str {
-    match error {
-        Error::FormatFailed(_) => "FormatFailed",
-        Error::UnexpectedEvent => "UnexpectedEvent",
-        Error::Unrepresentable => "Unrepresentable",
-        Error::InvalidSourceRange => "InvalidSourceRange",
-        Error::Finished => "Finished",
-        Error::Failed => "Failed",
-        Error::OutOfMemory => "OutOfMemory",
-    }
-}
-
 fn call_name(call: Call) -> &'static str {
     match call {
         Call::Process { .. } => "process",
@@ -58,7 +49,7 @@ fn call_name(call: Call) -> &'static str {
 
 /// Takes these events, with their ranges where there is a source.
 fn process(
-    state: &mut State<&ScriptReader<'_>>,
+    state: &mut State<&RunReader<'_, '_>>,
     events: &[RangedEvent<'_>],
     source: &Option<String>,
     tape: &mut Tape,
@@ -72,7 +63,7 @@ fn process(
 }
 
 /// Puts a clone of the state in its place.
-fn go_on_with_clone(state: &mut State<&ScriptReader<'_>>) -> Result<Progress, Error> {
+fn go_on_with_clone(state: &mut State<&RunReader<'_, '_>>) -> Result<Progress, Error> {
     match state.clone() {
         Ok(copy) => {
             *state = copy;
@@ -84,7 +75,7 @@ fn go_on_with_clone(state: &mut State<&ScriptReader<'_>>) -> Result<Progress, Er
 
 /// Makes one call.
 fn make(
-    state: &mut State<&ScriptReader<'_>>,
+    state: &mut State<&RunReader<'_, '_>>,
     script: &Script<'_>,
     call: Call,
     tape: &mut Tape,
@@ -115,7 +106,7 @@ fn write_outcome(answer: &mut String, outcome: &Result<Progress, Error>) -> Resu
 
 /// Makes all calls, and writes a line for each.
 fn run_in_calls(
-    state: &mut State<&ScriptReader<'_>>,
+    state: &mut State<&RunReader<'_, '_>>,
     script: &Script<'_>,
     calls: &[Call],
     tape: &mut Tape,
@@ -131,7 +122,7 @@ fn run_in_calls(
 
 /// Makes the calls up to the first error, and returns the sums of their counts.
 fn run_whole(
-    state: &mut State<&ScriptReader<'_>>,
+    state: &mut State<&RunReader<'_, '_>>,
     script: &Script<'_>,
     calls: &[Call],
     tape: &mut Tape,
@@ -161,7 +152,8 @@ pub fn run(
         refused_text: script.refused_text,
         is_full: false,
     };
-    match State::new(alloc, &script.reader, script.flags, script.options()) {
+    let reader = CountedReader::new(&script.reader, script.refused_reading);
+    match State::new(alloc, &reader, script.flags, script.options()) {
         Ok(mut state) if shows_calls => run_in_calls(&mut state, script, calls, &mut tape)?,
         Ok(mut state) => {
             let outcome = run_whole(&mut state, script, calls, &mut tape);

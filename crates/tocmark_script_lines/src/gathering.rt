@@ -1,11 +1,11 @@
 //! Scripts whose lines are being read.
 
-use crate::event::RangedEvent;
-use crate::fault::LineFault;
 use crate::script::{Call, EventsQuestion, Question, Script, Setting};
 use crate::statement::{Other, Statement};
 use std::alloc::{AllocError, Global};
+use tocmark_script_events::event::RangedEvent;
 use tocmark_script_reader::readers::{ReadEvents, ScriptReader, Table};
+use tocmark_script_words::fault::LineFault;
 
 /// The reading of a table whose events are being read.
 #[derive(Drop)]

@@ -1,11 +1,11 @@
 //! The options of a script.
 
-use crate::cursor::Cursor;
-use crate::fault::LineFault;
-use crate::number::size;
-use crate::tag::truth;
 use std::alloc::Global;
 use tocmark_event::options::Options;
+use tocmark_script_events::tag::truth;
+use tocmark_script_words::cursor::Cursor;
+use tocmark_script_words::fault::LineFault;
+use tocmark_script_words::number::size;
 
 const A_SIZE: &str = "a decimal number below 2^64, max or imax";
 

@@ -1,10 +1,10 @@
 //! Scripts.
 
-use crate::event::RangedEvent;
 use crate::option::{OptionSetting, set_option};
 use std::alloc::Global;
 use tocmark_event::event::{LinkType, ParserOptions};
 use tocmark_event::options::Options;
+use tocmark_script_events::event::RangedEvent;
 use tocmark_script_reader::readers::ScriptReader;
 
 /// A call on the state of a script.
@@ -75,6 +75,7 @@ pub enum Setting {
     Calls,
     Cuts,
     FailAt(usize),
+    ReadFailAt(usize),
 }
 
 /// What a script says.
@@ -95,6 +96,8 @@ pub struct Script<'a> {
     pub compares_cuts: bool,
     /// The number of the text that the writer refuses, counted from 1.
     pub refused_text: Option<usize>,
+    /// The number of the reading for which the reader finds no memory, counted from 1 in each run.
+    pub refused_reading: Option<usize>,
     pub events: Vec<RangedEvent<'a>>,
     pub calls: Vec<Call>,
     pub questions: Vec<Question>,
@@ -113,6 +116,7 @@ impl<'a> Script<'a> {
             shows_calls: false,
             compares_cuts: false,
             refused_text: None,
+            refused_reading: None,
             events: Vec::new(alloc),
             calls: Vec::new(alloc),
             questions: Vec::new(alloc),
@@ -131,6 +135,7 @@ impl<'a> Script<'a> {
             Setting::Calls => self.shows_calls = true,
             Setting::Cuts => self.compares_cuts = true,
             Setting::FailAt(place) => self.refused_text = Some(place),
+            Setting::ReadFailAt(place) => self.refused_reading = Some(place),
         }
     }
 

@@ -1,20 +1,24 @@
 //! Lines of a script.
 
-use crate::cursor::Cursor;
-use crate::event::{RangedEvent, event_in_line};
-use crate::fault::LineFault;
-use crate::names::known;
-use crate::number::{hexadecimal, size};
 use crate::option::option_setting;
 use crate::script::{EventsQuestion, Question, Setting};
-use crate::tag::link_type;
 use bitflags::Flags;
 use std::alloc::Global;
 use tocmark_event::event::ParserOptions;
+use tocmark_script_events::event::{RangedEvent, event_in_line};
+use tocmark_script_events::tag::link_type;
+use tocmark_script_words::cursor::Cursor;
+use tocmark_script_words::fault::LineFault;
+use tocmark_script_words::names::known;
+use tocmark_script_words::number::{hexadecimal, size};
 
 const FLAGS: &str = "the name of a flag, or at most eight hexadecimal digits";
 
 const A_STATEMENT: &str = "the name of an event, a statement or a question (case matters)";
+
+const A_TEXT: &str = "the number of a text, from 1";
+
+const A_READING: &str = "the number of a reading, from 1";
 
 const A_CARRIAGE_RETURN: &str = "it ends with a carriage return, and a line feed alone ends a line";
 
@@ -116,11 +120,12 @@ fn reads(alloc: Global, cursor: &mut Cursor<'_>) -> Result<Other, LineFault> {
     Ok(Other::Reads(None))
 }
 
-fn fail_at(cursor: &mut Cursor<'_>) -> Result<Setting, LineFault> {
-    let fault = cursor.expected("the number of a text, from 1");
+/// The number of a text or of a reading, counted from 1.
+fn place(cursor: &mut Cursor<'_>, expected: &'static str) -> Result<usize, LineFault> {
+    let fault = cursor.expected(expected);
     match size(cursor.word().unwrap_or("")) {
         Some(0) | None => Err(fault),
-        Some(place) => Ok(Setting::FailAt(place)),
+        Some(place) => Ok(place),
     }
 }
 
@@ -204,7 +209,8 @@ fn setting(
         "Source" => Ok(Some(Setting::Source(cursor.string(alloc)?))),
         "Calls" => Ok(Some(Setting::Calls)),
         "Cuts" => Ok(Some(Setting::Cuts)),
-        "FailAt" => Ok(Some(fail_at(cursor)?)),
+        "FailAt" => Ok(Some(Setting::FailAt(place(cursor, A_TEXT)?))),
+        "ReadFailAt" => Ok(Some(Setting::ReadFailAt(place(cursor, A_READING)?))),
         _ => Ok(None),
     }
 }

@@ -4,6 +4,7 @@ ghost use Rattle.std.specs.Prelude.{◌≡◌, IfOk, map};
 ghost use Rattle.tocmark_script_reader.specs.Readers.{ranged_view};
 
 use std::alloc::{AllocError, Global};
+use std::cell::Cell;
 use std::collections::HashMap;
 use tocmark_core_reader::CoreReader;
 use tocmark_event::event::{Event, ParserOptions};
@@ -79,5 +80,40 @@ impl Reader for ScriptReader<'_> {
             ScriptReader::Core => CoreReader.read(alloc, text, flags),
             ScriptReader::Table(table) => table.read(alloc, text),
         }
+    }
+}
+
+/// Reads as another reader, but finds no memory for one of its readings.
+#[derive(Drop)]
+pub struct CountedReader<'a, R> {
+    reader: &'a R,
+    /// How many readings were asked for.
+    readings: Cell<usize>,
+    /// The number of the reading for which there is no memory, counted from 1.
+    refused_reading: Option<usize>,
+}
+
+impl<'a, R> CountedReader<'a, R> {
+    /// No reading was asked for yet.
+    pub fn new(reader: &'a R, refused_reading: Option<usize>) -> CountedReader<'a, R> {
+        CountedReader {
+            reader,
+            readings: Cell::new(0),
+            refused_reading,
+        }
+    }
+}
+
+/// A counted reader has the readings of its reader.
+impl<R: Reader> Reader for CountedReader<'_, R> {
+    ghost reading = { λ r. R.reading r.reader.now };
+
+    fn read(&self, alloc: Global, text: &str, flags: ParserOptions) -> Result<Reading, AllocError> {
+        let number = self.readings.get().saturating_add(1);
+        self.readings.set(number);
+        if self.refused_reading == Some(number) {
+            return Err(AllocError);
+        }
+        self.reader.read(alloc, text, flags)
     }
 }

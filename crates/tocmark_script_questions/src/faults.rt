@@ -1,9 +1,9 @@
 //! What can't be read in a script.
 
 use std::alloc::{AllocError, Global};
-use tocmark_script_lines::fault::{LineFault, NumberedFault};
 use tocmark_script_lines::gathering::Gathering;
 use tocmark_script_lines::statement::statement_in_line;
+use tocmark_script_words::fault::{LineFault, NumberedFault};
 
 fn take_line(
     alloc: Global,

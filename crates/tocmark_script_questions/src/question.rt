@@ -1,8 +1,8 @@
 //! Questions of a script, and their answers.
 
+use crate::errors::error_name;
 use crate::events::{merged, write_events_answer};
 use crate::faults::write_fault;
-use crate::runs::error_name;
 use crate::valid::write_valid_count;
 use std::alloc::{AllocError, Global};
 use std::fmt;
@@ -16,9 +16,9 @@ use tocmark::{
 use tocmark_escape::text_modifications::{
     EscapeDestination, EscapeLinkTitle, close_link, max_consecutive_chars,
 };
-use tocmark_script_lines::line::EventLine;
+use tocmark_script_events::line::EventLine;
 use tocmark_script_lines::script::{Question, Script};
-use tocmark_script_lines::string::Quoted;
+use tocmark_script_words::string::Quoted;
 
 /// The name of what is wrong with options, and what it speaks of.
 #[derive(Clone, Copy)]

@@ -1,13 +1,13 @@
 //! Tags and their ends, read from a line.
 
-use crate::cursor::Cursor;
-use crate::fault::LineFault;
-use crate::number::decimal;
 use std::alloc::Global;
 use tocmark_event::event::{
     Alignment, BlockQuoteKind, CodeBlockKind, CowStr, HeadingLevel, LinkType, MetadataBlockKind,
     Tag, TagEnd,
 };
+use tocmark_script_words::cursor::Cursor;
+use tocmark_script_words::fault::LineFault;
+use tocmark_script_words::number::decimal;
 
 const A_TAG: &str = "the name of a tag";
 

@@ -4,8 +4,8 @@ use std::alloc::{AllocError, Global};
 use tocmark::calculate_code_block_token_count;
 use tocmark::event::{CowStr, Event, EventOf, OwnedEvent, Tag, merge_all, merge_texts};
 use tocmark_ahead::same_events::same_event;
-use tocmark_script_lines::event::{Events, RangedEvent};
-use tocmark_script_lines::line::EventLine;
+use tocmark_script_events::event::{Events, RangedEvent};
+use tocmark_script_events::line::EventLine;
 use tocmark_script_lines::script::EventsQuestion;
 
 fn write_token_count(answer: &mut String, events: &[RangedEvent<'_>]) -> Result<(), AllocError> {

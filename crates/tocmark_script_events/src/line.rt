@@ -1,11 +1,11 @@
 //! Events as lines.
 
-use crate::string::Quoted;
 use std::fmt;
 use tocmark_event::event::{
     Alignment, BlockQuoteKind, CodeBlockKindOf, CowStr, Event, EventOf, HeadingLevel, LinkType,
     MetadataBlockKind, Tag, TagEnd, TagOf,
 };
+use tocmark_script_words::string::Quoted;
 
 fn level_number(level: HeadingLevel) -> u8 {
     match level {

@@ -1,12 +1,12 @@
 //! Events, read from a line, and lists of them.
 
-use crate::cursor::Cursor;
-use crate::fault::LineFault;
-use crate::names::known;
 use crate::tag::{tag, tag_end, truth};
 use std::alloc::Global;
 use std::slice::Iter;
 use tocmark_event::event::{CowStr, Event};
+use tocmark_script_words::cursor::Cursor;
+use tocmark_script_words::fault::LineFault;
+use tocmark_script_words::names::known;
 
 /// An event and its range in bytes, if it has one.
 pub type RangedEvent<'a> = (Event<'a>, Option<(usize, usize)>);

@@ -1,0 +1,16 @@
+//! The names of errors.
+
+use tocmark::Error;
+
+/// The name of an error, as a script answers it.
+pub fn error_name(error: &Error) -> &'static str {
+    match error {
+        Error::FormatFailed(_) => "FormatFailed",
+        Error::UnexpectedEvent => "UnexpectedEvent",
+        Error::Unrepresentable => "Unrepresentable",
+        Error::InvalidSourceRange => "InvalidSourceRange",
+        Error::Finished => "Finished",
+        Error::Failed => "Failed",
+        Error::OutOfMemory => "OutOfMemory",
+    }
+}
