@@ -6,6 +6,7 @@ import sys
 
 TOP = os.path.dirname(os.path.dirname(os.path.abspath(__file__)))
 NAME = f"benches/{os.path.basename(sys.argv[0])}"
+MEMCHECK = ["valgrind", "--tool=memcheck", "--leak-check=no", "--undef-value-errors=no"]
 CACHEGRIND = ["valgrind", "--tool=cachegrind", "--cache-sim=no", "--cachegrind-out-file=/dev/null"]
 
 
@@ -13,8 +14,10 @@ def built(crate):
     """The path of a crate's program, which is proved and built where that isn't done."""
     folder = f"{TOP}/crates/{crate}"
     program = f"{folder}/out/{crate}"
-    with open(f"{folder}/args", encoding="utf-8") as file:
-        words = file.read().split()
+    words = []
+    if os.path.exists(f"{folder}/args"):
+        with open(f"{folder}/args", encoding="utf-8") as file:
+            words = file.read().split()
     command = ["rt", "run", "--", *words]
     made = subprocess.run(command, cwd=folder, stdin=subprocess.DEVNULL, capture_output=True, text=True)
     if made.returncode or not os.path.exists(program):
@@ -35,3 +38,9 @@ def counted(words, text=""):
     ran = run([*CACHEGRIND, *words], text)
     instructions = re.search(rb"I\s+refs:\s+([\d,]+)", ran.stderr)
     return ran.stdout.split(b"\n")[0].decode(), int(instructions[1].replace(b",", b""))
+
+
+def allocated(words, text=""):
+    """How often a command asked for memory; where a list grows, that is once for each time."""
+    ran = run([*MEMCHECK, *words], text)
+    return int(re.search(rb"total heap usage: ([\d,]+) allocs", ran.stderr)[1].replace(b",", b""))

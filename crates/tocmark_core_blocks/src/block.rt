@@ -5,7 +5,7 @@ ghost use Rattle.std.specs.List.{fold};
 ghost use Rattle.tocmark_core_blocks.specs.Pages.{page};
 ghost use Rattle.tocmark_core_blocks.specs.Blocks.{info_of, goes_directly, quote_opened, is_in_list, list_started, item_opened, container_once, containers_opened, code_taken, html_ended, text_taken, text_started, indented_started, heading_started, fence_started, html_started, rule_started, has_text, underlined, underline_taken, started, leaf_started, turn_of, leaf_ended, touched, cells_taken, line_taken, page_of, blocks_view, blocks_of};
 
-use crate::cell::{Cell, Cursor, cell_place, cells, ink_from, moved, trimmed};
+use crate::cell::{Cell, Cursor, cell_place, ink_from, moved, read_cells, trimmed};
 use crate::code::{code_piece, heading_piece, keeps_line, text_piece};
 use crate::container::{
     Container, ContainerStart, ItemStart, after_quote, container_at, matched, touch,
@@ -510,20 +510,27 @@ impl Page {
         }
     }
 
-    /// Takes a line.
+    /// Takes a line. Its columns are written over those of the line before.
     #[tactic(auto, unfolding(crate::specs::Blocks::line_taken))]
-    fn take_line(&mut self, alloc: Global, text: &[u8], line: Line) -> Result<(), AllocError>
+    fn take_line(
+        &mut self,
+        alloc: Global,
+        text: &[u8],
+        cells: &mut Vec<Cell>,
+        line: Line,
+    ) -> Result<(), AllocError>
         ensures { OnOk result (page self.new ≡ line_taken text.now (page self.old) line) }
     {
-        let cells = cells(alloc, text, line)?;
-        self.take_cells(alloc, text, &cells, line)
+        read_cells(cells, text, line)?;
+        self.take_cells(alloc, text, cells, line)
     }
 
     fn take_lines(&mut self, alloc: Global, text: &[u8], lines: &[Line]) -> Result<(), AllocError>
         ensures { OnOk result (page self.new ≡ fold (line_taken text.now) (page self.old) lines.now) }
     {
+        let mut cells = Vec::new(alloc);
         for line in lines {
-            self.take_line(alloc, text, *line)?;
+            self.take_line(alloc, text, &mut cells, *line)?;
         }
         Ok(())
     }

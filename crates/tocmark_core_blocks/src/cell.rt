@@ -1,11 +1,11 @@
 //! The columns of a line.
 
-ghost use Rattle.std.specs.Prelude.{◌≡◌, ◌++◌, [], IfOk, OnOk, drop, replicate};
+ghost use Rattle.std.specs.Prelude.{◌≡◌, ◌++◌, [], OnOk, drop, replicate};
 ghost use Rattle.tocmark_core_scan.specs.Basic.{piece};
 ghost use Rattle.tocmark_core_blocks.specs.Cells.{filled, cells_of, cell_byte, cell_place, run_of, ink_from, count_of, part, trailing, trimmed, moved, indent_of, is_blank_at, first_cursor};
 
 use crate::line::Line;
-use std::alloc::{AllocError, Global};
+use std::alloc::AllocError;
 use tocmark_core_scan::basic::{minus, piece, plus};
 
 /// A column of a line: its byte and the place of that. A tab is one to four columns of spaces, up to
@@ -46,19 +46,21 @@ fn fill(cells: &mut Vec<Cell>, byte: u8, at: usize) -> Result<(), AllocError>
     Ok(())
 }
 
-/// The columns of a line without its line ending. An `Err` says that memory ran out.
-pub fn cells(alloc: Global, text: &[u8], line: Line) -> Result<Vec<Cell>, AllocError>
-    ensures { IfOk result (λ v.
-        v.items ≡ cells_of [] line.start (piece text.now line.start line.end)) }
+/// Writes the columns of a line without its line ending over those of another line. An `Err` says that
+/// memory ran out.
+pub fn read_cells(cells: &mut Vec<Cell>, text: &[u8], line: Line) -> Result<(), AllocError>
+    ensures { OnOk result (cells.new.items
+        ≡ cells_of [] line.start (piece text.now line.start line.end)) }
 {
     let bytes = piece(text, line.start, line.end);
-    let mut cells = Vec::with_capacity(alloc, bytes.len())?;
+    cells.clear();
+    cells.reserve(bytes.len())?;
     let mut at = line.start;
     for byte in bytes {
-        fill(&mut cells, *byte, at)?;
+        fill(cells, *byte, at)?;
         at = plus(at, 1);
     }
-    Ok(cells)
+    Ok(())
 }
 
 /// The byte of a column; a line feed behind the last one.

@@ -5,3 +5,5 @@ pub mod PlainNodes
 pub mod PlainParts
 pub mod PlainLeaf
 pub mod PlainNeighbours
+pub mod Marks
+pub mod Runless

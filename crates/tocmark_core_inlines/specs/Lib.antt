@@ -1,3 +1,4 @@
+pub mod Role
 pub mod Run
 pub mod Emphasis
 pub mod Tick

@@ -13,6 +13,7 @@ use Rattle.tocmark_core_scan.specs.declared.html.LastEnds.{LastEnds}
 use Rattle.tocmark_core_scan.specs.declared.reference.Reference.{Reference}
 use Rattle.tocmark_event.specs.declared.event.LinkType.{LinkType}
 use Rattle.tocmark_event.specs.declared.event.LinkType.TheVariants.{Inline, Autolink, Email}
+use Rattle.tocmark_core_inlines.specs.Role.{roles_of}
 use Rattle.tocmark_core_inlines.specs.Tick.{last_ticks, tick_end, push_shown, stripped}
 use Rattle.tocmark_core_inlines.specs.Run.{run_at}
 use Rattle.tocmark_core_inlines.specs.Emphasis.{emphasized}
@@ -47,7 +48,7 @@ pub record State : Type 0 where
 -- a scanner as its lists
 abbrev pub scan : Scanner → State
 scan s = record {
-  roles = s.roles.items;
+  roles = roles_of s.roles;
   runs = s.runs.items;
   brackets = s.brackets.items;
   inactive = s.inactive;

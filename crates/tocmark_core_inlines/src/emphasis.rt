@@ -1,10 +1,11 @@
 //! Emphasis and strong emphasis: runs of delimiters are matched with one another.
 
-ghost use Rattle.std.specs.Prelude.{◌≡◌, OnOk, length};
+ghost use Rattle.std.specs.Prelude.{◌≡◌, IfOk, OnOk, length};
 ghost use Rattle.tocmark_core_scan.specs.Repeat.{repeated};
+ghost use Rattle.tocmark_core_inlines.specs.Role.{roles_of};
 ghost use Rattle.tocmark_core_inlines.specs.Emphasis.{openers, fits, class_of, found, matched, once, run_step, emphasized, emphasis_start};
 
-use crate::role::{Role, Span};
+use crate::role::{Role, Roles, Span};
 use crate::run::Run;
 use std::alloc::{AllocError, Global};
 use tocmark_core_scan::basic::{minus, plus, set};
@@ -59,23 +60,26 @@ fn find(stack: &[Run], closer: Run, bottom: usize) -> Option<usize>
 impl Openers {
     /// Matches the run at a place of the stack with a closer, and gives what is left of the closer.
     #[tactic(auto, unfolding(crate::specs::Emphasis::matched))]
-    fn join(&mut self, roles: &mut Vec<Role>, k: usize, opener: Run, closer: Run) -> Run
-        ensures { (openers roles.new.items self.new, result)
-            ≡ matched k opener closer (openers roles.old.items self.old) }
+    fn join(
+        &mut self,
+        roles: &mut Roles,
+        k: usize,
+        opener: Run,
+        closer: Run,
+    ) -> Result<Run, AllocError>
+        ensures { IfOk result (λ left.
+            (openers (roles_of roles.new) self.new, left)
+            ≡ matched k opener closer (openers (roles_of roles.old) self.old)) }
     {
         let two = opener.count >= 2 && closer.count >= 2;
         let width: usize = if two { 2 } else { 1 };
         let inner = minus(plus(opener.place, opener.count), width);
         let span = if two { Span::Strong } else { Span::Emphasis };
         let end = plus(closer.place, width);
-        set(
-            roles,
-            minus(plus(opener.place, opener.count), 1),
-            Role::Hidden,
-        );
-        set(roles, inner, Role::Open(span, end));
-        set(roles, closer.place, Role::Hidden);
-        set(roles, minus(end, 1), Role::Close(end));
+        roles.put(minus(plus(opener.place, opener.count), 1), Role::Hidden)?;
+        roles.put(inner, Role::Open(span, end))?;
+        roles.put(closer.place, Role::Hidden)?;
+        roles.put(minus(end, 1), Role::Close(end))?;
         let left = minus(opener.count, width);
         if left == 0 {
             self.stack.truncate(k);
@@ -90,57 +94,64 @@ impl Openers {
                 },
             );
         }
-        Run {
+        Ok(Run {
             place: end,
             count: minus(closer.count, width),
             ..closer
-        }
+        })
     }
 
     /// Matches a closer with the topmost opener that fits, and gives what is left of it. Where nothing is left
     /// or none fits, gives nothing, and such closers don't look there again.
     #[tactic(auto, unfolding(crate::specs::Emphasis::once))]
-    fn close_once(&mut self, roles: &mut Vec<Role>, left: Run) -> Option<Run>
-        ensures { (openers roles.new.items self.new, result)
-            ≡ once left (openers roles.old.items self.old) }
+    fn close_once(&mut self, roles: &mut Roles, left: Run) -> Result<Option<Run>, AllocError>
+        ensures { IfOk result (λ next.
+            (openers (roles_of roles.new) self.new, next)
+            ≡ once left (openers (roles_of roles.old) self.old)) }
     {
         if left.count == 0 {
-            return None;
+            return Ok(None);
         }
         let class = class_of(left);
         let bottom = self.bottoms.get(class).copied().unwrap_or(0);
         let Some(k) = find(&self.stack, left, bottom) else {
             set(&mut self.bottoms, class, left.place);
-            return None;
+            return Ok(None);
         };
-        let opener = self.stack.get(k).copied()?;
-        Some(self.join(roles, k, opener, left))
+        match self.stack.get(k).copied() {
+            None => Ok(None),
+            Some(opener) => {
+                let next = self.join(roles, k, opener, left)?;
+                Ok(Some(next))
+            }
+        }
     }
 
     /// Matches a closer with openers as long as one fits, and gives what is left of it.
     #[tactic(auto, using(tocmark_core_scan::proofs::Repeats::repeated_zero, tocmark_core_scan::proofs::Repeats::repeated_stop, tocmark_core_scan::proofs::Repeats::repeated_more))]
-    fn close(&mut self, roles: &mut Vec<Role>, closer: Run) -> Run
-        ensures { (openers roles.new.items self.new, result)
-            ≡ repeated once closer.count closer (openers roles.old.items self.old) }
+    fn close(&mut self, roles: &mut Roles, closer: Run) -> Result<Run, AllocError>
+        ensures { IfOk result (λ left.
+            (openers (roles_of roles.new) self.new, left)
+            ≡ repeated once closer.count closer (openers (roles_of roles.old) self.old)) }
     {
         let mut left = closer;
         for _fuel in (0..closer.count).rev() {
-            match self.close_once(roles, left) {
-                None => return left,
+            match self.close_once(roles, left)? {
+                None => return Ok(left),
                 Some(next) => left = next,
             }
         }
-        left
+        Ok(left)
     }
 
     /// Takes the next run.
     #[tactic(auto, unfolding(crate::specs::Emphasis::run_step))]
-    fn take(&mut self, roles: &mut Vec<Role>, run: Run) -> Result<(), AllocError>
-        ensures { OnOk result (openers roles.new.items self.new
-            ≡ run_step (openers roles.old.items self.old) run) }
+    fn take(&mut self, roles: &mut Roles, run: Run) -> Result<(), AllocError>
+        ensures { OnOk result (openers (roles_of roles.new) self.new
+            ≡ run_step (openers (roles_of roles.old) self.old) run) }
     {
         let left = if run.closes {
-            self.close(roles, run)
+            self.close(roles, run)?
         } else {
             run
         };
@@ -152,10 +163,13 @@ impl Openers {
 }
 
 /// Gives the delimiters of these runs, and of no others, their roles. An `Err` says that memory ran out.
-#[tactic(auto, unfolding(crate::specs::Emphasis::emphasized))]
-pub fn emphasize(alloc: Global, roles: &mut Vec<Role>, runs: &[Run]) -> Result<(), AllocError>
-    ensures { OnOk result (roles.new.items ≡ emphasized roles.old.items runs.now) }
+#[tactic(auto, unfolding(crate::specs::Emphasis::emphasized), using(crate::proofs::Runless::no_runs))]
+pub fn emphasize(alloc: Global, roles: &mut Roles, runs: &[Run]) -> Result<(), AllocError>
+    ensures { OnOk result (roles_of roles.new ≡ emphasized (roles_of roles.old) runs.now) }
 {
+    if runs.is_empty() {
+        return Ok(());
+    }
     let mut machine = Openers {
         stack: Vec::new(alloc),
         bottoms: vec![in alloc; 0; 12]?,

@@ -7,7 +7,7 @@ ghost use Rattle.tocmark_core_inlines.specs.Scan.{scan};
 ghost use Rattle.tocmark_core_inlines.specs.Inlines.{inlines_view, scan_start, read_inlines};
 
 use crate::definitions::Definitions;
-use crate::role::{Role, Stretch, Target};
+use crate::role::{Roles, Stretch, Target};
 use crate::scan::Scanner;
 use crate::write::{Node, push_moved, write};
 use std::alloc::{AllocError, Global};
@@ -32,11 +32,11 @@ fn scanner(
     targets: Vec<Target>,
     texts: Vec<u8>,
     missed: Vec<Stretch>,
-) -> Result<Scanner, AllocError>
-    ensures { IfOk result (λ s. scan s ≡ scan_start length targets.items texts.items missed.items) }
+) -> Scanner
+    ensures { scan result ≡ scan_start length targets.items texts.items missed.items }
 {
-    Ok(Scanner {
-        roles: vec![in alloc; Role::Plain; length]?,
+    Scanner {
+        roles: Roles::new(alloc, length),
         runs: Vec::new(alloc),
         brackets: Vec::new(alloc),
         inactive: 0,
@@ -45,7 +45,7 @@ fn scanner(
         targets,
         texts,
         missed,
-    })
+    }
 }
 
 /// Reads the inlines of one more leaf, at a depth. An `Err` says that memory ran out.
@@ -69,7 +69,7 @@ pub fn read_inlines(
         before.targets,
         before.texts,
         before.missed,
-    )?;
+    );
     machine.read(alloc, &content.bytes, definitions)?;
     let found = write(alloc, &machine.roles, depth)?;
     push_moved(&mut nodes, &content.places, &found)?;

@@ -1,5 +1,12 @@
 //! What the bytes of a leaf's text are.
 
+ghost use Rattle.std.specs.Prelude.{◌≡◌, IfOk, OnOk, map, replicate, slice_set};
+ghost use Rattle.tocmark_core_inlines.specs.Role.{role_at, roles_of, with_mark};
+ghost use Rattle.std.specs.List.{fold};
+ghost use Rattle.tocmark_core_inlines.specs.declared.role.Role.TheVariants.{Plain};
+
+use std::alloc::{AllocError, Global};
+use tocmark_core_scan::basic::set;
 use tocmark_event::event::LinkType;
 
 /// A stretch of the texts that a document's inlines have beside its source.
@@ -56,4 +63,78 @@ pub enum Role {
     Close(usize),
     /// The first byte of a leaf, which ends before a place.
     Single(Leaf, usize),
+}
+
+/// A byte of a leaf's text that isn't plain, or no longer what it was before.
+#[derive(Clone, Copy, Debug)]
+pub struct Mark {
+    pub place: usize,
+    pub role: Role,
+}
+
+/// The roles of the bytes of a leaf's text: each is plain but for its last mark.
+#[derive(Drop)]
+pub struct Roles {
+    pub length: usize,
+    pub marks: Vec<Mark>,
+}
+
+fn zeros(alloc: Global, count: usize) -> Result<Vec<usize>, AllocError>
+    ensures { IfOk result (λ v. v.items ≡ replicate count 0) }
+{
+    vec![in alloc; 0; count]
+}
+
+/// Writes for each byte that has marks the number of its last one.
+fn number_marks(numbers: &mut Vec<usize>, marks: &[Mark])
+    ensures { map (role_at marks.now) numbers.new.items
+        ≡ fold with_mark (map (role_at marks.now) numbers.old.items) marks.now }
+{
+    for (at, mark) in marks.iter().enumerate() {
+        set(numbers, mark.place, at + 1);
+    }
+}
+
+impl Roles {
+    /// So many plain bytes.
+    pub fn new(alloc: Global, length: usize) -> Roles
+        ensures { roles_of result ≡ replicate length Plain }
+    {
+        Roles {
+            length,
+            marks: Vec::new(alloc),
+        }
+    }
+
+    /// Gives the byte at a place a role; nothing where the text is shorter. An `Err` says that memory
+    /// ran out.
+    pub fn put(&mut self, place: usize, role: Role) -> Result<(), AllocError>
+        ensures { OnOk result (roles_of self.new ≡ slice_set (roles_of self.old) place role) }
+    {
+        self.marks.push(Mark { place, role })?;
+        Ok(())
+    }
+
+    /// For each byte the number of its last mark, from 1 on; 0 where it has none. An `Err` says that
+    /// memory ran out.
+    pub fn numbers(&self, alloc: Global) -> Result<Vec<usize>, AllocError>
+        ensures { IfOk result (λ v.
+            map (role_at self.now.marks.items) v.items ≡ roles_of self.now) }
+    {
+        let mut numbers = zeros(alloc, self.length)?;
+        number_marks(&mut numbers, &self.marks);
+        Ok(numbers)
+    }
+
+    /// The role of a mark, by its number.
+    pub fn role_at(&self, number: usize) -> Role
+        ensures { result ≡ role_at self.now.marks.items number }
+    {
+        if number == 0 {
+            return Role::Plain;
+        }
+        self.marks
+            .get(number - 1)
+            .map_or(Role::Plain, |mark| mark.role)
+    }
 }

@@ -8,7 +8,7 @@ ghost use Rattle.tocmark_core_inlines.specs.Scan.{before_space, scan, ahead_view
 use crate::definitions::Definitions;
 use crate::emphasis::emphasize;
 use crate::link::{Asked, Bracket, InlineTarget, inline_target, label_asked};
-use crate::role::{Leaf, Role, Span, Stretch, Target};
+use crate::role::{Leaf, Role, Roles, Span, Stretch, Target};
 use crate::run::{Run, run_at};
 use crate::tick::{last_ticks, push_code, tick_end};
 use std::alloc::{AllocError, Global};
@@ -31,7 +31,7 @@ pub struct Ahead {
 /// and the texts that a document's inlines have beside its source.
 #[derive(Drop)]
 pub struct Scanner {
-    pub roles: Vec<Role>,
+    pub roles: Roles,
     pub runs: Vec<Run>,
     pub brackets: Vec<Bracket>,
     /// Brackets of links below this height can't begin a link: there would be a link in it.
@@ -175,35 +175,39 @@ impl Scanner {
 
     /// Puts a leaf at the place, up to an end.
     #[tactic(auto, unfolding(crate::specs::Scan::put_leaf))]
-    fn put(&mut self, leaf: Leaf, end: usize)
-        ensures { scan self.new ≡ put_leaf leaf end (scan self.old) }
+    fn put(&mut self, leaf: Leaf, end: usize) -> Result<(), AllocError>
+        ensures { OnOk result (scan self.new ≡ put_leaf leaf end (scan self.old)) }
     {
-        set(&mut self.roles, self.place, Role::Single(leaf, end));
+        self.roles.put(self.place, Role::Single(leaf, end))?;
         self.resume = end;
+        Ok(())
     }
 
     /// Reads a backslash.
     #[tactic(auto, unfolding(crate::specs::Scan::escaped))]
-    fn escape(&mut self, bytes: &[u8])
-        ensures { scan self.new ≡ escaped bytes.now (scan self.old) }
+    fn escape(&mut self, bytes: &[u8]) -> Result<(), AllocError>
+        ensures { OnOk result (scan self.new ≡ escaped bytes.now (scan self.old)) }
     {
         if is_escape(bytes, self.place) {
-            set(&mut self.roles, self.place, Role::Hidden);
-            set(&mut self.roles, plus(self.place, 1), Role::Fresh);
+            self.roles.put(self.place, Role::Hidden)?;
+            self.roles.put(plus(self.place, 1), Role::Fresh)?;
             self.resume = plus(self.place, 2);
+            Ok(())
         } else if starts_at(bytes, self.place, b"\\\n") {
-            self.put(Leaf::HardBreak, plus(self.place, 2));
+            self.put(Leaf::HardBreak, plus(self.place, 2))
+        } else {
+            Ok(())
         }
     }
 
     /// Reads an ampersand.
     #[tactic(auto, unfolding(crate::specs::Scan::referred))]
-    fn reference(&mut self, bytes: &[u8])
-        ensures { scan self.new ≡ referred bytes.now (scan self.old) }
+    fn reference(&mut self, bytes: &[u8]) -> Result<(), AllocError>
+        ensures { OnOk result (scan self.new ≡ referred bytes.now (scan self.old)) }
     {
         match reference_at(bytes, self.place) {
             Some(found) => self.put(Leaf::Character(found.character), found.next),
-            None => {}
+            None => Ok(()),
         }
     }
 
@@ -219,8 +223,7 @@ impl Scanner {
         ensures { OnOk result (scan self.new ≡ code_put bytes.now from to count (scan self.old)) }
     {
         let text = self.keep_code(piece(bytes, from, to))?;
-        self.put(Leaf::Code(text), plus(to, count));
-        Ok(())
+        self.put(Leaf::Code(text), plus(to, count))
     }
 
     /// Reads backticks.
@@ -316,12 +319,9 @@ impl Scanner {
             title: empty(),
             id: empty(),
         })?;
-        set(
-            &mut self.roles,
-            self.place,
-            Role::Open(Span::Link(number), end),
-        );
-        set(&mut self.roles, last, Role::Close(end));
+        self.roles
+            .put(self.place, Role::Open(Span::Link(number), end))?;
+        self.roles.put(last, Role::Close(end))?;
         self.resume = end;
         Ok(())
     }
@@ -332,8 +332,7 @@ impl Scanner {
         ensures { OnOk result (scan self.new ≡ html_put bytes.now end (scan self.old)) }
     {
         let text = self.keep(piece(bytes, self.place, end))?;
-        self.put(Leaf::Html(text), end);
-        Ok(())
+        self.put(Leaf::Html(text), end)
     }
 
     /// Reads an angle bracket that begins no address.
@@ -371,37 +370,35 @@ impl Scanner {
 
     /// Reads a line feed: two spaces before it make a hard break.
     #[tactic(auto, unfolding(crate::specs::Scan::line_ended))]
-    fn end_line(&mut self, bytes: &[u8])
-        ensures { scan self.new ≡ line_ended bytes.now (scan self.old) }
+    fn end_line(&mut self, bytes: &[u8]) -> Result<(), AllocError>
+        ensures { OnOk result (scan self.new ≡ line_ended bytes.now (scan self.old)) }
     {
         let first = space_start(bytes, self.place);
         let end = plus(self.place, 1);
         if minus(self.place, first) >= 2 {
-            set(&mut self.roles, first, Role::Single(Leaf::HardBreak, end));
+            self.roles.put(first, Role::Single(Leaf::HardBreak, end))
         } else {
-            set(&mut self.roles, first, Role::Hidden);
-            set(
-                &mut self.roles,
-                self.place,
-                Role::Single(Leaf::SoftBreak, end),
-            );
+            self.roles.put(first, Role::Hidden)?;
+            self.roles
+                .put(self.place, Role::Single(Leaf::SoftBreak, end))
         }
     }
 
     /// Makes the text of a bracket that is closed at the place a link or an image up to an end.
     #[tactic(auto, unfolding(crate::specs::Scan::spanned))]
-    fn span(&mut self, bracket: Bracket, number: usize, end: usize)
-        ensures { scan self.new ≡ spanned bracket number end (scan self.old) }
+    fn span(&mut self, bracket: Bracket, number: usize, end: usize) -> Result<(), AllocError>
+        ensures { OnOk result (scan self.new ≡ spanned bracket number end (scan self.old)) }
     {
         let span = if bracket.image {
             Span::Image(number)
         } else {
             Span::Link(number)
         };
-        set(&mut self.roles, minus(bracket.inner, 1), Role::Hidden);
-        set(&mut self.roles, bracket.start, Role::Open(span, end));
-        set(&mut self.roles, self.place, Role::Close(end));
+        self.roles.put(minus(bracket.inner, 1), Role::Hidden)?;
+        self.roles.put(bracket.start, Role::Open(span, end))?;
+        self.roles.put(self.place, Role::Close(end))?;
         self.resume = end;
+        Ok(())
     }
 
     /// Matches the delimiters behind so many runs, and forgets these runs.
@@ -427,7 +424,7 @@ impl Scanner {
     {
         self.settle(alloc, bracket.runs)?;
         let number = self.keep_target(target)?;
-        self.span(bracket, number, end);
+        self.span(bracket, number, end)?;
         if !bracket.image {
             self.inactive = self.brackets.len();
         }
@@ -577,14 +574,11 @@ impl Scanner {
         ensures { OnOk result (scan self.new ≡ looked_mark bytes.now ticks.now byte (scan self.old)) }
     {
         if byte == b'\\' {
-            self.escape(bytes);
-            Ok(())
+            self.escape(bytes)
         } else if byte == b'&' {
-            self.reference(bytes);
-            Ok(())
+            self.reference(bytes)
         } else if byte == b'\n' {
-            self.end_line(bytes);
-            Ok(())
+            self.end_line(bytes)
         } else if byte == b'`' {
             self.code(bytes, ticks)
         } else if byte == b'*' || byte == b'_' {

@@ -1,9 +1,10 @@
 //! The second pass over a leaf's text: from what each byte is to nodes.
 
 ghost use Rattle.std.specs.Prelude.{◌≡◌, ◌++◌, IfOk, OnOk, map};
+ghost use Rattle.tocmark_core_inlines.specs.Role.{roles_of};
 ghost use Rattle.tocmark_core_inlines.specs.Write.{writing, pushed, flushed, opened, closed, single, gone_on, shown, role_step, written, moved};
 
-use crate::role::{Leaf, Role, Span};
+use crate::role::{Leaf, Role, Roles, Span};
 use std::alloc::{AllocError, Global};
 use tocmark_core_scan::basic::{minus, plus};
 
@@ -139,18 +140,19 @@ impl Writer {
 
 /// The nodes of the roles of a text's bytes, at a depth. An `Err` says that memory ran out.
 #[tactic(auto, unfolding(crate::specs::Write::written))]
-pub fn write(alloc: Global, roles: &[Role], depth: usize) -> Result<Vec<Node>, AllocError>
-    ensures { IfOk result (λ v. v.items ≡ written roles.now depth) }
+pub fn write(alloc: Global, roles: &Roles, depth: usize) -> Result<Vec<Node>, AllocError>
+    ensures { IfOk result (λ v. v.items ≡ written (roles_of roles.now) depth) }
 {
     let mut writer = Writer {
-        nodes: Vec::new(alloc),
+        nodes: Vec::with_capacity(alloc, plus(roles.marks.len(), 1))?,
         depth,
         text: None,
         place: 0,
         resume: 0,
     };
-    for role in roles {
-        writer.step(*role)?;
+    let numbers = roles.numbers(alloc)?;
+    for number in &numbers {
+        writer.step(roles.role_at(*number))?;
     }
     writer.flush()?;
     Ok(writer.nodes)

@@ -211,7 +211,7 @@ fn read_leaf(
     let mut nodes = before.nodes;
     let lines = content_lines(alloc, pieces)?;
     let content = content_of(alloc, text, &lines)?;
-    let found = read_inlines(alloc, before.inlines, &content, depth, definitions)?;
+    let mut found = read_inlines(alloc, before.inlines, &content, depth, definitions)?;
     push_inlines(
         alloc,
         &mut nodes,
@@ -219,14 +219,10 @@ fn read_leaf(
         &found.targets,
         &found.nodes,
     )?;
+    found.nodes.clear();
     Ok(Assembly {
         nodes,
-        inlines: Inlines {
-            nodes: Vec::new(alloc),
-            targets: found.targets,
-            texts: found.texts,
-            missed: found.missed,
-        },
+        inlines: found,
     })
 }
 

@@ -1,9 +1,10 @@
 use Rattle.std.proofs.Common.{◌≡◌}
 use Rattle.tocmark_core_scan.specs.Repeat.{repeated}
+use Rattle.tocmark_core_inlines.specs.Role.{roles_of}
 use Rattle.tocmark_core_inlines.specs.Emphasis.{once, openers}
 use Rattle.tocmark_core_inlines.proofs.emphasis.Openers.close.Given as goal
 
 -- under .rev() the loop's own variable is the fuel left
 abbrev pub invariant-loop-fuel : goal.invariant-loop-fuel
 invariant-loop-fuel l =
-    repeated once l._fuel l.left (openers l.roles.items l.self) ≡ repeated once l.fn.closer.count l.fn.closer (openers l.fn.roles.items l.fn.self)
+    repeated once l._fuel l.left (openers (roles_of l.roles) l.self) ≡ repeated once l.fn.closer.count l.fn.closer (openers (roles_of l.fn.roles) l.fn.self)

@@ -1,0 +1,54 @@
+-- Lists of roles by the numbers of their marks.
+use Rattle.std.proofs.Common.{◌≡◌, ℕ, zero, suc, ◌+◌, List, [], ◌∷◌, map, replicate, take, refl, sym, ap, ◌∙◌, ◌<◌, length, get_or, arith}
+use Rattle.std.specs.Prelude.{slice_get, slice_set, Option}
+use Rattle.std.proofs.lemmas.Option.{slice_get-get_or}
+use Rattle.std.specs.List.{fold}
+use Rattle.std.specs.Option.{option_map_or}
+use Rattle.std.proofs.lemmas.List.Sums.{fold_more}
+use Rattle.tocmark_core_inlines.specs.Role.{role_at, with_mark}
+use Rattle.tocmark_core_inlines.specs.declared.role.Mark.{Mark}
+use Rattle.tocmark_core_inlines.specs.declared.role.Role.{Role}
+use Rattle.tocmark_core_inlines.specs.declared.role.Role.TheVariants.{Plain}
+
+-- what is set is mapped
+pub map_slice_set : {A B : Type 0} (f : A → B) (l : List A) (i : ℕ) (a : A) → map f (slice_set l i a) ≡ slice_set (map f l) i (f a)
+map_slice_set f [] i a = refl
+map_slice_set f (x ∷ l) zero a = refl
+map_slice_set f (x ∷ l) (suc i) a = ap (λ r. f x ∷ r) (map_slice_set f l i a)
+
+-- a byte without a number is plain
+pub unmarked : (marks : List Mark) (n : ℕ) → map (role_at marks) (replicate n 0) ≡ replicate n Plain
+unmarked marks zero = refl
+unmarked marks (suc n) = ap (λ r. Plain ∷ r) (unmarked marks n)
+
+-- the number of one more mark gives its byte the role
+pub numbered : (marks : List Mark) (at : ℕ) (d : Mark) (numbers : List ℕ) → at < length marks
+    → map (role_at marks) (slice_set numbers (get_or marks at d).place (at + 1)) ≡ with_mark (map (role_at marks) numbers) (get_or marks at d)
+numbered marks at d numbers within =
+    let m = get_or marks at d in
+    let next : at + 1 ≡ suc at = omega arith in
+    ap (λ n. map (role_at marks) (slice_set numbers m.place n)) next
+    ∙ map_slice_set (role_at marks) numbers m.place (suc at)
+    ∙ ap (λ (o : Option Mark). slice_set (map (role_at marks) numbers) m.place (option_map_or (λ (k : Mark). k.role) o Plain)) (slice_get-get_or marks at d within)
+
+-- one more mark in a loop over them
+pub numbered_step : (marks : List Mark) (at : ℕ) (d : Mark) (before after : List ℕ) (roles : List Role) → at < length marks
+    → map (role_at marks) before ≡ fold with_mark roles (take at marks)
+    → after ≡ slice_set before (get_or marks at d).place (at + 1)
+    → map (role_at marks) after ≡ fold with_mark roles (take (at + 1) marks)
+numbered_step marks at d before after roles within h e =
+    ap (map (role_at marks)) e
+    ∙ numbered marks at d before within
+    ∙ ap (λ rs. with_mark rs (get_or marks at d)) h
+    ∙ sym (fold_more with_mark roles marks at d within)
+
+-- all marks over plain bytes
+pub numbered_all : (marks found : List Mark) (n : ℕ) (zeros after : List ℕ) → found ≡ marks → zeros ≡ replicate n 0
+    → map (role_at found) after ≡ fold with_mark (map (role_at found) zeros) found
+    → map (role_at marks) after ≡ fold with_mark (replicate n Plain) marks
+numbered_all marks found n zeros after f z h =
+    ap (λ ms. map (role_at ms) after) (sym f)
+    ∙ h
+    ∙ ap (λ ms. fold with_mark (map (role_at ms) zeros) ms) f
+    ∙ ap (λ (ns : List ℕ). fold with_mark (map (role_at marks) ns) marks) z
+    ∙ ap (λ rs. fold with_mark rs marks) (unmarked marks n)
