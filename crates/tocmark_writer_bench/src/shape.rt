@@ -4,7 +4,9 @@
 //! Start and the same letter in lower case its End: `P` is a paragraph, `H` a heading, `A` one with N classes, `Q` a quote,
 //! `L` a list of bullets, `I` an item, `C` a code block with fences, `B` an indented one, `X` an HTML block, `T` a table of
 //! three columns, `W` one of N columns, `U` a table's head, `R` a row, `E` a cell, `F` a footnote's definition, `D` a
-//! definition list, `N` a title and `M` a definition in it, and `Y` a block of metadata.
+//! definition list, `N` a title and `M` a definition in it, and `Y` a block of metadata. `O` is emphasis, `S` strong emphasis,
+//! `K` strikethrough, `V` a link with its destination, `J` one by a label, which is the number of the repeat, and `G` a
+//! collapsed image with the label `a`.
 //!
 //! Of the leaves `.` is the text `a`, `+` the text `*`, `%` the line `a` of code, `*`, `` ` `` and `_` are texts of N such
 //! characters (spaces for `_`), `,` is the code `a` and `;` that of N backticks, `\` a hard break and `~` a soft one, `<` a
@@ -13,8 +15,8 @@
 
 use std::alloc::{AllocError, Global};
 use tocmark_event::event::{
-    Alignment, CodeBlockKindOf, CowStr, Event, EventOf, HeadingLevel, MetadataBlockKind, Tag,
-    TagEnd, TagOf,
+    Alignment, CodeBlockKindOf, CowStr, Event, EventOf, HeadingLevel, LinkType, MetadataBlockKind,
+    Tag, TagEnd, TagOf,
 };
 
 /// A heading with so many classes.
@@ -40,7 +42,39 @@ fn table(alloc: Global, count: usize) -> Result<Tag<'static>, AllocError> {
     Ok(TagOf::Table(alignments))
 }
 
-/// A container that holds no list, by its letter; a paragraph for any other one.
+/// A link of this type with this label.
+fn link(link_type: LinkType, id: CowStr<'static>) -> Tag<'static> {
+    TagOf::Link {
+        link_type,
+        dest_url: CowStr::Borrowed("/u"),
+        title: CowStr::Borrowed(""),
+        id,
+    }
+}
+
+/// A collapsed image.
+fn image() -> Tag<'static> {
+    TagOf::Image {
+        link_type: LinkType::Collapsed,
+        dest_url: CowStr::Borrowed("/u"),
+        title: CowStr::Borrowed(""),
+        id: CowStr::Borrowed("a"),
+    }
+}
+
+/// A container within lines, by its letter; a paragraph for any other one.
+fn inline_tag(letter: u8) -> Tag<'static> {
+    match letter {
+        b'O' => TagOf::Emphasis,
+        b'S' => TagOf::Strong,
+        b'K' => TagOf::Strikethrough,
+        b'V' => link(LinkType::Inline, CowStr::Borrowed("")),
+        b'G' => image(),
+        _ => TagOf::Paragraph,
+    }
+}
+
+/// A container that holds no list, by its letter; a paragraph for an unknown one.
 fn plain_tag(letter: u8) -> Tag<'static> {
     match letter {
         b'Q' => TagOf::BlockQuote(None),
@@ -57,17 +91,30 @@ fn plain_tag(letter: u8) -> Tag<'static> {
         b'N' => TagOf::DefinitionListTitle,
         b'M' => TagOf::DefinitionListDefinition,
         b'Y' => TagOf::MetadataBlock(MetadataBlockKind::YamlStyle),
-        _ => TagOf::Paragraph,
+        _ => inline_tag(letter),
     }
 }
 
-/// The Start of a container, by its letter; of a paragraph for any other one.
-fn start_of(alloc: Global, letter: u8, count: usize) -> Result<Event<'static>, AllocError> {
+/// Where an event stands.
+#[derive(Clone, Copy)]
+struct Place {
+    /// How often what is in braces is repeated.
+    count: usize,
+    /// How many of these repeats stand before it.
+    repeat: usize,
+}
+
+/// The Start of a container, by its letter; of a paragraph for an unknown one.
+fn start_of(alloc: Global, letter: u8, place: Place) -> Result<Event<'static>, AllocError> {
     Ok(EventOf::Start(match letter {
         b'H' => heading(alloc, 0)?,
-        b'A' => heading(alloc, count)?,
+        b'A' => heading(alloc, place.count)?,
         b'T' => table(alloc, 3)?,
-        b'W' => table(alloc, count)?,
+        b'W' => table(alloc, place.count)?,
+        b'J' => {
+            let label = format!(in alloc; "{}", place.repeat)?;
+            link(LinkType::Reference, CowStr::Owned(label))
+        }
         _ => plain_tag(letter),
     }))
 }
@@ -90,6 +137,11 @@ fn end_of(letter: u8) -> Event<'static> {
         b'n' => TagEnd::DefinitionListTitle,
         b'm' => TagEnd::DefinitionListDefinition,
         b'y' => TagEnd::MetadataBlock(MetadataBlockKind::YamlStyle),
+        b'o' => TagEnd::Emphasis,
+        b's' => TagEnd::Strong,
+        b'k' => TagEnd::Strikethrough,
+        b'v' | b'j' => TagEnd::Link,
+        b'g' => TagEnd::Image,
         _ => TagEnd::Paragraph,
     })
 }
@@ -124,13 +176,13 @@ fn leaf_of(alloc: Global, letter: u8, count: usize) -> Result<Event<'static>, Al
 }
 
 /// The event of a letter.
-fn event_of(alloc: Global, letter: u8, count: usize) -> Result<Event<'static>, AllocError> {
+fn event_of(alloc: Global, letter: u8, place: Place) -> Result<Event<'static>, AllocError> {
     if letter.is_ascii_uppercase() {
-        start_of(alloc, letter, count)
+        start_of(alloc, letter, place)
     } else if letter.is_ascii_lowercase() {
         Ok(end_of(letter))
     } else {
-        leaf_of(alloc, letter, count)
+        leaf_of(alloc, letter, place.count)
     }
 }
 
@@ -139,10 +191,10 @@ fn add(
     alloc: Global,
     events: &mut Vec<Event<'static>>,
     letters: &str,
-    count: usize,
+    place: Place,
 ) -> Result<(), AllocError> {
     for letter in letters.as_bytes() {
-        events.push(event_of(alloc, *letter, count)?)?;
+        events.push(event_of(alloc, *letter, place)?)?;
     }
     Ok(())
 }
@@ -156,8 +208,8 @@ pub fn events_of(
     let mut events = Vec::new(alloc);
     for (at, letters) in shape.split(['{', '}']).enumerate() {
         let times = if at % 2 == 0 { 1 } else { count };
-        for _time in 0..times {
-            add(alloc, &mut events, letters, count)?;
+        for repeat in 0..times {
+            add(alloc, &mut events, letters, Place { count, repeat })?;
         }
     }
     Ok(events)
