@@ -3,42 +3,16 @@
 //! nothing more where it is read as the document is.
 #![tactic(auto)]
 
-use std::alloc::{AllocError, Global};
+use std::alloc::Global;
 use std::io::{self, Read, Write};
 use std::process::ExitCode;
-use tocmark::{Error, cmark, cmark_with_source_range};
-use tocmark_ahead::same_events::same_events;
+use tocmark::{Error, cmark_with_source_range};
 use tocmark_core_reader::CoreReader;
-use tocmark_event::event::{OwnedEvent, ParserOptions, merge_all};
+use tocmark_event::event::ParserOptions;
 use tocmark_event::reader::Reader;
+use tocmark_round_trip::{are_read_alike, rewritten};
 
 const FLAGS: ParserOptions = ParserOptions(0);
-
-/// The events of a text, each stretch of texts as one.
-fn merged(alloc: Global, text: &str) -> Result<Vec<OwnedEvent>, AllocError> {
-    let reading = CoreReader.read(alloc, text, FLAGS)?;
-    let mut events: Vec<OwnedEvent> = Vec::new(alloc);
-    for (event, _range) in &reading.events {
-        events.push(event.copied(alloc)?)?;
-    }
-    merge_all(alloc, &events)
-}
-
-/// Whether two texts are read as the same events.
-fn are_read_alike(alloc: Global, left: &str, right: &str) -> Result<bool, AllocError> {
-    let left = merged(alloc, left)?;
-    let right = merged(alloc, right)?;
-    Ok(same_events(&left, &right))
-}
-
-/// The text, read and written back.
-fn escaped(alloc: Global, text: &str) -> Result<String, Error> {
-    let reading = CoreReader.read(alloc, text, FLAGS)?;
-    let mut output = String::new(alloc);
-    let state = cmark(alloc, reading.events(), &mut output, CoreReader, FLAGS)?;
-    drop(state);
-    Ok(output)
-}
 
 /// The text, read and written back from itself.
 fn from_source(alloc: Global, text: &str) -> Result<String, Error> {
@@ -74,7 +48,7 @@ fn answer_all<W: Write>(alloc: Global, output: &mut W, text: &str) -> io::Result
     for line in text.split('\n') {
         if line == "%" {
             let whole = document.as_str();
-            answer(alloc, output, whole, escaped(alloc, whole))?;
+            answer(alloc, output, whole, rewritten(alloc, whole))?;
             answer(alloc, output, whole, from_source(alloc, whole))?;
             document = String::new(alloc);
         } else {
