@@ -719,7 +719,8 @@ impl<R: Reader + Drop> State<R> {
 }
 
 fn copied_events(alloc: Global, events: &[BufferedEvent]) -> Result<Vec<BufferedEvent>, AllocError>
-    ensures { IfOk result (λ copies. map buffered_view copies.items ≡ map buffered_view events.now) }
+    ensures { IfOk result (λ copies. map buffered_view copies.items
+        ≡ map buffered_view events.now) }
 {
     let mut copies = Vec::new(alloc);
     for buffered in events {

@@ -304,7 +304,8 @@ fn is_image<T: Words, U: Words>(
 }
 
 fn same_tag<T: Words, U: Words>(a: &TagOf<T>, b: &TagOf<U>) -> bool
-    ensures { result ≡ same_event (Start (tag_view T.bytes a.now)) (Start (tag_view U.bytes b.now)) }
+    ensures { result
+        ≡ same_event (Start (tag_view T.bytes a.now)) (Start (tag_view U.bytes b.now)) }
 {
     match a {
         TagOf::Heading {

@@ -204,7 +204,8 @@ impl Page {
         column: usize,
         line: Line,
     ) -> Result<(), AllocError>
-        ensures { OnOk result (page self.new ≡ code_taken text.now cells.now column line (page self.old)) }
+        ensures { OnOk result (page self.new
+            ≡ code_taken text.now cells.now column line (page self.old)) }
     {
         let code = code_piece(cells, column, line);
         let keeps = keeps_line(cells, column, self.leaf);
@@ -236,7 +237,8 @@ impl Page {
         line: Line,
         place: Place,
     ) -> Result<(), AllocError>
-        ensures { OnOk result (page self.new ≡ text_taken text.now cells.now line place (page self.old)) }
+        ensures { OnOk result (page self.new
+            ≡ text_taken text.now cells.now line place (page self.old)) }
     {
         let words = text_piece(cells, place.cursor, line);
         if !is_paragraph(self.leaf) {
@@ -495,7 +497,8 @@ impl Page {
         cells: &[Cell],
         line: Line,
     ) -> Result<(), AllocError>
-        ensures { OnOk result (page self.new ≡ cells_taken text.now cells.now line (page self.old)) }
+        ensures { OnOk result (page self.new
+            ≡ cells_taken text.now cells.now line (page self.old)) }
     {
         let (depth, cursor) = matched(cells, &self.opened, &self.quotes);
         let place = Place { cursor, depth };
@@ -526,7 +529,8 @@ impl Page {
     }
 
     fn take_lines(&mut self, alloc: Global, text: &[u8], lines: &[Line]) -> Result<(), AllocError>
-        ensures { OnOk result (page self.new ≡ fold (line_taken text.now) (page self.old) lines.now) }
+        ensures { OnOk result (page self.new
+            ≡ fold (line_taken text.now) (page self.old) lines.now) }
     {
         let mut cells = Vec::new(alloc);
         for line in lines {

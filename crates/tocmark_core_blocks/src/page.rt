@@ -347,7 +347,8 @@ impl Page {
         start: usize,
         line: Line,
     ) -> Result<(), AllocError>
-        ensures { OnOk result (page self.new ≡ opened_with container kind start line (page self.old)) }
+        ensures { OnOk result (page self.new
+            ≡ opened_with container kind start line (page self.old)) }
     {
         self.begin(kind, start, line.number)?;
         self.opened.push(Opened {

@@ -440,7 +440,8 @@ impl Scanner {
         bracket: Bracket,
         found: InlineTarget,
     ) -> Result<(), AllocError>
-        ensures { OnOk result (scan self.new ≡ closed_inline bytes.now bracket found (scan self.old)) }
+        ensures { OnOk result (scan self.new
+            ≡ closed_inline bytes.now bracket found (scan self.old)) }
     {
         let destination = self.keep_resolved(
             alloc,
@@ -571,7 +572,8 @@ impl Scanner {
     /// Reads a byte that is no bracket.
     #[tactic(auto, unfolding(crate::specs::Scan::looked_mark))]
     fn look_mark(&mut self, bytes: &[u8], ticks: &[usize], byte: u8) -> Result<(), AllocError>
-        ensures { OnOk result (scan self.new ≡ looked_mark bytes.now ticks.now byte (scan self.old)) }
+        ensures { OnOk result (scan self.new
+            ≡ looked_mark bytes.now ticks.now byte (scan self.old)) }
     {
         if byte == b'\\' {
             self.escape(bytes)

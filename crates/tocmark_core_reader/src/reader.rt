@@ -46,7 +46,8 @@ fn definitions(
     keys: &[String],
     entries: Vec<Entry>,
 ) -> Result<Definitions, AllocError>
-    ensures { IfOk result (λ d. entry_of d ≡ first_entry (map string_bytes keys.now) entries.items) }
+    ensures { IfOk result (λ d. entry_of d
+        ≡ first_entry (map string_bytes keys.now) entries.items) }
 {
     let places = first_places(alloc, keys)?;
     Ok(Definitions { places, entries })

@@ -38,7 +38,8 @@ impl Content {
     /// Writes the byte at a place of the source: U+FFFD for a zero.
     #[tactic(auto, unfolding(crate::specs::Content::put_byte))]
     fn put_byte(&mut self, byte: u8, start: usize) -> Result<(), AllocError>
-        ensures { OnOk result (content_view self.new ≡ put_byte byte start (content_view self.old)) }
+        ensures { OnOk result (content_view self.new
+            ≡ put_byte byte start (content_view self.old)) }
     {
         let end = plus(start, 1);
         if byte == 0 {
@@ -53,7 +54,8 @@ impl Content {
     /// Writes the bytes of a line and a line feed.
     #[tactic(auto, unfolding(crate::specs::Content::put_line))]
     fn put_line(&mut self, source: &[u8], line: Line) -> Result<(), AllocError>
-        ensures { OnOk result (content_view self.new ≡ put_line source.now (content_view self.old) line) }
+        ensures { OnOk result (content_view self.new
+            ≡ put_line source.now (content_view self.old) line) }
     {
         self.put_bytes(piece(source, line.start, line.end), line.start)?;
         self.put(b'\n', line.end, line.next)
@@ -61,7 +63,8 @@ impl Content {
 
     /// Writes bytes that stand in the source from a place on.
     fn put_bytes(&mut self, bytes: &[u8], start: usize) -> Result<(), AllocError>
-        ensures { OnOk result (content_view self.new ≡ put_bytes start (content_view self.old) bytes.now) }
+        ensures { OnOk result (content_view self.new
+            ≡ put_bytes start (content_view self.old) bytes.now) }
     {
         let mut place = start;
         for byte in bytes {

@@ -160,7 +160,8 @@ impl Unescaping {
     /// Takes what stands at the place.
     #[tactic(auto, unfolding(crate::specs::Reference::unescape_at))]
     fn take(&mut self, alloc: Global, bytes: &[u8], byte: u8) -> Result<(), AllocError>
-        ensures { OnOk result (unescaping self.new ≡ unescape_at bytes.now byte (unescaping self.old)) }
+        ensures { OnOk result (unescaping self.new
+            ≡ unescape_at bytes.now byte (unescaping self.old)) }
     {
         if is_escape(bytes, self.place) {
             self.out.push(byte_at(bytes, plus(self.place, 1)))?;
@@ -178,7 +179,8 @@ impl Unescaping {
 
     #[tactic(auto, unfolding(crate::specs::Reference::unescape_step))]
     fn step(&mut self, alloc: Global, bytes: &[u8], byte: u8) -> Result<(), AllocError>
-        ensures { OnOk result (unescaping self.new ≡ unescape_step bytes.now (unescaping self.old) byte) }
+        ensures { OnOk result (unescaping self.new
+            ≡ unescape_step bytes.now (unescaping self.old) byte) }
     {
         if self.resume <= self.place {
             self.take(alloc, bytes, byte)?;

@@ -440,7 +440,8 @@ impl<T: Words> TagOf<T> {
 impl<T: Words> EventOf<T> {
     /// An equal event that owns its texts. An `Err` says that memory ran out.
     pub fn copied<U: OwnedWords + Drop>(&self, alloc: Global) -> Result<EventOf<U>, AllocError>
-        ensures { IfOk result (λ copy. event_view U.Words.bytes copy ≡ event_view T.bytes self.now) }
+        ensures { IfOk result (λ copy. event_view U.Words.bytes copy
+            ≡ event_view T.bytes self.now) }
     {
         match self {
             EventOf::Start(tag) => Ok(EventOf::Start(tag.copied(alloc)?)),

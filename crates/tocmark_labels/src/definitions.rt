@@ -119,7 +119,8 @@ fn push_lines(text: &mut String, keys: &[Key<'_>]) -> Result<(), AllocError>
 
 /// Line feeds, so that two stand where so many do already.
 fn push_feeds(text: &mut String, feeds: usize) -> Result<(), AllocError>
-    ensures { OnOk result (string_bytes text.new ≡ string_bytes text.old ++ replicate (2 - feeds) 10) }
+    ensures { OnOk result (string_bytes text.new
+        ≡ string_bytes text.old ++ replicate (2 - feeds) 10) }
 {
     if feeds == 0 {
         return text.push_str("\n\n");

@@ -81,7 +81,8 @@ fn rewrite<I: Read, O: Write>(
         × Appends (O.contents output.old) (O.contents output.new) text) }
     ensures wrote { IfSome (I.remaining input.old) (λ bytes.
         OnOk result (Wrote spelling bytes (O.contents output.old) (O.contents output.new))) }
-    ensures late { OnErr result (WritesLate spelling (I.remaining input.old) output.old output.new) }
+    ensures late { OnErr result
+        (WritesLate spelling (I.remaining input.old) output.old output.new) }
 {
     let text = converted(alloc, spelling, input)?;
     write_out(output, text.as_str())

@@ -276,7 +276,8 @@ impl Document {
         trial: &Trial<'_, '_, R>,
         written: Written,
     ) -> Result<String, AllocError>
-        ensures text { IfOk result (λ text. string_bytes text ≡ string_bytes written.spelling.text) }
+        ensures text { IfOk result (λ text. string_bytes text
+            ≡ string_bytes written.spelling.text) }
         ensures left { let q = asked_of R.reading trial.now in
             IsDefined written
             → OnOk result (Leaves q (document_view self.old) (document_view self.new) written) }

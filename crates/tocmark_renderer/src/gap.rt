@@ -56,7 +56,8 @@ impl<'a> Renderer<'a> {
         ensures line { IfOk result (λ line.
             option_map string_bytes line
             ≡ quote_line_for (event_view string_bytes event.now) (page_of self.old).trail) }
-        ensures stands { OnOk result (Stands self.new (levels_of self.old) (forget_quote (page_of self.old))) }
+        ensures stands { OnOk result
+            (Stands self.new (levels_of self.old) (forget_quote (page_of self.old))) }
         ensures mark { self.new.at_mark ≡ self.old.at_mark }
     {
         let goes_on = self.carried().keeps_quote(event);

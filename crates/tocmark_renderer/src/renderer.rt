@@ -261,7 +261,8 @@ impl<'a> Renderer<'a> {
 
     /// Adds to the text. An `Err` says that memory ran out.
     pub fn put_text(&mut self, text: &str) -> Result<(), AllocError>
-        ensures site { OnOk result (site_of self.new ≡ on_sheet (with_more text.now) (site_of self.old)) }
+        ensures site { OnOk result (site_of self.new
+            ≡ on_sheet (with_more text.now) (site_of self.old)) }
         ensures mark { self.new.at_mark ≡ self.old.at_mark }
     {
         self.text.push_str(text)?;

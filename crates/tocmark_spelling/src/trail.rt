@@ -285,7 +285,8 @@ impl Carried {
 
 /// An equal text, if there is one. An `Err` says that memory ran out.
 pub fn copied_text(alloc: Global, text: &Option<String>) -> Result<Option<String>, AllocError>
-    ensures { IfOk result (λ copy. option_map string_bytes copy ≡ option_map string_bytes text.now) }
+    ensures { IfOk result (λ copy. option_map string_bytes copy
+        ≡ option_map string_bytes text.now) }
 {
     match text {
         None => Ok(None),
