@@ -1,5 +1,5 @@
 -- The columns of a line (CommonMark 2.2).
-use Rattle.std.specs.Prelude.{ℕ, ◌-◌, ◌%◌, Bool, ◌==◌, ◌&&◌, nat_le, if◌then◌else◌, List, [], ◌∷◌, ◌++◌, length, drop, reverse, filter, take_while, replicate, slice_get, slice_range}
+use Rattle.std.specs.Prelude.{ℕ, ◌-◌, ◌%◌, Bool, ◌==◌, ◌&&◌, nat_le, if◌then◌else◌, List, [], ◌∷◌, ◌++◌, length, map, drop, reverse, filter, take_while, replicate, slice_get, slice_range}
 use Rattle.std.specs.Option.{option_map_or}
 use Rattle.tocmark_core_scan.specs.Basic.{plus}
 use Rattle.tocmark_core_blocks.specs.declared.cell.Cell.{Cell}
@@ -8,6 +8,20 @@ use Rattle.tocmark_core_blocks.specs.declared.cell.Cursor.{Cursor}
 -- a column of the byte at a place
 abbrev pub cell : ℕ → ℕ → Cell
 cell byte at = record { byte = byte; at = at }
+
+-- the bytes of columns
+abbrev pub bytes_of : List Cell → List ℕ
+bytes_of cells = map (λ (c : Cell). c.byte) cells
+
+-- the places of columns
+abbrev pub places_of : List Cell → List ℕ
+places_of cells = map (λ (c : Cell). c.at) cells
+
+-- columns of these bytes: the first ones have these places, the others those from a place on
+abbrev pub cells_at : ℕ → List ℕ → List ℕ → List Cell
+cells_at at places [] = []
+cells_at at [] (b ∷ bs) = cell b at ∷ cells_at (plus at 1) [] bs
+cells_at at (p ∷ ps) (b ∷ bs) = cell b p ∷ cells_at (plus at 1) ps bs
 
 -- a tab is spaces up to the next column that is a multiple of four
 unfoldable pub filled : List Cell → ℕ → ℕ → List Cell

@@ -5,8 +5,8 @@ use Rattle.std.specs.Option.{option_map, option_or}
 use Rattle.std.specs.Char.{is_ascii_digit}
 use Rattle.tocmark_event.specs.declared.event.HeadingLevel.{HeadingLevel}
 use Rattle.tocmark_event.specs.declared.event.HeadingLevel.TheVariants as level
-use Rattle.tocmark_core_scan.specs.Basic.{plus}
-use Rattle.tocmark_core_blocks.specs.Cells.{cell_byte, run_of, count_of, ink_from, part, trailing, trimmed, indent_of}
+use Rattle.tocmark_core_scan.specs.Basic.{plus, piece}
+use Rattle.tocmark_core_blocks.specs.Cells.{bytes_of, cell_byte, run_of, count_of, ink_from, trailing, trimmed, indent_of}
 use Rattle.tocmark_core_blocks.specs.declared.cell.Cell.{Cell}
 use Rattle.tocmark_core_blocks.specs.declared.cell.Cursor.{Cursor}
 use Rattle.tocmark_core_blocks.specs.declared.mark.Heading.{Heading}
@@ -103,12 +103,12 @@ abbrev pub digit_count : List Cell → ℕ → ℕ
 digit_count cells column = length (take_while (λ (c : Cell). is_ascii_digit c.byte) (drop column cells))
 
 -- one more digit; a number stops at the greatest of 64 bits
-unfoldable pub number_step : ℕ → Cell → ℕ
-number_step n c = min (min (n * 10) (2 ^ 64 - 1) + (c.byte - 48)) (2 ^ 64 - 1)
+unfoldable pub number_step : ℕ → ℕ → ℕ
+number_step n digit = min (min (n * 10) (2 ^ 64 - 1) + (digit - 48)) (2 ^ 64 - 1)
 
 -- the number that digits write
-abbrev pub number_of : List Cell → ℕ
-number_of cells = fold number_step 0 cells
+abbrev pub number_of : List ℕ → ℕ
+number_of digits = fold number_step 0 digits
 
 -- `-`, `+` or `*` (CommonMark 5.2)
 unfoldable pub bullet_at : List Cell → ℕ → Option Marker
@@ -125,7 +125,7 @@ ordered_at cells column =
     let last = plus column count in
     let sort = cell_byte cells last in
     if nat_le 1 count && nat_le count 9 && ((sort == 46) || (sort == 41)) && is_behind cells (plus last 1)
-    then Some (record { sort = sort; number = Some (number_of (part cells column last)); length = plus count 1 })
+    then Some (record { sort = sort; number = Some (number_of (piece (bytes_of cells) column last)); length = plus count 1 })
     else None
 
 -- the marker of an item at a column

@@ -5,7 +5,7 @@ ghost use Rattle.std.specs.List.{fold};
 ghost use Rattle.tocmark_core_blocks.specs.Pages.{page};
 ghost use Rattle.tocmark_core_blocks.specs.Blocks.{info_of, goes_directly, quote_opened, is_in_list, list_started, item_opened, container_once, containers_opened, code_taken, html_ended, text_taken, text_started, indented_started, heading_started, fence_started, html_started, rule_started, has_text, underlined, underline_taken, started, leaf_started, turn_of, leaf_ended, touched, cells_taken, line_taken, page_of, blocks_view, blocks_of};
 
-use crate::cell::{Cell, Cursor, cell_place, ink_from, moved, read_cells, trimmed};
+use crate::cell::{Cells, Cursor, cell_place, ink_from, moved, trimmed};
 use crate::code::{code_piece, heading_piece, keeps_line, text_piece};
 use crate::container::{
     Container, ContainerStart, ItemStart, after_quote, container_at, matched, touch,
@@ -37,7 +37,7 @@ pub struct Place {
 
 /// The range of a fence's info string.
 #[tactic(auto, unfolding(crate::specs::Blocks::info_of))]
-fn info_of(cells: &[Cell], cursor: Cursor, fence: Fence, line: Line) -> BlockKind
+fn info_of(cells: &Cells, cursor: Cursor, fence: Fence, line: Line) -> BlockKind
     ensures { result ≡ info_of cells.now cursor fence line }
 {
     let from = ink_from(cells, plus(cursor.ink, fence.count));
@@ -62,7 +62,7 @@ impl Page {
         &mut self,
         alloc: Global,
         text: &[u8],
-        cells: &[Cell],
+        cells: &Cells,
         line: Line,
         place: Place,
     ) -> Result<Place, AllocError>
@@ -111,7 +111,7 @@ impl Page {
         &mut self,
         alloc: Global,
         text: &[u8],
-        cells: &[Cell],
+        cells: &Cells,
         line: Line,
         place: Place,
         item: ItemStart,
@@ -135,7 +135,7 @@ impl Page {
         &mut self,
         alloc: Global,
         text: &[u8],
-        cells: &[Cell],
+        cells: &Cells,
         line: Line,
         tail: Tail,
         place: Place,
@@ -164,7 +164,7 @@ impl Page {
         &mut self,
         alloc: Global,
         text: &[u8],
-        cells: &[Cell],
+        cells: &Cells,
         line: Line,
         tail: Tail,
         first: Place,
@@ -200,7 +200,7 @@ impl Page {
     fn take_code(
         &mut self,
         text: &[u8],
-        cells: &[Cell],
+        cells: &Cells,
         column: usize,
         line: Line,
     ) -> Result<(), AllocError>
@@ -233,7 +233,7 @@ impl Page {
         &mut self,
         alloc: Global,
         text: &[u8],
-        cells: &[Cell],
+        cells: &Cells,
         line: Line,
         place: Place,
     ) -> Result<(), AllocError>
@@ -254,7 +254,7 @@ impl Page {
         &mut self,
         alloc: Global,
         text: &[u8],
-        cells: &[Cell],
+        cells: &Cells,
         line: Line,
         place: Place,
         column: usize,
@@ -273,7 +273,7 @@ impl Page {
         &mut self,
         alloc: Global,
         text: &[u8],
-        cells: &[Cell],
+        cells: &Cells,
         line: Line,
         place: Place,
         heading: Heading,
@@ -295,7 +295,7 @@ impl Page {
         &mut self,
         alloc: Global,
         text: &[u8],
-        cells: &[Cell],
+        cells: &Cells,
         line: Line,
         place: Place,
         fence: Fence,
@@ -314,7 +314,7 @@ impl Page {
         &mut self,
         alloc: Global,
         text: &[u8],
-        cells: &[Cell],
+        cells: &Cells,
         line: Line,
         place: Place,
         kind: HtmlKind,
@@ -333,7 +333,7 @@ impl Page {
         &mut self,
         alloc: Global,
         text: &[u8],
-        cells: &[Cell],
+        cells: &Cells,
         line: Line,
         place: Place,
     ) -> Result<(), AllocError>
@@ -380,7 +380,7 @@ impl Page {
         &mut self,
         alloc: Global,
         text: &[u8],
-        cells: &[Cell],
+        cells: &Cells,
         line: Line,
         tail: Tail,
         place: Place,
@@ -406,7 +406,7 @@ impl Page {
         &mut self,
         alloc: Global,
         text: &[u8],
-        cells: &[Cell],
+        cells: &Cells,
         line: Line,
         tail: Tail,
         place: Place,
@@ -439,7 +439,7 @@ impl Page {
         &mut self,
         alloc: Global,
         text: &[u8],
-        cells: &[Cell],
+        cells: &Cells,
         line: Line,
         first: Place,
     ) -> Result<(), AllocError>
@@ -460,7 +460,7 @@ impl Page {
     }
 
     #[tactic(auto, unfolding(crate::specs::Blocks::turn_of))]
-    fn turn_of(&self, cells: &[Cell], place: Place) -> Turn
+    fn turn_of(&self, cells: &Cells, place: Place) -> Turn
         ensures { result ≡ turn_of cells.now place (page self.now) }
     {
         if self.opened.len() <= place.depth {
@@ -494,7 +494,7 @@ impl Page {
         &mut self,
         alloc: Global,
         text: &[u8],
-        cells: &[Cell],
+        cells: &Cells,
         line: Line,
     ) -> Result<(), AllocError>
         ensures { OnOk result (page self.new
@@ -519,12 +519,12 @@ impl Page {
         &mut self,
         alloc: Global,
         text: &[u8],
-        cells: &mut Vec<Cell>,
+        cells: &mut Cells,
         line: Line,
     ) -> Result<(), AllocError>
         ensures { OnOk result (page self.new ≡ line_taken text.now (page self.old) line) }
     {
-        read_cells(cells, text, line)?;
+        cells.read(text, line)?;
         self.take_cells(alloc, text, cells, line)
     }
 
@@ -532,7 +532,7 @@ impl Page {
         ensures { OnOk result (page self.new
             ≡ fold (line_taken text.now) (page self.old) lines.now) }
     {
-        let mut cells = Vec::new(alloc);
+        let mut cells = Cells::new(alloc);
         for line in lines {
             self.take_line(alloc, text, &mut cells, *line)?;
         }

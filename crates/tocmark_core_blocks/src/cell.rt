@@ -1,12 +1,14 @@
 //! The columns of a line.
 
-ghost use Rattle.std.specs.Prelude.{◌≡◌, ◌++◌, [], OnOk, drop, replicate};
-ghost use Rattle.tocmark_core_scan.specs.Basic.{piece};
-ghost use Rattle.tocmark_core_blocks.specs.Cells.{filled, cells_of, cell_byte, cell_place, run_of, ink_from, count_of, part, trailing, trimmed, moved, indent_of, is_blank_at, first_cursor};
+ghost use Rattle.std.specs.Prelude.{◌≡◌, ◌==◌, ◌++◌, [], List, OnOk, length, filter, reverse, take_while, replicate, slice_get, unwrap_or};
+ghost use Rattle.tocmark_core_scan.specs.Basic.{piece, plus};
+ghost use Rattle.tocmark_core_blocks.specs.Cells.{cells_at, bytes_of, places_of, filled, cells_of, cell_byte, cell_place, run_of, ink_from, count_of, trailing, trimmed, moved, indent_of, is_blank_at, first_cursor};
+ghost use Rattle.tocmark_core_blocks.specs.declared.cell.Cell.{Cell};
 
 use crate::line::Line;
-use std::alloc::AllocError;
-use tocmark_core_scan::basic::{minus, piece, plus};
+use std::alloc::{AllocError, Global};
+use std::marker::Model;
+use tocmark_core_scan::basic::{byte_at, minus, piece, plus, rest};
 
 /// A column of a line: its byte and the place of that. A tab is one to four columns of spaces, up to
 /// the next column that is a multiple of four.
@@ -14,6 +16,16 @@ use tocmark_core_scan::basic::{minus, piece, plus};
 pub struct Cell {
     pub byte: u8,
     pub at: usize,
+}
+
+/// The columns of a line: their bytes and, if the line has tabs, their places. Without tabs its bytes
+/// stand one behind the other from `start` on. A line is written over the one before.
+#[derive(Debug, Drop)]
+pub struct Cells {
+    bytes: Vec<u8>,
+    places: Vec<usize>,
+    start: usize,
+    tabbed: Vec<Cell>,
 }
 
 /// A column of a line, and the first one from there on that is no space.
@@ -46,16 +58,12 @@ fn fill(cells: &mut Vec<Cell>, byte: u8, at: usize) -> Result<(), AllocError>
     Ok(())
 }
 
-/// Writes the columns of a line without its line ending over those of another line. An `Err` says that
-/// memory ran out.
-pub fn read_cells(cells: &mut Vec<Cell>, text: &[u8], line: Line) -> Result<(), AllocError>
-    ensures { OnOk result (cells.new.items
-        ≡ cells_of [] line.start (piece text.now line.start line.end)) }
+/// Writes the columns of bytes that stand from a place on over those of another line.
+fn fill_all(cells: &mut Vec<Cell>, bytes: &[u8], start: usize) -> Result<(), AllocError>
+    ensures { OnOk result (cells.new.items ≡ cells_of [] start bytes.now) }
 {
-    let bytes = piece(text, line.start, line.end);
     cells.clear();
-    cells.reserve(bytes.len())?;
-    let mut at = line.start;
+    let mut at = start;
     for byte in bytes {
         fill(cells, *byte, at)?;
         at = plus(at, 1);
@@ -63,91 +71,191 @@ pub fn read_cells(cells: &mut Vec<Cell>, text: &[u8], line: Line) -> Result<(), 
     Ok(())
 }
 
-/// The byte of a column; a line feed behind the last one.
-pub fn cell_byte(cells: &[Cell], column: usize) -> u8
-    ensures { result ≡ cell_byte cells.now column }
+/// Writes the bytes and the places of columns over others.
+fn part(bytes: &mut Vec<u8>, places: &mut Vec<usize>, cells: &[Cell]) -> Result<(), AllocError>
+    ensures { OnOk result ((bytes.new.items ≡ bytes_of cells.now)
+        × (places.new.items ≡ places_of cells.now)) }
 {
-    cells.get(column).map_or(b'\n', |cell| cell.byte)
+    bytes.clear();
+    places.clear();
+    for cell in cells {
+        bytes.push(cell.byte)?;
+        places.push(cell.at)?;
+    }
+    Ok(())
 }
 
-/// The place of a column; `end` behind the last one.
-pub fn cell_place(cells: &[Cell], column: usize, end: usize) -> usize
-    ensures { result ≡ cell_place cells.now column end }
-{
-    cells.get(column).map_or(end, |cell| cell.at)
+impl Model for Cells {
+    ghost Value = { List Cell };
+
+    ghost view = { λ c. cells_at c.start c.places.items c.bytes.items };
 }
 
-/// The columns from one on.
-pub fn cells_from(cells: &[Cell], column: usize) -> &[Cell]
-    ensures { result.now ≡ drop column cells.now }
-{
-    if column <= cells.len() {
-        &cells[column..]
-    } else {
-        &[]
+impl Cells {
+    /// No columns.
+    pub fn new(alloc: Global) -> Cells
+        ensures { result ≡ [] }
+    {
+        Cells {
+            bytes: Vec::new(alloc),
+            places: Vec::new(alloc),
+            start: 0,
+            tabbed: Vec::new(alloc),
+        }
+    }
+
+    #[tactic(auto, using(crate::proofs::Columns::cells_parted))]
+    fn read_tabbed(&mut self, bytes: &[u8], start: usize) -> Result<(), AllocError>
+        ensures { OnOk result (self.new ≡ cells_of [] start bytes.now) }
+    {
+        fill_all(&mut self.tabbed, bytes, start)?;
+        part(&mut self.bytes, &mut self.places, &self.tabbed)
+    }
+
+    fn read_plain(&mut self, bytes: &[u8], start: usize) -> Result<(), AllocError>
+        ensures { OnOk result (self.new ≡ cells_at start [] bytes.now) }
+    {
+        self.bytes.clear();
+        self.bytes.extend_from_slice(bytes)?;
+        self.places.clear();
+        self.start = start;
+        Ok(())
+    }
+
+    /// Reads a line without its line ending. An `Err` says that memory ran out.
+    #[tactic(auto, using(crate::proofs::Columns::plain_cells))]
+    pub fn read(&mut self, text: &[u8], line: Line) -> Result<(), AllocError>
+        ensures { OnOk result (self.new
+            ≡ cells_of [] line.start (piece text.now line.start line.end)) }
+    {
+        let bytes = piece(text, line.start, line.end);
+        if bytes.contains(&b'\t') {
+            self.read_tabbed(bytes, line.start)
+        } else {
+            self.read_plain(bytes, line.start)
+        }
+    }
+
+    /// The bytes of the columns.
+    #[tactic(auto, using(crate::proofs::Columns::bytes_kept))]
+    pub fn bytes(&self) -> &[u8]
+        ensures { result.now ≡ bytes_of self.now }
+    {
+        &self.bytes
+    }
+
+    /// The number of columns.
+    #[tactic(auto, using(crate::proofs::Columns::length_kept))]
+    pub fn len(&self) -> usize
+        ensures { result ≡ length self.now }
+    {
+        self.bytes.len()
+    }
+
+    /// The place of a column; `end` behind the last one.
+    fn place(&self, column: usize, end: usize) -> usize
+        ensures { result ≡ cell_place self.now column end }
+    {
+        place_of(&self.bytes, &self.places, self.start, column, end)
     }
 }
 
+fn known_place(places: &[usize], start: usize, column: usize) -> usize
+    ensures { result ≡ unwrap_or (slice_get places.now column) (plus start column) }
+{
+    let counted = plus(start, column);
+    places.get(column).copied().unwrap_or(counted)
+}
+
+#[tactic(auto, using(crate::proofs::Columns::place_kept))]
+fn place_of(bytes: &[u8], places: &[usize], start: usize, column: usize, end: usize) -> usize
+    ensures { result ≡ cell_place (cells_at start places.now bytes.now) column end }
+{
+    if column < bytes.len() {
+        known_place(places, start, column)
+    } else {
+        end
+    }
+}
+
+/// The byte of a column; a line feed behind the last one.
+#[tactic(auto, using(crate::proofs::Columns::byte_asked))]
+pub fn cell_byte(cells: &Cells, column: usize) -> u8
+    ensures { result ≡ cell_byte cells.now column }
+{
+    byte_at(cells.bytes(), column)
+}
+
+/// The place of a column; `end` behind the last one.
+pub fn cell_place(cells: &Cells, column: usize, end: usize) -> usize
+    ensures { result ≡ cell_place cells.now column end }
+{
+    cells.place(column, end)
+}
+
+fn run_in(bytes: &[u8], byte: u8) -> usize
+    ensures { result ≡ length (take_while (λ b. b == byte) bytes.now) }
+{
+    bytes.iter().take_while(|found| **found == byte).count()
+}
+
 /// The number of columns from one on that have this byte, one after the other.
-pub fn run_of(cells: &[Cell], column: usize, byte: u8) -> usize
+#[tactic(auto, using(crate::proofs::Columns::run_asked))]
+pub fn run_of(cells: &Cells, column: usize, byte: u8) -> usize
     ensures { result ≡ run_of cells.now column byte }
 {
-    cells_from(cells, column)
-        .iter()
-        .take_while(|cell| cell.byte == byte)
-        .count()
+    run_in(rest(cells.bytes(), column), byte)
+}
+
+fn count_in(bytes: &[u8], byte: u8) -> usize
+    ensures { result ≡ length (filter (λ b. b == byte) bytes.now) }
+{
+    bytes.iter().filter(|found| **found == byte).count()
 }
 
 /// The number of columns from one on that have this byte.
-pub fn count_of(cells: &[Cell], column: usize, byte: u8) -> usize
+#[tactic(auto, using(crate::proofs::Columns::count_asked))]
+pub fn count_of(cells: &Cells, column: usize, byte: u8) -> usize
     ensures { result ≡ count_of cells.now column byte }
 {
-    cells_from(cells, column)
-        .iter()
-        .filter(|cell| cell.byte == byte)
-        .count()
+    count_in(rest(cells.bytes(), column), byte)
 }
 
 /// The first column from one on that is no space.
-pub fn ink_from(cells: &[Cell], column: usize) -> usize
+pub fn ink_from(cells: &Cells, column: usize) -> usize
     ensures { result ≡ ink_from cells.now column }
 {
     plus(column, run_of(cells, column, b' '))
 }
 
-/// The columns of a range, none where it is no range of the line.
-pub fn part(cells: &[Cell], from: usize, to: usize) -> &[Cell]
-    ensures { result.now ≡ part cells.now from to }
+fn trailing_in(bytes: &[u8], byte: u8) -> usize
+    ensures { result ≡ length (take_while (λ b. b == byte) (reverse bytes.now)) }
 {
-    if from <= to && to <= cells.len() {
-        &cells[from..to]
-    } else {
-        &[]
-    }
-}
-
-/// The number of columns at the end of a line that have this byte.
-pub fn trailing(cells: &[Cell], byte: u8) -> usize
-    ensures { result ≡ trailing cells.now byte }
-{
-    cells
+    bytes
         .iter()
         .rev()
-        .take_while(|cell| cell.byte == byte)
+        .take_while(|found| **found == byte)
         .count()
 }
 
+/// The number of columns at the end of a line that have this byte.
+#[tactic(auto, using(crate::proofs::Columns::trailing_asked))]
+pub fn trailing(cells: &Cells, byte: u8) -> usize
+    ensures { result ≡ trailing cells.now byte }
+{
+    trailing_in(cells.bytes(), byte)
+}
+
 /// The end of a range of columns without those of this byte at its end.
-#[tactic(auto, unfolding(crate::specs::Cells::trimmed))]
-pub fn trimmed(cells: &[Cell], from: usize, to: usize, byte: u8) -> usize
+pub fn trimmed(cells: &Cells, from: usize, to: usize, byte: u8) -> usize
     ensures { result ≡ trimmed cells.now from to byte }
 {
-    minus(to, trailing(part(cells, from, to), byte))
+    minus(to, trailing_in(piece(cells.bytes(), from, to), byte))
 }
 
 /// The start of a line.
 #[tactic(auto, unfolding(crate::specs::Cells::first_cursor))]
-pub fn first_cursor(cells: &[Cell]) -> Cursor
+pub fn first_cursor(cells: &Cells) -> Cursor
     ensures { result ≡ first_cursor cells.now }
 {
     Cursor {
@@ -158,7 +266,7 @@ pub fn first_cursor(cells: &[Cell]) -> Cursor
 
 /// A cursor at a column that isn't before it.
 #[tactic(auto, unfolding(crate::specs::Cells::moved))]
-pub fn moved(cells: &[Cell], cursor: Cursor, column: usize) -> Cursor
+pub fn moved(cells: &Cells, cursor: Cursor, column: usize) -> Cursor
     ensures { result ≡ moved cells.now cursor column }
 {
     let ink = if column <= cursor.ink {
@@ -177,7 +285,7 @@ pub fn indent_of(cursor: Cursor) -> usize
 }
 
 /// Whether nothing but spaces stands at a cursor and behind it.
-pub fn is_blank_at(cells: &[Cell], cursor: Cursor) -> bool
+pub fn is_blank_at(cells: &Cells, cursor: Cursor) -> bool
     ensures { result ≡ is_blank_at cells.now cursor }
 {
     cells.len() <= cursor.ink

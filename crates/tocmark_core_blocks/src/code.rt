@@ -3,7 +3,7 @@
 ghost use Rattle.std.specs.Prelude.{◌≡◌};
 ghost use Rattle.tocmark_core_blocks.specs.Codes.{same_place, is_split, code_piece, text_piece, heading_piece, keeps_line};
 
-use crate::cell::{Cell, Cursor, cell_place, cells_from, ink_from};
+use crate::cell::{Cells, Cursor, cell_place, ink_from};
 use crate::definition::Piece;
 use crate::leaf::Leaf;
 use crate::line::Line;
@@ -11,18 +11,23 @@ use crate::mark::Heading;
 use tocmark_core_scan::basic::{minus, plus};
 
 /// The number of columns from one on that are of the byte at a place.
-fn same_place(cells: &[Cell], column: usize, at: usize) -> usize
+#[tactic(auto, using(crate::proofs::Columns::same_more, crate::proofs::Columns::same_stop, crate::proofs::Columns::same_end))]
+fn same_place(cells: &Cells, column: usize, at: usize) -> usize
     ensures { result ≡ same_place cells.now column at }
 {
-    cells_from(cells, column)
-        .iter()
-        .take_while(|cell| cell.at == at)
-        .count()
+    let mut count = 0;
+    for next in column..cells.len() {
+        if cell_place(cells, next, 0) != at {
+            return count;
+        }
+        count = plus(count, 1);
+    }
+    count
 }
 
 /// Whether a column is not the first one of its tab.
 #[tactic(auto, unfolding(crate::specs::Codes::is_split))]
-fn is_split(cells: &[Cell], column: usize) -> bool
+fn is_split(cells: &Cells, column: usize) -> bool
     ensures { result ≡ is_split cells.now column }
 {
     let inside = 0 < column && column < cells.len();
@@ -31,7 +36,7 @@ fn is_split(cells: &[Cell], column: usize) -> bool
 
 /// A line of code or HTML from a column on.
 #[tactic(auto, unfolding(crate::specs::Codes::code_piece))]
-pub fn code_piece(cells: &[Cell], column: usize, line: Line) -> Piece
+pub fn code_piece(cells: &Cells, column: usize, line: Line) -> Piece
     ensures { result ≡ code_piece cells.now column line }
 {
     let at = cell_place(cells, column, line.end);
@@ -54,7 +59,7 @@ pub fn code_piece(cells: &[Cell], column: usize, line: Line) -> Piece
 
 /// A line of a paragraph, without the spaces before it.
 #[tactic(auto, unfolding(crate::specs::Codes::text_piece))]
-pub fn text_piece(cells: &[Cell], cursor: Cursor, line: Line) -> Piece
+pub fn text_piece(cells: &Cells, cursor: Cursor, line: Line) -> Piece
     ensures { result ≡ text_piece cells.now cursor line }
 {
     Piece {
@@ -67,7 +72,7 @@ pub fn text_piece(cells: &[Cell], cursor: Cursor, line: Line) -> Piece
 
 /// The text of a heading on one line; an empty one has no bytes.
 #[tactic(auto, unfolding(crate::specs::Codes::heading_piece))]
-pub fn heading_piece(cells: &[Cell], heading: Heading, line: Line) -> Piece
+pub fn heading_piece(cells: &Cells, heading: Heading, line: Line) -> Piece
     ensures { result ≡ heading_piece cells.now heading line }
 {
     let end = cell_place(cells, heading.to, line.end);
@@ -81,7 +86,7 @@ pub fn heading_piece(cells: &[Cell], heading: Heading, line: Line) -> Piece
 
 /// Whether a leaf reaches to a line of its own: indented code ends before blank lines.
 #[tactic(auto, unfolding(crate::specs::Codes::keeps_line))]
-pub fn keeps_line(cells: &[Cell], column: usize, leaf: Leaf) -> bool
+pub fn keeps_line(cells: &Cells, column: usize, leaf: Leaf) -> bool
     ensures { result ≡ keeps_line cells.now column leaf }
 {
     match leaf {

@@ -3,7 +3,9 @@
 ghost use Rattle.std.specs.Prelude.{◌≡◌};
 ghost use Rattle.tocmark_core_blocks.specs.Containers.{raised, raised_at, after_quote, item_goes_on, going_on, is_empty_item, blank_depth, quote_from, stopped, passed, matched_from, matched, touched_from, item_gap, may_interrupt, item_at, container_at};
 
-use crate::cell::{Cell, Cursor, cell_byte, first_cursor, indent_of, ink_from, is_blank_at, moved};
+use crate::cell::{
+    Cells, Cursor, cell_byte, first_cursor, indent_of, ink_from, is_blank_at, moved,
+};
 use crate::mark::{Marker, Tail, is_rule, marker_at};
 use tocmark_core_scan::basic::{minus, plus, set};
 
@@ -71,7 +73,7 @@ pub fn raise_at(opened: &mut Vec<Opened>, place: usize, end: usize, line: usize)
 
 /// The cursor behind the `>` of a quote and the space behind it.
 #[tactic(auto, unfolding(crate::specs::Containers::after_quote))]
-pub fn after_quote(cells: &[Cell], cursor: Cursor) -> Cursor
+pub fn after_quote(cells: &Cells, cursor: Cursor) -> Cursor
     ensures { result ≡ after_quote cells.now cursor }
 {
     let behind = plus(cursor.ink, 1);
@@ -83,7 +85,7 @@ pub fn after_quote(cells: &[Cell], cursor: Cursor) -> Cursor
 }
 
 #[tactic(auto, unfolding(crate::specs::Containers::item_goes_on))]
-fn item_goes_on(cells: &[Cell], cursor: Cursor, width: usize, had: bool) -> Option<Cursor>
+fn item_goes_on(cells: &Cells, cursor: Cursor, width: usize, had: bool) -> Option<Cursor>
     ensures { result ≡ item_goes_on cells.now cursor width had }
 {
     let blank = is_blank_at(cells, cursor);
@@ -100,7 +102,7 @@ fn item_goes_on(cells: &[Cell], cursor: Cursor, width: usize, had: bool) -> Opti
 
 /// The cursor behind what a line has of a container that goes on in it.
 #[tactic(auto, unfolding(crate::specs::Containers::going_on))]
-fn going_on(cells: &[Cell], cursor: Cursor, one: Opened) -> Option<Cursor>
+fn going_on(cells: &Cells, cursor: Cursor, one: Opened) -> Option<Cursor>
     ensures { result ≡ going_on cells.now cursor one }
 {
     match one.container {
@@ -149,7 +151,7 @@ fn quote_from(quotes: &[usize], count: usize) -> Option<usize>
 /// where nothing is left of the line, those up to the next quote.
 #[tactic(auto, unfolding(crate::specs::Containers::stopped))]
 fn stopped(
-    cells: &[Cell],
+    cells: &Cells,
     opened: &[Opened],
     quotes: &[usize],
     count: usize,
@@ -169,7 +171,7 @@ fn stopped(
 
 /// The cursor behind what a line has of a container, if something is left of the line.
 #[tactic(auto, unfolding(crate::specs::Containers::passed))]
-fn passed(cells: &[Cell], cursor: Cursor, one: Opened) -> Option<Cursor>
+fn passed(cells: &Cells, cursor: Cursor, one: Opened) -> Option<Cursor>
     ensures { result ≡ passed cells.now cursor one }
 {
     if cells.len() <= cursor.column {
@@ -181,7 +183,7 @@ fn passed(cells: &[Cell], cursor: Cursor, one: Opened) -> Option<Cursor>
 
 /// How many of the open containers go on in a line, and the cursor behind what it has of them.
 /// `quotes` are the places of the quotes among them.
-pub fn matched(cells: &[Cell], opened: &[Opened], quotes: &[usize]) -> (usize, Cursor)
+pub fn matched(cells: &Cells, opened: &[Opened], quotes: &[usize]) -> (usize, Cursor)
     ensures { result ≡ matched cells.now opened.now quotes.now }
 {
     let mut count = 0;
@@ -233,7 +235,7 @@ fn may_interrupt(empty: bool, marker: Marker) -> bool
 
 /// The item that begins at a cursor; in a paragraph only one that can interrupt it.
 #[tactic(auto, unfolding(crate::specs::Containers::item_at))]
-fn item_at(cells: &[Cell], cursor: Cursor, in_paragraph: bool) -> Option<ItemStart>
+fn item_at(cells: &Cells, cursor: Cursor, in_paragraph: bool) -> Option<ItemStart>
     ensures { result ≡ item_at cells.now cursor in_paragraph }
 {
     let marker = marker_at(cells, cursor.ink)?;
@@ -256,7 +258,7 @@ fn item_at(cells: &[Cell], cursor: Cursor, in_paragraph: bool) -> Option<ItemSta
 /// paragraph.
 #[tactic(auto, unfolding(crate::specs::Containers::container_at))]
 pub fn container_at(
-    cells: &[Cell],
+    cells: &Cells,
     tail: Tail,
     cursor: Cursor,
     in_paragraph: bool,

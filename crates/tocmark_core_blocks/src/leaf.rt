@@ -3,7 +3,7 @@
 ghost use Rattle.std.specs.Prelude.{◌≡◌};
 ghost use Rattle.tocmark_core_blocks.specs.Leaves.{is_paragraph, goes_past_blank, leaf_turn, html_at, underline_in, rule_at, mark_at, leaf_at};
 
-use crate::cell::{Cell, Cursor, indent_of, is_blank_at};
+use crate::cell::{Cells, Cursor, indent_of, is_blank_at};
 use crate::html::{HtmlKind, html_kind};
 use crate::mark::{
     Fence, Heading, Tail, closes_fence, fence_at, heading_at, is_rule, underline_at,
@@ -73,7 +73,7 @@ fn goes_past_blank(kind: HtmlKind) -> bool
 
 /// What the open leaf does with a line in which all containers round it go on.
 #[tactic(auto, unfolding(crate::specs::Leaves::leaf_turn))]
-pub fn leaf_turn(cells: &[Cell], cursor: Cursor, leaf: Leaf) -> Turn
+pub fn leaf_turn(cells: &Cells, cursor: Cursor, leaf: Leaf) -> Turn
     ensures { result ≡ leaf_turn cells.now cursor leaf }
 {
     let blank = is_blank_at(cells, cursor);
@@ -126,7 +126,7 @@ fn html_at(rest: &[u8], in_paragraph: bool) -> Option<HtmlKind>
 }
 
 #[tactic(auto, unfolding(crate::specs::Leaves::underline_in))]
-fn underline_in(cells: &[Cell], column: usize, directly: bool) -> Option<HeadingLevel>
+fn underline_in(cells: &Cells, column: usize, directly: bool) -> Option<HeadingLevel>
     ensures { result ≡ underline_in cells.now column directly }
 {
     if directly {
@@ -138,7 +138,7 @@ fn underline_in(cells: &[Cell], column: usize, directly: bool) -> Option<Heading
 
 /// A thematic break, or text.
 #[tactic(auto, unfolding(crate::specs::Leaves::rule_at))]
-pub fn rule_at(cells: &[Cell], tail: Tail, column: usize) -> LeafStart
+pub fn rule_at(cells: &Cells, tail: Tail, column: usize) -> LeafStart
     ensures { result ≡ rule_at cells.now tail column }
 {
     if is_rule(cells, tail, column) {
@@ -151,7 +151,7 @@ pub fn rule_at(cells: &[Cell], tail: Tail, column: usize) -> LeafStart
 /// What begins at a column with at most three spaces before it.
 #[tactic(auto, unfolding(crate::specs::Leaves::mark_at))]
 fn mark_at(
-    cells: &[Cell],
+    cells: &Cells,
     rest: &[u8],
     tail: Tail,
     cursor: Cursor,
@@ -180,7 +180,7 @@ fn mark_at(
 /// goes on in the line.
 #[tactic(auto, unfolding(crate::specs::Leaves::leaf_at))]
 pub fn leaf_at(
-    cells: &[Cell],
+    cells: &Cells,
     rest: &[u8],
     tail: Tail,
     cursor: Cursor,

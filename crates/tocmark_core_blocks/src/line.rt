@@ -16,13 +16,25 @@ pub struct Line {
     pub next: usize,
 }
 
-/// Whether a line ends with the byte at a place: a line feed, or a carriage return with none behind it.
 #[tactic(auto, unfolding(crate::specs::Lines::ends_here))]
-fn ends_here(text: &[u8], byte: u8, at: usize) -> bool
+fn ends_with(text: &[u8], byte: u8, at: usize) -> bool
     ensures { result ≡ ends_here text.now byte at }
 {
     let alone = byte == b'\r' && byte_at(text, plus(at, 1)) != b'\n';
     byte == b'\n' || alone || byte == b'\r' && plus(at, 1) >= text.len()
+}
+
+/// Whether a line ends with the byte at a place: a line feed, or a carriage return with none behind it.
+/// Nearly all bytes are above both.
+#[tactic(auto, using(crate::proofs::Steps::above_ends))]
+fn ends_here(text: &[u8], byte: u8, at: usize) -> bool
+    ensures { result ≡ ends_here text.now byte at }
+{
+    if byte > b'\r' {
+        false
+    } else {
+        ends_with(text, byte, at)
+    }
 }
 
 /// Where the line ending begins that ends with the byte at a place, in a line that began at `start`.

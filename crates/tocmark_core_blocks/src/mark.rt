@@ -1,13 +1,13 @@
 //! What a line begins with: headings, fences, rules and the markers of lists.
 
-ghost use Rattle.std.specs.Prelude.{◌≡◌};
+ghost use Rattle.std.specs.Char.{is_ascii_digit};
+ghost use Rattle.std.specs.Prelude.{◌≡◌, ◌==◌, ◌||◌, length, reverse, take_while};
 ghost use Rattle.tocmark_core_blocks.specs.Marks.{level_of, is_behind, heading_end, heading_at, is_fence_byte, fence_at, closes_fence, tail_length, tail_of, is_rule_byte, is_rule, is_underline_byte, underline_at, digit_count, number_step, number_of, bullet_at, ordered_at, marker_at};
 
 use crate::cell::{
-    Cell, Cursor, cell_byte, cells_from, count_of, indent_of, ink_from, part, run_of, trailing,
-    trimmed,
+    Cells, Cursor, cell_byte, count_of, indent_of, ink_from, run_of, trailing, trimmed,
 };
-use tocmark_core_scan::basic::{minus, plus};
+use tocmark_core_scan::basic::{minus, piece, plus, rest};
 use tocmark_event::event::HeadingLevel;
 
 /// A heading on one line, with the columns of its text.
@@ -59,7 +59,7 @@ fn level_of(marks: usize) -> Option<HeadingLevel>
 
 /// Whether a space or the end of the line stands at a column.
 #[tactic(auto, unfolding(crate::specs::Marks::is_behind))]
-fn is_behind(cells: &[Cell], column: usize) -> bool
+fn is_behind(cells: &Cells, column: usize) -> bool
     ensures { result ≡ is_behind cells.now column }
 {
     cells.len() <= column || cell_byte(cells, column) == b' '
@@ -67,7 +67,7 @@ fn is_behind(cells: &[Cell], column: usize) -> bool
 
 /// The end of a heading's text: spaces at its end don't count, nor do `#` with a space before them.
 #[tactic(auto, unfolding(crate::specs::Marks::heading_end))]
-fn heading_end(cells: &[Cell], from: usize) -> usize
+fn heading_end(cells: &Cells, from: usize) -> usize
     ensures { result ≡ heading_end cells.now from }
 {
     let whole = trimmed(cells, from, cells.len(), b' ');
@@ -82,7 +82,7 @@ fn heading_end(cells: &[Cell], from: usize) -> usize
 
 /// The heading whose marks stand at a column.
 #[tactic(auto, unfolding(crate::specs::Marks::heading_at))]
-pub fn heading_at(cells: &[Cell], column: usize) -> Option<Heading>
+pub fn heading_at(cells: &Cells, column: usize) -> Option<Heading>
     ensures { result ≡ heading_at cells.now column }
 {
     let behind = plus(column, run_of(cells, column, b'#'));
@@ -107,7 +107,7 @@ fn is_fence_byte(byte: u8) -> bool
 
 /// The fence at a cursor that opens a code block. Behind backticks stands none on its line.
 #[tactic(auto, unfolding(crate::specs::Marks::fence_at))]
-pub fn fence_at(cells: &[Cell], cursor: Cursor) -> Option<Fence>
+pub fn fence_at(cells: &Cells, cursor: Cursor) -> Option<Fence>
     ensures { result ≡ fence_at cells.now cursor }
 {
     let byte = cell_byte(cells, cursor.ink);
@@ -130,7 +130,7 @@ pub fn fence_at(cells: &[Cell], cursor: Cursor) -> Option<Fence>
 
 /// Whether the line at a cursor closes the code block of a fence.
 #[tactic(auto, unfolding(crate::specs::Marks::closes_fence))]
-pub fn closes_fence(cells: &[Cell], cursor: Cursor, fence: Fence) -> bool
+pub fn closes_fence(cells: &Cells, cursor: Cursor, fence: Fence) -> bool
     ensures { result ≡ closes_fence cells.now cursor fence }
 {
     let count = run_of(cells, cursor.ink, fence.byte);
@@ -138,19 +138,26 @@ pub fn closes_fence(cells: &[Cell], cursor: Cursor, fence: Fence) -> bool
     indent_of(cursor) <= 3 && fence.count <= count && alone
 }
 
-fn tail_length(cells: &[Cell], byte: u8) -> usize
-    ensures { result ≡ tail_length cells.now byte }
+fn tail_in(bytes: &[u8], byte: u8) -> usize
+    ensures { result ≡ length (take_while (λ b. (b == 32) || (b == byte)) (reverse bytes.now)) }
 {
-    cells
+    bytes
         .iter()
         .rev()
-        .take_while(|cell| cell.byte == b' ' || cell.byte == byte)
+        .take_while(|found| **found == b' ' || **found == byte)
         .count()
+}
+
+#[tactic(auto, using(crate::proofs::Columns::tail_asked))]
+fn tail_length(cells: &Cells, byte: u8) -> usize
+    ensures { result ≡ tail_length cells.now byte }
+{
+    tail_in(cells.bytes(), byte)
 }
 
 /// The tail of a line: it is looked for from the end, and no further than it goes.
 #[tactic(auto, unfolding(crate::specs::Marks::tail_of))]
-pub fn tail_of(cells: &[Cell]) -> Tail
+pub fn tail_of(cells: &Cells) -> Tail
     ensures { result ≡ tail_of cells.now }
 {
     let inked = minus(cells.len(), trailing(cells, b' '));
@@ -170,7 +177,7 @@ fn is_rule_byte(byte: u8) -> bool
 
 /// Whether the rest of a line with this tail is a thematic break.
 #[tactic(auto, unfolding(crate::specs::Marks::is_rule))]
-pub fn is_rule(cells: &[Cell], tail: Tail, column: usize) -> bool
+pub fn is_rule(cells: &Cells, tail: Tail, column: usize) -> bool
     ensures { result ≡ is_rule cells.now tail column }
 {
     let byte = cell_byte(cells, column);
@@ -187,7 +194,7 @@ fn is_underline_byte(byte: u8) -> bool
 
 /// The level of the heading whose underline stands at a column.
 #[tactic(auto, unfolding(crate::specs::Marks::underline_at))]
-pub fn underline_at(cells: &[Cell], column: usize) -> Option<HeadingLevel>
+pub fn underline_at(cells: &Cells, column: usize) -> Option<HeadingLevel>
     ensures { result ≡ underline_at cells.now column }
 {
     let byte = cell_byte(cells, column);
@@ -203,36 +210,43 @@ pub fn underline_at(cells: &[Cell], column: usize) -> Option<HeadingLevel>
     }
 }
 
-fn digit_count(cells: &[Cell], column: usize) -> usize
-    ensures { result ≡ digit_count cells.now column }
+fn digits_in(bytes: &[u8]) -> usize
+    ensures { result ≡ length (take_while is_ascii_digit bytes.now) }
 {
-    cells_from(cells, column)
+    bytes
         .iter()
-        .take_while(|cell| cell.byte.is_ascii_digit())
+        .take_while(|found| found.is_ascii_digit())
         .count()
 }
 
+#[tactic(auto, using(crate::proofs::Columns::digits_asked))]
+fn digit_count(cells: &Cells, column: usize) -> usize
+    ensures { result ≡ digit_count cells.now column }
+{
+    digits_in(rest(cells.bytes(), column))
+}
+
 #[tactic(auto, unfolding(crate::specs::Marks::number_step))]
-fn number_step(number: u64, cell: Cell) -> u64
-    ensures { result ≡ number_step number cell }
+fn number_step(number: u64, byte: u8) -> u64
+    ensures { result ≡ number_step number byte }
 {
     number
         .saturating_mul(10)
-        .saturating_add(u64::from(cell.byte.saturating_sub(b'0')))
+        .saturating_add(u64::from(byte.saturating_sub(b'0')))
 }
 
-fn number_of(cells: &[Cell]) -> u64
-    ensures { result ≡ number_of cells.now }
+fn number_of(digits: &[u8]) -> u64
+    ensures { result ≡ number_of digits.now }
 {
     let mut number = 0;
-    for cell in cells {
-        number = number_step(number, *cell);
+    for digit in digits {
+        number = number_step(number, *digit);
     }
     number
 }
 
 #[tactic(auto, unfolding(crate::specs::Marks::bullet_at))]
-fn bullet_at(cells: &[Cell], column: usize) -> Option<Marker>
+fn bullet_at(cells: &Cells, column: usize) -> Option<Marker>
     ensures { result ≡ bullet_at cells.now column }
 {
     let byte = cell_byte(cells, column);
@@ -250,7 +264,7 @@ fn bullet_at(cells: &[Cell], column: usize) -> Option<Marker>
 
 /// One to nine digits, and `.` or `)`.
 #[tactic(auto, unfolding(crate::specs::Marks::ordered_at))]
-fn ordered_at(cells: &[Cell], column: usize) -> Option<Marker>
+fn ordered_at(cells: &Cells, column: usize) -> Option<Marker>
     ensures { result ≡ ordered_at cells.now column }
 {
     let count = digit_count(cells, column);
@@ -261,7 +275,7 @@ fn ordered_at(cells: &[Cell], column: usize) -> Option<Marker>
     if fits && is_behind(cells, plus(last, 1)) {
         Some(Marker {
             sort,
-            number: Some(number_of(part(cells, column, last))),
+            number: Some(number_of(piece(cells.bytes(), column, last))),
             length: plus(count, 1),
         })
     } else {
@@ -271,7 +285,7 @@ fn ordered_at(cells: &[Cell], column: usize) -> Option<Marker>
 
 /// The marker of a list item at a column.
 #[tactic(auto, unfolding(crate::specs::Marks::marker_at))]
-pub fn marker_at(cells: &[Cell], column: usize) -> Option<Marker>
+pub fn marker_at(cells: &Cells, column: usize) -> Option<Marker>
     ensures { result ≡ marker_at cells.now column }
 {
     match bullet_at(cells, column) {

@@ -6,4 +6,6 @@ pub mod PlainParts
 pub mod PlainLeaf
 pub mod PlainNeighbours
 pub mod Marks
+pub mod Sparse
+pub mod NotedRuns
 pub mod Runless

@@ -16,6 +16,15 @@ map_slice_set f [] i a = refl
 map_slice_set f (x ∷ l) zero a = refl
 map_slice_set f (x ∷ l) (suc i) a = ap (λ r. f x ∷ r) (map_slice_set f l i a)
 
+-- what is set at one place twice is what is set last
+pub set_again : {A : Type 0} (l : List A) (i j : ℕ) (a b : A) → i ≡ j → slice_set l j b ≡ slice_set (slice_set l i a) j b
+set_again l i j a b e = sym (twice l j a b) ∙ ap (λ k. slice_set (slice_set l k a) j b) (sym e)
+  where
+    twice : {A : Type 0} (l : List A) (i : ℕ) (a b : A) → slice_set (slice_set l i a) i b ≡ slice_set l i b
+    twice [] i a b = refl
+    twice (x ∷ l) zero a b = refl
+    twice (x ∷ l) (suc i) a b = ap (λ r. x ∷ r) (twice l i a b)
+
 -- a byte without a number is plain
 pub unmarked : (marks : List Mark) (n : ℕ) → map (role_at marks) (replicate n 0) ≡ replicate n Plain
 unmarked marks zero = refl

@@ -350,6 +350,10 @@ is_mark b =
 abbrev pub next_place : State → State
 next_place s = record s { place = plus s.place 1 }
 
+-- the pass at another place
+abbrev pub with_place : ℕ → State → State
+with_place place s = record s { place = place }
+
 -- one byte further
 unfoldable pub scan_step : List ℕ → Known → (List ℕ → Option Entry) → State → ℕ → State
 scan_step bytes ahead definitions s b =

@@ -1,5 +1,5 @@
 -- Code spans (CommonMark 6.1).
-use Rattle.std.specs.Prelude.{ℕ, Bool, not, ◌-◌, ◌==◌, ◌&&◌, ◌||◌, nat_lt, if◌then◌else◌, List, [], ◌∷◌, ◌++◌, length, replicate, fold, slice_get, slice_set, Option, Some, None, unwrap_or}
+use Rattle.std.specs.Prelude.{ℕ, Bool, not, ◌-◌, ◌==◌, ◌&&◌, ◌||◌, nat_lt, if◌then◌else◌, List, [], ◌∷◌, ◌++◌, length, replicate, slice_get, slice_set, Option, Some, None, unwrap_or}
 use Rattle.std.specs.List.{list_any}
 use Rattle.tocmark_core_scan.specs.Basic.{plus, byte_at, piece}
 use Rattle.tocmark_core_scan.specs.Class.{run_end}
@@ -7,35 +7,49 @@ use Rattle.tocmark_core_scan.specs.Repeat.{iterated}
 use Rattle.tocmark_core_scan.specs.declared.class.Class.TheVariants.{Only, Except}
 use Rattle.tocmark_core_inlines.specs.declared.tick.Ticks.{Ticks}
 
--- for each number of backticks behind where the last such run begins; the backticks just before, and the place
+-- for each number of backticks behind where the last such run before a place begins
 pub record State : Type 0 where
   pub last : List ℕ
-  pub count : ℕ
   pub place : ℕ
 
--- the machine as its list and numbers
+-- the machine as its list and place
 abbrev pub ticks_view : Ticks → State
-ticks_view t = record { last = t.last.items; count = t.count; place = t.place }
+ticks_view t = record { last = t.last.items; place = t.place }
 
--- the run that ends at the place is noted
-unfoldable pub tick_ended : State → State
-tick_ended s = record s { last = slice_set s.last s.count (plus (s.place - s.count) 1); count = 0 }
+-- room for so many entries
+abbrev pub padded : ℕ → List ℕ → List ℕ
+padded count last = last ++ replicate (count - length last) 0
 
--- the next place
-abbrev pub next_place : State → State
-next_place s = record s { place = plus s.place 1 }
+-- the run between two places is noted
+unfoldable pub noted : ℕ → ℕ → State → State
+noted start end s = record {
+  last = slice_set (padded (plus (end - start) 1) s.last) (end - start) (plus start 1);
+  place = end;
+}
 
--- one byte further
-unfoldable pub tick_step : State → ℕ → State
-tick_step s b = next_place (if b == 96 then record s { count = plus s.count 1 } else tick_ended s)
+-- the first run of backticks from a place on
+unfoldable pub run_from : List ℕ → ℕ → Option (ℕ × ℕ)
+run_from bytes place =
+    let start = run_end bytes place (Except 96) in
+    let end = run_end bytes start (Only 96) in
+    if start == end then None else Some (start, end)
 
--- no backticks yet
-abbrev pub ticks_start : List ℕ → State
-ticks_start bytes = record { last = replicate (plus (length bytes) 1) 0; count = 0; place = 0 }
+-- the run, if there is one, is noted
+abbrev pub noted_run : State → Option (ℕ × ℕ) → Option State
+noted_run s None = None
+noted_run s (Some (start, end)) = Some (noted start end s)
 
--- for each number of backticks behind where the last run of so many begins, or 0
+-- the next run is noted
+abbrev pub run_noted : List ℕ → State → Option State
+run_noted bytes s = noted_run s (run_from bytes s.place)
+
+-- nothing is noted yet
+abbrev pub ticks_start : State
+ticks_start = record { last = []; place = 0 }
+
+-- for each number of backticks behind where the last run of so many begins; 0 or no entry where there is none
 unfoldable pub last_ticks : List ℕ → List ℕ
-last_ticks bytes = (tick_ended (fold tick_step (ticks_start bytes) bytes)).last
+last_ticks bytes = (iterated (run_noted bytes) (length bytes) ticks_start).last
 
 -- the next run of backticks, unless this one has so many or the text ends
 unfoldable pub next_run : List ℕ → ℕ → ℕ → Option ℕ

@@ -1,6 +1,7 @@
 -- The second pass over a leaf's text: from what each byte is to nodes.
-use Rattle.std.specs.Prelude.{ℕ, ◌-◌, nat_le, if◌then◌else◌, List, [], ◌∷◌, ◌++◌, fold, slice_get, Option, Some, None, unwrap_or}
+use Rattle.std.specs.Prelude.{ℕ, ◌-◌, max, Bool, true, ◌&&◌, nat_lt, nat_le, if◌then◌else◌, List, [], ◌∷◌, ◌++◌, fold, slice_get, Option, Some, None, unwrap_or}
 use Rattle.tocmark_core_scan.specs.Basic.{plus}
+use Rattle.tocmark_core_inlines.specs.declared.role.Mark.{Mark}
 use Rattle.tocmark_core_inlines.specs.declared.role.Role.{Role}
 use Rattle.tocmark_core_inlines.specs.declared.role.Role.TheVariants.{Plain, Fresh, Hidden, Open, Close, Single}
 use Rattle.tocmark_core_inlines.specs.declared.role.Leaf.{Leaf}
@@ -88,6 +89,30 @@ next_place s = record s { place = plus s.place 1 }
 -- one byte further
 unfoldable pub role_step : State → Role → State
 role_step s role = next_place (if nat_le s.resume s.place then shown role s else s)
+
+-- the text that is open, or one from a place on
+abbrev pub begun_at : ℕ → Option ℕ → Option ℕ
+begun_at place None = Some place
+begun_at place (Some start) = Some start
+
+-- plain bytes up to a place
+unfoldable pub passed : ℕ → State → State
+passed end s =
+    let from = max s.resume s.place in
+    record s { text = if nat_lt from end then begun_at from s.text else s.text; place = end }
+
+-- plain bytes up to a mark, and the byte that has it
+unfoldable pub mark_step : State → Mark → State
+mark_step s m = role_step (passed m.place s) m.role
+
+-- a mark stands from a place on and before another
+unfoldable pub is_between : Mark → ℕ → ℕ → Bool
+is_between m place end = nat_le place m.place && nat_lt m.place end
+
+-- marks stand one behind the other, from a place on and before another
+abbrev pub ascend : ℕ → ℕ → List Mark → Bool
+ascend place end [] = true
+ascend place end (m ∷ ms) = is_between m place end && ascend (plus m.place 1) end ms
 
 -- nothing is written yet
 abbrev pub write_start : ℕ → State

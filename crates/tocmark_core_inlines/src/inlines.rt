@@ -62,17 +62,18 @@ pub fn read_inlines(
         ≡ read_inlines (content_view content.now) depth (entry_of definitions.now)
         (inlines_view before)) }
 {
+    let bytes = content.bytes();
     let mut nodes = before.nodes;
     let mut machine = scanner(
         alloc,
-        content.bytes.len(),
+        bytes.len(),
         before.targets,
         before.texts,
         before.missed,
     );
-    machine.read(alloc, &content.bytes, definitions)?;
+    machine.read(alloc, bytes, definitions)?;
     let found = write(alloc, &machine.roles, depth)?;
-    push_moved(&mut nodes, &content.places, &found)?;
+    push_moved(&mut nodes, content, &found)?;
     Ok(Inlines {
         nodes,
         targets: machine.targets,

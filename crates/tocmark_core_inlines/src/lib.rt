@@ -2,11 +2,11 @@
 #![tactic(auto)]
 
 pub mod definitions;
-pub mod emphasis;
+mod emphasis;
 pub mod inlines;
-pub mod link;
+mod link;
 pub mod role;
-pub mod run;
-pub mod scan;
-pub mod tick;
+mod run;
+mod scan;
+mod tick;
 pub mod write;

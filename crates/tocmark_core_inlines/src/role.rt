@@ -3,7 +3,7 @@
 ghost use Rattle.std.specs.Prelude.{◌≡◌, IfOk, OnOk, map, replicate, slice_set};
 ghost use Rattle.tocmark_core_inlines.specs.Role.{role_at, roles_of, with_mark};
 ghost use Rattle.std.specs.List.{fold};
-ghost use Rattle.tocmark_core_inlines.specs.declared.role.Role.TheVariants.{Plain};
+ghost use Rattle.tocmark_core_inlines.specs.declared.role.Role.TheVariants.{Plain, Hidden};
 
 use std::alloc::{AllocError, Global};
 use tocmark_core_scan::basic::set;
@@ -113,6 +113,18 @@ impl Roles {
     {
         self.marks.push(Mark { place, role })?;
         Ok(())
+    }
+
+    /// Hides the byte at a place, and gives one a role. An `Err` says that memory ran out.
+    #[tactic(auto, using(crate::proofs::Marks::set_again))]
+    pub fn put_behind(&mut self, hidden: usize, place: usize, role: Role) -> Result<(), AllocError>
+        ensures { OnOk result (roles_of self.new
+            ≡ slice_set (slice_set (roles_of self.old) hidden Hidden) place role) }
+    {
+        if hidden != place {
+            self.put(hidden, Role::Hidden)?;
+        }
+        self.put(place, role)
     }
 
     /// For each byte the number of its last mark, from 1 on; 0 where it has none. An `Err` says that

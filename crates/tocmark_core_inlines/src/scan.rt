@@ -3,7 +3,7 @@
 ghost use Rattle.std.specs.Prelude.{◌≡◌, IfOk, OnOk, length, drop};
 ghost use Rattle.tocmark_core_scan.specs.Repeat.{iterated};
 ghost use Rattle.tocmark_core_inlines.specs.Definitions.{entry_of};
-ghost use Rattle.tocmark_core_inlines.specs.Scan.{before_space, scan, ahead_view, ends_of, ticks_of, stretch, kept, kept_code, kept_resolved, targeted, put_leaf, escaped, referred, code_put, coded, run_taken, marked, opened, imaged, addressed, html_put, tagged, mailed, angled, line_ended, spanned, settled, linked, closed_inline, missing, looked_up, closed_by_label, closed_active, popped, closed, looked_mark, looked, is_mark, scan_step, ran, scanned};
+ghost use Rattle.tocmark_core_inlines.specs.Scan.{before_space, scan, ahead_view, ends_of, ticks_of, stretch, kept, kept_code, kept_resolved, targeted, put_leaf, escaped, referred, code_put, coded, run_taken, marked, opened, imaged, addressed, html_put, tagged, mailed, angled, line_ended, spanned, settled, linked, closed_inline, missing, looked_up, closed_by_label, closed_active, popped, closed, looked_mark, looked, is_mark, with_place, scan_step, ran, scanned};
 
 use crate::definitions::Definitions;
 use crate::emphasis::emphasize;
@@ -378,9 +378,8 @@ impl Scanner {
         if minus(self.place, first) >= 2 {
             self.roles.put(first, Role::Single(Leaf::HardBreak, end))
         } else {
-            self.roles.put(first, Role::Hidden)?;
             self.roles
-                .put(self.place, Role::Single(Leaf::SoftBreak, end))
+                .put_behind(first, self.place, Role::Single(Leaf::SoftBreak, end))
         }
     }
 
@@ -617,7 +616,7 @@ impl Scanner {
         }
     }
 
-    /// One byte further.
+    /// One byte further, from a place that is kept apart; gives the next one.
     #[tactic(auto, unfolding(crate::specs::Scan::scan_step))]
     fn step(
         &mut self,
@@ -625,17 +624,22 @@ impl Scanner {
         bytes: &[u8],
         ahead: &Ahead,
         definitions: &Definitions,
+        place: usize,
         byte: u8,
-    ) -> Result<(), AllocError>
-        ensures { OnOk result (scan self.new
-            ≡ scan_step bytes.now (ahead_view ahead.now) (entry_of definitions.now) (scan self.old)
-            byte) }
+    ) -> Result<usize, AllocError>
+        ensures { IfOk result (λ next.
+            with_place next (scan self.new)
+            ≡ scan_step bytes.now (ahead_view ahead.now) (entry_of definitions.now)
+            (with_place place (scan self.old)) byte) }
     {
-        if is_mark(byte) && self.resume <= self.place {
+        if !is_mark(byte) {
+            return Ok(plus(place, 1));
+        }
+        self.place = place;
+        if self.resume <= place {
             self.look(alloc, bytes, ahead, definitions, byte)?;
         }
-        self.place = plus(self.place, 1);
-        Ok(())
+        Ok(plus(self.place, 1))
     }
 
     /// Reads all bytes of a text.
@@ -649,9 +653,11 @@ impl Scanner {
         ensures { OnOk result (scan self.new
             ≡ ran bytes.now (ahead_view ahead.now) (entry_of definitions.now) (scan self.old)) }
     {
+        let mut place = self.place;
         for byte in bytes {
-            self.step(alloc, bytes, ahead, definitions, *byte)?;
+            place = self.step(alloc, bytes, ahead, definitions, place, *byte)?;
         }
+        self.place = place;
         Ok(())
     }
 

@@ -2,60 +2,73 @@
 
 ghost use Rattle.std.specs.Prelude.{◌≡◌, IfOk, OnOk, length};
 ghost use Rattle.tocmark_core_scan.specs.Repeat.{iterated};
-ghost use Rattle.tocmark_core_inlines.specs.Tick.{ticks_view, tick_ended, tick_step, last_ticks, next_run, tick_end, shown, has_ink, stripped, push_shown};
+ghost use Rattle.tocmark_core_inlines.specs.Tick.{ticks_view, padded, noted, run_from, last_ticks, next_run, tick_end, shown, has_ink, stripped, push_shown};
 
 use std::alloc::{AllocError, Global};
 use tocmark_core_scan::basic::{byte_at, minus, piece, plus, set};
 use tocmark_core_scan::class::{Class, run_end};
 
-/// For each number of backticks the place behind the first byte of the last run of so many; 0 where
-/// there is none.
+/// For each number of backticks the place behind the first byte of the last run of so many before a
+/// place; 0 where there is none, and no entry for more than the longest of these runs has.
 #[derive(Drop)]
 struct Ticks {
     last: Vec<usize>,
-    count: usize,
     place: usize,
 }
 
-impl Ticks {
-    /// Takes note of the run that ends at the place.
-    #[tactic(auto, unfolding(crate::specs::Tick::tick_ended))]
-    fn end_run(&mut self)
-        ensures { ticks_view self.new ≡ tick_ended (ticks_view self.old) }
-    {
-        let start = minus(self.place, self.count);
-        set(&mut self.last, self.count, plus(start, 1));
-        self.count = 0;
-    }
+/// Makes room for so many entries: further ones are 0.
+fn pad(alloc: Global, last: &mut Vec<usize>, count: usize) -> Result<(), AllocError>
+    ensures { OnOk result (last.new.items ≡ padded count last.old.items) }
+{
+    let more = vec![in alloc; 0; minus(count, last.len())]?;
+    last.extend_from_slice(&more)?;
+    Ok(())
+}
 
-    #[tactic(auto, unfolding(crate::specs::Tick::tick_step))]
-    fn step(&mut self, byte: u8)
-        ensures { ticks_view self.new ≡ tick_step (ticks_view self.old) byte }
+impl Ticks {
+    /// Takes note of the run between two places.
+    #[tactic(auto, unfolding(crate::specs::Tick::noted))]
+    fn note(&mut self, alloc: Global, start: usize, end: usize) -> Result<(), AllocError>
+        ensures { OnOk result (ticks_view self.new ≡ noted start end (ticks_view self.old)) }
     {
-        if byte == b'`' {
-            self.count = plus(self.count, 1);
-        } else {
-            self.end_run();
-        }
-        self.place = plus(self.place, 1);
+        let count = minus(end, start);
+        pad(alloc, &mut self.last, plus(count, 1))?;
+        set(&mut self.last, count, plus(start, 1));
+        self.place = end;
+        Ok(())
+    }
+}
+
+/// Where the first run of backticks from a place on begins and ends.
+#[tactic(auto, unfolding(crate::specs::Tick::run_from))]
+fn run_from(bytes: &[u8], place: usize) -> Option<(usize, usize)>
+    ensures { result ≡ run_from bytes.now place }
+{
+    let start = run_end(bytes, place, Class::Except(b'`'));
+    let end = run_end(bytes, start, Class::Only(b'`'));
+    if start == end {
+        None
+    } else {
+        Some((start, end))
     }
 }
 
 /// For each number of backticks the place behind the first byte of the last run of so many in a text;
-/// 0 where there is none. An `Err` says that memory ran out.
-#[tactic(auto, unfolding(crate::specs::Tick::last_ticks))]
+/// 0 or no entry where there is none. An `Err` says that memory ran out.
+#[tactic(auto, unfolding(crate::specs::Tick::last_ticks), using(tocmark_core_scan::proofs::Repeats::iterated_zero, crate::proofs::NotedRuns::runs_stop, crate::proofs::NotedRuns::runs_more))]
 pub fn last_ticks(alloc: Global, bytes: &[u8]) -> Result<Vec<usize>, AllocError>
     ensures { IfOk result (λ v. v.items ≡ last_ticks bytes.now) }
 {
     let mut ticks = Ticks {
-        last: vec![in alloc; 0; plus(bytes.len(), 1)]?,
-        count: 0,
+        last: Vec::new(alloc),
         place: 0,
     };
-    for byte in bytes {
-        ticks.step(*byte);
+    for _fuel in (0..bytes.len()).rev() {
+        match run_from(bytes, ticks.place) {
+            None => return Ok(ticks.last),
+            Some((start, end)) => ticks.note(alloc, start, end)?,
+        }
     }
-    ticks.end_run();
     Ok(ticks.last)
 }
 

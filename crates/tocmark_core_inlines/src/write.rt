@@ -1,12 +1,15 @@
 //! The second pass over a leaf's text: from what each byte is to nodes.
 
 ghost use Rattle.std.specs.Prelude.{◌≡◌, ◌++◌, IfOk, OnOk, map};
+ghost use Rattle.std.specs.List.{fold};
+ghost use Rattle.tocmark_core_scan.specs.Content.{content_view};
 ghost use Rattle.tocmark_core_inlines.specs.Role.{roles_of};
-ghost use Rattle.tocmark_core_inlines.specs.Write.{writing, pushed, flushed, opened, closed, single, gone_on, shown, role_step, written, moved};
+ghost use Rattle.tocmark_core_inlines.specs.Write.{writing, pushed, flushed, opened, closed, single, gone_on, shown, role_step, passed, mark_step, is_between, ascend, written, moved};
 
-use crate::role::{Leaf, Role, Roles, Span};
+use crate::role::{Leaf, Mark, Role, Roles, Span};
 use std::alloc::{AllocError, Global};
 use tocmark_core_scan::basic::{minus, plus};
+use tocmark_core_scan::content::Content;
 
 /// What stands at a node.
 #[derive(Clone, Copy, Debug)]
@@ -136,10 +139,77 @@ impl Writer {
         self.place = plus(self.place, 1);
         Ok(())
     }
+
+    /// Passes plain bytes up to a place.
+    #[tactic(auto, unfolding(crate::specs::Write::passed))]
+    fn pass(&mut self, end: usize)
+        ensures { writing self.new ≡ passed end (writing self.old) }
+    {
+        let from = self.resume.max(self.place);
+        if from < end && self.text.is_none() {
+            self.text = Some(from);
+        }
+        self.place = end;
+    }
+
+    /// Passes plain bytes up to a mark, and takes the byte that has it.
+    #[tactic(auto, unfolding(crate::specs::Write::mark_step))]
+    fn step_to(&mut self, mark: Mark) -> Result<(), AllocError>
+        ensures { OnOk result (writing self.new ≡ mark_step (writing self.old) mark) }
+    {
+        self.pass(mark.place);
+        self.step(mark.role)
+    }
+
+    /// Takes the bytes up to a place, where these marks are in order.
+    fn take_marks(&mut self, marks: &[Mark], end: usize) -> Result<(), AllocError>
+        ensures { OnOk result (writing self.new
+            ≡ passed end (fold mark_step (writing self.old) marks.now)) }
+    {
+        for mark in marks {
+            self.step_to(*mark)?;
+        }
+        self.pass(end);
+        Ok(())
+    }
+
+    /// Takes the bytes one by one.
+    fn take_roles(&mut self, alloc: Global, roles: &Roles) -> Result<(), AllocError>
+        ensures { OnOk result (writing self.new
+            ≡ fold role_step (writing self.old) (roles_of roles.now)) }
+    {
+        let numbers = roles.numbers(alloc)?;
+        for number in &numbers {
+            self.step(roles.role_at(*number))?;
+        }
+        Ok(())
+    }
+}
+
+/// Whether a mark stands from a place on and before another.
+#[tactic(auto, unfolding(crate::specs::Write::is_between))]
+fn is_between(mark: Mark, place: usize, end: usize) -> bool
+    ensures { result ≡ is_between mark place end }
+{
+    place <= mark.place && mark.place < end
+}
+
+/// Whether each mark stands behind the one before it, and all of them before a place.
+fn ascend(marks: &[Mark], end: usize) -> bool
+    ensures { result ≡ ascend 0 end marks.now }
+{
+    let mut place = 0usize;
+    for mark in marks {
+        if !is_between(*mark, place, end) {
+            return false;
+        }
+        place = plus(mark.place, 1);
+    }
+    true
 }
 
 /// The nodes of the roles of a text's bytes, at a depth. An `Err` says that memory ran out.
-#[tactic(auto, unfolding(crate::specs::Write::written))]
+#[tactic(auto, unfolding(crate::specs::Write::written), using(crate::proofs::Sparse::in_order))]
 pub fn write(alloc: Global, roles: &Roles, depth: usize) -> Result<Vec<Node>, AllocError>
     ensures { IfOk result (λ v. v.items ≡ written (roles_of roles.now) depth) }
 {
@@ -150,9 +220,10 @@ pub fn write(alloc: Global, roles: &Roles, depth: usize) -> Result<Vec<Node>, Al
         place: 0,
         resume: 0,
     };
-    let numbers = roles.numbers(alloc)?;
-    for number in &numbers {
-        writer.step(roles.role_at(*number))?;
+    if ascend(&roles.marks, roles.length) {
+        writer.take_marks(&roles.marks, roles.length)?;
+    } else {
+        writer.take_roles(alloc, roles)?;
     }
     writer.flush()?;
     Ok(writer.nodes)
@@ -160,11 +231,11 @@ pub fn write(alloc: Global, roles: &Roles, depth: usize) -> Result<Vec<Node>, Al
 
 /// The node with its range in the source, where each byte of the text stands for a range.
 #[tactic(auto, unfolding(crate::specs::Write::moved))]
-fn moved(places: &[(usize, usize)], node: Node) -> Node
-    ensures { result ≡ moved places.now node }
+fn moved(content: &Content, node: Node) -> Node
+    ensures { result ≡ moved (content_view content.now).places node }
 {
-    let first = places.get(node.start).copied().unwrap_or((0, 0));
-    let last = places.get(minus(node.end, 1)).copied().unwrap_or((0, 0));
+    let first = content.range(node.start);
+    let last = content.range(minus(node.end, 1));
     Node {
         start: first.0,
         end: last.1,
@@ -173,15 +244,12 @@ fn moved(places: &[(usize, usize)], node: Node) -> Node
 }
 
 /// Writes nodes with their ranges in the source behind others. An `Err` says that memory ran out.
-pub fn push_moved(
-    out: &mut Vec<Node>,
-    places: &[(usize, usize)],
-    nodes: &[Node],
-) -> Result<(), AllocError>
-    ensures { OnOk result (out.new.items ≡ out.old.items ++ map (moved places.now) nodes.now) }
+pub fn push_moved(out: &mut Vec<Node>, content: &Content, nodes: &[Node]) -> Result<(), AllocError>
+    ensures { OnOk result (out.new.items
+        ≡ out.old.items ++ map (moved (content_view content.now).places) nodes.now) }
 {
     for node in nodes {
-        out.push(moved(places, *node))?;
+        out.push(moved(content, *node))?;
     }
     Ok(())
 }

@@ -17,7 +17,7 @@ fn is_ink(byte: u8) -> bool {
 }
 
 // the lines of a text, without the white space at their fronts
-fn content(alloc: Global, text: &str) -> Result<Content, AllocError> {
+fn content(alloc: Global, text: &str) -> Result<Content<'_>, AllocError> {
     let mut lines = Vec::new(alloc);
     let mut line = Line {
         start: 0,
@@ -43,12 +43,13 @@ fn content(alloc: Global, text: &str) -> Result<Content, AllocError> {
 
 fn collect(alloc: Global, text: &str) -> Result<Collected, AllocError> {
     let text = content(alloc, text)?;
+    let bytes = text.bytes();
     let mut collected = Collected::new(alloc);
     let mut place = 0;
-    for _fuel in 0..text.bytes.len() {
-        match definition_at(&text.bytes, place) {
+    for _fuel in 0..bytes.len() {
+        match definition_at(bytes, place) {
             Some(found) => {
-                collected.add(alloc, &text.bytes, found)?;
+                collected.add(alloc, bytes, found)?;
                 place = found.next;
             }
             None => return Ok(collected),

@@ -1,5 +1,5 @@
 -- The events of a list of nodes.
-use Rattle.std.specs.Prelude.{ℕ, false, List, [], ◌∷◌, ◌++◌, map, reverse, take, drop, string_bytes}
+use Rattle.std.specs.Prelude.{ℕ, false, List, [], ◌∷◌, ◌++◌, map, reverse, take, drop}
 use Rattle.std.specs.List.{fold}
 use Rattle.tocmark_core_scan.specs.Basic.{piece}
 use Rattle.tocmark_core_reader.specs.Words.{cleaned}
@@ -26,12 +26,12 @@ pub record NodeView : Type 0 where
 
 -- an item whose texts are their bytes
 abbrev pub item_view : Item → ItemView
-item_view (item.Container tag) = Container (tag_view string_bytes tag)
+item_view (item.Container tag) = Container (tag_view text_of tag)
 item_view item.Source = Source
-item_view (item.Text t) = Given (Text (string_bytes t))
-item_view (item.Code t) = Given (Code (string_bytes t))
-item_view (item.Html t) = Given (Html (string_bytes t))
-item_view (item.InlineHtml t) = Given (InlineHtml (string_bytes t))
+item_view (item.Text t) = Given (Text (text_of t))
+item_view (item.Code t) = Given (Code (text_of t))
+item_view (item.Html t) = Given (Html (text_of t))
+item_view (item.InlineHtml t) = Given (InlineHtml (text_of t))
 item_view item.SoftBreak = Given SoftBreak
 item_view item.HardBreak = Given HardBreak
 item_view item.Rule = Given Rule

@@ -1,29 +1,28 @@
 //! From nodes to events.
 
-ghost use Rattle.std.specs.Prelude.{◌≡◌, ◌++◌, map, take, IfOk, OnOk};
+ghost use Rattle.std.specs.Prelude.{◌≡◌, ◌++◌, ◌∷◌, [], map, take, IfOk, OnOk};
 ghost use Rattle.tocmark_event.specs.Text.{text_of};
-ghost use Rattle.tocmark_event.specs.View.{event_view, LeafView, Leaf, Text};
+ghost use Rattle.tocmark_event.specs.View.{event_view, tag_view, end_of, Start};
 ghost use Rattle.tocmark_event.specs.Forest.{IsBalanced};
 ghost use Rattle.tocmark_core_reader.specs.Range.{is_cut, snapped, IsGoodRange, HasGoodRanges};
-ghost use Rattle.tocmark_core_reader.specs.Emitted.{item_view, node_view, shown, closings, source_text, put, step, emitted, Writing};
+ghost use Rattle.tocmark_core_reader.specs.Emitted.{item_view, node_view, shown, closings, source_text, put, step, emitted};
 
-use crate::words::cleaned;
+use crate::words::cleaned_part;
 use std::alloc::{AllocError, Global};
-use tocmark_core_scan::basic::piece;
-use tocmark_event::event::{CowStr, Event, OwnedTag, TagEnd};
+use tocmark_event::event::{CowStr, Event, Tag, TagEnd};
 
 /// What stands at a node.
 #[derive(Debug, Drop)]
 pub enum Item {
     /// A container; what lies in it are the nodes behind it that are deeper.
-    Container(OwnedTag),
+    Container(Tag<'static>),
     /// A text: the bytes of the node's range, but U+FFFD for U+0000.
     Source,
     /// A text that differs from its source.
-    Text(String),
-    Code(String),
-    Html(String),
-    InlineHtml(String),
+    Text(CowStr<'static>),
+    Code(CowStr<'static>),
+    Html(CowStr<'static>),
+    InlineHtml(CowStr<'static>),
     SoftBreak,
     HardBreak,
     Rule,
@@ -84,12 +83,6 @@ fn close_to(out: &mut Vec<Marked>, stack: &mut Vec<Open>, depth: usize) -> Resul
     Ok(())
 }
 
-fn owned(alloc: Global, text: &str) -> Result<CowStr<'static>, AllocError>
-    ensures { IfOk result (λ copy. text_of copy ≡ text.now) }
-{
-    Ok(CowStr::Owned(String::from_str(alloc, text)?))
-}
-
 fn source_text(
     alloc: Global,
     text: &str,
@@ -97,8 +90,38 @@ fn source_text(
 ) -> Result<CowStr<'static>, AllocError>
     ensures { IfOk result (λ copy. text_of copy ≡ source_text text.now range) }
 {
-    let words = cleaned(alloc, piece(text.as_bytes(), range.0, range.1), false)?;
-    Ok(CowStr::Owned(words))
+    Ok(CowStr::Owned(cleaned_part(alloc, text, range.0, range.1, false)?))
+}
+
+fn push(
+    out: &mut Vec<Marked>,
+    event: Event<'static>,
+    range: (usize, usize),
+) -> Result<(), AllocError>
+    ensures { OnOk result (map shown out.new.items
+        ≡ map shown out.old.items ++ (event_view text_of event.entry, range) ∷ []) }
+{
+    out.push((event, range))?;
+    Ok(())
+}
+
+/// Begins a container.
+fn begin(
+    out: &mut Vec<Marked>,
+    stack: &mut Vec<Open>,
+    tag: Tag<'static>,
+    range: (usize, usize),
+) -> Result<(), AllocError>
+    ensures events { OnOk result (map shown out.new.items
+        ≡ map shown out.old.items ++ (Start (tag_view text_of tag.entry), range) ∷ []) }
+    ensures stack { OnOk result (stack.new.items ≡ stack.old.items
+        ++ record { end = end_of (tag_view text_of tag.entry); range = range } ∷ []) }
+{
+    stack.push(Open {
+        end: tag.to_end(),
+        range,
+    })?;
+    push(out, Event::Start(tag), range)
 }
 
 /// Puts one item behind the events so far.
@@ -107,34 +130,25 @@ fn put(
     text: &str,
     out: &mut Vec<Marked>,
     stack: &mut Vec<Open>,
-    item: &Item,
+    item: Item,
     range: (usize, usize),
 ) -> Result<(), AllocError>
     ensures { OnOk result
-        (let after = put text.now (item_view item.now) range
+        (let after = put text.now (item_view item) range
         (record { events = map shown out.old.items; stack = stack.old.items }) in
         (map shown out.new.items ≡ after.events) × (stack.new.items ≡ after.stack)) }
 {
     match item {
-        Item::Container(tag) => {
-            out.push((Event::Start(tag.copied(alloc)?), range))?;
-            stack.push(Open {
-                end: tag.to_end(),
-                range,
-            })?;
-        }
-        Item::Source => out.push((Event::Text(source_text(alloc, text, range)?), range))?,
-        Item::Text(words) => out.push((Event::Text(owned(alloc, words.as_str())?), range))?,
-        Item::Code(words) => out.push((Event::Code(owned(alloc, words.as_str())?), range))?,
-        Item::Html(words) => out.push((Event::Html(owned(alloc, words.as_str())?), range))?,
-        Item::InlineHtml(words) => {
-            out.push((Event::InlineHtml(owned(alloc, words.as_str())?), range))?
-        }
-        Item::SoftBreak => out.push((Event::SoftBreak, range))?,
-        Item::HardBreak => out.push((Event::HardBreak, range))?,
-        Item::Rule => out.push((Event::Rule, range))?,
+        Item::Container(tag) => begin(out, stack, tag, range),
+        Item::Source => push(out, Event::Text(source_text(alloc, text, range)?), range),
+        Item::Text(words) => push(out, Event::Text(words), range),
+        Item::Code(words) => push(out, Event::Code(words), range),
+        Item::Html(words) => push(out, Event::Html(words), range),
+        Item::InlineHtml(words) => push(out, Event::InlineHtml(words), range),
+        Item::SoftBreak => push(out, Event::SoftBreak, range),
+        Item::HardBreak => push(out, Event::HardBreak, range),
+        Item::Rule => push(out, Event::Rule, range),
     }
-    Ok(())
 }
 
 /// Writes one node.
@@ -143,20 +157,21 @@ fn write(
     text: &str,
     out: &mut Vec<Marked>,
     stack: &mut Vec<Open>,
-    node: &Node,
+    node: Node,
 ) -> Result<(), AllocError>
     ensures { OnOk result
         (let after = step text.now
-        (record { events = map shown out.old.items; stack = stack.old.items }) (node_view node.now)
+        (record { events = map shown out.old.items; stack = stack.old.items }) (node_view node)
         in (map shown out.new.items ≡ after.events) × (stack.new.items ≡ after.stack)) }
 {
     close_to(out, stack, node.depth)?;
     let range = snapped(text, node.start, node.end);
-    put(alloc, text, out, stack, &node.item, range)
+    put(alloc, text, out, stack, node.item, range)
 }
 
-fn write_all(alloc: Global, text: &str, nodes: &[Node]) -> Result<Vec<Marked>, AllocError>
-    ensures { IfOk result (λ v. map shown v.items ≡ emitted text.now (map node_view nodes.now)) }
+fn write_all(alloc: Global, text: &str, nodes: Vec<Node>) -> Result<Vec<Marked>, AllocError>
+    ensures { IfOk result (λ v.
+        map shown v.items ≡ emitted text.now (map node_view nodes.items)) }
 {
     let mut out = Vec::new(alloc);
     let mut stack = Vec::new(alloc);
@@ -171,9 +186,9 @@ fn write_all(alloc: Global, text: &str, nodes: &[Node]) -> Result<Vec<Marked>, A
 /// balanced and the ranges are in order, within the text and on boundaries of characters. A node whose
 /// range is none of the text gets an empty one at the front. An `Err` says that memory ran out.
 #[tactic(auto, using(crate::proofs::EmitLaws::shown_balanced, crate::proofs::EmitLaws::shown_good))]
-pub fn emit(alloc: Global, text: &str, nodes: &[Node]) -> Result<Vec<Marked>, AllocError>
+pub fn emit(alloc: Global, text: &str, nodes: Vec<Node>) -> Result<Vec<Marked>, AllocError>
     ensures exact { IfOk result (λ v.
-        map shown v.items ≡ emitted text.now (map node_view nodes.now)) }
+        map shown v.items ≡ emitted text.now (map node_view nodes.items)) }
     ensures balanced { IfOk result (λ v. IsBalanced (map (λ e. event_view text_of e.0) v.items)) }
     ensures ranges { IfOk result (λ v. HasGoodRanges text.now v.items) }
 {

@@ -1,17 +1,18 @@
 //! From the nodes of inlines to those of events.
 
 ghost use Rattle.std.specs.Prelude.{◌≡◌, ◌++◌, map, IfOk, OnOk};
+ghost use Rattle.tocmark_event.specs.Text.{text_of};
 ghost use Rattle.tocmark_event.specs.View.{tag_view};
 ghost use Rattle.tocmark_core_reader.specs.Emitted.{item_view, node_view};
 ghost use Rattle.tocmark_core_reader.specs.Inlines.{target_at, link_of, image_of, span_tag, leaf_item, inline_item, inline_node};
-ghost use Rattle.std.specs.Prelude.{string_bytes, encode_utf8};
+ghost use Rattle.std.specs.Prelude.{encode_utf8};
 
 use crate::emit::{Item, Node};
 use crate::words::stretch_text;
 use std::alloc::{AllocError, Global};
 use tocmark_core_inlines::role::{Leaf, Span, Stretch, Target};
 use tocmark_core_inlines::write as inline;
-use tocmark_event::event::{LinkType, OwnedTag};
+use tocmark_event::event::{CowStr, LinkType, Tag};
 
 #[tactic(auto, unfolding(crate::specs::Inlines::target_at))]
 fn target_at(targets: &[Target], place: usize) -> Target
@@ -27,10 +28,10 @@ fn target_at(targets: &[Target], place: usize) -> Target
 }
 
 #[tactic(auto, unfolding(crate::specs::Inlines::link_of))]
-fn link_of(alloc: Global, texts: &[u8], target: Target) -> Result<OwnedTag, AllocError>
-    ensures { IfOk result (λ t. tag_view string_bytes t ≡ link_of texts.now target) }
+fn link_of(alloc: Global, texts: &[u8], target: Target) -> Result<Tag<'static>, AllocError>
+    ensures { IfOk result (λ t. tag_view text_of t ≡ link_of texts.now target) }
 {
-    Ok(OwnedTag::Link {
+    Ok(Tag::Link {
         link_type: target.link_type,
         dest_url: stretch_text(alloc, texts, target.destination)?,
         title: stretch_text(alloc, texts, target.title)?,
@@ -39,10 +40,10 @@ fn link_of(alloc: Global, texts: &[u8], target: Target) -> Result<OwnedTag, Allo
 }
 
 #[tactic(auto, unfolding(crate::specs::Inlines::image_of))]
-fn image_of(alloc: Global, texts: &[u8], target: Target) -> Result<OwnedTag, AllocError>
-    ensures { IfOk result (λ t. tag_view string_bytes t ≡ image_of texts.now target) }
+fn image_of(alloc: Global, texts: &[u8], target: Target) -> Result<Tag<'static>, AllocError>
+    ensures { IfOk result (λ t. tag_view text_of t ≡ image_of texts.now target) }
 {
-    Ok(OwnedTag::Image {
+    Ok(Tag::Image {
         link_type: target.link_type,
         dest_url: stretch_text(alloc, texts, target.destination)?,
         title: stretch_text(alloc, texts, target.title)?,
@@ -56,23 +57,23 @@ fn span_tag(
     texts: &[u8],
     targets: &[Target],
     span: Span,
-) -> Result<OwnedTag, AllocError>
-    ensures { IfOk result (λ t. tag_view string_bytes t ≡ span_tag texts.now targets.now span) }
+) -> Result<Tag<'static>, AllocError>
+    ensures { IfOk result (λ t. tag_view text_of t ≡ span_tag texts.now targets.now span) }
 {
     match span {
-        Span::Emphasis => Ok(OwnedTag::Emphasis),
-        Span::Strong => Ok(OwnedTag::Strong),
+        Span::Emphasis => Ok(Tag::Emphasis),
+        Span::Strong => Ok(Tag::Strong),
         Span::Link(place) => link_of(alloc, texts, target_at(targets, place)),
         Span::Image(place) => image_of(alloc, texts, target_at(targets, place)),
     }
 }
 
-fn character_text(alloc: Global, character: char) -> Result<String, AllocError>
-    ensures { IfOk result (λ t. string_bytes t ≡ encode_utf8 character) }
+fn character_text(alloc: Global, character: char) -> Result<CowStr<'static>, AllocError>
+    ensures { IfOk result (λ t. text_of t ≡ encode_utf8 character) }
 {
     let mut text = String::new(alloc);
     text.push(character)?;
-    Ok(text)
+    Ok(CowStr::Owned(text))
 }
 
 #[tactic(auto, unfolding(crate::specs::Inlines::leaf_item))]

@@ -1,6 +1,7 @@
 //! From blocks to nodes.
 
-ghost use Rattle.std.specs.Prelude.{◌≡◌, ◌++◌, ◌∷◌, [], map, string_bytes, IfOk, OnOk};
+ghost use Rattle.std.specs.Prelude.{◌≡◌, ◌++◌, ◌∷◌, [], map, IfOk, OnOk};
+ghost use Rattle.tocmark_event.specs.Text.{text_of};
 ghost use Rattle.tocmark_event.specs.View.{tag_view};
 ghost use Rattle.tocmark_core_inlines.specs.Definitions.{entry_of};
 ghost use Rattle.tocmark_core_reader.specs.Emitted.{node_view, item_view};
@@ -8,14 +9,14 @@ ghost use Rattle.tocmark_core_reader.specs.Pages.{pieces_of, content_line, space
 
 use crate::emit::{Item, Node};
 use crate::inline::push_inlines;
-use crate::words::{cleaned, info_text, spaces_text};
+use crate::words::{cleaned_part, info_text, spaces_text};
 use std::alloc::{AllocError, Global};
 use tocmark_core_blocks::{Block, BlockKind, Piece};
 use tocmark_core_inlines::definitions::Definitions;
 use tocmark_core_inlines::inlines::{Inlines, read_inlines};
 use tocmark_core_scan::basic::{minus, piece, plus};
 use tocmark_core_scan::content::{Line, content_of};
-use tocmark_event::event::{CodeBlockKindOf, OwnedTag};
+use tocmark_event::event::{CodeBlockKind, CowStr, Tag};
 
 /// The pieces of a range, none where it is none of the list.
 fn pieces_of(pieces: &[Piece], first: usize, last: usize) -> &[Piece]
@@ -39,14 +40,15 @@ fn content_line(line: Piece) -> Line
     }
 }
 
-fn content_lines(alloc: Global, pieces: &[Piece]) -> Result<Vec<Line>, AllocError>
-    ensures { IfOk result (λ v. v.items ≡ map content_line pieces.now) }
+/// Writes the lines of a leaf over those of another one.
+fn content_lines(lines: &mut Vec<Line>, pieces: &[Piece]) -> Result<(), AllocError>
+    ensures { OnOk result (lines.new.items ≡ map content_line pieces.now) }
 {
-    let mut lines = Vec::with_capacity(alloc, pieces.len())?;
+    lines.clear();
     for line in pieces {
         lines.push(content_line(*line))?;
     }
-    Ok(lines)
+    Ok(())
 }
 
 /// The spaces that are left of a partly used tab.
@@ -63,7 +65,7 @@ fn push_spaces(
     if 0 < line.spaces {
         out.push(Node {
             depth,
-            item: Item::Text(spaces_text(alloc, line.spaces)?),
+            item: Item::Text(CowStr::Owned(spaces_text(alloc, line.spaces)?)),
             start: minus(line.start, 1),
             end: line.start,
         })?;
@@ -72,14 +74,11 @@ fn push_spaces(
 }
 
 #[tactic(auto, unfolding(crate::specs::Pages::line_item))]
-fn line_item(alloc: Global, text: &[u8], html: bool, line: Piece) -> Result<Item, AllocError>
+fn line_item(alloc: Global, text: &str, html: bool, line: Piece) -> Result<Item, AllocError>
     ensures { IfOk result (λ i. item_view i ≡ line_item text.now html line) }
 {
-    let words = cleaned(
-        alloc,
-        piece(text, line.start, line.end),
-        line.end < line.next,
-    )?;
+    let feed = line.end < line.next;
+    let words = CowStr::Owned(cleaned_part(alloc, text, line.start, line.end, feed)?);
     if html {
         Ok(Item::Html(words))
     } else {
@@ -92,7 +91,7 @@ fn line_item(alloc: Global, text: &[u8], html: bool, line: Piece) -> Result<Item
 fn push_line(
     alloc: Global,
     out: &mut Vec<Node>,
-    text: &[u8],
+    text: &str,
     html: bool,
     depth: usize,
     line: Piece,
@@ -115,7 +114,7 @@ fn push_line(
 fn push_lines(
     alloc: Global,
     out: &mut Vec<Node>,
-    text: &[u8],
+    text: &str,
     html: bool,
     depth: usize,
     lines: &[Piece],
@@ -131,27 +130,27 @@ fn push_lines(
 
 /// The container that a block is. A thematic break is none, and stands as a paragraph here.
 #[tactic(auto, unfolding(crate::specs::Pages::block_tag))]
-fn block_tag(alloc: Global, text: &[u8], kind: BlockKind) -> Result<OwnedTag, AllocError>
-    ensures { IfOk result (λ t. tag_view string_bytes t ≡ block_tag text.now kind) }
+fn block_tag(alloc: Global, text: &str, kind: BlockKind) -> Result<Tag<'static>, AllocError>
+    ensures { IfOk result (λ t. tag_view text_of t ≡ block_tag text.now kind) }
 {
     match kind {
-        BlockKind::Quote => Ok(OwnedTag::BlockQuote(None)),
-        BlockKind::List(first) => Ok(OwnedTag::List(first)),
-        BlockKind::Item => Ok(OwnedTag::Item),
-        BlockKind::Paragraph => Ok(OwnedTag::Paragraph),
-        BlockKind::Heading(level) => Ok(OwnedTag::Heading {
+        BlockKind::Quote => Ok(Tag::BlockQuote(None)),
+        BlockKind::List(first) => Ok(Tag::List(first)),
+        BlockKind::Item => Ok(Tag::Item),
+        BlockKind::Paragraph => Ok(Tag::Paragraph),
+        BlockKind::Heading(level) => Ok(Tag::Heading {
             level,
             id: None,
             classes: Vec::new(alloc),
             attrs: Vec::new(alloc),
         }),
-        BlockKind::Indented => Ok(OwnedTag::CodeBlock(CodeBlockKindOf::Indented)),
-        BlockKind::Fenced(from, to) => Ok(OwnedTag::CodeBlock(CodeBlockKindOf::Fenced(info_text(
-            alloc,
-            piece(text, from, to),
-        )?))),
-        BlockKind::Html => Ok(OwnedTag::HtmlBlock),
-        BlockKind::Rule => Ok(OwnedTag::Paragraph),
+        BlockKind::Indented => Ok(Tag::CodeBlock(CodeBlockKind::Indented)),
+        BlockKind::Fenced(from, to) => {
+            let info = info_text(alloc, piece(text.as_bytes(), from, to))?;
+            Ok(Tag::CodeBlock(CodeBlockKind::Fenced(CowStr::Owned(info))))
+        }
+        BlockKind::Html => Ok(Tag::HtmlBlock),
+        BlockKind::Rule => Ok(Tag::Paragraph),
     }
 }
 
@@ -172,7 +171,7 @@ fn is_unwrapped(blocks: &[Block], block: Block) -> bool
 fn push_block(
     alloc: Global,
     out: &mut Vec<Node>,
-    text: &[u8],
+    text: &str,
     block: Block,
 ) -> Result<(), AllocError>
     ensures { OnOk result (map node_view out.new.items
@@ -187,18 +186,19 @@ fn push_block(
     Ok(())
 }
 
-/// The nodes so far, and what their inlines have beside the source.
+/// The nodes so far, what their inlines have beside the source, and a list for the lines of a leaf.
 #[derive(Drop)]
 pub struct Assembly {
     pub nodes: Vec<Node>,
     pub inlines: Inlines,
+    pub lines: Vec<Line>,
 }
 
 /// Reads the inlines of a leaf.
 #[tactic(auto, unfolding(crate::specs::Pages::leaf_inlines))]
 fn read_leaf(
     alloc: Global,
-    text: &[u8],
+    text: &str,
     definitions: &Definitions,
     pieces: &[Piece],
     depth: usize,
@@ -209,8 +209,9 @@ fn read_leaf(
         ≡ leaf_inlines text.now (entry_of definitions.now) pieces.now depth (assembly_view before)) }
 {
     let mut nodes = before.nodes;
-    let lines = content_lines(alloc, pieces)?;
-    let content = content_of(alloc, text, &lines)?;
+    let mut lines = before.lines;
+    content_lines(&mut lines, pieces)?;
+    let content = content_of(alloc, text.as_bytes(), &lines)?;
     let mut found = read_inlines(alloc, before.inlines, &content, depth, definitions)?;
     push_inlines(
         alloc,
@@ -223,12 +224,13 @@ fn read_leaf(
     Ok(Assembly {
         nodes,
         inlines: found,
+        lines,
     })
 }
 
 impl Assembly {
     #[tactic(auto, unfolding(crate::specs::Pages::with_block))]
-    fn open(&mut self, alloc: Global, text: &[u8], block: Block) -> Result<(), AllocError>
+    fn open(&mut self, alloc: Global, text: &str, block: Block) -> Result<(), AllocError>
         ensures { OnOk result (assembly_view self.new
             ≡ with_block text.now block (assembly_view self.old)) }
     {
@@ -239,7 +241,7 @@ impl Assembly {
     fn take_lines(
         &mut self,
         alloc: Global,
-        text: &[u8],
+        text: &str,
         html: bool,
         block: Block,
         lines: &[Piece],
@@ -276,7 +278,7 @@ impl Assembly {
 #[tactic(auto, unfolding(crate::specs::Pages::wrapped))]
 fn read_wrapped(
     alloc: Global,
-    text: &[u8],
+    text: &str,
     definitions: &Definitions,
     pieces: &[Piece],
     block: Block,
@@ -301,7 +303,7 @@ fn read_wrapped(
 #[tactic(auto, unfolding(crate::specs::Pages::paragraph_taken))]
 fn read_paragraph(
     alloc: Global,
-    text: &[u8],
+    text: &str,
     definitions: &Definitions,
     pieces: &[Piece],
     unwrapped: bool,
@@ -326,7 +328,7 @@ fn read_paragraph(
 #[tactic(auto, unfolding(crate::specs::Pages::block_taken))]
 fn read_block(
     alloc: Global,
-    text: &[u8],
+    text: &str,
     definitions: &Definitions,
     all: &[Piece],
     unwrapped: bool,
@@ -361,7 +363,7 @@ fn read_block(
 /// All blocks with their inlines; `texts` are those of the definitions.
 pub fn assemble(
     alloc: Global,
-    text: &[u8],
+    text: &str,
     definitions: &Definitions,
     blocks: &[Block],
     pieces: &[Piece],
@@ -379,6 +381,7 @@ pub fn assemble(
             texts,
             missed: Vec::new(alloc),
         },
+        lines: Vec::new(alloc),
     };
     for block in blocks {
         let unwrapped = is_unwrapped(blocks, *block);

@@ -62,10 +62,10 @@ struct Found {
 }
 
 #[tactic(auto, unfolding(crate::specs::Reading::found_in))]
-fn find(alloc: Global, text: &[u8]) -> Result<Found, AllocError>
+fn find(alloc: Global, text: &str) -> Result<Found, AllocError>
     ensures { IfOk result (λ f. found_view f ≡ found_in text.now) }
 {
-    let blocks = read_blocks(alloc, text)?;
+    let blocks = read_blocks(alloc, text.as_bytes())?;
     let Collected {
         keys,
         labels,
@@ -115,9 +115,9 @@ impl Reader for CoreReader {
             → IfOk result (λ found.
             IsReadAs (reading_view found) (lines_paragraph (meant l) (map meant ms))) }
     {
-        let found = find(alloc, text.as_bytes())?;
+        let found = find(alloc, text)?;
         Ok(Reading {
-            events: emit(alloc, text, &found.nodes)?,
+            events: emit(alloc, text, found.nodes)?,
             defined: found.defined,
             unresolved: found.unresolved,
         })

@@ -1,8 +1,10 @@
 //! Texts of events that are not spelled in the source as they are.
 
-ghost use Rattle.std.specs.Prelude.{◌≡◌, ◌++◌, string_bytes, IfOk, OnOk};
+ghost use Rattle.std.specs.Prelude.{◌≡◌, ◌++◌, true, string_bytes, IfOk, OnOk};
 ghost use Rattle.std.specs.List.{flat_map};
+ghost use Rattle.tocmark_core_scan.specs.Basic.{piece};
 ghost use Rattle.tocmark_core_scan.specs.Reference.{unescaped};
+ghost use Rattle.tocmark_event.specs.Text.{text_of};
 ghost use Rattle.tocmark_core_blocks.specs.Definitions.{replaced};
 ghost use Rattle.tocmark_core_inlines.specs.Definitions.{stretch_text};
 ghost use Rattle.tocmark_core_reader.specs.Words.{feed_if, cleaned, info_text, spaces_text};
@@ -11,6 +13,7 @@ use std::alloc::{AllocError, Global};
 use tocmark_core_inlines::role::Stretch;
 use tocmark_core_scan::basic::{piece, plus};
 use tocmark_core_scan::reference::unescaped;
+use tocmark_event::event::CowStr;
 
 #[tactic(auto, unfolding(tocmark_core_blocks::specs::Definitions::replaced))]
 fn push_byte(out: &mut Vec<u8>, byte: u8) -> Result<(), AllocError>
@@ -58,17 +61,51 @@ fn push_feed(out: &mut Vec<u8>, feed: bool) -> Result<(), AllocError>
     Ok(())
 }
 
-/// A text with U+FFFD for U+0000, and a line feed behind it if it is a line that ends.
-#[tactic(auto, unfolding(crate::specs::Words::cleaned), using(crate::proofs::Zeros::cleaned_whole))]
-pub fn cleaned(alloc: Global, bytes: &[u8], feed: bool) -> Result<String, AllocError>
+#[tactic(auto, unfolding(crate::specs::Words::cleaned))]
+fn cleaned(alloc: Global, bytes: &[u8], feed: bool) -> Result<String, AllocError>
     ensures { IfOk result (λ t. string_bytes t ≡ cleaned bytes.now feed) }
 {
-    if !feed && !bytes.contains(&0) {
-        return String::from_utf8_lossy(alloc, bytes);
-    }
     let mut out = replaced_bytes(alloc, bytes)?;
     push_feed(&mut out, feed)?;
     String::from_utf8_lossy(alloc, &out)
+}
+
+fn with_feed(alloc: Global, text: &str) -> Result<String, AllocError>
+    ensures { IfOk result (λ t. string_bytes t ≡ text.now ++ feed_if true) }
+{
+    let mut line = String::with_capacity(alloc, plus(text.len(), 1))?;
+    line.push_str(text)?;
+    line.push('\n')?;
+    Ok(line)
+}
+
+#[tactic(auto, using(crate::proofs::Zeros::text_kept, crate::proofs::Zeros::line_kept))]
+fn cleaned_text(alloc: Global, text: &str, feed: bool) -> Result<String, AllocError>
+    ensures { IfOk result (λ t. string_bytes t ≡ cleaned text.now feed) }
+{
+    if text.as_bytes().contains(&0) {
+        cleaned(alloc, text.as_bytes(), feed)
+    } else if feed {
+        with_feed(alloc, text)
+    } else {
+        String::from_str(alloc, text)
+    }
+}
+
+/// A part of a text with U+FFFD for U+0000, and a line feed behind it if it is a line that ends.
+pub fn cleaned_part(
+    alloc: Global,
+    text: &str,
+    start: usize,
+    end: usize,
+    feed: bool,
+) -> Result<String, AllocError>
+    ensures { IfOk result (λ t. string_bytes t ≡ cleaned (piece text.now start end) feed) }
+{
+    match text.get(start..end) {
+        Some(part) => cleaned_text(alloc, part, feed),
+        None => cleaned(alloc, piece(text.as_bytes(), start, end), feed),
+    }
 }
 
 /// An info string: without escapes and references.
@@ -91,8 +128,13 @@ pub fn spaces_text(alloc: Global, count: usize) -> Result<String, AllocError>
 }
 
 /// A stretch of texts.
-pub fn stretch_text(alloc: Global, texts: &[u8], stretch: Stretch) -> Result<String, AllocError>
-    ensures { IfOk result (λ t. string_bytes t ≡ stretch_text texts.now stretch) }
+pub fn stretch_text(
+    alloc: Global,
+    texts: &[u8],
+    stretch: Stretch,
+) -> Result<CowStr<'static>, AllocError>
+    ensures { IfOk result (λ t. text_of t ≡ stretch_text texts.now stretch) }
 {
-    String::from_utf8_lossy(alloc, piece(texts, stretch.start, stretch.end))
+    let bytes = piece(texts, stretch.start, stretch.end);
+    Ok(CowStr::Owned(String::from_utf8_lossy(alloc, bytes)?))
 }

@@ -1,4 +1,5 @@
 pub mod Repeats
+pub mod Whole
 pub mod Places
 pub mod PlainContent
 pub mod PlainMarks

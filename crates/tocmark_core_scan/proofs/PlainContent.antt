@@ -36,10 +36,10 @@ pub take_front : {A : Type 0} (xs ys : List A) → take (length xs) (xs ++ ys) �
 take_front [] ys = refl
 take_front (x ∷ xs) ys = ap (λ l. x ∷ l) (take_front xs ys)
 
-byte_behind : (xs ys : List ℕ) (y n : ℕ) → n ≡ length xs → byte_at (xs ++ y ∷ ys) n ≡ y
+pub byte_behind : (xs ys : List ℕ) (y n : ℕ) → n ≡ length xs → byte_at (xs ++ y ∷ ys) n ≡ y
 byte_behind xs ys y n e = ap (λ k. byte_at (xs ++ y ∷ ys) k) e ∙ ap (λ o. unwrap_or o 10) (get_behind xs ys y)
 
-white_before : (bytes : List ℕ) (n : ℕ) → 0 < n → is_in White (byte_at bytes (n - 1)) ≡ true → Some (n - 1) ≡ before_white bytes n
+pub white_before : (bytes : List ℕ) (n : ℕ) → 0 < n → is_in White (byte_at bytes (n - 1)) ≡ true → Some (n - 1) ≡ before_white bytes n
 unfolding before_white
 white_before bytes n h k =
     let some : nat_lt 0 n ≡ true = grind (arith, nat_tests) in
@@ -53,7 +53,7 @@ ink_before bytes n k = by_ink (nat_lt 0 n)
     by_ink true = rw k refl
     by_ink false = refl
 
-white_feed : is_in White 10 ≡ true
+pub white_feed : is_in White 10 ≡ true
 unfolding is_in
 white_feed = refl
 

@@ -1,10 +1,12 @@
 -- The text of a paragraph or a heading, with the places in the source that it stands for.
-use Rattle.std.specs.Prelude.{ℕ, ◌-◌, ◌==◌, ◌&&◌, nat_lt, if◌then◌else◌, List, [], ◌∷◌, ◌++◌, length, take, fold, Option, Some, None}
+use Rattle.std.specs.Prelude.{ℕ, ◌-◌, Bool, ◌==◌, ◌&&◌, nat_lt, nat_le, if◌then◌else◌, List, [], ◌∷◌, ◌++◌, length, take, fold, Option, Some, None}
 use Rattle.tocmark_core_scan.specs.Basic.{plus, byte_at, piece}
 use Rattle.tocmark_core_scan.specs.Repeat.{iterated}
 use Rattle.tocmark_core_scan.specs.Class.{is_in}
 use Rattle.tocmark_core_scan.specs.declared.class.Class.TheVariants.{White}
 use Rattle.tocmark_core_scan.specs.declared.content.Content.{Content}
+use Rattle.tocmark_core_scan.specs.declared.content.Content.TheVariants as kind
+use Rattle.tocmark_core_scan.specs.declared.content.Pasted.{Pasted}
 use Rattle.tocmark_core_scan.specs.declared.content.Line.{Line}
 
 -- the bytes, and for each the range of the source that it stands for
@@ -12,9 +14,19 @@ pub record State : Type 0 where
   pub bytes : List ℕ
   pub places : List (ℕ × ℕ)
 
+-- joined lines as lists
+abbrev pub pasted_view : Pasted → State
+pasted_view j = record { bytes = j.bytes.items; places = j.places.items }
+
+-- the ranges of bytes that stand in the source from a place on
+abbrev pub ranges_of : ℕ → List ℕ → List (ℕ × ℕ)
+ranges_of start [] = []
+ranges_of start (b ∷ bs) = (start, plus start 1) ∷ ranges_of (plus start 1) bs
+
 -- a content as its lists
 abbrev pub content_view : Content → State
-content_view c = record { bytes = c.bytes.items; places = c.places.items }
+content_view (kind.Whole text start) = record { bytes = text.now; places = ranges_of start text.now }
+content_view (kind.Pasted j) = pasted_view j
 
 -- one more byte, with the range that it stands for
 unfoldable pub put : ℕ → ℕ → ℕ → State → State
@@ -46,6 +58,25 @@ joined source lines = fold (put_line source) (record { bytes = []; places = [] }
 -- the place before, if white space stands there
 unfoldable pub before_white : List ℕ → ℕ → Option ℕ
 before_white bytes place = if nat_lt 0 place && is_in White (byte_at bytes (place - 1)) then Some (place - 1) else None
+
+-- the bytes without the white space at their end
+abbrev pub inked : List ℕ → List ℕ
+inked bytes = piece bytes 0 (iterated (before_white bytes) (length bytes) (length bytes))
+
+-- a line begins just behind another, which ends with one line feed
+unfoldable pub is_behind : List ℕ → Line → Line → Bool
+is_behind source line next =
+    (nat_lt line.end line.next && (line.next == plus line.end 1))
+    && (byte_at source line.end == 10) && nat_le line.start line.end && (next.start == line.next)
+
+-- where a line ends that is a range of the source
+unfoldable pub end_within : List ℕ → Line → Option ℕ
+end_within source line = if nat_le line.start line.end && nat_le line.end (length source) then Some line.end else None
+
+-- where lines end that begin one just behind the other
+abbrev pub end_behind : List ℕ → Line → List Line → Option ℕ
+end_behind source line [] = end_within source line
+end_behind source line (next ∷ others) = if is_behind source line next then end_behind source next others else None
 
 -- without the white space at the end
 abbrev pub trimmed : State → State

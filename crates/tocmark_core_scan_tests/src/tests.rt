@@ -1,7 +1,7 @@
 use std::process::Abort;
 use std::test::Fail;
 use tocmark_core_scan::autolink::{mail_end, uri_end};
-use tocmark_core_scan::content::{Line, content_of};
+use tocmark_core_scan::content::{Content, Line, content_of};
 use tocmark_core_scan::html::{last_ends, raw_html};
 use tocmark_core_scan::label::{collapsed, distinct, first_places, key_of};
 use tocmark_core_scan::reference::{reference_at, unescaped};
@@ -234,11 +234,24 @@ fn line(start: usize, end: usize, next: usize) -> Line {
 fn contents(rt: HostRuntime) -> Result<(), Fail> {
     let lines = [line(1, 3, 5), line(6, 9, 9)];
     let content = content_of(rt.alloc(), b" a\0\r\n b \t", &lines)?;
-    assert_eq!(rt; content.bytes.as_slice(), b"a\xef\xbf\xbd\nb".as_slice());
-    assert_eq!(rt;
-        content.places.as_slice(),
-        [(1, 2), (2, 3), (2, 3), (2, 3), (3, 5), (6, 7)].as_slice()
-    );
+    assert_eq!(rt; content.bytes(), b"a\xef\xbf\xbd\nb".as_slice());
+    let ranges = [(1, 2), (2, 3), (2, 3), (2, 3), (3, 5), (6, 7), (0, 0)];
+    for (place, range) in ranges.iter().enumerate() {
+        assert_eq!(rt; content.range(place), *range);
+    }
+    Ok(())
+}
+
+// lines that stand so in the source are a piece of it
+#[test]
+fn whole_contents(rt: HostRuntime) -> Result<(), Fail> {
+    let lines = [line(2, 3, 4), line(4, 6, 7)];
+    let content = content_of(rt.alloc(), b"- a\nb \n", &lines)?;
+    assert!(rt; matches!(content, Content::Whole(_, 2)));
+    assert_eq!(rt; content.bytes(), b"a\nb".as_slice());
+    for (place, range) in [(2, 3), (3, 4), (4, 5), (0, 0)].iter().enumerate() {
+        assert_eq!(rt; content.range(place), *range);
+    }
     Ok(())
 }
 

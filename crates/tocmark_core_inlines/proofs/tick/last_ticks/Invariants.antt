@@ -1,7 +1,8 @@
-use Rattle.std.proofs.Common.{◌≡◌, take}
-use Rattle.std.specs.List.{fold}
-use Rattle.tocmark_core_inlines.specs.Tick.{ticks_view, tick_step, ticks_start}
+use Rattle.std.proofs.Common.{◌≡◌, length}
+use Rattle.tocmark_core_scan.specs.Repeat.{iterated}
+use Rattle.tocmark_core_inlines.specs.Tick.{ticks_view, run_noted, ticks_start}
 use Rattle.tocmark_core_inlines.proofs.tick.last_ticks.Given as goal
 
-abbrev pub invariant-loop-byte : goal.invariant-loop-byte
-invariant-loop-byte l = ticks_view l.ticks ≡ fold tick_step (ticks_start l.bytes) (take l.byte-index l.bytes)
+abbrev pub invariant-loop-fuel : goal.invariant-loop-fuel
+invariant-loop-fuel l =
+    iterated (run_noted l.bytes) l._fuel (ticks_view l.ticks) ≡ iterated (run_noted l.bytes) (length l.bytes) ticks_start
