@@ -5,5 +5,5 @@ pub mod columns;
 mod ends;
 pub mod node;
 pub mod opening;
-pub mod place;
-pub mod widths;
+mod place;
+mod widths;

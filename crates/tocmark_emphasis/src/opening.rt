@@ -5,7 +5,7 @@ ghost use Rattle.tocmark_event.specs.View.{tag_view};
 ghost use Rattle.tocmark_emphasis.specs.Low.{AsksLow, HasLowLiterals, OpensLow};
 ghost use Rattle.tocmark_marker.specs.Facts.{tag_at, GivesText, IsNode};
 ghost use Rattle.tocmark_renderer.specs.JobOf.{manner_view, setting_in};
-ghost use Rattle.tocmark_renderer.specs.WriterOf.{levels_of, page_of, Arrives};
+ghost use Rattle.tocmark_renderer.specs.WriterOf.{levels_of, page_of, site_of, Arrives};
 ghost use Rattle.tocmark_spelling.specs.Buffered.{following_view};
 ghost use Rattle.tocmark_spelling.specs.Look.{Look};
 ghost use Rattle.tocmark_spelling.specs.Marker.{marker};
@@ -25,20 +25,22 @@ use tocmark_spelling::plan::Delimiters;
 
 /// What a node opens with here. An `Err` says that memory ran out.
 fn marker_here<R: Reader>(
-    renderer: &Renderer<'_>,
+    renderer: &mut Renderer<'_>,
     alloc: Global,
     reader: &R,
     delimiters: &Delimiters<'_>,
     node: &Node,
     next: Option<&OwnedEvent>,
 ) -> Result<String, AllocError>
-    ensures { (source : Bool) (l : Look)
-        → AsksLow delimiters.now → OpensLow delimiters.now (levels_of renderer.now)
+    ensures marker { (source : Bool) (l : Look)
+        → AsksLow delimiters.now → OpensLow delimiters.now (levels_of renderer.old)
         → HasLowLiterals node.now
         → IsNode node.now l → l.next_in_unit ≡ following_view next.entry
         → GivesText (R.reading reader.now) result (λ s.
         marker s (manner_of delimiters.now source) (tag_at node.now) l
-        (levels_of renderer.now) (page_of renderer.now)) }
+        (levels_of renderer.old) (page_of renderer.old)) }
+    ensures site { site_of renderer.new ≡ site_of renderer.old }
+    ensures mark { renderer.new.at_mark ≡ renderer.old.at_mark }
 {
     let place = place_of(renderer, alloc, delimiters, next)?;
     marker(alloc, reader, delimiters, node, &place)

@@ -4,15 +4,16 @@ ghost use Rattle.std.specs.Prelude.{◌≡◌, Some, encode_utf8, slice_index, s
 ghost use Rattle.std.specs.Option.{option_map};
 ghost use Rattle.tocmark_event.specs.View.{end_of, event_view, tag_view};
 ghost use Rattle.tocmark_containers.specs.FrameOf.{content_view, level_of};
-ghost use Rattle.tocmark_marker.specs.Facts.{IsNearest, IsParent, IsPlace, asks_runs};
-ghost use Rattle.tocmark_renderer.specs.WriterOf.{levels_of, page_of};
+ghost use Rattle.tocmark_marker.specs.Facts.{IsNearest, IsPlace, asks_runs};
+ghost use Rattle.tocmark_renderer.specs.WriterOf.{levels_of, page_of, sheet_of, site_of};
 ghost use Rattle.tocmark_spelling.specs.Buffered.{following_view};
 ghost use Rattle.tocmark_spelling.specs.Look.{Look};
-ghost use Rattle.tocmark_spelling.specs.Marker.{is_end, is_token, opening_token, token_of};
-ghost use Rattle.tocmark_spelling.specs.Page.{Page};
+ghost use Rattle.tocmark_spelling.specs.Kinds.{is_emphasis_or_strong};
+ghost use Rattle.tocmark_spelling.specs.Marker.{is_end, is_token, marker_of, opening_token, same_finish, token_of};
+ghost use Rattle.tocmark_spelling.specs.Places.{nearest};
 ghost use Rattle.tocmark_spelling.specs.Runs.{last_run, run_around};
 
-use crate::ends::{last_byte, last_character, last_run, run_around};
+use crate::ends::{last_byte, last_character};
 use std::alloc::{AllocError, Global};
 use tocmark_ahead::same_events::end_number;
 use tocmark_containers::content::Content;
@@ -62,62 +63,87 @@ fn ends(event: Option<&OwnedEvent>, tag: &TagOf<String>) -> bool
     }
 }
 
-/// Where the layout asks for runs, that of a byte round a place of a text; else 0.
-fn asked_run(layout: Layout, text: &str, place: usize, byte: u8) -> Result<usize, AllocError>
-    ensures { asks_runs layout ≡ true → IfOk result (λ run. run ≡ run_around byte place text.now) }
+/// Where the layout asks for runs, that of a byte round a place of the text; else 0.
+fn asked_run(
+    renderer: &mut Renderer<'_>,
+    layout: Layout,
+    place: usize,
+    byte: u8,
+) -> Result<usize, AllocError>
+    ensures run { asks_runs layout ≡ true
+        → IfOk result (λ run. run ≡ run_around byte place (sheet_of renderer.old).text) }
+    ensures site { site_of renderer.new ≡ site_of renderer.old }
+    ensures mark { renderer.new.at_mark ≡ renderer.old.at_mark }
 {
     if asks_runs(layout) {
-        run_around(text, place, byte)
+        renderer.run_around(place, byte)
     } else {
         Ok(0)
     }
 }
 
-/// Where the layout asks for runs, the last one of markers in a text; else 0.
-fn asked_last_run(layout: Layout, text: &str) -> usize
-    ensures { asks_runs layout ≡ true → result ≡ last_run text.now }
+/// Where the layout asks for runs, the last one of markers in the text; else 0.
+fn asked_last_run(renderer: &mut Renderer<'_>, layout: Layout) -> Result<usize, AllocError>
+    ensures run { asks_runs layout ≡ true
+        → IfOk result (λ run. run ≡ last_run (sheet_of renderer.old).text) }
+    ensures site { site_of renderer.new ≡ site_of renderer.old }
+    ensures mark { renderer.new.at_mark ≡ renderer.old.at_mark }
 {
-    if asks_runs(layout) { last_run(text) } else { 0 }
+    if asks_runs(layout) {
+        renderer.last_run()
+    } else {
+        Ok(0)
+    }
 }
 
-fn parent_of(
-    layout: Layout,
-    frame: &Frame<'_>,
-    text: &str,
-    next: Option<&OwnedEvent>,
-) -> Result<Parent, AllocError>
-    ensures { (l : Look) (p : Page)
-        → l.next_in_unit ≡ following_view next.entry → p.sheet.text ≡ text.now
-        → IfOk result (λ parent. IsParent layout parent (level_of frame.now) l p) }
+/// An open container beside a node.
+#[derive(Clone, Copy)]
+struct Neighbour {
+    /// The first byte of what it opened with.
+    marker: u8,
+    /// Where its opening ended, in bytes.
+    start: usize,
+    /// Whether its End is the event behind the node.
+    same_finish: bool,
+}
+
+fn neighbour_of(frame: &Frame<'_>, next: Option<&OwnedEvent>) -> Neighbour
+    ensures marker { marker_of (level_of frame.now) ≡ result.marker }
+    ensures start { frame.now.start ≡ result.start }
+    ensures finish { (l : Look) → l.next_in_unit ≡ following_view next.entry
+        → same_finish (level_of frame.now) l ≡ result.same_finish }
 {
-    let marker = first_byte(opening_token(&frame.content));
-    Ok(Parent {
-        marker: char::from(marker),
-        same_start: frame.start == text.len(),
+    Neighbour {
+        marker: first_byte(opening_token(&frame.content)),
+        start: frame.start,
         same_finish: ends(next, frame.tag),
-        run: asked_run(layout, text, frame.start, marker)?,
-    })
+    }
 }
 
 /// What the nearest open emphasis or strong emphasis says, if there is one.
 fn nearest(
+    renderer: &mut Renderer<'_>,
     layout: Layout,
-    frame: Option<&Frame<'_>>,
-    text: &str,
     next: Option<&OwnedEvent>,
 ) -> Result<Option<Parent>, AllocError>
-    ensures { (l : Look) (p : Page)
-        → l.next_in_unit ≡ following_view next.entry → p.sheet.text ≡ text.now
-        → IfOk result (λ parent.
-        IsNearest layout parent (option_map (λ f. level_of f.now) frame.entry) l p) }
+    ensures parent { (l : Look) → l.next_in_unit ≡ following_view next.entry
+        → IfOk result (λ parent. IsNearest layout parent
+        (nearest is_emphasis_or_strong (levels_of renderer.old)) l (page_of renderer.old)) }
+    ensures site { site_of renderer.new ≡ site_of renderer.old }
+    ensures mark { renderer.new.at_mark ≡ renderer.old.at_mark }
 {
-    match frame {
-        None => Ok(None),
-        Some(frame) => {
-            let parent = parent_of(layout, frame, text, next)?;
-            Ok(Some(parent))
-        }
-    }
+    let neighbour = match renderer.nearest_delimiter() {
+        Some(frame) => neighbour_of(frame, next),
+        None => return Ok(None),
+    };
+    let same_start = neighbour.start == renderer.text().len();
+    let run = asked_run(renderer, layout, neighbour.start, neighbour.marker)?;
+    Ok(Some(Parent {
+        marker: char::from(neighbour.marker),
+        same_start,
+        same_finish: neighbour.same_finish,
+        run,
+    }))
 }
 
 /// Whether there is such a container, and it opened with this marker.
@@ -145,23 +171,26 @@ fn is_opened_with(
 /// `next` is the event in the unit just behind the node that opens here. An `Err` says that memory
 /// ran out.
 pub fn place_of(
-    renderer: &Renderer<'_>,
+    renderer: &mut Renderer<'_>,
     alloc: Global,
     delimiters: &Delimiters<'_>,
     next: Option<&OwnedEvent>,
 ) -> Result<Place, AllocError>
-    ensures { (l : Look) → l.next_in_unit ≡ following_view next.entry
+    ensures place { (l : Look) → l.next_in_unit ≡ following_view next.entry
         → IfOk result (λ place. IsPlace delimiters.now.layout place
-        (encode_utf8 delimiters.now.emphasis) l (levels_of renderer.now) (page_of renderer.now)) }
+        (encode_utf8 delimiters.now.emphasis) l (levels_of renderer.old) (page_of renderer.old)) }
+    ensures site { site_of renderer.new ≡ site_of renderer.old }
+    ensures mark { renderer.new.at_mark ≡ renderer.old.at_mark }
 {
-    let text = renderer.text();
     let layout = delimiters.layout;
     let in_same = is_opened_with(alloc, renderer.nearest_emphasis(), delimiters.emphasis)?;
-    let parent = nearest(layout, renderer.nearest_delimiter(), text, next)?;
+    let parent = nearest(renderer, layout, next)?;
+    let last_run = asked_last_run(renderer, layout)?;
+    let text = renderer.text();
     Ok(Place {
         last_character: last_character(text),
         last_byte: last_byte(text),
-        last_run: asked_last_run(layout, text),
+        last_run,
         in_same,
         parent,
     })

@@ -4,6 +4,7 @@ use Rattle.std.specs.Option.{option_map}
 use Rattle.std.specs.Str.{IsCharBoundary}
 use Rattle.tocmark_spelling.specs.Page.{Page, Path, Site}
 use Rattle.tocmark_spelling.specs.TrailOf.{trail_of}
+use Rattle.tocmark_marker_runs.specs.RunsOf.{AreNoted}
 use Rattle.tocmark_renderer.specs.WriterOf.{Rendering, held_view, reference_view}
 use Rattle.tocmark_renderer.specs.declared.renderer.Renderer.TheInside.{Inside}
 use Rattle.tocmark_renderer.specs.declared.renderer.Snapshot.{Snapshot}
@@ -54,9 +55,10 @@ pub record Fits (a : Inside) (m : Snapshot) : Type 0 where
   pub references : m.references ≤ length a.references.items
   pub starts : AreCut (take m.text (string_bytes a.text)) (unwrap_or a.containers.at_mark [])
 
--- a mark is set on the containers where it is on the rest, what it needs is there, and the text may be cut where each
--- opening ended
+-- a mark is set on the containers where it is on the rest, what it needs is there, the text may be cut where each opening
+-- ended, and the runs that are noted are those of the text's front
 pub record IsNoted (a : Inside) : Type 0 where
   pub both : is_some a.mark ≡ is_some a.containers.at_mark
   pub fits : IfSome a.mark (λ m. Fits a m)
   pub starts : AreCut (string_bytes a.text) a.containers.path
+  pub runs : AreNoted a.runs (string_bytes a.text)

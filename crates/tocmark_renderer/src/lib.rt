@@ -5,8 +5,8 @@
 //! `gap` writes what stands before an event. `job` is what is asked of the writer of a unit.
 #![tactic(auto)]
 
-pub mod gap;
+mod gap;
 pub mod job;
-pub mod lines;
+mod lines;
 pub mod parts;
 pub mod renderer;

@@ -11,6 +11,7 @@ ghost use Rattle.tocmark_spelling.specs.Gap.{forget_quote};
 ghost use Rattle.tocmark_spelling.specs.Page.{lead, prefix_of};
 ghost use Rattle.tocmark_spelling.specs.Kinds.{is_emphasis, is_emphasis_or_strong};
 ghost use Rattle.tocmark_spelling.specs.Places.{at_item_start, is_after_opening, is_close, is_in_loose_list, nearest, widened, with_header};
+ghost use Rattle.tocmark_spelling.specs.Runs.{last_run, run_around};
 ghost use Rattle.tocmark_spelling.specs.Stretch.{at_front};
 ghost use Rattle.tocmark_spelling.specs.TrailOf.{trail_of, trail_view};
 ghost use Rattle.tocmark_renderer.specs.Changes.{carrying, holding, on_page, on_path, on_sheet, quoting, referring, with_feeds, with_more};
@@ -25,6 +26,7 @@ use tocmark_containers::content::Content;
 use tocmark_containers::frame::Frame;
 use tocmark_containers::outside::Outside;
 use tocmark_event::event::TagOf;
+use tocmark_marker_runs::marker_runs::MarkerRuns;
 use tocmark_spelling::trail::{Carried, Trail, copied_text};
 
 /// What was at the mark and owns no memory.
@@ -59,6 +61,8 @@ pub struct Renderer<'a> {
     old_quote_line: Option<Option<String>>,
     /// The stretch at the mark, if it was replaced since.
     old_held: Option<Option<Held>>,
+    /// The runs of markers in the text, as far as it was read for them.
+    runs: MarkerRuns,
 }
 
 impl<'a> Model for Renderer<'a> {
@@ -91,6 +95,7 @@ impl<'a> Renderer<'a> {
             mark: None,
             old_quote_line: None,
             old_held: None,
+            runs: MarkerRuns::new(alloc),
         }
     }
 
@@ -134,6 +139,28 @@ impl<'a> Renderer<'a> {
         ensures { result.now ≡ drop start (sheet_of self.now).text }
     {
         &self.text[start..]
+    }
+
+    /// How long the last run of `*` or of `_` in the text is, in bytes. Only what is new of the
+    /// text since runs were asked for is read. An `Err` says that memory ran out.
+    pub fn last_run(&mut self) -> Result<usize, AllocError>
+        ensures run { IfOk result (λ run. run ≡ last_run (sheet_of self.old).text) }
+        ensures site { site_of self.new ≡ site_of self.old }
+        ensures mark { self.new.at_mark ≡ self.old.at_mark }
+    {
+        self.runs.note(self.text.as_str())?;
+        Ok(self.runs.last())
+    }
+
+    /// How long the run of a byte is round a place of the text, in bytes. For `*` and `_` only what
+    /// is new of the text since runs were asked for is read. An `Err` says that memory ran out.
+    pub fn run_around(&mut self, place: usize, byte: u8) -> Result<usize, AllocError>
+        ensures run { IfOk result (λ run. run ≡ run_around byte place (sheet_of self.old).text) }
+        ensures site { site_of self.new ≡ site_of self.old }
+        ensures mark { self.new.at_mark ≡ self.old.at_mark }
+    {
+        self.runs.note(self.text.as_str())?;
+        self.runs.around(self.text.as_str(), place, byte)
     }
 
     /// How many line feeds end all that is written, prefixes not counted.
@@ -465,6 +492,7 @@ impl<'a> Renderer<'a> {
         };
         self.containers.back();
         self.text.truncate(mark.text);
+        self.runs.truncate(mark.text);
         self.newlines = mark.newlines;
         self.carried = mark.carried;
         self.references.truncate(mark.references);

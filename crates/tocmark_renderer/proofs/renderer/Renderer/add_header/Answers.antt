@@ -11,4 +11,5 @@ invariant_of-self c = record {
       starts-changed c.add_header.result (string_bytes c.self.inside.text) c.self.inside.containers.path c.add_header.new.self.path (with_header c.args.width c.self.inside.containers.path)
       c.add_header.ensures.path c.add_header.ensures.stays
       (starts-header (string_bytes c.self.inside.text) c.args.width c.self.inside.containers.path c.self.invariant.starts) c.self.invariant.starts;
+  runs = c.self.invariant.runs;
 }

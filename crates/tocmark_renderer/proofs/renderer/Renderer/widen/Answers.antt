@@ -11,4 +11,5 @@ invariant_of-self c = record {
       starts-changed c.widen.result (string_bytes c.self.inside.text) c.self.inside.containers.path c.widen.new.self.path (widened c.args.characters c.self.inside.containers.path)
       c.widen.ensures.path c.widen.ensures.stays
       (starts-widened (string_bytes c.self.inside.text) c.args.characters c.self.inside.containers.path c.self.invariant.starts) c.self.invariant.starts;
+  runs = c.self.invariant.runs;
 }
