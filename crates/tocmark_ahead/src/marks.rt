@@ -110,23 +110,44 @@ fn character_behind(sides: &[Side], place: usize) -> Option<char>
     }
 }
 
+/// What stands round the events of a unit.
+#[derive(Drop)]
+struct Round {
+    /// The sides before each event.
+    before: Vec<Side>,
+    /// Those of the starts from each event on.
+    starts: Vec<Side>,
+    /// Those of the ends from each event on.
+    ends: Vec<Side>,
+}
+
+/// What stands round events. An `Err` says that memory ran out.
+fn sides_round(alloc: Global, runs: bool, events: &[BufferedEvent]) -> Result<Round, AllocError>
+    ensures { IfOk result (λ round. AreRound runs (map buffered_view events.now)
+        round.before.items round.starts.items round.ends.items) }
+{
+    let starts_counted = counted_if(runs, Counted::Starts);
+    let ends_counted = counted_if(runs, Counted::Ends);
+    Ok(Round {
+        before: sides_before(alloc, events, starts_counted)?,
+        starts: sides_ahead(alloc, events, starts_counted)?,
+        ends: sides_ahead(alloc, events, ends_counted)?,
+    })
+}
+
 /// For each event whether it starts a node whose markers would be asterisks that could close the
-/// emphasis round them.
-///
-/// `before`, `starts` and `behind` are the sides before each event, of the starts from each event on,
-/// and of the ends from each event on. An `Err` says that memory ran out.
-pub fn disturbers<R: Reader>(
+/// emphasis round them. An `Err` says that memory ran out.
+fn disturbers<R: Reader>(
     alloc: Global,
     reader: &R,
     runs: bool,
     events: &[BufferedEvent],
     ends: &[usize],
-    before: &[Side],
-    starts: &[Side],
-    behind: &[Side],
+    round: &Round,
 ) -> Result<Vec<bool>, AllocError>
     requires ends { AreEnds (map buffered_view events.now) ends.now }
-    requires round { AreRound runs (map buffered_view events.now) before.now starts.now behind.now }
+    requires round { AreRound runs (map buffered_view events.now)
+        round.now.before.items round.now.starts.items round.now.ends.items }
     ensures len { IfOk result (λ marks. length marks.items ≡ length events.now) }
     ensures marks { (o : OptionsView) (flags : ParserOptions) (label : Option (List ℕ))
         → IfOk result (λ marks.
@@ -137,9 +158,9 @@ pub fn disturbers<R: Reader>(
     let mut marks = Vec::new(alloc);
     for event in events {
         let i = marks.len();
-        let left = character_at(before, i);
-        let first = character_behind(starts, i);
-        let after = character_behind(behind, ends[i]);
+        let left = character_at(&round.before, i);
+        let first = character_behind(&round.starts, i);
+        let after = character_behind(&round.ends, ends[i]);
         let mark = mark_of(alloc, reader, runs, event, left, first, after)?;
         marks.push(mark)?;
     }
@@ -206,11 +227,7 @@ pub fn preferences<R: Reader>(
         AreDisturbed (setting_of o flags (R.reading reader.now) label) runs
         (map buffered_view events.now) found.items) }
 {
-    let starts_counted = counted_if(runs, Counted::Starts);
-    let ends_counted = counted_if(runs, Counted::Ends);
-    let before = sides_before(alloc, events, starts_counted)?;
-    let starts = sides_ahead(alloc, events, starts_counted)?;
-    let behind = sides_ahead(alloc, events, ends_counted)?;
-    let marks = disturbers(alloc, reader, runs, events, ends, &before, &starts, &behind)?;
+    let round = sides_round(alloc, runs, events)?;
+    let marks = disturbers(alloc, reader, runs, events, ends, &round)?;
     marks_within(alloc, &marks, ends)
 }

@@ -8,5 +8,5 @@
 pub mod containers;
 pub mod content;
 pub mod frame;
-pub mod kept;
+mod kept;
 pub mod outside;

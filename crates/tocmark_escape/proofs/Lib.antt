@@ -1,5 +1,6 @@
 pub mod CharacterLemmas
 pub mod EscapeLemmas
+pub mod Bare
 pub mod SpanLemmas
 pub mod ReadBack
 pub mod SpanReads

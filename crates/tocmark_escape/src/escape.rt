@@ -4,6 +4,7 @@ ghost use Rattle.std.specs.Prelude.{◌≡◌, ◌++◌, ◌&&◌, chars, encode
 ghost use Rattle.std.specs.Char.{is_ascii_digit};
 ghost use Rattle.tocmark_event.specs.View.{event_view};
 ghost use Rattle.std.specs.Option.{option_map, option_map_or};
+ghost use Rattle.tocmark_escape.specs.Bare.{is_bare};
 ghost use Rattle.tocmark_escape.specs.Characters.{is_alphanumeric};
 ghost use Rattle.tocmark_escape.specs.Escape.{place_of, has, spot_from, escaped, written, reference, coded, with_backslash, needs_backslash, is_read_as_marker, is_literal, is_encoded, is_marker, is_alone, ends_line, goes_on_marker, doubles_backslash, opens_superscript, opens_emphasis, opens_cell, opens_heading, opens_label, is_own_token};
 
@@ -267,6 +268,34 @@ fn push_character(to: &mut String, place: &EscapePlace<'_>, spot: Spot) -> Resul
     }
 }
 
+/// Whether a character behind another one is a letter, a digit or a space of ASCII that stands for
+/// itself.
+fn is_bare(place: &EscapePlace<'_>, before: Option<char>, c: char) -> bool
+    ensures { result ≡ is_bare (place_of place.now) before c }
+{
+    let is_plain = c.is_ascii_alphanumeric() || c == ' ';
+    is_plain && before.is_some() && !place.last_encoded && c != place.token
+}
+
+/// Writes a character before the rest of its stretch.
+fn push_next(
+    to: &mut String,
+    place: &EscapePlace<'_>,
+    before: Option<char>,
+    only_digits: bool,
+    character: char,
+    after: &str,
+) -> Result<(), AllocError>
+    ensures { let spot = spot_from before only_digits character (chars after.now) in
+        OnOk result (string_bytes to.new
+        ≡ string_bytes to.old ++ encode_utf8_all (written (place_of place.now) spot)) }
+{
+    if is_bare(place, before, character) {
+        return to.push(character);
+    }
+    push_character(to, place, spot_from(before, only_digits, character, after))
+}
+
 /// A stretch of text as it is written at its place, so that it is read back as that text.
 ///
 /// Line endings and ampersands become references, and so do a blank at the front and, where the place
@@ -275,13 +304,19 @@ fn push_character(to: &mut String, place: &EscapePlace<'_>, spot: Spot) -> Resul
 pub fn escape_text(alloc: Global, text: &str, place: &EscapePlace<'_>) -> Result<String, AllocError>
     ensures { IfOk result (λ s. string_bytes s ≡ escaped (place_of place.now) text.now) }
 {
-    let mut escaped = String::new(alloc);
+    let mut escaped = String::with_capacity(alloc, text.len())?;
     let mut before = None;
     let mut only_digits = true;
     let mut rest = text.chars();
     while let Some(character) = rest.next() {
-        let spot = spot_from(before, only_digits, character, rest.as_str());
-        push_character(&mut escaped, place, spot)?;
+        push_next(
+            &mut escaped,
+            place,
+            before,
+            only_digits,
+            character,
+            rest.as_str(),
+        )?;
         only_digits = is_digits(only_digits, character);
         before = Some(character);
     }

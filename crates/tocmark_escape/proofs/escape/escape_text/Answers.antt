@@ -8,7 +8,7 @@ pub loop-character-init : goal.loop-character-init
 unfolding escaped
 loop-character-init c = record {
   is_text = search rules;
-  same = rw (c.new-escaped.ensures.bytes, c.chars-rest.ensures.rest)
+  same = rw (c.in_ok-escaped.ensures.bytes, c.chars-rest.ensures.rest)
       (ap encode_utf8_all (escape_on-is (place_of c.args.place.now) [] (chars c.args.text.now)));
 }
 
@@ -21,7 +21,7 @@ loop-character-preserved c =
       same = escape_on-more (place_of c.args.place.now) c.loop-character.before c.loop-character.only_digits
           c.is_digits-only_digits.result _ _ _ _ _ c.in-Some.character held.is_text parts
           c.is_digits-only_digits.ensures
-          (rw (← c.as_str.ensures, ← c.spot_from-spot.ensures) c.in_ok-push_character.ensures) held.same;
+          (rw (← c.as_str.ensures) c.in_ok-push_next.ensures) held.same;
     }
 
 pub returns : goal.returns
