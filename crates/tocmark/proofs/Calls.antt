@@ -4,7 +4,7 @@ use Rattle.std.specs.List.{FoldsTo}
 use Rattle.tocmark_event.specs.declared.event.flags.ParserOptions.{ParserOptions}
 use Rattle.tocmark_event.specs.declared.options.Error.{Error}
 use Rattle.tocmark.specs.declared.state.Progress.{Progress}
-use Rattle.tocmark.specs.Calls.{AreCalls, Call, GoesOn, all_pairs}
+use Rattle.tocmark.specs.Calls.{AreCalls, GoesOn, all_pairs}
 use Rattle.tocmark.specs.Ranges.{Pair}
 use Rattle.tocmark.specs.StateView.{Adds, Ends}
 use Rattle.tocmark.specs.Walk.{Done, done, Rendering, Standing, Walk, ended, go_on, nothing_yet, script, walk}

@@ -1,16 +1,17 @@
 -- Why a walk and a script are refused.
-use Rattle.std.proofs.Common.{◌≡◌, ◌≢◌, ℕ, List, [], ◌∷◌, ◌++◌, Bool, true, false, if◌then◌else◌, Result, Ok, Err, Option, Some, None, refl, ap, sym, ◌∙◌}
+use Rattle.std.proofs.Common.{◌≡◌, ℕ, List, [], ◌∷◌, Bool, true, false, if◌then◌else◌, Result, Ok, Err, Option, Some, None, refl, ap, sym, ◌∙◌}
 use Rattle.tocmark_event.specs.Ends.{same_end}
 use Rattle.tocmark_event.specs.View.{EventView, Start, End, Leaf, SourcedEvent, unsourced}
 use Rattle.tocmark_event.specs.declared.event.TagEnd.{TagEnd}
 use Rattle.tocmark_event.specs.declared.options.Error.{Error}
 use Rattle.tocmark_event.specs.declared.options.Error.TheVariants as error
 use Rattle.tocmark_spelling.specs.Buffered.{sourced}
-use Rattle.tocmark.specs.Causes.{HasBadRange, HasWrongEnd, HasRefusedUnit, Cause, BadRange, RefusedUnit, WrongEnd, IsRefusedAtPair, HasOpenContainer, HasRefusedLastUnit, EndCause, OpenContainer, RefusedLastUnit, IsRefusedAtEnd, IsRefusedIn, AtPair, AtEnd}
-use Rattle.tocmark.specs.Ranges.{Pair, Range, is_good_range, source_text, range_end_after, resolved, resolved_at}
+use Rattle.tocmark.specs.Causes.{HasBadRange, Cause, BadRange, RefusedUnit, WrongEnd, IsRefusedAtPair, HasRefusedLastUnit, EndCause, OpenContainer, RefusedLastUnit, IsRefusedIn, AtPair, AtEnd}
+use Rattle.tocmark.specs.Ranges.{Pair, Range, is_good_range, source_text, range_end_after, resolved_at}
 use Rattle.tocmark.specs.Trees.{ends_innermost}
-use Rattle.tocmark.specs.Walk.{Done, Kept, Rendering, Standing, Walk, go_on, stay, nested, closed, with_event, joins, flush_of, flushed, flushed_or_deferred, is_due, flushed_before, advance, advance_with, step, walk, finished, finished_of, ended, ended_at, script}
-use Rattle.tocmark.proofs.Walks.{unsourced_sourced}
+use Rattle.tocmark.specs.Walk.{Kept, Rendering, Standing, Walk, go_on, stay, with_event, joins, flush_of, flushed, flushed_or_deferred, is_due, flushed_before, advance, advance_with, step, walk, finished, finished_of, ended, ended_at, script}
+use Rattle.tocmark_labels.specs.Pending.{nested}
+use Rattle.tocmark_labels.proofs.Joined.{unsourced-sourced}
 
 same_error : {A : Type 0} (x y : Error) (r : Result A Error) → r ≡ Err x → r ≡ Err y → x ≡ y
 same_error x y r h k = cc
@@ -38,11 +39,11 @@ resolved_cause source n e (Some range) x h = range_cause source n e range x (is_
 
 -- an event keeps its view behind its range
 range_event : (source : List ℕ) (n : ℕ) (e : EventView) (range : Range) (y : SourcedEvent × ℕ) (b : Bool) → ranged_as b (sourced e (source_text source n e range), range_end_after n e range) ≡ Ok y → unsourced y.0 ≡ e
-range_event source n e range y true h = ap (λ (z : SourcedEvent × ℕ). unsourced z.0) (sym (same_ok (sourced e (source_text source n e range), range_end_after n e range) y (Ok (sourced e (source_text source n e range), range_end_after n e range)) refl h)) ∙ unsourced_sourced e (source_text source n e range)
+range_event source n e range y true h = ap (λ (z : SourcedEvent × ℕ). unsourced z.0) (sym (same_ok (sourced e (source_text source n e range), range_end_after n e range) y (Ok (sourced e (source_text source n e range), range_end_after n e range)) refl h)) ∙ unsourced-sourced e (source_text source n e range)
 range_event source n e range y false h = absurd (cc)
 
 resolved_event : (source : List ℕ) (n : ℕ) (e : EventView) (range : Option Range) (y : SourcedEvent × ℕ) → resolved_at source n e range ≡ Ok y → unsourced y.0 ≡ e
-resolved_event source n e None y h = ap (λ (z : SourcedEvent × ℕ). unsourced z.0) (sym (same_ok (sourced e None, n) y (Ok (sourced e None, n)) refl h)) ∙ unsourced_sourced e None
+resolved_event source n e None y h = ap (λ (z : SourcedEvent × ℕ). unsourced z.0) (sym (same_ok (sourced e None, n) y (Ok (sourced e None, n)) refl h)) ∙ unsourced-sourced e None
 resolved_event source n e (Some range) y h = range_event source n e range y (is_good_range source range) h
 
 -- a unit that isn't taken from what is pending was refused

@@ -17,7 +17,7 @@ use Rattle.tocmark.specs.Ranges.{Pair, Range, unranged}
 use Rattle.tocmark.specs.Walk.{Done, done, Rendering, Standing, Walk, go_on, walk, step, advance, nothing_yet, ended, script}
 use Rattle.tocmark.specs.Writes.{Makes, RefusesAt, TakesAll, TakesAllAt}
 use Rattle.tocmark_event.specs.declared.options.Error.TheVariants as error
-use Rattle.tocmark.specs.StateView.{standing_of, pairs, ranged_pair, ranged_pairs, Counts, Adds, Ends, rendering}
+use Rattle.tocmark.specs.StateView.{pairs, ranged_pair, ranged_pairs, Counts, Adds, Ends, rendering}
 use Rattle.tocmark.proofs.Walks.{walk_after, walk_more, Makes-more, Makes-then, step_unranged, RefusesAt-longer}
 
 pub no_ok : {A : Type 0} → false ≡ true → A

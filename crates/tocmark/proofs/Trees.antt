@@ -1,86 +1,19 @@
 -- The walk over pairs, seen over trees.
-use Rattle.std.proofs.Common.{◌≡◌, ℕ, List, [], ◌∷◌, ◌++◌, Option, Some, None, Result, Ok, Err, Bool, true, false, not, ◌&&◌, if◌then◌else◌, refl, ap, sym, ◌∙◌, append_assoc, get_or, nat_eq, arith}
+use Rattle.std.proofs.Common.{◌≡◌, ℕ, List, [], ◌∷◌, ◌++◌, Option, Some, None, Result, Ok, Err, Bool, true, false, not, ◌&&◌, if◌then◌else◌, refl, ap, sym, ◌∙◌, append_assoc}
 use Rattle.std.proofs.lemmas.List.{append-nil}
-use Rattle.std.proofs.lemmas.Bool.Decides.{nat_tests}
-use Rattle.tocmark_event.specs.Ends.{same_end, end_code}
+use Rattle.tocmark_event.specs.Ends.{same_end}
 use Rattle.tocmark_event.specs.Forest.{Forest, empty, leaf, node, flat, flat_onto, joined}
 use Rattle.tocmark_event.specs.View.{EventView, Start, End, Leaf, SourcedEvent, SourcedLeaf, TagView, unsourced, end_of}
-use Rattle.tocmark_event.specs.declared.event.BlockQuoteKind.TheVariants as quote
-use Rattle.tocmark_event.specs.declared.event.HeadingLevel.TheVariants as level
-use Rattle.tocmark_event.specs.declared.event.MetadataBlockKind.TheVariants as metadata
 use Rattle.tocmark_event.specs.declared.event.TagEnd.{TagEnd}
-use Rattle.tocmark_event.specs.declared.event.TagEnd.TheVariants as end
 use Rattle.tocmark_event.specs.declared.options.Error.{Error}
 use Rattle.tocmark_event.specs.declared.options.Error.TheVariants as error
+use Rattle.tocmark_labels.specs.Pending.{closed, nested}
+use Rattle.tocmark_labels.proofs.Balanced.{flat_onto-joined, same-is, same-self}
 use Rattle.tocmark.specs.Ranges.{Pair, Range, is_good_range, range_end_after, resolved, resolved_at, source_text}
 use Rattle.tocmark_spelling.specs.Buffered.{sourced}
 use Rattle.tocmark.specs.Trees.{Part, Trees, IsRefused, ends_innermost, deferred_unit, followed_unit, stop_at, unit_walk, walk_trees, ranged, with_first, part_onto, part_ends, end_ranged, then_ranged}
-use Rattle.tocmark.specs.Walk.{Kept, Rendering, Standing, Walk, beginning, go_on, refuse, stay, closed, nested, joins, with_event, is_due, handed_text, flush_of, flushed, flushed_or_deferred, flushed_before, advance, advance_with, step, walk}
+use Rattle.tocmark.specs.Walk.{Kept, Rendering, Standing, Walk, beginning, go_on, refuse, stay, joins, with_event, is_due, handed_text, flush_of, flushed, flushed_or_deferred, flushed_before, advance, advance_with, step, walk}
 use Rattle.tocmark.proofs.Walks.{joins_ok, joins_err, before_not_due, before_waiting, before_due, flushed_is, advance_is, prefixed, go_on-assoc}
-
--- ---- equal Ends
-
-all_ends : List TagEnd
-all_ends =
-    end.Paragraph ∷ end.Heading level.H1 ∷ end.Heading level.H2 ∷ end.Heading level.H3 ∷ end.Heading level.H4 ∷ end.Heading level.H5 ∷ end.Heading level.H6
-    ∷ end.BlockQuote None ∷ end.BlockQuote (Some quote.Note) ∷ end.BlockQuote (Some quote.Tip) ∷ end.BlockQuote (Some quote.Important) ∷ end.BlockQuote (Some quote.Warning) ∷ end.BlockQuote (Some quote.Caution)
-    ∷ end.CodeBlock ∷ end.HtmlBlock ∷ end.List true ∷ end.List false ∷ end.Item ∷ end.FootnoteDefinition ∷ end.DefinitionList ∷ end.DefinitionListTitle ∷ end.DefinitionListDefinition
-    ∷ end.Table ∷ end.TableHead ∷ end.TableRow ∷ end.TableCell ∷ end.Emphasis ∷ end.Strong ∷ end.Strikethrough ∷ end.Superscript ∷ end.Subscript ∷ end.Link ∷ end.Image
-    ∷ end.MetadataBlock metadata.YamlStyle ∷ end.MetadataBlock metadata.PlusesStyle ∷ []
-
-abbrev end_of_code : ℕ → TagEnd
-end_of_code n = get_or all_ends n end.Paragraph
-
-end_of-code : (x : TagEnd) → end_of_code (end_code x) ≡ x
-unfolding all_ends
-end_of-code end.Paragraph = refl
-end_of-code (end.Heading level.H1) = refl
-end_of-code (end.Heading level.H2) = refl
-end_of-code (end.Heading level.H3) = refl
-end_of-code (end.Heading level.H4) = refl
-end_of-code (end.Heading level.H5) = refl
-end_of-code (end.Heading level.H6) = refl
-end_of-code (end.BlockQuote None) = refl
-end_of-code (end.BlockQuote (Some quote.Note)) = refl
-end_of-code (end.BlockQuote (Some quote.Tip)) = refl
-end_of-code (end.BlockQuote (Some quote.Important)) = refl
-end_of-code (end.BlockQuote (Some quote.Warning)) = refl
-end_of-code (end.BlockQuote (Some quote.Caution)) = refl
-end_of-code end.CodeBlock = refl
-end_of-code end.HtmlBlock = refl
-end_of-code (end.List true) = refl
-end_of-code (end.List false) = refl
-end_of-code end.Item = refl
-end_of-code end.FootnoteDefinition = refl
-end_of-code end.DefinitionList = refl
-end_of-code end.DefinitionListTitle = refl
-end_of-code end.DefinitionListDefinition = refl
-end_of-code end.Table = refl
-end_of-code end.TableHead = refl
-end_of-code end.TableRow = refl
-end_of-code end.TableCell = refl
-end_of-code end.Emphasis = refl
-end_of-code end.Strong = refl
-end_of-code end.Strikethrough = refl
-end_of-code end.Superscript = refl
-end_of-code end.Subscript = refl
-end_of-code end.Link = refl
-end_of-code end.Image = refl
-end_of-code (end.MetadataBlock metadata.YamlStyle) = refl
-end_of-code (end.MetadataBlock metadata.PlusesStyle) = refl
-
-code_is : (a b : ℕ) → nat_eq a b ≡ true → a ≡ b
-code_is a b h = grind (arith, nat_tests)
-
--- Ends that are the same are equal
-pub same_is : (a b : TagEnd) → same_end a b ≡ true → a ≡ b
-same_is a b h = sym (end_of-code a) ∙ (ap end_of_code (code_is (end_code a) (end_code b) h) ∙ end_of-code b)
-
-code_same : (n : ℕ) → nat_eq n n ≡ true
-code_same n = grind (arith, nat_tests)
-
-pub same_self : (a : TagEnd) → same_end a a ≡ true
-same_self a = code_same (end_code a)
 
 -- ---- a list of events is trees
 
@@ -96,11 +29,6 @@ written (o ∷ os) f rest = written os o.1 (Start o.0 ∷ flat_onto f rest)
 abbrev opens_ends : Opens → List TagEnd
 opens_ends [] = []
 opens_ends (o ∷ os) = end_of o.0 ∷ opens_ends os
-
-flat_onto-joined : (f g : Forest SourcedLeaf) (rest : List SourcedEvent) → flat_onto (joined f g) rest ≡ flat_onto f (flat_onto g rest)
-flat_onto-joined empty g rest = refl
-flat_onto-joined (leaf l f) g rest = ap (λ es. Leaf l ∷ es) (flat_onto-joined f g rest)
-flat_onto-joined (node t kids f) g rest = ap (λ es. Start t ∷ flat_onto kids (End (end_of t) ∷ es)) (flat_onto-joined f g rest)
 
 -- more trees beside those that were read
 written-joined : (os : Opens) (f g : Forest SourcedLeaf) (rest : List SourcedEvent) → written os (joined f g) rest ≡ written os f (flat_onto g rest)
@@ -121,7 +49,7 @@ read [] f (End k ∷ es) events h = unrolled [] f [] (End k ∷ es) events h ref
 read (o ∷ os) f (End k ∷ es) events h = go (same_end k (end_of o.0)) refl (λ g. read os g es events)
   where
     go : (b : Bool) → same_end k (end_of o.0) ≡ b → ((g : Forest SourcedLeaf) → written os g es ≡ events → Trees events) → Trees events
-    go true e again = again (joined o.1 (node o.0 f empty)) (written-joined os o.1 (node o.0 f empty) es ∙ (ap (λ x. written os o.1 (Start o.0 ∷ flat_onto f (End x ∷ es))) (sym (same_is k (end_of o.0) e)) ∙ h))
+    go true e again = again (joined o.1 (node o.0 f empty)) (written-joined os o.1 (node o.0 f empty) es ∙ (ap (λ x. written os o.1 (Start o.0 ∷ flat_onto f (End x ∷ es))) (sym (same-is k (end_of o.0) e)) ∙ h))
     go false e again = unrolled (o ∷ os) f [] (End k ∷ es) events h e
 
 pub trees_of : (events : List SourcedEvent) → Trees events
@@ -198,7 +126,7 @@ walk_within how (node t kids f) s h rest =
     let s3 = standing ((p1 ++ flat kids) ++ End x ∷ []) s.open_tags s in
     step_joins how (Start t) (flat_onto kids (End x ∷ flat_onto f rest)) s (x ∷ s.open_tags) (not_due s h) refl
     ∙ (walk_within how kids s1 (within x s.open_tags refl) (End x ∷ flat_onto f rest)
-    ∙ (step_joins how (End x) (flat_onto f rest) s2 s.open_tags (not_due s2 (within x s.open_tags refl)) (rw (same_self x) refl)
+    ∙ (step_joins how (End x) (flat_onto f rest) s2 s.open_tags (not_due s2 (within x s.open_tags refl)) (rw (same-self x) refl)
     ∙ (walk_within how f s3 (holds_as s s3 refl refl h) rest
     ∙ ap (λ q. advance_all how (standing q s.open_tags s) rest) (regroup s.pending (Start t) kids (End x) f))))
 
@@ -287,7 +215,7 @@ walk_events how kept (node t kids f) part refused h =
     let u : (Start t ∷ flat kids) ++ End x ∷ [] ≡ Start t ∷ flat_onto kids (End x ∷ []) = ap (λ es. Start t ∷ es) (flat_front kids (End x ∷ [])) in
     step_joins how (Start t) (flat_onto kids (End x ∷ rest)) (beginning kept) (x ∷ []) refl refl
     ∙ (walk_within how kids s1 (within x [] refl) (End x ∷ rest)
-    ∙ (step_joins how (End x) rest s2 [] (not_due s2 (within x [] refl)) (rw (same_self x) refl)
+    ∙ (step_joins how (End x) rest s2 [] (not_due s2 (within x [] refl)) (rw (same-self x) refl)
     ∙ (ap (λ es. advance_all how (unit_at kept es) rest) u
     ∙ walk_unit how kept (Start t) (flat_onto kids (End x ∷ [])) rest (deferred_unit kept (Start t ∷ flat_onto kids (End x ∷ flat_onto f (part_onto part []))) part refused) (λ k. walk_trees how k f part refused)
     (walk_deferred how kept (Start t ∷ flat_onto kids (End x ∷ [])) f part refused h

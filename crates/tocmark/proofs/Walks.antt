@@ -1,11 +1,10 @@
 -- Laws of `go_on`, of what a call did with a writer, and of the steps of a walk.
-use Rattle.std.proofs.Common.{◌≡◌, ℕ, Bool, List, [], ◌∷◌, ◌++◌, Result, Ok, Err, Option, Some, None, true, false, refl, ap, sym, ◌∙◌, append_assoc, append-nil, arith, codes, drop, length, map, take, not, ◌==◌, ◌&&◌, sum_by, ◌+◌, reverse}
-use Rattle.std.proofs.lemmas.List.{append-nil, length-append, length-reverse}
-use Rattle.std.proofs.lemmas.List.Sums.{sum_by-append}
+use Rattle.std.proofs.Common.{◌≡◌, ℕ, Bool, List, [], ◌∷◌, ◌++◌, Result, Ok, Err, Option, Some, None, true, false, refl, ap, sym, ◌∙◌, append_assoc, append-nil, arith, codes, drop, length, take, not, ◌==◌, ◌&&◌, sum_by, ◌+◌}
+use Rattle.std.proofs.lemmas.List.{append-nil, length-append}
 use Rattle.std.proofs.lemmas.Bool.{ne_eqb}
 use Rattle.std.proofs.lemmas.Bool.Decides.{nat_tests}
 use Rattle.std.specs.List.{FoldsTo}
-use Rattle.tocmark_event.specs.View.{EventView, Start, End, Leaf, SourcedEvent, unsourced}
+use Rattle.tocmark_event.specs.View.{EventView, SourcedEvent, unsourced}
 use Rattle.tocmark_event.specs.declared.event.TagEnd.{TagEnd}
 use Rattle.tocmark_event.specs.declared.options.Error.{Error}
 use Rattle.tocmark_event.specs.declared.options.Error.TheVariants as error
@@ -13,10 +12,12 @@ use Rattle.tocmark_spelling.specs.Buffered.{sourced}
 use Rattle.tocmark_event.specs.declared.event.flags.ParserOptions.{ParserOptions}
 use Rattle.tocmark_labels.specs.Document.{DocumentView}
 use Rattle.tocmark_labels.specs.Ending.{last_texts, leading_feeds, unless_empty, with_definitions_in_front}
+use Rattle.tocmark_labels.specs.Pending.{PendingView, Joins, behind, nested}
+use Rattle.tocmark_labels.proofs.Joined.{unsourced-sourced}
 use Rattle.tocmark_render.specs.DocumentOf.{Refuses, Gives}
-use Rattle.tocmark.specs.StateView.{keeping}
+use Rattle.tocmark.specs.StateView.{Answers, keeping}
 use Rattle.tocmark.specs.Ranges.{Pair, resolved, unranged}
-use Rattle.tocmark.specs.Walk.{Done, done, Kept, Rendering, Standing, Walk, go_on, stay, refuse, handed_text, hand_walk, finished, finished_of, last_choice, last_walk, two_texts, nested, with_event, joins, flush_of, flushed, is_due, flushed_before, advance, step, walk, ended_at, ended}
+use Rattle.tocmark.specs.Walk.{done, Kept, Rendering, Standing, Walk, go_on, stay, refuse, handed_text, hand_walk, finished, finished_of, last_choice, last_walk, two_texts, with_event, joins, flush_of, flushed, is_due, is_whole, flushed_before, advance, step, walk, ended_at, ended}
 use Rattle.tocmark.specs.Writes.{Makes, RefusesAt}
 
 ok_err : {A : Type 0} (s : A) (e : Error) → Ok s ≡ Err e → ⊥
@@ -80,18 +81,28 @@ pub joins_err : (e : SourcedEvent) (s : Standing) (x : Error) → nested s.open_
 unfolding joins
 joins_err e s x h = rw h refl
 
-pub unsourced_sourced : (e : EventView) (s : Option (List ℕ)) → unsourced (sourced e s) ≡ e
-unsourced_sourced (Start t) s = refl
-unsourced_sourced (End k) s = refl
-unsourced_sourced (Leaf l) s = refl
+-- a standing with these events pending
+abbrev with_pending : Standing → PendingView → Standing
+with_pending s p = record s { pending = p.events; open_tags = p.open_tags }
 
--- an event joins what is pending, copied
-pub joins_copied : (e e' : EventView) (t t' : Option (List ℕ)) (s : Standing) (os : List TagEnd) → e' ≡ e → t' ≡ t → nested s.open_tags e ≡ Ok os → (joins (sourced e t) s).outcome ≡ Ok (record s { pending = s.pending ++ sourced e' t' ∷ []; open_tags = os })
-joins_copied e e' t t' s os h k n = rw (h, k) (ap (λ (w : Walk Standing). w.outcome) (joins_ok (sourced e t) s os (rw (unsourced_sourced e t) n)))
+ok_same : (a b : PendingView) (r : Result PendingView Error) → r ≡ Ok a → r ≡ Ok b → a ≡ b
+ok_same a b r h k = cc
 
--- an event that can't join is refused
-pub joins_refused : (e : EventView) (t : Option (List ℕ)) (s : Standing) (x : Error) → Refuses x (nested s.open_tags e) → Refuses x (joins (sourced e t) s).outcome
-joins_refused e t s x h = Refuses-from x (nested s.open_tags e) (joins (sourced e t) s).outcome (λ y k. ap (λ (w : Walk Standing). w.outcome) (joins_err (sourced e t) s y (rw (unsourced_sourced e t) k))) h
+-- what a call made of the events that are pending, it made of the standing
+pub joins_as : {X : Type 0} (r : Result X Error) (e : SourcedEvent) (s : Standing) (old new : PendingView) → Joins old e r new → Answers r (with_pending s new) (joins e (with_pending s old)).outcome
+unfolding joins
+joins_as (Ok x) e s old new h = added (nested old.open_tags (unsourced e)) h
+  where
+    added : (n : Result (List TagEnd) Error) → behind old e n ≡ Ok new → (with_event (with_pending s old) e n).outcome ≡ Ok (with_pending s new)
+    added (Ok os) h = ap (λ (p : PendingView). Ok (with_pending s p)) (ok_same (record { events = old.events ++ e ∷ []; open_tags = os }) new (behind old e (Ok os)) refl h)
+    added (Err y) h = absurd (cc)
+joins_as (Err error.UnexpectedEvent) e s old new h = refused (nested old.open_tags (unsourced e)) h.0
+  where
+    refused : (n : Result (List TagEnd) Error) → behind old e n ≡ Err error.UnexpectedEvent → (with_event (with_pending s old) e n).outcome ≡ Err error.UnexpectedEvent
+    refused (Ok os) h = absurd (cc)
+    refused (Err y) h = err_same y error.UnexpectedEvent (behind old e (Err y)) (with_event (with_pending s old) e (Err y)).outcome refl h refl
+joins_as (Err error.OutOfMemory) e s old new h = tt
+joins_as (Err y) e s old new h = absurd h
 
 pub joins_texts : (e : SourcedEvent) (s : Standing) → (joins e s).texts ≡ []
 unfolding joins
@@ -118,6 +129,18 @@ flushed_refused gives refuses w how next s (error.FormatFailed f) h = absurd h
 flushed_refused gives refuses w how next s error.OutOfMemory h = ([], (flushed how next s).texts, refl, refl)
 flushed_refused gives refuses w how next s e h = rw (flushed_err how next s e h) (refl, refl)
 
+whole_closed : (os : List TagEnd) (es : List SourcedEvent) → is_whole os es ≡ true → os ≡ []
+whole_closed [] es h = refl
+whole_closed (o ∷ os) es h = absurd (cc)
+
+and_right : (a b : Bool) → a && b ≡ true → b ≡ true
+and_right true b h = h
+and_right false b h = absurd (cc)
+
+-- in a unit that is due no container is open
+pub due_closed : (s : Standing) → is_due s ≡ true → s.open_tags ≡ []
+due_closed s h = whole_closed s.open_tags s.pending (and_right (not s.is_deferred) (is_whole s.open_tags s.pending) h)
+
 pub before_not_due : (how : Rendering) (e : EventView) (s : Standing) → is_due s ≡ false → flushed_before how e s ≡ stay s
 unfolding flushed_before
 before_not_due how e s h = rw h refl
@@ -135,7 +158,7 @@ unfolding advance
 advance_is how e s = refl
 
 pub advance_sourced : (how : Rendering) (e : EventView) (source : Option (List ℕ)) (s : Standing) → advance how (sourced e source) s ≡ go_on (flushed_before how e s).texts (flushed_before how e s).outcome (λ t. joins (sourced e source) t)
-advance_sourced how e source s = advance_is how (sourced e source) s ∙ ap (λ u. go_on (flushed_before how u s).texts (flushed_before how u s).outcome (λ t. joins (sourced e source) t)) (unsourced_sourced e source)
+advance_sourced how e source s = advance_is how (sourced e source) s ∙ ap (λ u. go_on (flushed_before how u s).texts (flushed_before how u s).outcome (λ t. joins (sourced e source) t)) (unsourced-sourced e source)
 
 -- a step whose flush succeeded
 pub advance_after : (how : Rendering) (e : EventView) (source : Option (List ℕ)) (s t : Standing) → (flushed_before how e s).outcome ≡ Ok t → advance how (sourced e source) s ≡ go_on (flushed_before how e s).texts (Ok t) (λ u. joins (sourced e source) u)
@@ -205,15 +228,9 @@ ended-at_closed : (how : Rendering) (os : List TagEnd) (s : Standing) → (lengt
 ended-at_closed how [] s h = refl
 ended-at_closed how (o ∷ os) s h = absurd (grind (arith, nat_tests))
 
-reversed_open : (os : List TagEnd) → (length os == 0) ≡ false → (length (reverse os) == 0) ≡ false
-reversed_open os h = rw (length-reverse os) h
-
-reversed_closed : (os : List TagEnd) → (length os == 0) ≡ true → (length (reverse os) == 0) ≡ true
-reversed_closed os h = rw (length-reverse os) h
-
-pub ended_open : (how : Rendering) (s : Standing) (os : List TagEnd) → s.open_tags ≡ reverse os → (length os == 0) ≡ false → ended how s ≡ refuse error.UnexpectedEvent
+pub ended_open : (how : Rendering) (s : Standing) → (length s.open_tags == 0) ≡ false → ended how s ≡ refuse error.UnexpectedEvent
 unfolding ended
-ended_open how s os e h = ended-at_open how s.open_tags s (rw e (reversed_open os h))
+ended_open how s h = ended-at_open how s.open_tags s h
 
 none-before : (defs : List ℕ) → unless_empty defs ≡ last_texts false defs []
 none-before [] = refl
@@ -226,18 +243,18 @@ finished-last how [] kept h =
 finished-last how (e ∷ es) kept h = refl
 
 -- the end, where no container is open, is that of the last unit
-pub ended_closed : (how : Rendering) (s : Standing) (os : List TagEnd) → s.open_tags ≡ reverse os → (length os == 0) ≡ true → how.holds_raw [] ≡ false → ended how s ≡ finished_of how s.pending (last_choice how s.document s.pending)
+pub ended_closed : (how : Rendering) (s : Standing) → (length s.open_tags == 0) ≡ true → how.holds_raw [] ≡ false → ended how s ≡ finished_of how s.pending (last_choice how s.document s.pending)
 unfolding ended
-ended_closed how s os e h n = ended-at_closed how s.open_tags s (rw e (reversed_closed os h)) ∙ finished-last how s.pending s.document n
+ended_closed how s h n = ended-at_closed how s.open_tags s h ∙ finished-last how s.pending s.document n
 
 -- what is handed at the end is what is left there
-pub ended_as : (how : Rendering) (s : Standing) (os : List TagEnd) (raw : Bool) (defs text whole : List ℕ) (kept : Kept) → s.open_tags ≡ reverse os → (length os == 0) ≡ true → how.holds_raw [] ≡ false
+pub ended_as : (how : Rendering) (s : Standing) (raw : Bool) (defs text whole : List ℕ) (kept : Kept) → (length s.open_tags == 0) ≡ true → how.holds_raw [] ≡ false
     → raw ≡ how.holds_raw s.pending → last_choice how s.document s.pending ≡ Ok (whole, kept) → defs ≡ how.definitions kept → text ≡ whole → last_walk raw defs text ≡ ended how s
-ended_as how s os raw defs text whole kept e h n is_raw is_chosen are_left is_text =
+ended_as how s raw defs text whole kept h n is_raw is_chosen are_left is_text =
     ap (λ (raw : Bool). last_walk raw defs text) is_raw
     ∙ ap (λ (defs : List ℕ). last_walk (how.holds_raw s.pending) defs text) are_left
     ∙ ap (λ (text : List ℕ). last_walk (how.holds_raw s.pending) (how.definitions kept) text) is_text
-    ∙ sym (ended_closed how s os e h n ∙ ap (finished_of how s.pending) is_chosen)
+    ∙ sym (ended_closed how s h n ∙ ap (finished_of how s.pending) is_chosen)
 
 -- the last unit is refused
 pub last_refused : {W : Type 0} (gives refuses : W → List ℕ → W → Type 0) (w : W) (how : Rendering) (unit : List SourcedEvent) (e : Error) (r : Result (List ℕ × Kept) Error) → Refuses e r → RefusesAt gives refuses w w e (finished_of how unit r)
@@ -252,14 +269,14 @@ Gives-refused gives refuses w error.OutOfMemory t walk h = ([], walk.texts, refl
 Gives-refused gives refuses w e t walk h = absurd h
 
 -- nothing is pending, or something is
-module _ {A : Type 0} (view : A → SourcedEvent) (how : Rendering) (kept : Kept) where
-  pub choice_empty : (xs : List A) → (length xs == 0) ≡ true → last_choice how kept (map view xs) ≡ Ok ([], kept)
+module _ (how : Rendering) (kept : Kept) where
+  pub choice_empty : (es : List SourcedEvent) → (length es == 0) ≡ true → last_choice how kept es ≡ Ok ([], kept)
   choice_empty [] h = refl
-  choice_empty (x ∷ xs) h = absurd (grind (arith, nat_tests))
+  choice_empty (e ∷ es) h = absurd (grind (arith, nat_tests))
 
-  pub choice_some : (xs : List A) → (length xs == 0) ≡ false → last_choice how kept (map view xs) ≡ how.choice kept (map view xs) None
+  pub choice_some : (es : List SourcedEvent) → (length es == 0) ≡ false → last_choice how kept es ≡ how.choice kept es None
   choice_some [] h = cc
-  choice_some (x ∷ xs) h = refl
+  choice_some (e ∷ es) h = refl
 
 -- ---- the texts at the end
 

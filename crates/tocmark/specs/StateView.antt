@@ -1,9 +1,8 @@
 -- What a state holds, as plain values.
-use Rattle.std.specs.Prelude.{◌≡◌, ℕ, ◌-◌, ◌^◌, ◌++◌, min, List, map, reverse, length, Result, Ok, Err, Option, None, string_bytes, String}
+use Rattle.std.specs.Prelude.{◌≡◌, ℕ, ◌-◌, ◌^◌, ◌++◌, min, List, map, length, Result, Ok, Err, Option, None, string_bytes, String}
 use Rattle.std.specs.Borrow.{Bor}
 use Rattle.std.specs.Global.{Global}
 use Rattle.std.specs.List.{sum_by}
-use Rattle.std.specs.Option.{option_map}
 use Rattle.std.specs.Result.{IfOk}
 use Rattle.tocmark_event.specs.Options.{OptionsView, options_view, owned_options_view}
 use Rattle.tocmark_event.specs.Reading.{ReadingView}
@@ -11,17 +10,18 @@ use Rattle.tocmark_event.specs.Text.{ParserEvent, text_of}
 use Rattle.tocmark_event.specs.View.{EventView, SourcedEvent, event_view}
 use Rattle.tocmark_event.specs.declared.event.flags.ParserOptions.{ParserOptions}
 use Rattle.tocmark_event.specs.declared.options.Error.{Error}
-use Rattle.tocmark_spelling.specs.Buffered.{buffered_view, sourced}
+use Rattle.tocmark_spelling.specs.Buffered.{sourced}
 use Rattle.tocmark_spelling.specs.PlanOf.{setting_of}
 use Rattle.tocmark_labels.specs.Definitions.{definitions_text}
 use Rattle.tocmark_labels.specs.Document.{DocumentView}
 use Rattle.tocmark_render.specs.DocumentOf.{Refuses, document_view, document_flags}
 use Rattle.tocmark_labels.specs.Ending.{holds_raw_block}
 use Rattle.tocmark_render.specs.Chosen.{chosen}
+use Rattle.tocmark_labels.specs.Pending.{text_now}
 use Rattle.tocmark_labels.specs.Units.{waits}
 use Rattle.tocmark_render.specs.declared.document.Document.{Document}
 use Rattle.tocmark.specs.declared.state.Progress.{Progress}
-use Rattle.tocmark.specs.declared.state.Held.{Held}
+use Rattle.tocmark.specs.declared.state.Work.{Work}
 use Rattle.tocmark.specs.declared.state.State.{State}
 use Rattle.tocmark.specs.declared.state.Tools.{Tools}
 use Rattle.tocmark.specs.declared.state.Status.{Status}
@@ -54,18 +54,18 @@ abbrev pub kept_of : Document → Kept
 kept_of d = record { flags = document_flags d; document = document_view d }
 
 -- where a state's events stand
-abbrev pub standing_of : Held → Standing
-standing_of h = record {
-  pending = map buffered_view h.pending.items;
-  open_tags = reverse h.open_tags.items;
-  document = kept_of h.document;
-  range_end = h.range_end;
-  is_deferred = h.is_deferred;
+abbrev pub standing_of : Work → Standing
+standing_of w = record {
+  pending = w.pending.events;
+  open_tags = w.pending.open_tags;
+  document = kept_of w.document;
+  range_end = w.range_end;
+  is_deferred = w.is_deferred;
 }
 
 -- where the events that a state took stand
 abbrev pub place_of : {R : Type 0} → State R → Standing
-place_of s = standing_of s.held
+place_of s = standing_of s.work
 
 -- whether a state takes events
 abbrev pub status_of : {R : Type 0} → State R → Status
@@ -93,10 +93,6 @@ rendering_of reading s = rendering (owned_options_view s.options) (reading s.rea
 -- how units are written in a call
 abbrev pub rendering_with : {R : Type 0} → (R → List ℕ → ParserOptions → ReadingView) → Tools R → Rendering
 rendering_with reading t = rendering (options_view t.options) (reading t.reader.now)
-
--- a text that is there, as bytes
-abbrev pub text_now : Option (Bor (List ℕ)) → Option (List ℕ)
-text_now source = option_map (λ s. s.now) source
 
 -- events as pairs without ranges
 abbrev pub pairs : List (Bor ParserEvent) → List Pair

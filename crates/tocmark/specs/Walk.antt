@@ -1,13 +1,13 @@
 -- What a list of events comes to: the texts of its units, and where it stands after them.
 use Rattle.std.specs.Prelude.{ℕ, List, [], ◌∷◌, ◌++◌, Bool, true, false, not, ◌&&◌, if◌then◌else◌, Result, Ok, Err, Option, Some, None}
-use Rattle.tocmark_event.specs.Ends.{same_end}
-use Rattle.tocmark_event.specs.View.{EventView, Start, End, Leaf, SourcedEvent, unsourced, end_of}
+use Rattle.tocmark_event.specs.View.{EventView, SourcedEvent, unsourced}
 use Rattle.tocmark_event.specs.declared.event.TagEnd.{TagEnd}
 use Rattle.tocmark_event.specs.declared.event.flags.ParserOptions.{ParserOptions}
 use Rattle.tocmark_event.specs.declared.options.Error.{Error}
 use Rattle.tocmark_event.specs.declared.options.Error.TheVariants as error
 use Rattle.tocmark_labels.specs.Document.{DocumentView, first_document}
 use Rattle.tocmark_labels.specs.Ending.{unless_empty, last_texts}
+use Rattle.tocmark_labels.specs.Pending.{nested}
 use Rattle.tocmark.specs.Ranges.{Pair, resolved}
 
 -- a document: the parser's flags, and what earlier units left
@@ -67,17 +67,6 @@ handed_text text = unless_empty text
 -- one text
 abbrev pub hand_walk : {S : Type 0} → List ℕ → S → Walk S
 hand_walk text s = record { texts = handed_text text; outcome = Ok s }
-
--- the open containers after an End, which none but the innermost one's may be
-abbrev pub closed : List TagEnd → TagEnd → Result (List TagEnd) Error
-closed [] k = Err error.UnexpectedEvent
-closed (o ∷ os) k = if same_end k o then Ok os else Err error.UnexpectedEvent
-
--- the open containers after one event
-abbrev pub nested : List TagEnd → EventView → Result (List TagEnd) Error
-nested os (Start t) = Ok (end_of t ∷ os)
-nested os (End k) = closed os k
-nested os (Leaf l) = Ok os
 
 -- the event joins what is pending, where it is nested right
 abbrev pub with_event : Standing → SourcedEvent → Result (List TagEnd) Error → Walk Standing

@@ -1,29 +1,28 @@
 //! A state that takes events.
 
-ghost use Rattle.std.specs.Prelude.{◌+◌, ◌==◌, ◌&&◌, not, Option, ◌≤◌, true, slice_range, ◌≡◌, ◌++◌, length, map, reverse, Bool, IfOk, OnOk, OnErr, List, ℕ, IsOk, Some, None, [], option_map, string_bytes, sum_by};
+ghost use Rattle.std.specs.Prelude.{◌+◌, ◌==◌, ◌&&◌, not, Option, ◌≤◌, true, slice_range, ◌≡◌, length, IfOk, OnOk, OnErr, List, ℕ, IsOk, Some, None, [], sum_by};
 ghost use Rattle.std.specs.Borrow.{Bor};
 ghost use Rattle.std.specs.Iterator.{IsFinite, DrainsIf};
 ghost use Rattle.tocmark_event.specs.Options.{options_view, owned_options_view};
 ghost use Rattle.tocmark_event.specs.Text.{ParserEvent, text_of};
 ghost use Rattle.tocmark_event.specs.View.{event_view};
-ghost use Rattle.tocmark_spelling.specs.Buffered.{buffered_view, next_view, sourced};
-ghost use Rattle.tocmark_render.specs.DocumentOf.{Refuses};
+ghost use Rattle.tocmark_spelling.specs.Buffered.{next_view, sourced};
 ghost use Rattle.tocmark.specs.Ranges.{Range, is_character_boundary, is_good_range, resolved_at, spelling_start};
-ghost use Rattle.tocmark.specs.Walk.{Standing, step, done, is_due, is_whole, nested, flushed, flushed_before, advance, joins, walk, hand_walk, last_walk, last_choice, two_texts, ended};
+ghost use Rattle.tocmark.specs.Walk.{step, done, is_due, is_whole, flushed, flushed_before, advance, joins, walk, hand_walk, last_walk, last_choice, two_texts, ended};
 ghost use Rattle.tocmark.specs.Writes.{Makes};
-ghost use Rattle.tocmark.specs.StateView.{Adds, Answers, Chooses, Counts, Ends, at_most, kept_of, pairs, ranged_pairs, rendering, rendering_of, rendering_with, ResolvedAs, standing_of, text_now};
+ghost use Rattle.tocmark.specs.StateView.{Adds, Answers, Chooses, Counts, Ends, at_most, kept_of, pairs, ranged_pairs, rendering, rendering_of, rendering_with, ResolvedAs, standing_of};
+ghost use Rattle.tocmark_labels.specs.Pending.{text_now};
 
 use crate::taker::Taker;
 use std::alloc::{AllocError, Global};
 use std::fmt;
-use tocmark_ahead::same_events::end_number;
-use tocmark_event::event::{Event, EventOf, ParserOptions, TagEnd};
+use tocmark_event::event::{Event, EventOf, ParserOptions};
 use tocmark_event::options::{Error, Options, OptionsOf};
 use tocmark_event::reader::Reader;
 use tocmark_labels::ending::{holds_raw_block, with_definitions_in_front};
+use tocmark_labels::pending::Pending;
 use tocmark_labels::placeholder::needs_list_placeholder;
 use tocmark_render::document::Document;
-use tocmark_spelling::buffered::BufferedEvent;
 
 /// How much a call did. Both counts stop at the greatest `usize`.
 #[derive(Clone, Copy, Debug, PartialEq, Eq, Default)]
@@ -42,14 +41,12 @@ enum Status {
     Failed,
 }
 
-/// What a state holds of the events that it took.
+/// What a state makes of the events that it took: the units that are written, and what is pending.
 #[derive(Drop)]
-struct Held {
+struct Work {
     document: Document,
     /// The events since the last unit that was written.
-    pending: Vec<BufferedEvent>,
-    /// The Ends of the open containers, outermost first.
-    open_tags: Vec<TagEnd>,
+    pending: Pending,
     /// The end of the last range of an event other than a Start, in bytes.
     range_end: usize,
     /// Whether a unit waits, so that all later events join it.
@@ -90,7 +87,7 @@ pub struct State<R> {
     reader: R,
     options: OptionsOf<String>,
     status: Status,
-    held: Held,
+    work: Work,
 }
 
 impl<R: fmt::Debug> fmt::Debug for State<R> {
@@ -117,30 +114,6 @@ fn lent_options(options: &OptionsOf<String>) -> Options<'_>
     options.with_token(options.strong_token.as_str())
 }
 
-/// Opens or ends a container.
-fn nest(open_tags: &mut Vec<TagEnd>, event: &Event<'_>) -> Result<(), Error>
-    ensures { Answers result (reverse open_tags.new.items)
-        (nested (reverse open_tags.old.items) (event_view text_of event.now)) }
-{
-    match event {
-        EventOf::Start(tag) => {
-            open_tags.push(tag.to_end())?;
-            Ok(())
-        }
-        EventOf::End(end) => match open_tags.pop() {
-            Some(innermost) => {
-                if end_number(*end) == end_number(innermost) {
-                    Ok(())
-                } else {
-                    Err(Error::UnexpectedEvent)
-                }
-            }
-            None => Err(Error::UnexpectedEvent),
-        },
-        _ => Ok(()),
-    }
-}
-
 /// Hands a text, unless it is empty. Returns its length in bytes.
 fn hand<W: Taker>(writer: &mut W, text: &str) -> Result<usize, Error>
     ensures handed { Makes W.takes W.refuses writer.old writer.new result done
@@ -153,113 +126,102 @@ fn hand<W: Taker>(writer: &mut W, text: &str) -> Result<usize, Error>
     Ok(text.len())
 }
 
-/// Writes what is pending as one unit. Returns the length of its text in bytes.
+/// Writes what is pending as one unit, where no container is open. Returns the length of its text in
+/// bytes.
 fn flush<R: Reader, W: Taker>(
     tools: &Tools<'_, R>,
-    held: &mut Held,
+    work: &mut Work,
     next: Option<&Event<'_>>,
     writer: &mut W,
 ) -> Result<usize, Error>
-    ensures made { Makes W.takes W.refuses writer.old writer.new result (standing_of held.new)
+    requires whole { (standing_of work.old).open_tags ≡ [] }
+    ensures made { Makes W.takes W.refuses writer.old writer.new result (standing_of work.new)
         (flushed (rendering_with R.reading tools.now) (next_view next.entry)
-        (standing_of held.old)) }
+        (standing_of work.old)) }
     ensures count { IfOk result (λ n.
         n ≡ sum_by length
         (flushed (rendering_with R.reading tools.now) (next_view next.entry)
-        (standing_of held.old)).texts) }
+        (standing_of work.old)).texts) }
 {
-    let text = held.document.block(
+    let text = work.document.block(
         tools.alloc,
         tools.reader,
-        &held.pending,
+        &work.pending,
         next,
         &tools.options,
     )?;
-    held.pending.clear();
+    work.pending.clear();
     hand(writer, text.as_str())
-}
-
-fn copied_source(alloc: Global, source: Option<&str>) -> Result<Option<String>, AllocError>
-    ensures { IfOk result (λ copy. option_map string_bytes copy ≡ text_now source.entry) }
-{
-    match source {
-        Some(text) => Ok(Some(String::from_str(alloc, text)?)),
-        None => Ok(None),
-    }
 }
 
 /// Adds an event to what is pending.
 fn join(
     alloc: Global,
-    held: &mut Held,
+    work: &mut Work,
     event: &Event<'_>,
     source: Option<&str>,
 ) -> Result<(), Error>
-    ensures { Answers result (standing_of held.new)
+    ensures { Answers result (standing_of work.new)
         (joins (sourced (event_view text_of event.now) (text_now source.entry))
-        (standing_of held.old)).outcome }
+        (standing_of work.old)).outcome }
 {
-    nest(&mut held.open_tags, event)?;
-    let event = event.copied(alloc)?;
-    let source = copied_source(alloc, source)?;
-    held.pending.push(BufferedEvent { event, source })?;
-    Ok(())
+    work.pending.join(alloc, event, source)
 }
 
 /// Whether what is pending is a unit of its own.
-fn is_due_now(held: &Held) -> bool
-    ensures { result ≡ is_due (standing_of held.now) }
+fn is_due_now(work: &Work) -> bool
+    ensures { result ≡ is_due (standing_of work.now) }
 {
-    !held.is_deferred && held.open_tags.is_empty() && !held.pending.is_empty()
+    !work.is_deferred && work.pending.is_whole() && !work.pending.is_empty()
 }
 
 /// Writes a whole unit before the event that follows it, unless the unit waits. Returns the length
 /// of its text in bytes.
 fn flush_before<R: Reader, W: Taker>(
     tools: &Tools<'_, R>,
-    held: &mut Held,
+    work: &mut Work,
     next: &Event<'_>,
     writer: &mut W,
 ) -> Result<usize, Error>
-    ensures made { Makes W.takes W.refuses writer.old writer.new result (standing_of held.new)
+    ensures made { Makes W.takes W.refuses writer.old writer.new result (standing_of work.new)
         (flushed_before (rendering_with R.reading tools.now) (event_view text_of next.now)
-        (standing_of held.old)) }
+        (standing_of work.old)) }
     ensures count { IfOk result (λ n.
         n ≡ sum_by length
         (flushed_before (rendering_with R.reading tools.now) (event_view text_of next.now)
-        (standing_of held.old)).texts) }
+        (standing_of work.old)).texts) }
 {
-    if !is_due_now(held) {
+    if !is_due_now(work) {
         return Ok(0);
     }
-    let waits = needs_list_placeholder(tools.alloc, &held.pending)?;
+    let waits = needs_list_placeholder(tools.alloc, &work.pending)?;
     if waits {
-        held.is_deferred = true;
+        work.is_deferred = true;
         return Ok(0);
     }
-    flush(tools, held, Some(next), writer)
+    flush(tools, work, Some(next), writer)
 }
 
 /// Takes one event, with its spelling in the source where that is known. Returns how many bytes it
 /// handed.
 fn take<R: Reader, W: Taker>(
     tools: &Tools<'_, R>,
-    held: &mut Held,
+    work: &mut Work,
     event: &Event<'_>,
     source: Option<&str>,
     writer: &mut W,
 ) -> Result<usize, Error>
-    ensures made { Makes W.takes W.refuses writer.old writer.new result (standing_of held.new)
+    ensures made { Makes W.takes W.refuses writer.old writer.new result (standing_of work.new)
         (advance (rendering_with R.reading tools.now)
-        (sourced (event_view text_of event.now) (text_now source.entry)) (standing_of held.old)) }
+        (sourced (event_view text_of event.now) (text_now source.entry)) (standing_of work.old)) }
     ensures count { IfOk result (λ n.
         n ≡ sum_by length
         (advance (rendering_with R.reading tools.now)
         (sourced (event_view text_of event.now) (text_now source.entry))
-        (standing_of held.old)).texts) }
+        (standing_of work.old)).texts) }
 {
-    let written = flush_before(tools, held, event, writer)?;
-    join(tools.alloc, held, event, source)?;
+    let written = flush_before(tools, work, event, writer)?;
+    join(tools.alloc, work, event, source)?;
     Ok(written)
 }
 
@@ -277,7 +239,7 @@ fn counted(progress: Progress, written: usize) -> Progress
 /// Takes the events of an iterator, which have no ranges.
 fn take_all<'a, I, R, W>(
     tools: &Tools<'_, R>,
-    held: &mut Held,
+    work: &mut Work,
     events: I,
     writer: &mut W,
 ) -> Result<Progress, Error>
@@ -289,18 +251,18 @@ where
     requires ends { IsFinite (I.remaining events) }
     ensures { (xs : List (Bor ParserEvent)) × DrainsIf I.next_gives (IsOk result) events xs
         × ((source : List ℕ)
-        → Makes W.takes W.refuses writer.old writer.new result (standing_of held.new)
-        (walk (rendering_with R.reading tools.now) source (standing_of held.old) (pairs xs)))
+        → Makes W.takes W.refuses writer.old writer.new result (standing_of work.new)
+        (walk (rendering_with R.reading tools.now) source (standing_of work.old) (pairs xs)))
         × ((source : List ℕ)
         → IfOk result (λ p.
         Counts p (length xs)
         (sum_by length
-        (walk (rendering_with R.reading tools.now) source (standing_of held.old)
+        (walk (rendering_with R.reading tools.now) source (standing_of work.old)
         (pairs xs)).texts))) }
 {
     let mut taken = Progress::default();
     for event in events {
-        let written = take(tools, held, event, None, writer)?;
+        let written = take(tools, work, event, None, writer)?;
         taken = counted(taken, written);
     }
     Ok(taken)
@@ -366,29 +328,29 @@ fn resolve<'s>(
 /// Takes one event with its range, if it has one. Returns how many bytes it handed.
 fn take_ranged<R: Reader, W: Taker>(
     tools: &Tools<'_, R>,
-    held: &mut Held,
+    work: &mut Work,
     event: &Event<'_>,
     range: Option<(usize, usize)>,
     source: &str,
     writer: &mut W,
 ) -> Result<usize, Error>
-    ensures made { Makes W.takes W.refuses writer.old writer.new result (standing_of held.new)
+    ensures made { Makes W.takes W.refuses writer.old writer.new result (standing_of work.new)
         (step (rendering_with R.reading tools.now) source.now (event_view text_of event.now, range)
-        (standing_of held.old)) }
+        (standing_of work.old)) }
     ensures count { IfOk result (λ n.
         n ≡ sum_by length
         (step (rendering_with R.reading tools.now) source.now (event_view text_of event.now, range)
-        (standing_of held.old)).texts) }
+        (standing_of work.old)).texts) }
 {
-    let (spelling, range_end) = resolve(source, held.range_end, event, range)?;
-    held.range_end = range_end;
-    take(tools, held, event, spelling, writer)
+    let (spelling, range_end) = resolve(source, work.range_end, event, range)?;
+    work.range_end = range_end;
+    take(tools, work, event, spelling, writer)
 }
 
 /// Takes the events of an iterator, with their ranges.
 fn take_all_ranged<'a, I, R, W>(
     tools: &Tools<'_, R>,
-    held: &mut Held,
+    work: &mut Work,
     pairs: I,
     source: &str,
     writer: &mut W,
@@ -401,40 +363,40 @@ where
     requires ends { IsFinite (I.remaining pairs) }
     ensures { (xs : List (Bor ParserEvent × Option Range))
         × DrainsIf I.next_gives (IsOk result) pairs xs
-        × Makes W.takes W.refuses writer.old writer.new result (standing_of held.new)
-        (walk (rendering_with R.reading tools.now) source.now (standing_of held.old)
+        × Makes W.takes W.refuses writer.old writer.new result (standing_of work.new)
+        (walk (rendering_with R.reading tools.now) source.now (standing_of work.old)
         (ranged_pairs xs))
         × IfOk result (λ p.
         Counts p (length xs)
         (sum_by length
-        (walk (rendering_with R.reading tools.now) source.now (standing_of held.old)
+        (walk (rendering_with R.reading tools.now) source.now (standing_of work.old)
         (ranged_pairs xs)).texts)) }
 {
     let mut progress = Progress::default();
     for (event, range) in pairs {
-        let written = take_ranged(tools, held, event, range, source, writer)?;
+        let written = take_ranged(tools, work, event, range, source, writer)?;
         progress = counted(progress, written);
     }
     Ok(progress)
 }
 
 /// The text of all that is pending as one unit, the last one; an empty text where nothing is pending.
-fn last_text<R: Reader>(tools: &Tools<'_, R>, held: &mut Held) -> Result<String, Error>
-    ensures { Chooses result (kept_of held.new.document)
-        (last_choice (rendering_with R.reading tools.now) (standing_of held.old).document
-        (standing_of held.old).pending) }
+fn last_text<R: Reader>(tools: &Tools<'_, R>, work: &mut Work) -> Result<String, Error>
+    ensures { Chooses result (kept_of work.new.document)
+        (last_choice (rendering_with R.reading tools.now) (standing_of work.old).document
+        (standing_of work.old).pending) }
 {
-    if held.pending.is_empty() {
+    if work.pending.is_empty() {
         return Ok(String::new(tools.alloc));
     }
-    let text = held.document.block(
+    let text = work.document.block(
         tools.alloc,
         tools.reader,
-        &held.pending,
+        &work.pending,
         None,
         &tools.options,
     )?;
-    held.pending = Vec::new(tools.alloc);
+    work.pending = Pending::new(tools.alloc);
     Ok(text)
 }
 
@@ -483,21 +445,21 @@ fn hand_last<W: Taker>(
 /// Takes the end of the events. Returns how many bytes it handed, at most the greatest `usize`.
 fn end<R: Reader, W: Taker>(
     tools: &Tools<'_, R>,
-    held: &mut Held,
+    work: &mut Work,
     writer: &mut W,
 ) -> Result<usize, Error>
     ensures made { Makes W.takes W.refuses writer.old writer.new result done
-        (ended (rendering_with R.reading tools.now) (standing_of held.old)) }
+        (ended (rendering_with R.reading tools.now) (standing_of work.old)) }
     ensures count { IfOk result (λ n.
         n ≡ at_most
-        (sum_by length (ended (rendering_with R.reading tools.now) (standing_of held.old)).texts)) }
+        (sum_by length (ended (rendering_with R.reading tools.now) (standing_of work.old)).texts)) }
 {
-    if !held.open_tags.is_empty() {
+    if !work.pending.is_whole() {
         return Err(Error::UnexpectedEvent);
     }
-    let holds_raw = holds_raw_block(&held.pending);
-    let text = last_text(tools, held)?;
-    let definitions = held.document.finish(tools.alloc)?;
+    let holds_raw = holds_raw_block(work.pending.events());
+    let text = last_text(tools, work)?;
+    let definitions = work.document.finish(tools.alloc)?;
     hand_last(
         tools.alloc,
         holds_raw,
@@ -534,10 +496,9 @@ impl<R: Reader + Drop> State<R> {
             reader,
             options,
             status: Status::Active,
-            held: Held {
+            work: Work {
                 document: Document::new(alloc, parser_options),
-                pending: Vec::new(alloc),
-                open_tags: Vec::new(alloc),
+                pending: Pending::new(alloc),
                 range_end: 0,
                 is_deferred: false,
             },
@@ -596,7 +557,7 @@ impl<R: Reader + Drop> State<R> {
                     reader: &self.reader,
                     options: lent_options(&self.options),
                 };
-                match take_all(&tools, &mut self.held, events, writer) {
+                match take_all(&tools, &mut self.work, events, writer) {
                     Ok(progress) => Ok(progress),
                     Err(error) => Err(self.failed(error)),
                 }
@@ -664,7 +625,7 @@ impl<R: Reader + Drop> State<R> {
                     reader: &self.reader,
                     options: lent_options(&self.options),
                 };
-                match take_all_ranged(&tools, &mut self.held, pairs, source, writer) {
+                match take_all_ranged(&tools, &mut self.work, pairs, source, writer) {
                     Ok(progress) => Ok(progress),
                     Err(cause) => Err(self.failed(cause)),
                 }
@@ -701,7 +662,7 @@ impl<R: Reader + Drop> State<R> {
                     reader: &self.reader,
                     options: lent_options(&self.options),
                 };
-                match end(&tools, &mut self.held, writer) {
+                match end(&tools, &mut self.work, writer) {
                     Ok(bytes_written) => {
                         self.status = Status::Finished;
                         Ok(Progress {
@@ -718,46 +679,13 @@ impl<R: Reader + Drop> State<R> {
     }
 }
 
-fn copied_events(alloc: Global, events: &[BufferedEvent]) -> Result<Vec<BufferedEvent>, AllocError>
-    ensures { IfOk result (λ copies. map buffered_view copies.items
-        ≡ map buffered_view events.now) }
-{
-    let mut copies = Vec::new(alloc);
-    for buffered in events {
-        copies.push(copied_event(alloc, buffered)?)?;
-    }
-    Ok(copies)
-}
-
-fn copied_event(alloc: Global, buffered: &BufferedEvent) -> Result<BufferedEvent, AllocError>
-    ensures { IfOk result (λ copy. buffered_view copy ≡ buffered_view buffered.now) }
-{
-    let event = buffered.event.copied(alloc)?;
-    let source = match &buffered.source {
-        Some(text) => copied_source(alloc, Some(text.as_str()))?,
-        None => None,
-    };
-    Ok(BufferedEvent { event, source })
-}
-
-fn copied_ends(alloc: Global, ends: &[TagEnd]) -> Result<Vec<TagEnd>, AllocError>
-    ensures { IfOk result (λ copies. copies.items ≡ ends.now) }
-{
-    let mut copies = Vec::new(alloc);
-    for end in ends {
-        copies.push(*end)?;
-    }
-    Ok(copies)
-}
-
-impl Held {
-    fn copied(&self, alloc: Global) -> Result<Held, AllocError>
+impl Work {
+    fn copied(&self, alloc: Global) -> Result<Work, AllocError>
         ensures { IfOk result (λ copy. standing_of copy ≡ standing_of self.now) }
     {
-        Ok(Held {
+        Ok(Work {
             document: self.document.copied(alloc)?,
-            pending: copied_events(alloc, &self.pending)?,
-            open_tags: copied_ends(alloc, &self.open_tags)?,
+            pending: self.pending.copied(alloc)?,
             range_end: self.range_end,
             is_deferred: self.is_deferred,
         })
@@ -775,13 +703,13 @@ impl<R: Clone> State<R> {
     {
         let reader = self.reader.clone()?;
         let options = owned_options(self.alloc, lent_options(&self.options))?;
-        let held = self.held.copied(self.alloc)?;
+        let work = self.work.copied(self.alloc)?;
         Ok(State {
             alloc: self.alloc,
             reader,
             options,
             status: self.status,
-            held,
+            work,
         })
     }
 }

@@ -2,11 +2,11 @@
 //! containers but links and images.
 #![tactic(auto)]
 
-pub mod blocks;
+mod blocks;
 pub mod close;
-pub mod code;
+mod code;
 pub mod inline;
-pub mod lists;
-pub mod notes;
-pub mod tables;
+mod lists;
+mod notes;
+mod tables;
 mod trail;

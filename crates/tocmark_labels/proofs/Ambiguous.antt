@@ -1,14 +1,14 @@
 -- The lists that need a placeholder are found among the events in a row.
 use Rattle.std.proofs.Common.{◌≡◌, ℕ, zero, suc, ◌+◌, ◌<◌, ◌≤◌, Bool, true, false, ◌||◌, ◌&&◌, Option, Some, None, List, [], ◌∷◌, ◌++◌, refl, sym, ap, ◌∙◌, map, drop, length, get_or, slice_index, arith, ⊎_elim}
 use Rattle.std.specs.Prelude.{is_some}
-use Rattle.std.proofs.lemmas.Bool.{false≢true, true≢false, cases_lt}
+use Rattle.std.proofs.lemmas.Bool.{false≢true, true≢false, cases_lt, or_parts}
 use Rattle.std.proofs.lemmas.Grind.{get_or_default_zero}
 use Rattle.std.proofs.lemmas.List.{drop-drop, get_or_past}
 use Rattle.tocmark_event.specs.Forest.{empty, leaf, node, flat, flat_onto}
 use Rattle.tocmark_event.specs.View.{TagView, SourcedEvent, Start, End, Leaf, unsourced, end_of}
 use Rattle.tocmark_event.specs.declared.event.TagEnd.{TagEnd}
 use Rattle.tocmark_spelling.specs.Body.{Trees, back_onto, is_empty}
-use Rattle.tocmark_spelling.specs.Kinds.{is_item, is_list, is_paragraph, and_is}
+use Rattle.tocmark_spelling.specs.Kinds.{is_item, is_list, is_paragraph, and_is, starts}
 use Rattle.tocmark_spelling.specs.Page.{Around, front}
 use Rattle.tocmark_spelling.specs.Runs.{inside, beyond, past, ahead_of}
 use Rattle.tocmark_spelling.specs.Buffered.{buffered_view}
@@ -17,7 +17,7 @@ use Rattle.tocmark_spelling.specs.declared.buffered.BufferedEvent.{BufferedEvent
 use Rattle.tocmark_spelling.proofs.Turns.{events-drop, drop-event, drop-all}
 use Rattle.tocmark_labels.specs.Placeholder.{is_inline_end_or_leaf, begins_with_empty_item, is_only_item, is_ambiguous_list, needs_placeholder_at, needs_placeholder, whole}
 use Rattle.tocmark_labels.specs.Units.{placeholder_in, trees_of, waits}
-use Rattle.tocmark_labels.specs.Waiting.{begins_empty_item, begins_three_ends, begins_only_item, from_end, starts_ambiguous_list, has_ambiguous_list}
+use Rattle.tocmark_labels.specs.Waiting.{begins_empty_item, begins_three_ends, begins_only_item, from_end, starts_ambiguous_list, has_ambiguous_list, has_list}
 use Rattle.tocmark_labels.proofs.Balanced.{flat-of-trees}
 
 -- ---- the End of the container in which a forest stands
@@ -237,3 +237,16 @@ module _ (es rest behind : List BufferedEvent) (i : ℕ) (b : BufferedEvent) (in
   -- none was found, and the search goes on behind this event
   pub list-later : (after : Bool) → after ≡ is_inline_end_or_leaf (unsourced (buffered_view b)) → found ≡ false → has_ambiguous_list after ahead ≡ whole
   list-later after a t = ap (λ x. has_ambiguous_list x ahead) a ∙ sym (ap (λ x. x || later) t) ∙ list-more
+
+-- where no list starts none needs a placeholder
+either : (x y : Bool) → x ≡ false → y ≡ false → (x || y) ≡ false
+either x y e f = ap (λ b. b || y) e ∙ f
+
+pub none-ambiguous : (inline : Bool) (es : List SourcedEvent) → has_list es ≡ false → has_ambiguous_list inline es ≡ false
+none-ambiguous inline [] h = refl
+none-ambiguous inline (e ∷ es) h =
+    let parts = or_parts (starts is_list (unsourced e)) (has_list es) h in
+    let other = (begins_empty_item es && inline) || begins_only_item es (from_end (drop 2 es)) in
+    either (starts_ambiguous_list inline e es (from_end (drop 2 es))) (has_ambiguous_list (is_inline_end_or_leaf (unsourced e)) es)
+    (ap (λ b. b && other) parts.0)
+    (none-ambiguous (is_inline_end_or_leaf (unsourced e)) es parts.1)

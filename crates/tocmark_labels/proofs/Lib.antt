@@ -1,6 +1,7 @@
 pub mod Forests
 pub mod LabelLemmas
 pub mod Balanced
+pub mod Joined
 pub mod Ambiguous
 pub mod DefinitionTexts
 pub mod Feeds

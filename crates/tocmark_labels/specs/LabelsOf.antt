@@ -1,5 +1,5 @@
 -- What folded labels mean.
-use Rattle.std.specs.Prelude.{ℕ, Bool, ◌||◌, Option, Some, None, List, [], ◌∷◌, map, option_map, string_bytes}
+use Rattle.std.specs.Prelude.{◌≡◌, ℕ, Bool, ◌||◌, Option, Some, None, List, [], ◌∷◌, ◌++◌, map, option_map, string_bytes}
 use Rattle.std.specs.Borrow.{Bor}
 use Rattle.tocmark_labels.specs.Document.{folded, is_among, is_label}
 use Rattle.tocmark_labels.specs.declared.labels.Labels.{Labels}
@@ -8,6 +8,10 @@ use Rattle.tocmark_labels.specs.declared.taken.Taken.{Taken}
 -- the labels as bytes, in order of arrival
 abbrev pub labels_of : Labels → List (List ℕ)
 labels_of l = map string_bytes l.folded.keys
+
+-- a list of labels begins with these
+abbrev pub Begins : List (List ℕ) → List (List ℕ) → Type 0
+Begins front labels = (more : List (List ℕ)) × (labels ≡ front ++ more)
 
 -- ids as labels are compared
 abbrev pub folded_ids : List (Bor (List ℕ)) → List (List ℕ)

@@ -3,7 +3,8 @@ pub mod DefinitionsOf
 pub mod Ending
 pub mod Document
 pub mod LabelsOf
+pub mod Pending
+pub mod PendingOf
 pub mod Placeholder
 pub mod Units
 pub mod Waiting
-pub mod Balanced

@@ -1,8 +1,8 @@
 //! Folded labels.
 
-ghost use Rattle.std.specs.Prelude.{◌≡◌, [], length, map, string_bytes, IfOk, OnOk};
+ghost use Rattle.std.specs.Prelude.{◌≡◌, [], length, map, string_bytes, take, IfOk, OnErr, OnOk};
 ghost use Rattle.tocmark_labels.specs.Document.{is_among, with_label, with_labels};
-ghost use Rattle.tocmark_labels.specs.LabelsOf.{labels_of};
+ghost use Rattle.tocmark_labels.specs.LabelsOf.{labels_of, Begins};
 
 use caseless::default_case_fold_str;
 use indexmap::IndexSet;
@@ -31,9 +31,12 @@ impl Labels {
         self.folded.len()
     }
 
-    /// Adds a label, unless one like it is there. An `Err` says that memory ran out.
+    /// Adds a label, unless one like it is there. An `Err` says that memory ran out; none is added
+    /// then.
     pub fn add(&mut self, alloc: Global, label: &str) -> Result<(), AllocError>
-        ensures { OnOk result (labels_of self.new ≡ with_label (labels_of self.old) label.now) }
+        ensures added { OnOk result
+            (labels_of self.new ≡ with_label (labels_of self.old) label.now) }
+        ensures stays { OnErr result (labels_of self.new ≡ labels_of self.old) }
     {
         let folded = default_case_fold_str(alloc, label)?;
         self.folded.insert(folded)?;
@@ -57,14 +60,37 @@ impl Labels {
         })
     }
 
-    /// Adds labels in turn. An `Err` says that memory ran out.
-    pub fn add_all(&mut self, alloc: Global, labels: &[String]) -> Result<(), AllocError>
-        ensures { OnOk result (labels_of self.new
+    /// Forgets all labels but the first so many.
+    pub fn truncate(&mut self, len: usize)
+        ensures { labels_of self.new ≡ take len (labels_of self.old) }
+    {
+        self.folded.truncate(len);
+    }
+
+    /// Adds labels in turn. An `Err` says that memory ran out; some are added then.
+    fn add_each(&mut self, alloc: Global, labels: &[String]) -> Result<(), AllocError>
+        ensures added { OnOk result (labels_of self.new
             ≡ with_labels (labels_of self.old) (map string_bytes labels.now)) }
+        ensures front { Begins (labels_of self.old) (labels_of self.new) }
     {
         for label in labels {
             self.add(alloc, label.as_str())?;
         }
         Ok(())
+    }
+
+    /// Adds labels in turn. An `Err` says that memory ran out; none is added then.
+    pub fn add_all(&mut self, alloc: Global, labels: &[String]) -> Result<(), AllocError>
+        ensures added { OnOk result (labels_of self.new
+            ≡ with_labels (labels_of self.old) (map string_bytes labels.now)) }
+        ensures front { Begins (labels_of self.old) (labels_of self.new) }
+        ensures stays { OnErr result (labels_of self.new ≡ labels_of self.old) }
+    {
+        let before = self.len();
+        let added = self.add_each(alloc, labels);
+        if added.is_err() {
+            self.truncate(before);
+        }
+        added
     }
 }

@@ -2,11 +2,11 @@
 //! are left at the end.
 #![tactic(auto)]
 
-pub mod balance;
 pub mod definitions;
 pub mod ending;
 pub mod labels;
 pub mod laws;
+pub mod pending;
 pub mod placeholder;
 pub mod reserved_label;
 pub mod taken;

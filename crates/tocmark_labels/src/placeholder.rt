@@ -7,9 +7,9 @@ ghost use Rattle.tocmark_spelling.specs.Kinds.{is_item, is_list, is_paragraph, s
 ghost use Rattle.tocmark_spelling.specs.Scans.{AreEnds};
 ghost use Rattle.tocmark_labels.specs.Placeholder.{is_inline_end_or_leaf};
 ghost use Rattle.tocmark_labels.specs.Units.{waits};
-ghost use Rattle.tocmark_labels.specs.Waiting.{is_end, begins_empty_item, begins_three_ends, begins_only_item, from_end, starts_ambiguous_list, has_ambiguous_list};
+ghost use Rattle.tocmark_labels.specs.Waiting.{is_end, begins_empty_item, begins_three_ends, begins_only_item, from_end, starts_ambiguous_list, has_ambiguous_list, has_list};
 
-use crate::balance::are_balanced;
+use crate::pending::Pending;
 use std::alloc::{AllocError, Global};
 use tocmark_ahead::ends::matching_ends;
 use tocmark_event::event::{EventOf, TagOf};
@@ -40,6 +40,17 @@ fn starts_list(event: &BufferedEvent) -> bool
     ensures { result ≡ starts is_list (unsourced (buffered_view event.now)) }
 {
     matches!(&event.event, EventOf::Start(TagOf::List(_)))
+}
+
+fn has_list(events: &[BufferedEvent]) -> bool
+    ensures { result ≡ has_list (map buffered_view events.now) }
+{
+    for event in events {
+        if starts_list(event) {
+            return true;
+        }
+    }
+    false
 }
 
 fn starts_item(event: &BufferedEvent) -> bool
@@ -146,14 +157,19 @@ fn has_ambiguous_list(events: &[BufferedEvent], ends: &[usize]) -> bool
 /// placeholder, since it would be read otherwise without one. An `Err` says that memory ran out.
 ///
 /// A list does whose first item is empty and which stands just behind inline content, and one with a
-/// single item that holds a single paragraph and nothing else. A unit that isn't balanced waits for
-/// nothing.
-pub fn needs_list_placeholder(alloc: Global, unit: &[BufferedEvent]) -> Result<bool, AllocError>
-    ensures { IfOk result (λ needs. needs ≡ waits (map buffered_view unit.now)) }
+/// single item that holds a single paragraph and nothing else. A unit in which a container is open
+/// waits for nothing.
+pub fn needs_list_placeholder(alloc: Global, unit: &Pending) -> Result<bool, AllocError>
+    ensures { IfOk result (λ needs. needs ≡ waits unit.now.events) }
 {
-    if !are_balanced(alloc, unit)? {
+    if !unit.is_whole() {
         return Ok(false);
     }
-    let ends = matching_ends(alloc, unit)?;
-    Ok(has_ambiguous_list(unit, &ends))
+    let events = unit.events();
+    if has_list(events) {
+        let ends = matching_ends(alloc, events)?;
+        Ok(has_ambiguous_list(events, &ends))
+    } else {
+        Ok(false)
+    }
 }

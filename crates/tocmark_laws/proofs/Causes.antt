@@ -11,7 +11,8 @@ use Rattle.tocmark.specs.Causes as refused
 use Rattle.tocmark.specs.Ranges.{Pair}
 use Rattle.tocmark.specs.Walk.{Kept, Rendering, Standing, beginning, is_whole, script, walk}
 use Rattle.tocmark.proofs.Causes.{script_cause}
-use Rattle.tocmark.proofs.Reading.{nothing_nested, reading_balanced}
+use Rattle.tocmark_labels.proofs.Balanced.{reading-balanced}
+use Rattle.tocmark.proofs.Reading.{nothing_nested}
 use Rattle.tocmark_laws.specs.Unexpected.{RefusesMisplaced, IsUnexpected, InUnit, ItsEnd, IsUnexpectedEnd, IsOpen, InLastUnit, IsUnexpectedIn, AtPair, AtEnd}
 
 -- a unit is due only where no container is open
@@ -23,7 +24,7 @@ none-open false (o ∷ os) es h = absurd (false≢true h)
 module _ (how : Rendering) (source : List ℕ) (kept : Kept) (only : RefusesMisplaced how) where
   -- what is pending is the events of a forest where no container is open
   balanced : (p : List Pair) (at : Standing) → (walk how source (beginning kept) p).outcome ≡ Ok at → at.open_tags ≡ [] → IsBalanced at.pending
-  balanced p at stands o = let nested = nothing_nested how source kept at p stands in reading_balanced at.pending (rw o at nested)
+  balanced p at stands o = let nested = nothing_nested how source kept at p stands in reading-balanced at.pending (rw o at nested)
 
   pair-cause : (p : List Pair) (at : Standing) (pair : Pair) → (walk how source (beginning kept) p).outcome ≡ Ok at → Cause how source at pair UnexpectedEvent → IsUnexpected at pair
   pair-cause p at pair stands (BadRange bad) = absurd (let is = bad.error_is in cc)

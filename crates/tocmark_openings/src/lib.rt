@@ -6,14 +6,14 @@
 #![tactic(auto)]
 
 pub mod ahead;
-pub mod code;
+mod code;
 pub mod delimited;
-pub mod headings;
-pub mod html;
-pub mod lists;
-pub mod new_line;
-pub mod notes;
+mod headings;
+mod html;
+mod lists;
+mod new_line;
+mod notes;
 pub mod open;
-pub mod plain;
-pub mod quotes;
-pub mod tables;
+mod plain;
+mod quotes;
+mod tables;

@@ -1,5 +1,5 @@
 -- What is written for a unit is what is chosen for it.
-use Rattle.std.proofs.Common.{◌≡◌, ℕ, Bool, true, false, Option, Some, None, Err, List, [], ◌∷◌, ◌++◌, map, refl, sym, ap, ◌∙◌}
+use Rattle.std.proofs.Common.{◌≡◌, Bool, true, false, Option, Some, None, Err, List, [], ◌∷◌, refl, sym, ap, ◌∙◌}
 use Rattle.std.specs.Prelude.{◌||◌, is_some}
 use Rattle.std.specs.List.{list_any}
 use Rattle.std.proofs.lemmas.Bool.{false≢true, true≢false}
@@ -7,19 +7,14 @@ use Rattle.tocmark_event.specs.Forest.{empty, leaf, node, flat, flat_onto}
 use Rattle.tocmark_event.specs.View.{EventView, SourcedEvent, End, end_of}
 use Rattle.tocmark_event.specs.declared.options.Error.TheVariants as error
 use Rattle.tocmark_spelling.specs.Body.{Trees, some_leaf}
-use Rattle.tocmark_spelling.specs.Page as page
-use Rattle.tocmark_spelling.specs.Page.{Page}
+use Rattle.tocmark_spelling.specs.Page.{Page, Site}
 use Rattle.tocmark_spelling.specs.Plan.{Setting}
-use Rattle.tocmark_unit.specs.Rendered.{Rendered}
-use Rattle.tocmark_spelling.specs.TrailOf.{trail_view}
-use Rattle.tocmark_renderer.specs.WriterOf.{reference_view}
-use Rattle.tocmark_unit.specs.declared.block.UnitRenderer.{UnitRenderer}
 use Rattle.tocmark_render.specs.Candidates.{has_source, is_delimiter_block, is_delimiter_tag, is_math, is_sourced, some_tag}
 use Rattle.tocmark_render.specs.Choice.{choice, document_after}
-use Rattle.tocmark_labels.specs.Document.{DocumentView, known_in, literal_in}
-use Rattle.tocmark_render.specs.DocumentOf.{is_delimiter_event, is_sourced_event, page_left}
+use Rattle.tocmark_labels.specs.Document.{DocumentView}
+use Rattle.tocmark_render.specs.DocumentOf.{is_delimiter_event, is_sourced_event, noted, passed}
 use Rattle.tocmark_render.specs.Chosen.{choice_of, chosen}
-use Rattle.tocmark_render.specs.TrialOf.{definitions_left, or_no_trees}
+use Rattle.tocmark_render.specs.TrialOf.{or_no_trees}
 use Rattle.tocmark_labels.specs.Units.{labelled, trees_of}
 
 or-assoc : (a b c : Bool) → (a || b) || c ≡ a || (b || c)
@@ -75,42 +70,11 @@ delimiters-flat es f e = sym (or-false (is_delimiter_block f)) ∙ sym (delimite
 
 -- ---- what a unit leaves
 
--- the document behind a page, of which the stretch that is held is no part
-abbrev leaves : Setting → DocumentView → List ℕ → page.Trail → ℕ → List page.Reference → DocumentView
-leaves s d text trail feeds references =
-    document_after s d (record { sheet = record { text = text; feeds = feeds }; trail = trail; references = references; held = None })
-
--- a page and what a renderer left that wrote it leave the same document
-pub page-leaves : (s : Setting) (d : DocumentView) (text : List ℕ) (new : UnitRenderer) (p : Page) → Rendered text new p → document_after s d p ≡ document_after s d (page_left new text)
+-- a document that noted a unit's labels, and went on behind it, is the one after the unit; what is noted asks neither for
+-- the trail nor for the line feeds before it
+pub passed-noted : (s : Setting) (d : DocumentView) (here : Site) (p : Page) → passed (noted s d p) p ≡ document_after s (record d { trail = here.page.trail; feeds = here.page.sheet.feeds }) p
 unfolding document_after
-page-leaves s d text new p h =
-    ap (λ t. leaves s d t p.trail p.sheet.feeds p.references) h.text_is
-    ∙ ap (λ x. leaves s d text x p.sheet.feeds p.references) h.trail_is
-    ∙ ap (λ n. leaves s d text (trail_view new.trail) n p.references) h.feeds_is
-    ∙ ap (λ rs. leaves s d text (trail_view new.trail) new.newlines rs) h.references_are
-
--- what a unit leaves asks neither for the trail nor for the line feeds before it
-pub kept-after : (s : Setting) (d now : DocumentView) (new : UnitRenderer) (t text : List ℕ) → now.references ≡ d.references → now.known ≡ d.known → now.literal ≡ d.literal → t ≡ text → document_after s now (page_left new t) ≡ document_after s d (page_left new text)
-unfolding document_after
-kept-after s d now new t text r k l e =
-    ap (λ rs. document_after s (record now { references = rs }) (page_left new t)) r
-    ∙ ap (λ ks. document_after s (record now { references = d.references; known = ks }) (page_left new t)) k
-    ∙ ap (λ ls. document_after s (record now { references = d.references; known = d.known; literal = ls }) (page_left new t)) l
-    ∙ ap (λ t. document_after s d (page_left new t)) e
-
--- a document behind a unit
-abbrev left : UnitRenderer → List page.Reference → List (List ℕ) → List (List ℕ) → DocumentView
-left r references known literal = record { trail = trail_view r.trail; feeds = r.newlines; references = references; known = known; literal = literal; flushed = true }
-
--- a document that kept what its last unit leaves is the one after it
-pub kept-is : (s : Setting) (d : DocumentView) (r : UnitRenderer) (definitions text : List ℕ) (references : List page.Reference) (known literal : List (List ℕ))
-    → definitions ≡ definitions_left r → references ≡ d.references ++ map reference_view r.references.items → known ≡ known_in s.reading s.flags d.known definitions → literal ≡ literal_in s.reading s.flags d.literal text
-    → left r references known literal ≡ document_after s d (page_left r text)
-unfolding document_after
-kept-is s d r definitions text references known literal defined is_references is_known is_literal =
-    ap (λ rs. left r rs known literal) is_references
-    ∙ ap (λ ks. left r (d.references ++ map reference_view r.references.items) ks literal) (is_known ∙ ap (known_in s.reading s.flags d.known) defined)
-    ∙ ap (λ ls. left r (d.references ++ map reference_view r.references.items) (known_in s.reading s.flags d.known (definitions_left r)) ls) is_literal
+passed-noted s d here p = refl
 
 -- ---- a unit as its events
 

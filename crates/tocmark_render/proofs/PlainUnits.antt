@@ -1,14 +1,14 @@
 -- What is chosen for a unit without delimiters of which no source is asked: its preferred spelling.
-use Rattle.std.proofs.Common.{◌≡◌, Bool, true, false, ◌&&◌, Option, refl, sym, ap, ◌∙◌, subst}
+use Rattle.std.proofs.Common.{◌≡◌, Bool, true, false, ◌&&◌, Option, None, refl, sym, ap, ◌∙◌, subst}
 use Rattle.tocmark_event.specs.View.{EventView}
 use Rattle.tocmark_spelling.specs.Body.{Trees}
 use Rattle.tocmark_spelling.specs.Plan.{Setting}
 use Rattle.tocmark_render.specs.Candidates.{candidates, has_source, is_delimiter_block}
 use Rattle.tocmark_render.specs.Choice.{choice, preferred, has_standard_markers}
 use Rattle.tocmark_labels.specs.Document.{DocumentView}
-use Rattle.tocmark_render.specs.Tries.{Asked, Lost}
+use Rattle.tocmark_render.specs.Tries.{Asked, first}
 use Rattle.tocmark_render.specs.Validates.{validates}
-use Rattle.tocmark_render.proofs.Trials.{candidates-are, choice-lost, choice-unsearched, none-to-try}
+use Rattle.tocmark_render.proofs.Trials.{candidates-are, choice-lost, choice-unsearched, first-none}
 
 -- the source isn't asked where there is none or where the markers aren't Markdown's
 unasked : (source markers : Bool) → markers ≡ true → (source && markers) ≡ false → source ≡ false
@@ -19,14 +19,14 @@ module _ (s : Setting) (d : DocumentView) (f : Trees) (next : Option EventView) 
   abbrev q : Asked
   q = record { setting = s; unit = f; next = next }
 
-  none-tried : is_delimiter_block f ≡ false → has_source f ≡ false → Lost q d d (candidates s.options f)
+  none-tried : is_delimiter_block f ≡ false → has_source f ≡ false → first q d (candidates s.options f) ≡ None
   none-tried plain source =
-      subst (Lost q d d) (candidates-are s.options s.options f false false refl (sym source) (sym plain)) (none-to-try q d s.options false false refl)
+      subst (λ ms. first q d ms ≡ None) (candidates-are s.options s.options f false false refl (sym source) (sym plain)) (first-none q d)
 
   by-markers : (b : Bool) → has_standard_markers s.options ≡ b → is_delimiter_block f ≡ false → (has_source f && has_standard_markers s.options) ≡ false → choice s d f next ≡ preferred s d f next
   by-markers false m plain h = choice-unsearched q d m
   by-markers true m plain h =
-      choice-lost q d m d (none-tried plain (unasked (has_source f) (has_standard_markers s.options) m h)) (ap (λ b. b && validates s.options s.flags) plain)
+      choice-lost q d m (none-tried plain (unasked (has_source f) (has_standard_markers s.options) m h)) (ap (λ b. b && validates s.options s.flags) plain)
 
   -- nothing is searched where the source isn't asked
   pub choice-unasked : is_delimiter_block f ≡ false → (has_source f && has_standard_markers s.options) ≡ false → choice s d f next ≡ preferred s d f next

@@ -1,8 +1,9 @@
 -- What one trial of a unit comes to, and that its unit is that of the definitions.
-use Rattle.std.proofs.Common.{◌≡◌, ◌∙◌, sym, ap, refl, subst, ℕ, Bool, true, false, Option, Some, None, Ok, List, [], ◌∷◌, map, string_bytes}
-use Rattle.std.specs.Prelude.{is_none, is_some}
+use Rattle.std.proofs.Common.{◌≡◌, ◌∙◌, sym, ap, refl, subst, ℕ, Bool, true, false, Option, Some, None, Result, Ok, Err, List, [], ◌∷◌, ◌++◌, arith, codes, length, map, unwrap_or}
+use Rattle.std.specs.Prelude.{◌==◌, is_err, is_none, is_some}
 use Rattle.std.specs.List.{list_any}
-use Rattle.std.proofs.lemmas.Bool.{false≢true}
+use Rattle.std.proofs.lemmas.Bool.{false≢true, true≢false}
+use Rattle.std.proofs.lemmas.Bool.Decides.{nat_tests}
 use Rattle.tocmark_event.specs.Forest.{flat}
 use Rattle.tocmark_event.specs.Merged.{merged}
 use Rattle.tocmark_event.specs.Reading.{ReadingView}
@@ -13,27 +14,26 @@ use Rattle.tocmark_event.specs.declared.options.Error.TheVariants as error
 use Rattle.tocmark_spelling.specs.Body.{Trees}
 use Rattle.tocmark_spelling.specs.Page.{Page, Site}
 use Rattle.tocmark_spelling.specs.Plan.{Manner}
-use Rattle.tocmark_unit.specs.Rendered.{Rendered, RenderedAt}
+use Rattle.tocmark_spelling.specs.Spelling.{spelling}
 use Rattle.tocmark_emphasis.specs.Low.{AsksLow}
 use Rattle.tocmark_renderer.specs.JobOf.{manner_view}
-use Rattle.tocmark_renderer.specs.WriterOf.{reference_view, IsRefusal}
+use Rattle.tocmark_renderer.specs.WriterOf as renderer
+use Rattle.tocmark_renderer.specs.WriterOf.{Arrives, Comes, IsRefusal, Rendering, blank, site_of}
 use Rattle.tocmark_renderer.specs.declared.job.Manner as declared
 use Rattle.tocmark_spelling.proofs.Refusals.{none-misplaced}
 use Rattle.tocmark_read_back.specs.InParagraph.{in_paragraph}
 use Rattle.tocmark_render.specs.Candidates.{has_source, is_delimiter_block, preferred_manner}
-use Rattle.tocmark_render.specs.Choice.{Chosen, accepted_if, definitions_of, document_after, first_that_reads_back, if_read_back, page_in, page_of, page_read_back, preferred, spelled}
-use Rattle.tocmark_labels.specs.Definitions.{definitions_text}
+use Rattle.tocmark_render.specs.Choice.{Chosen, accepted_if, definitions_of, first_that_reads_back, if_read_back, page_in, page_of, page_read_back, preferred, spelled}
 use Rattle.tocmark_labels.specs.Document.{DocumentView}
 use Rattle.tocmark_render.specs.DocumentOf.{Refuses, is_delimiter_event, is_sourced_event}
 use Rattle.tocmark_labels.specs.Placeholder.{whole}
 use Rattle.tocmark_render.specs.ReadsBack.{flags_at, found_in, is_taken, reads_back, whole_text}
-use Rattle.tocmark_render.specs.TrialOf.{IsDefined, IsLow, IsReady, IsWritten, Leaves, asked_of, events_in, or_no_trees, reads_back_as, spelled_by}
-use Rattle.tocmark_render.specs.Tries.{Asked, Found, Lost, StopsTrial, first, misplaced}
+use Rattle.tocmark_render.specs.TrialOf.{Came, ComesOrBack, IsLow, IsReady, WentBack, Writes, asked_of, events_in, or_no_trees, read_of, reads_back_in, spelled_at}
+use Rattle.tocmark_render.specs.Tries.{Asked, Found, Lost, Stopped, StopsTrial, first, misplaced}
 use Rattle.tocmark_labels.specs.Units.{trees_of}
-use Rattle.tocmark_render.specs.declared.written.Written.{Written}
 use Rattle.tocmark_render.specs.declared.trial.Trial.{Trial}
 use Rattle.tocmark_labels.proofs.Balanced.{flat-of-trees}
-use Rattle.tocmark_render.proofs.Documents.{delimiters-flat, page-leaves, source-flat}
+use Rattle.tocmark_render.proofs.Documents.{delimiters-flat, source-flat}
 use Rattle.tocmark_render.proofs.Trials.{none-test}
 
 flat-or-none : (es : List SourcedEvent) (o : Option Trees) → trees_of es ≡ o → is_some o ≡ true → flat (or_no_trees o) ≡ es
@@ -64,84 +64,107 @@ module _ {R : Type 0} (reading : R → List ℕ → ParserOptions → ReadingVie
     q = asked_of reading t
 
     -- a reader that finds the unit, and leaves no label open that is taken, reads it back
-    pub trial-read : (es : List EventView) (defs text defs' text' : List ℕ) (x : ParserOptions) → es ≡ in_paragraph (merged (map unsourced (events_in t))) → defs' ≡ defs → text' ≡ text → x ≡ flags_at q.setting d → found_in (is_taken q.setting d) es (q.setting.reading (whole_text defs' text') x) ≡ reads_back q.setting d trees defs text
-    unfolding reads_back
-    trial-read es defs text defs' text' x e ed et ex =
-        ap (λ v. found_in (is_taken q.setting d) es (q.setting.reading (whole_text v text') x)) ed
-        ∙ ap (λ v. found_in (is_taken q.setting d) es (q.setting.reading (whole_text defs v) x)) et
-        ∙ ap (λ v. found_in (is_taken q.setting d) es (q.setting.reading (whole_text defs text) v)) ex
-        ∙ ap (λ es. found_in (is_taken q.setting d) es (q.setting.reading (whole_text defs text) (flags_at q.setting d))) (e ∙ ap (λ es. in_paragraph (merged (map unsourced es))) (sym trial-flat))
+    pub trial-read : (es : List EventView) (text : List ℕ) (x : ParserOptions) → es ≡ in_paragraph (merged (map unsourced (events_in t))) → x ≡ flags_at q.setting d → found_in (is_taken q.setting d) es (q.setting.reading text x) ≡ reads_back_in q d text
+    trial-read es text x e ex =
+        ap (λ v. found_in (is_taken q.setting d) es (q.setting.reading text v)) ex
+        ∙ ap (λ es. found_in (is_taken q.setting d) es (q.setting.reading text (flags_at q.setting d))) (e ∙ ap (λ es. in_paragraph (merged (map unsourced es))) (sym trial-flat))
 
 -- where a manner asks for ASCII as plain values, its delimiters do
 pub low-asked : (m : declared.Manner) → IsLow (manner_view m) → AsksLow m.delimiters
 low-asked m h e = record { emphasis = (h e).0; strong = (h e).1 }
 
+-- ---- what is read of a page
+
+-- without definitions it is the text
+pub read-plain : (p : Page) (defs text : List ℕ) → defs ≡ definitions_of p → (length defs == 0) ≡ true → text ≡ p.sheet.text → text ≡ read_of p
+read-plain p [] text e h t = t ∙ ap (λ v. whole_text v p.sheet.text) e
+read-plain p (b ∷ defs) text e h t = absurd (grind (arith, nat_tests))
+
+-- else the text stands behind them and a blank line
+pub read-behind : (p : Page) (defs text all : List ℕ) → defs ≡ definitions_of p → (length defs == 0) ≡ false → text ≡ p.sheet.text → all ≡ defs ++ codes "\n\n" ++ text → all ≡ read_of p
+read-behind p [] text all e h t a = absurd (true≢false h)
+read-behind p (b ∷ defs) text all e h t a =
+    a ∙ ap (λ v. (b ∷ defs) ++ codes "\n\n" ++ v) t ∙ ap (λ v. whole_text v p.sheet.text) e
+
 -- ---- one trial
+
+some-same : {A : Type 0} (a b : A) → Some a ≡ Some b → a ≡ b
+some-same a b e = ap (λ o. unwrap_or o a) e
+
+-- where a renderer stands that went back to its mark
+pub back-same : (old here : Site) (mark : Option Site) → mark ≡ Some old → Some here ≡ mark → here ≡ old
+back-same old here mark e h = some-same here old (h ∙ e)
+
+-- a renderer that arrived came to the page
+arrived : (o : Option Site) (w : Rendering) → Arrives w o → page_of o ≡ Some (renderer.page_of w)
+arrived None w h = absurd h
+arrived (Some here) w h = ap Some (sym h.page_is)
+
+-- what a renderer wrote behind its mark, and that it went back where that was refused
+module _ {X : Type 0} (old : Site) (mid : Rendering) (answer : Option Site) (marked : mid.at_mark ≡ Some old) where
+  pub written-there : (r : Result X Error) → is_err r ≡ false → Comes r mid answer → ComesOrBack r old mid answer
+  written-there (Ok x) e h = record { arrives = h; marked = marked }
+  written-there (Err x) e h = absurd (true≢false e)
+
+  pub written-back : (new : Rendering) (r : Result X Error) → is_err r ≡ true → Some (site_of new) ≡ mid.at_mark → Comes r mid answer → ComesOrBack r old new answer
+  written-back new (Ok x) e back h = absurd (false≢true e)
+  written-back new (Err x) e back h = record { refused = h; kept = back-same old (site_of new) mid.at_mark marked back }
 
 module _ (q : Asked) (d : DocumentView) (m : Manner) where
   abbrev site : Option Site
-  site = spelled_by q d m
+  site = spelling q.setting m q.unit (whole q.next) [] (page_in d)
 
   misplaced-site : misplaced q ≡ is_none site
   misplaced-site = none-test site (misplaced q) (none-misplaced q.setting m q.unit (whole q.next) (page_in d))
 
+  placed-at : (o : Option Site) (w : Rendering) → site ≡ o → Arrives w o → misplaced q ≡ false
+  placed-at None w e h = absurd h
+  placed-at (Some here) w e h = misplaced-site ∙ ap is_none e
+
   -- the page is refused where a node of the unit is misplaced
-  pub one-stopped : (e : Error) → IsRefusal e site → StopsTrial q e
-  one-stopped error.OutOfMemory r = tt
-  one-stopped error.UnexpectedEvent r = misplaced-site ∙ ap is_none r
-  one-stopped e r = absurd r
-
-  reads-same : (w : Written) (p : Page) → Rendered (string_bytes w.spelling.text) w.renderer p → IsDefined w → reads_back q.setting d q.unit (definitions_of p) p.sheet.text ≡ reads_back_as q d w.spelling
-  reads-same w p h defined =
-      ap (λ rs. reads_back q.setting d q.unit (definitions_text rs p.sheet.feeds) p.sheet.text) h.references_are
-      ∙ ap (λ n. reads_back q.setting d q.unit (definitions_text (map reference_view w.renderer.references.items) n) p.sheet.text) h.feeds_is
-      ∙ ap (λ v. reads_back q.setting d q.unit v p.sheet.text) (sym defined)
-      ∙ ap (λ v. reads_back q.setting d q.unit (string_bytes w.spelling.definitions) v) h.text_is
-
-  first-at : (o : Option Site) (here : Site) (w : Written) (b : Bool) → o ≡ Some here → Rendered (string_bytes w.spelling.text) w.renderer here.page → IsDefined w → reads_back_as q d w.spelling ≡ b → page_read_back q.setting d q.unit (page_of o) ≡ if_read_back b here.page
-  first-at o here w b e h f r =
-      ap (λ o. page_read_back q.setting d q.unit (page_of o)) e
-      ∙ ap (λ b. if_read_back b here.page) (reads-same w here.page h f ∙ r)
+  stops-at : (e : Error) → IsRefusal e site → StopsTrial q e
+  stops-at error.OutOfMemory r = tt
+  stops-at error.UnexpectedEvent r = misplaced-site ∙ ap is_none r
+  stops-at e r = absurd r
 
   first-of : (o : Option Page) → (elim o as (λ _. Option Page) [ Some p ↦ Some p | None ↦ None ]) ≡ o
   first-of None = refl
   first-of (Some p) = refl
 
-  first-one : (here : Site) (w : Written) (b : Bool) → site ≡ Some here → Rendered (string_bytes w.spelling.text) w.renderer here.page → IsDefined w → reads_back_as q d w.spelling ≡ b → first q d (m ∷ []) ≡ if_read_back b here.page
-  unfolding first_that_reads_back spelled
-  first-one here w b e h f r = first-of (page_read_back q.setting d q.unit (page_of site)) ∙ first-at site here w b e h f r
+  first-one : (p : Page) (b : Bool) → page_of site ≡ Some p → reads_back_in q d (read_of p) ≡ b → first q d (m ∷ []) ≡ if_read_back b p
+  unfolding first_that_reads_back spelled reads_back
+  first-one p b e r =
+      first-of (page_read_back q.setting d q.unit (page_of site))
+      ∙ ap (page_read_back q.setting d q.unit) e
+      ∙ ap (λ b. if_read_back b p) r
 
-  placed-at : (here : Site) → site ≡ Some here → misplaced q ≡ false
-  placed-at here e = misplaced-site ∙ ap is_none e
+  module _ (old : Site) (front : old ≡ blank d.feeds d.trail) where
+    at-front : spelled_at q old m ≡ site
+    at-front = ap (λ x. spelled_at q x m) front
 
-  module _ (w : Written) where
-    found-at : (o : Option Site) (new : DocumentView) (text : List ℕ) → site ≡ o → IsWritten w o → reads_back_as q d w.spelling ≡ true → Leaves q d new w → text ≡ string_bytes w.spelling.text → Found q d new text (m ∷ [])
-    found-at None new text e h r l t = absurd h.rendered
-    found-at (Some here) new text e h r l t = record {
-      page = here.page;
-      is_first = first-one here w true e h.rendered h.defined r;
-      text_is = h.rendered.text_is ∙ sym t;
-      left_is = page-leaves q.setting d (string_bytes w.spelling.text) w.renderer here.page h.rendered ∙ sym l;
-      placed = placed-at here e;
-    }
+    -- the unit is refused
+    pub one-stopped : (new : Rendering) (e : Error) → WentBack old new e (spelled_at q old m) → Stopped q old new e
+    one-stopped new e h = record { stops = stops-at e (subst (IsRefusal e) at-front h.refused); kept = h.kept }
 
-    -- the unit is read back
-    pub one-found : (new : DocumentView) (text : List ℕ) → IsWritten w site → reads_back_as q d w.spelling ≡ true → Leaves q d new w → text ≡ string_bytes w.spelling.text → Found q d new text (m ∷ [])
-    one-found new text h r l t = found-at site new text refl h r l t
+    module _ (mid : Rendering) (came : Came old mid (spelled_at q old m)) where
+      arrives-there : Arrives mid site
+      arrives-there = subst (Arrives mid) at-front came.arrives
 
-    lost-at : (o : Option Site) → site ≡ o → IsWritten w o → reads_back_as q d w.spelling ≡ false → Lost q d d (m ∷ [])
-    lost-at None e h r = absurd h.rendered
-    lost-at (Some here) e h r = record { none = first-one here w false e h.rendered h.defined r; kept = refl; placed = placed-at here e }
+      -- the unit is read back
+      pub one-found : reads_back_in q d (read_of (renderer.page_of mid)) ≡ true → Found q d old mid (m ∷ [])
+      one-found r = record {
+        is_first = first-one (renderer.page_of mid) true (arrived site mid arrives-there) r;
+        marked = came.marked;
+        placed = placed-at site mid refl arrives-there;
+      }
 
-    -- it isn't
-    pub one-lost : IsWritten w site → reads_back_as q d w.spelling ≡ false → Lost q d d (m ∷ [])
-    one-lost h r = lost-at site refl h r
-
-    accepted-at : (o : Option Site) (new : DocumentView) (text : List ℕ) → RenderedAt (string_bytes w.spelling.text) w.renderer o → Leaves q d new w → text ≡ string_bytes w.spelling.text → accepted_if q.setting d (page_of o) ≡ Ok (text, new)
-    accepted-at None new text h l t = absurd h
-    accepted-at (Some here) new text h l t =
-        ap (λ v. Ok (v, document_after q.setting d here.page)) (h.text_is ∙ sym t)
-        ∙ ap (λ v. Ok (text, v)) (page-leaves q.setting d (string_bytes w.spelling.text) w.renderer here.page h ∙ sym l)
+      -- it isn't
+      pub one-lost : (new : Rendering) → Some (site_of new) ≡ mid.at_mark → reads_back_in q d (read_of (renderer.page_of mid)) ≡ false → Lost q d old new (m ∷ [])
+      one-lost new back r = record {
+        none = first-one (renderer.page_of mid) false (arrived site mid arrives-there) r;
+        kept = back-same old (site_of new) mid.at_mark came.marked back;
+        placed = placed-at site mid refl arrives-there;
+      }
 
 -- ---- the preferred spelling
 
@@ -149,17 +172,22 @@ module _ (q : Asked) (d : DocumentView) where
   abbrev plain : Chosen
   plain = preferred q.setting d q.unit q.next
 
+  abbrev plainly : Manner
+  plainly = preferred_manner q.setting.options
+
   refuses-page : (e : Error) (o : Option Site) → IsRefusal e o → Refuses e (accepted_if q.setting d (page_of o))
   refuses-page error.OutOfMemory o r = tt
   refuses-page error.UnexpectedEvent o r = ap (λ o. accepted_if q.setting d (page_of o)) r
   refuses-page e o r = absurd r
 
-  pub preferred-refused : (e : Error) (m : Manner) → m ≡ preferred_manner q.setting.options → IsRefusal e (spelled_by q d m) → Refuses e plain
+  -- what was written of a unit in the preferred spelling is that spelling, or refused so
+  pub preferred-written : {X : Type 0} (old : Site) (new : Rendering) (r : Result X Error) → old ≡ blank d.feeds d.trail → ComesOrBack r old new (spelled_at q old plainly) → Writes r q.setting d old new plain
   unfolding spelled
-  preferred-refused e m is r = refuses-page e (spelled_by q d (preferred_manner q.setting.options)) (subst (λ m. IsRefusal e (spelled_by q d m)) is r)
-
-  pub preferred-written : (w : Written) (m : Manner) (new : DocumentView) (text : List ℕ) → m ≡ preferred_manner q.setting.options → RenderedAt (string_bytes w.spelling.text) w.renderer (spelled_by q d m) → Leaves q d new w → text ≡ string_bytes w.spelling.text → plain ≡ Ok (text, new)
-  unfolding spelled
-  preferred-written w m new text is h l t =
-      ap (λ m. accepted_if q.setting d (page_of (spelled_by q d m))) (sym is)
-      ∙ accepted-at q d m w (spelled_by q d m) new text h l t
+  preferred-written old new (Ok x) front h = record {
+    written = ap (accepted_if q.setting d) (arrived (site q d plainly) new (subst (Arrives new) (at-front q d plainly old front) h.arrives));
+    marked = h.marked;
+  }
+  preferred-written old new (Err e) front h = record {
+    refused = refuses-page e (site q d plainly) (subst (IsRefusal e) (at-front q d plainly old front) h.refused);
+    kept = h.kept;
+  }

@@ -1,6 +1,5 @@
 -- A search over candidates that goes on where an earlier one found nothing.
-use Rattle.std.proofs.Common.{◌≡◌, ◌∙◌, sym, ap, refl, subst, ℕ, ◌+◌, ◌<◌, ◌≤◌, Bool, true, false, ◌&&◌, ◌||◌, Option, Some, None, Result, Ok, Err, List, [], ◌∷◌, ◌++◌, length, map, drop, get_or, arith, string_bytes, String}
-use Rattle.std.specs.Global.{Global}
+use Rattle.std.proofs.Common.{◌≡◌, ◌∙◌, sym, ap, refl, subst, ℕ, ◌+◌, ◌<◌, ◌≤◌, Bool, true, false, ◌&&◌, Option, Some, None, Result, Ok, Err, List, [], ◌∷◌, ◌++◌, length, map, drop, get_or, arith}
 use Rattle.std.proofs.lemmas.List.{drop_more, drop_all}
 use Rattle.tocmark_event.specs.declared.options.Error.{Error}
 use Rattle.tocmark_spelling.specs.Page.{Page}
@@ -15,12 +14,15 @@ use Rattle.tocmark_spelling.specs.Page.{Site}
 use Rattle.tocmark_spelling.specs.Spelling.{spelling}
 use Rattle.tocmark_spelling.proofs.Refusals.{none-misplaced}
 use Rattle.tocmark_render.specs.Candidates.{candidates, has_source, is_delimiter_block, preferred_manner, source_manners, delimiter_manners}
-use Rattle.tocmark_render.specs.Choice.{Chosen, choice, preferred, accepted_if, page_of, page_in, by_markers, unless_misplaced, first_or, document_after, has_standard_markers, first_that_reads_back, page_read_back, spelled}
-use Rattle.tocmark_render.specs.DocumentOf.{Refuses, Spells}
+use Rattle.tocmark_renderer.specs.WriterOf as renderer
+use Rattle.tocmark_renderer.specs.WriterOf.{Rendering, site_of}
+use Rattle.tocmark_render.specs.Choice.{Chosen, choice, preferred, accepted, accepted_if, page_of, page_in, by_markers, unless_misplaced, first_or, has_standard_markers, first_that_reads_back, page_read_back, spelled}
+use Rattle.tocmark_render.specs.DocumentOf.{Refuses}
 use Rattle.tocmark_labels.specs.Placeholder.{whole}
 use Rattle.tocmark_render.specs.Validates.{validates}
 use Rattle.tocmark_labels.specs.Document.{DocumentView}
-use Rattle.tocmark_render.specs.Tries.{Asked, Found, Lost, PlacedIfTried, StopsTrial, Tries, first, manners_for, misplaced}
+use Rattle.tocmark_render.specs.TrialOf.{IsLeft, IsWritten, Writes}
+use Rattle.tocmark_render.specs.Tries.{Asked, Found, Lost, PlacedIfTried, Stopped, StopsTrial, Tries, first, misplaced}
 
 -- two truths, each by itself
 pub both_true : (a b : Bool) → (a && b) ≡ true → (a ≡ true) × (b ≡ true)
@@ -49,7 +51,7 @@ module _ (q : Asked) (d : DocumentView) where
       by None = refl
       by (Some p) = refl
 
-  first-none : first q d [] ≡ None
+  pub first-none : first q d [] ≡ None
   unfolding first_that_reads_back
   first-none = refl
 
@@ -59,34 +61,28 @@ module _ (q : Asked) (d : DocumentView) where
   first-more (m ∷ a) b =
       first-step m (a ++ b) ∙ ap (found_or_else (read m)) (first-more a b) ∙ or-assoc (read m) (first q d a) (first q d b) ∙ ap (λ o. found_or_else o (first q d b)) (sym (first-step m a))
 
--- of all these candidates, those before the rest came to nothing
-pub record GoesOn (q : Asked) (old new : DocumentView) (all rest : List Manner) : Type 0 where
-  pub kept : new ≡ old
-  pub same : first q old all ≡ first q old rest
+-- of all these candidates, those before the rest came to nothing, and the renderer stands where it began
+pub record GoesOn (q : Asked) (d : DocumentView) (old : Site) (now : Rendering) (all rest : List Manner) : Type 0 where
+  pub kept : site_of now ≡ old
+  pub same : first q d all ≡ first q d rest
   pub placed : PlacedIfTried q rest → PlacedIfTried q all
 
 placed-more : (q : Asked) (a b : List Manner) → PlacedIfTried q a → PlacedIfTried q b → PlacedIfTried q (a ++ b)
 placed-more q [] b x y = y
 placed-more q (m ∷ a) b x y = x
 
-module _ (q : Asked) (old new : DocumentView) where
-  -- found among the first ones
-  found-before : (text : List ℕ) (a b : List Manner) → Found q old new text a → Found q old new text (a ++ b)
-  found-before text a b h = record {
-    page = h.page;
-    is_first = first-more q old a b ∙ ap (λ o. found_or_else o (first q old b)) h.is_first;
-    text_is = h.text_is;
-    left_is = h.left_is;
-    placed = h.placed;
-  }
-
-  found-of : (text : List ℕ) (all rest : List Manner) → first q old all ≡ first q old rest → Found q old new text rest → Found q old new text all
-  found-of text all rest e h = record { page = h.page; is_first = e ∙ h.is_first; text_is = h.text_is; left_is = h.left_is; placed = h.placed }
+-- found among the first ones
+found-before : (q : Asked) (d : DocumentView) (old : Site) (new : Rendering) (a b : List Manner) → Found q d old new a → Found q d old new (a ++ b)
+found-before q d old new a b h = record {
+  is_first = first-more q d a b ∙ ap (λ o. found_or_else o (first q d b)) h.is_first;
+  marked = h.marked;
+  placed = h.placed;
+}
 
 -- all of them came to nothing
-pub lost-all : (q : Asked) (old new : DocumentView) (all rest : List Manner) → GoesOn q old new all rest → rest ≡ [] → Lost q old new all
-lost-all q old new all rest h e = record {
-  none = h.same ∙ ap (first q old) e ∙ first-none q old;
+pub lost-all : (q : Asked) (d : DocumentView) (old : Site) (now : Rendering) (all rest : List Manner) → GoesOn q d old now all rest → rest ≡ [] → Lost q d old now all
+lost-all q d old now all rest h e = record {
+  none = h.same ∙ ap (first q d) e ∙ first-none q d;
   kept = h.kept;
   placed = h.placed (subst (PlacedIfTried q) (sym e) tt);
 }
@@ -98,56 +94,57 @@ views-at f xs i d lt = ap (map f) (drop_more xs i d lt)
 pub views-end : {C : Type 0} (f : C → Manner) (xs : List C) (i : ℕ) → length xs ≤ i → map f (drop i xs) ≡ []
 views-end f xs i past = ap (map f) (drop_all i xs past)
 
+-- a trial from where a renderer stands again is one from where it began
+from-there : (q : Asked) (d : Site → DocumentView) (old here : Site) (new : Rendering) (ms : List Manner) (r : Result Bool Error) → here ≡ old → Tries q (d here) here new ms r → Tries q (d old) old new ms r
+from-there q d old here new ms r e h = subst (λ x. Tries q (d x) x new ms r) e h
+
 -- the next candidate, of a list that is tried from a place on, was tried
-module _ {C : Type 0} (f : C → Manner) (cs : List C) (i : ℕ) (d : C) (q : Asked) (old mid new : DocumentView)
-    (lt : i < length cs) (before : GoesOn q old mid (map f cs) (map f (drop i cs))) (r : Option (String Global)) (tried : Tries q mid new (f (get_or cs i d) ∷ []) (Ok r)) where
+module _ {C : Type 0} (f : C → Manner) (cs : List C) (i : ℕ) (c : C) (q : Asked) (d : Site → DocumentView) (old : Site) (mid new : Rendering)
+    (lt : i < length cs) (before : GoesOn q (d old) old mid (map f cs) (map f (drop i cs))) where
   abbrev next : Manner
-  next = f (get_or cs i d)
+  next = f (get_or cs i c)
 
   abbrev rest : List Manner
   rest = map f (drop (i + 1) cs)
 
-  same-from : first q old (map f cs) ≡ first q old ((next ∷ []) ++ rest)
-  same-from = before.same ∙ ap (first q old) (views-at f cs i d lt)
+  same-from : first q (d old) (map f cs) ≡ first q (d old) ((next ∷ []) ++ rest)
+  same-from = before.same ∙ ap (first q (d old)) (views-at f cs i c lt)
 
   -- it reads back
-  pub one-found : (text : String Global) → r ≡ Some text → Found q old new (string_bytes text) (map f cs)
-  one-found text e =
-      let found : Found q mid new (string_bytes text) (next ∷ []) = subst (λ o. Tries q mid new (next ∷ []) (Ok o)) e tried in
-      found-of q old new (string_bytes text) (map f cs) ((next ∷ []) ++ rest) same-from
-      (found-before q old new (string_bytes text) (next ∷ []) rest (subst (λ x. Found q x new (string_bytes text) (next ∷ [])) before.kept found))
+  pub one-found : (b : Bool) → b ≡ true → Tries q (d (site_of mid)) (site_of mid) new (next ∷ []) (Ok b) → Found q (d old) old new (map f cs)
+  one-found b e tried =
+      let found : Found q (d old) old new (next ∷ []) = subst (λ x. Tries q (d old) old new (next ∷ []) (Ok x)) e (from-there q d old (site_of mid) new (next ∷ []) (Ok b) before.kept tried) in
+      let more : Found q (d old) old new ((next ∷ []) ++ rest) = found-before q (d old) old new (next ∷ []) rest found in
+      record { is_first = same-from ∙ more.is_first; marked = more.marked; placed = more.placed }
 
   -- it doesn't
-  pub one-lost : r ≡ None → GoesOn q old new (map f cs) rest
-  one-lost e =
-      let lost : Lost q mid new (next ∷ []) = subst (λ o. Tries q mid new (next ∷ []) (Ok o)) e tried in
-      let l : Lost q old new (next ∷ []) = subst (λ x. Lost q x new (next ∷ [])) before.kept lost in
+  pub one-lost : (b : Bool) → b ≡ false → Tries q (d (site_of mid)) (site_of mid) new (next ∷ []) (Ok b) → GoesOn q (d old) old new (map f cs) rest
+  one-lost b e tried =
+      let lost : Lost q (d old) old new (next ∷ []) = subst (λ x. Tries q (d old) old new (next ∷ []) (Ok x)) e (from-there q d old (site_of mid) new (next ∷ []) (Ok b) before.kept tried) in
       record {
-        kept = l.kept;
-        same = same-from ∙ first-more q old (next ∷ []) rest ∙ ap (λ o. found_or_else o (first q old rest)) l.none;
-        placed = λ p. before.placed (subst (PlacedIfTried q) (sym (views-at f cs i d lt)) (placed-more q (next ∷ []) rest l.placed p));
+        kept = lost.kept;
+        same = same-from ∙ first-more q (d old) (next ∷ []) rest ∙ ap (λ o. found_or_else o (first q (d old) rest)) lost.none;
+        placed = λ p. before.placed (subst (PlacedIfTried q) (sym (views-at f cs i c lt)) (placed-more q (next ∷ []) rest lost.placed p));
       }
 
--- where none reads back, the document stays
-pub stays-lost : (q : Asked) (old new : DocumentView) (ms : List Manner) (r : Option (String Global)) → Tries q old new ms (Ok r) → r ≡ None → old ≡ new
-stays-lost q old new ms r h e = sym (subst (λ o. Tries q old new ms (Ok o)) e h).kept
+-- an error stopped a trial from where a renderer stands again
+pub stopped-there : (q : Asked) (old here : Site) (new : Rendering) (e : Error) → here ≡ old → Stopped q here new e → Stopped q old new e
+stopped-there q old here new e is h = subst (λ x. Stopped q x new e) is h
 
-pub tries-same : (q : Asked) (old new : DocumentView) (a b : List Manner) (r : Result (Option (String Global)) Error) → a ≡ b → Tries q old new a r → Tries q old new b r
-tries-same q old new a b r e h = subst (λ ms. Tries q old new ms r) e h
+pub tries-same : (q : Asked) (d : DocumentView) (old : Site) (new : Rendering) (a b : List Manner) (r : Result Bool Error) → a ≡ b → Tries q d old new a r → Tries q d old new b r
+tries-same q d old new a b r e h = subst (λ ms. Tries q d old new ms r) e h
 
-lost-none : (q : Asked) (d : DocumentView) (ms : List Manner) → ms ≡ [] → Lost q d d ms
-lost-none q d ms e = lost-all q d d ms ms (record { kept = refl; same = refl; placed = λ p. p }) e
+-- no candidate was tried yet
+pub goes-on-all : (q : Asked) (d : DocumentView) (now : Rendering) (ms : List Manner) → GoesOn q d (site_of now) now ms ms
+goes-on-all q d now ms = record { kept = refl; same = refl; placed = λ p. p }
+
+lost-none : (q : Asked) (d : DocumentView) (now : Rendering) (ms : List Manner) → ms ≡ [] → Lost q d (site_of now) now ms
+lost-none q d now ms e = lost-all q d (site_of now) now ms ms (goes-on-all q d now ms) e
 
 -- there is nothing to try
-pub lost-empty : {C : Type 0} (f : C → Manner) (xs : List C) (q : Asked) (d : DocumentView) (ms : List Manner) → (length xs == 0) ≡ true → map f xs ≡ ms → Lost q d d ms
-lost-empty f [] q d ms h e = lost-none q d ms (sym e)
-lost-empty f (x ∷ xs) q d ms h e = absurd (grind (arith, nat_tests))
-
--- a unit without delimiters of which no source is known has no candidate
-pub none-to-try : (q : Asked) (d : DocumentView) (o : OptionsView) (src del : Bool) → (src || del) ≡ false → Lost q d d (manners_for o src del)
-none-to-try q d o true del h = absurd (true≢false h)
-none-to-try q d o false true h = absurd (true≢false h)
-none-to-try q d o false false h = record { none = first-none q d; kept = refl; placed = tt }
+pub lost-empty : {C : Type 0} (f : C → Manner) (xs : List C) (q : Asked) (d : DocumentView) (now : Rendering) (ms : List Manner) → (length xs == 0) ≡ true → map f xs ≡ ms → Lost q d (site_of now) now ms
+lost-empty f [] q d now ms h e = lost-none q d now ms (sym e)
+lost-empty f (x ∷ xs) q d now ms h e = absurd (grind (arith, nat_tests))
 
 -- ---- what the search comes to is the choice
 
@@ -196,17 +193,17 @@ module _ (q : Asked) (d : DocumentView) where
     searched-first o e h = choice-placed true e m ∙ ap (first_or q.setting d q.unit q.next) h
 
     -- a spelling reads back
-    pub choice-found : (new : DocumentView) (text : List ℕ) → Found q d new text (candidates q.setting.options q.unit) → chosen ≡ Ok (text, new)
-    choice-found new text h = searched-first (Some h.page) h.placed h.is_first ∙ ap (λ t. Ok (t, document_after q.setting d h.page)) h.text_is ∙ ap (λ n. Ok (text, n)) h.left_is
+    pub choice-found : (old : Site) (new : Rendering) → Found q d old new (candidates q.setting.options q.unit) → chosen ≡ accepted q.setting d (renderer.page_of new)
+    choice-found old new h = searched-first (Some (renderer.page_of new)) h.placed h.is_first
 
-    module _ (new : DocumentView) (h : Lost q d new (candidates q.setting.options q.unit)) where
+    module _ (h : first q d (candidates q.setting.options q.unit) ≡ None) where
       -- none does, and the unit takes the preferred spelling
       pub choice-lost : (is_delimiter_block q.unit && validates q.setting.options q.setting.flags) ≡ false → chosen ≡ plain
-      choice-lost n = by-place (misplaced q) refl (λ e. searched-first None e h.none ∙ ap (λ b. elim b as (λ _. Chosen) [ true ↦ Err error.Unrepresentable | false ↦ plain ]) n)
+      choice-lost n = by-place (misplaced q) refl (λ e. searched-first None e h ∙ ap (λ b. elim b as (λ _. Chosen) [ true ↦ Err error.Unrepresentable | false ↦ plain ]) n)
 
       -- none does, and the unit can't be represented
       pub choice-unrepresentable : misplaced q ≡ false → (is_delimiter_block q.unit && validates q.setting.options q.setting.flags) ≡ true → chosen ≡ Err error.Unrepresentable
-      choice-unrepresentable e n = searched-first None e h.none ∙ ap (λ b. elim b as (λ _. Chosen) [ true ↦ Err error.Unrepresentable | false ↦ plain ]) n
+      choice-unrepresentable e n = searched-first None e h ∙ ap (λ b. elim b as (λ _. Chosen) [ true ↦ Err error.Unrepresentable | false ↦ plain ]) n
 
   -- what stops a trial is what is chosen
   pub stop-refuses : (e : Error) → StopsTrial q e → Refuses e chosen
@@ -233,29 +230,44 @@ module _ (q : Asked) (d : DocumentView) (o : OptionsView) (src del acc : Bool) (
   standard : (b : Bool) → has_standard_markers o ≡ b → has_standard_markers q.setting.options ≡ b
   standard b e = ap has_standard_markers is_options ∙ e
 
-  pub spells-unsearched : (new : DocumentView) (r : Result (String Global) Error) → has_standard_markers o ≡ false → Spells new r (preferred q.setting d q.unit q.next) → Spells new r (choice q.setting d q.unit q.next)
-  spells-unsearched new r m h = subst (Spells new r) (sym (choice-unsearched q d (standard false m))) h
+  -- the unit is written in the preferred spelling, unsearched
+  pub writes-unsearched : {X : Type 0} (old : Site) (new : Rendering) (r : Result X Error) → has_standard_markers o ≡ false → Writes r q.setting d old new (preferred q.setting d q.unit q.next) → Writes r q.setting d old new (choice q.setting d q.unit q.next)
+  writes-unsearched old new r m h = subst (Writes r q.setting d old new) (sym (choice-unsearched q d (standard false m))) h
 
-  pub spells-stopped : (e : Error) → StopsTrial q e → Refuses e (choice q.setting d q.unit q.next)
-  spells-stopped e h = stop-refuses q d e h
+  -- an error stopped the search
+  pub left-stopped : (old : Site) (new : Rendering) (e : Error) → Stopped q old new e → IsLeft old new e (choice q.setting d q.unit q.next)
+  left-stopped old new e h = record { refused = stop-refuses q d e h.stops; kept = h.kept }
 
-  pub spells-found : (new : DocumentView) (text : String Global) (r : Option (String Global)) → has_standard_markers o ≡ true → Tries q d new tried_list (Ok r) → r ≡ Some text → choice q.setting d q.unit q.next ≡ Ok (string_bytes text, new)
-  spells-found new text r m t e = choice-found q d (standard true m) new (string_bytes text) (subst (Found q d new (string_bytes text)) lists (subst (λ r. Tries q d new tried_list (Ok r)) e t))
+  -- a spelling was found
+  pub written-found : (old : Site) (new : Rendering) (b : Bool) → has_standard_markers o ≡ true → Tries q d old new tried_list (Ok b) → b ≡ true → IsWritten q.setting d old new (choice q.setting d q.unit q.next)
+  written-found old new b m t e =
+      let found : Found q d old new (candidates q.setting.options q.unit) = subst (Found q d old new) lists (subst (λ b. Tries q d old new tried_list (Ok b)) e t) in
+      record { written = choice-found q d (standard true m) old new found; marked = found.marked }
 
-  module _ (mid : DocumentView) (r : Option (String Global)) (m : has_standard_markers o ≡ true) (t : Tries q d mid tried_list (Ok r)) (e : r ≡ None) where
-    lost : Lost q d mid tried_list
-    lost = subst (λ r. Tries q d mid tried_list (Ok r)) e t
+  module _ (old : Site) (mid : Rendering) (b : Bool) (m : has_standard_markers o ≡ true) (t : Tries q d old mid tried_list (Ok b)) (e : b ≡ false) where
+    lost : Lost q d old mid tried_list
+    lost = subst (λ b. Tries q d old mid tried_list (Ok b)) e t
+
+    all-lost : first q d (candidates q.setting.options q.unit) ≡ None
+    all-lost = subst (λ ms. first q d ms ≡ None) lists lost.none
 
     delimited : (del && acc) ≡ (is_delimiter_block q.unit && validates q.setting.options q.setting.flags)
     delimited = λ j. is_del j && is_acc j
 
-    pub spells-unrepresentable : del ≡ true → acc ≡ true → choice q.setting d q.unit q.next ≡ Err error.Unrepresentable
-    spells-unrepresentable td ta =
-        choice-unrepresentable q d (standard true m) mid (subst (Lost q d mid) lists lost)
-        (placed-delimiters q o src (subst (PlacedIfTried q) (λ j. (if src then source_manners o (td j) else []) ++ (if td j then delimiter_manners o else [])) lost.placed))
-        (sym delimited ∙ (λ j. td j && ta j))
+    -- where the renderer stands again
+    pub stands-again : site_of mid ≡ old
+    stands-again = lost.kept
 
-    pub spells-preferred : (now : Asked) (new : DocumentView) (s : Result (String Global) Error) → now ≡ q → (del && acc) ≡ false → Spells new s (preferred now.setting mid now.unit now.next) → Spells new s (choice q.setting d q.unit q.next)
-    spells-preferred now new s is n h =
-        subst (Spells new s) (sym (choice-lost q d (standard true m) mid (subst (Lost q d mid) lists lost) (sym delimited ∙ n)))
-        (subst (λ x. Spells new s (preferred q.setting x q.unit q.next)) lost.kept (subst (λ x. Spells new s (preferred x.setting mid x.unit x.next)) is h))
+    -- no spelling was found, and the unit can't be represented
+    pub left-unrepresentable : del ≡ true → acc ≡ true → IsLeft old mid error.Unrepresentable (choice q.setting d q.unit q.next)
+    left-unrepresentable td ta = record {
+      refused =
+          choice-unrepresentable q d (standard true m) all-lost
+          (placed-delimiters q o src (subst (PlacedIfTried q) (λ j. (if src then source_manners o (td j) else []) ++ (if td j then delimiter_manners o else [])) lost.placed))
+          (sym delimited ∙ (λ j. td j && ta j));
+      kept = lost.kept;
+    }
+
+    -- no spelling was found, and the unit is written in the preferred one
+    pub writes-lost : {X : Type 0} (new : Rendering) (r : Result X Error) → (del && acc) ≡ false → Writes r q.setting d old new (preferred q.setting d q.unit q.next) → Writes r q.setting d old new (choice q.setting d q.unit q.next)
+    writes-lost new r n h = subst (Writes r q.setting d old new) (sym (choice-lost q d (standard true m) all-lost (sym delimited ∙ n))) h

@@ -1,17 +1,17 @@
 -- What a document's fields mean.
-use Rattle.std.specs.Prelude.{◌≡◌, ℕ, Bool, false, List, Option, Some, None, Result, Ok, Err, map, string_bytes, String}
+use Rattle.std.specs.Prelude.{◌≡◌, ◌≤◌, ◌+◌, ◌++◌, ℕ, Bool, true, false, length, vec_capacity, List, Option, Some, None, Result, Ok, Err, map, string_bytes, String}
 use Rattle.std.specs.Global.{Global}
 use Rattle.tocmark_event.specs.View.{EventView, SourcedEvent, Start, End, Leaf, event_view}
 use Rattle.tocmark_event.specs.declared.event.EventOf.{EventOf}
 use Rattle.tocmark_event.specs.declared.event.flags.ParserOptions.{ParserOptions}
 use Rattle.tocmark_event.specs.declared.options.Error.{Error}
 use Rattle.tocmark_event.specs.declared.options.Error.TheVariants as error
-use Rattle.tocmark_spelling.specs.Page.{Page}
+use Rattle.tocmark_spelling.specs.Page.{Page, Site}
+use Rattle.tocmark_spelling.specs.Plan.{Setting}
 use Rattle.tocmark_spelling.specs.TrailOf.{trail_view}
 use Rattle.tocmark_render.specs.Candidates.{is_delimiter_tag, is_math, is_sourced}
-use Rattle.tocmark_render.specs.Choice.{Chosen, choice}
+use Rattle.tocmark_render.specs.Choice.{Chosen, definitions_of, known_after, literal_after}
 use Rattle.tocmark_renderer.specs.WriterOf.{reference_view}
-use Rattle.tocmark_unit.specs.declared.block.UnitRenderer.{UnitRenderer}
 use Rattle.tocmark_labels.specs.Document.{DocumentView}
 use Rattle.tocmark_labels.specs.LabelsOf.{labels_of}
 use Rattle.tocmark_render.specs.declared.document.Document.{Document}
@@ -19,8 +19,8 @@ use Rattle.tocmark_render.specs.declared.document.Document.{Document}
 -- a document's fields as plain values
 abbrev pub document_view : Document → DocumentView
 document_view d = record {
-  trail = trail_view d.renderer.trail;
-  feeds = d.renderer.newlines;
+  trail = trail_view d.trail;
+  feeds = d.newlines;
   references = map reference_view d.references.items;
   known = labels_of d.known;
   literal = labels_of d.literal;
@@ -31,14 +31,21 @@ document_view d = record {
 abbrev pub document_flags : Document → ParserOptions
 document_flags d = d.flags
 
--- the page that a renderer's last unit left, with this text
-abbrev pub page_left : UnitRenderer → List ℕ → Page
-page_left r text = record {
-  sheet = record { text = text; feeds = r.newlines };
-  trail = trail_view r.trail;
-  references = map reference_view r.references.items;
-  held = None;
-}
+-- a document whose trail and line feeds a renderer has
+abbrev pub document_at : Document → Site → DocumentView
+document_at d here = record (document_view d) { trail = here.page.trail; feeds = here.page.sheet.feeds }
+
+-- a document that noted the labels of a unit with this page
+abbrev pub noted : Setting → DocumentView → Page → DocumentView
+noted s d p = record d { known = known_after s d (definitions_of p); literal = literal_after s d p.sheet.text }
+
+-- a document that went on behind a unit with this page
+abbrev pub passed : DocumentView → Page → DocumentView
+passed d p = record d { trail = p.trail; feeds = p.sheet.feeds; references = d.references ++ p.references; flushed = true }
+
+-- there is room for the definitions that a page needs
+abbrev pub HasRoom : Document → Page → Type 0
+HasRoom d p = length d.references.items + length p.references ≤ vec_capacity d.references
 
 -- an event that is kept
 abbrev pub kept_view : Option (EventOf (String Global)) → Option EventView

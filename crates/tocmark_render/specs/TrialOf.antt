@@ -1,5 +1,5 @@
 -- What a trial of a unit asks, as plain values.
-use Rattle.std.specs.Prelude.{◌≡◌, ◌<◌, ℕ, Bool, true, false, slice_index, List, [], Option, Some, None, Result, Ok, Err, is_some, map, string_bytes, String}
+use Rattle.std.specs.Prelude.{◌≡◌, ◌<◌, ℕ, Bool, true, false, slice_index, List, Option, Some, None, Result, Ok, Err, is_some, map, string_bytes, String}
 use Rattle.std.specs.Global.{Global}
 use Rattle.std.specs.List.{AllByRecursion}
 use Rattle.indexmap.specs.IndexSet.{IndexSet}
@@ -14,27 +14,22 @@ use Rattle.tocmark_event.specs.declared.event.flags.ParserOptions.{ParserOptions
 use Rattle.tocmark_event.specs.declared.options.Error.{Error}
 use Rattle.tocmark_spelling.specs.Body.{Trees}
 use Rattle.tocmark_spelling.specs.Buffered.{buffered_view, following_view}
-use Rattle.tocmark_spelling.specs.Page.{Site}
-use Rattle.tocmark_spelling.specs.Plan.{Manner}
+use Rattle.tocmark_spelling.specs.Page.{Page, Site}
+use Rattle.tocmark_spelling.specs.Plan.{Manner, Setting}
 use Rattle.tocmark_spelling.specs.PlanOf.{setting_of}
 use Rattle.tocmark_spelling.specs.Spelling.{spelling}
 use Rattle.tocmark_unit.specs.FindingsOf.{AreFindings}
-use Rattle.tocmark_unit.specs.Rendered.{RenderedAt}
-use Rattle.tocmark_unit.specs.declared.block.UnitRenderer.{UnitRenderer}
-use Rattle.tocmark_renderer.specs.WriterOf.{reference_view, IsRefusal}
+use Rattle.tocmark_renderer.specs.WriterOf.{Arrives, IsRefusal, Rendering, blank, page_of, site_of}
 use Rattle.tocmark_read_back.specs.InParagraph.{in_paragraph}
-use Rattle.tocmark_render.specs.Choice.{document_after, page_in, preferred}
-use Rattle.tocmark_labels.specs.Definitions.{definitions_text}
+use Rattle.tocmark_render.specs.Choice.{Chosen, accepted, choice, definitions_of}
 use Rattle.tocmark_labels.specs.Document.{DocumentView}
-use Rattle.tocmark_render.specs.DocumentOf.{document_view, page_left, Spells}
+use Rattle.tocmark_render.specs.DocumentOf.{Refuses, document_at}
 use Rattle.tocmark_labels.specs.LabelsOf.{label_now}
 use Rattle.tocmark_labels.specs.Placeholder.{whole}
-use Rattle.tocmark_render.specs.ReadsBack.{reads_back}
+use Rattle.tocmark_render.specs.ReadsBack.{flags_at, is_read_back, whole_text}
 use Rattle.tocmark_render.specs.Tries.{Asked, Tries}
 use Rattle.tocmark_labels.specs.Units.{trees_of}
 use Rattle.tocmark_render.specs.declared.document.Document.{Document}
-use Rattle.tocmark_render.specs.declared.written.Spelling.{Spelling}
-use Rattle.tocmark_render.specs.declared.written.Written.{Written}
 use Rattle.tocmark_render.specs.declared.trial.Trial.{Trial}
 
 -- a forest that is there, or none of its trees
@@ -71,46 +66,67 @@ IsLow m = chooses_bytes m.plan.layout ≡ true → (m.markers.emphasis < 128) ×
 abbrev pub Expects : {R : Type 0} → Trial R → List (EventOf (String Global)) → Type 0
 Expects t expected = map (event_view string_bytes) expected ≡ in_paragraph (merged (map unsourced (events_in t)))
 
--- what a unit is spelled as behind a document, in one manner
-abbrev pub spelled_by : Asked → DocumentView → Manner → Option Site
-spelled_by q d m = spelling q.setting m q.unit (whole q.next) [] (page_in d)
+-- nothing is written of the unit
+abbrev pub IsFront : Site → Type 0
+IsFront here = here ≡ blank here.page.sheet.feeds here.page.trail
 
--- the definitions that a renderer's last unit needs
-abbrev pub definitions_left : UnitRenderer → List ℕ
-definitions_left r = definitions_text (map reference_view r.references.items) r.newlines
+-- what a unit is spelled as from here, in one manner
+abbrev pub spelled_at : Asked → Site → Manner → Option Site
+spelled_at q here m = spelling q.setting m q.unit (whole q.next) here.path here.page
 
--- a unit's definitions are those that it needs as it is written
-abbrev pub IsDefined : Written → Type 0
-IsDefined w = string_bytes w.spelling.definitions ≡ definitions_left w.renderer
+-- what is read of a page: its text behind the definitions that it needs
+abbrev pub read_of : Page → List ℕ
+read_of p = whole_text (definitions_of p) p.sheet.text
 
--- a unit was written as the definition has it, with its definitions
-pub record IsWritten (w : Written) (answer : Option Site) : Type 0 where
-  pub rendered : RenderedAt (string_bytes w.spelling.text) w.renderer answer
-  pub defined : IsDefined w
+-- whether the unit is read back in a text that begins with its definitions
+abbrev pub reads_back_in : Asked → DocumentView → List ℕ → Bool
+reads_back_in q d text = is_read_back q.setting d q.unit (q.setting.reading text (flags_at q.setting d))
 
--- the same, or it was refused where the definition refuses it; memory may run out
-abbrev pub Writes : Result Written Error → Option Site → Type 0
-Writes (Ok w) answer = IsWritten w answer
-Writes (Err e) answer = IsRefusal e answer
+-- in none of these texts is the unit read back
+abbrev pub AreRefused : {S : Type 0} → Asked → DocumentView → IndexSet (String Global) S → Type 0
+AreRefused q d refused = AllByRecursion (λ t. reads_back_in q d (string_bytes t) ≡ false) refused.keys
 
--- whether the unit is read back in a spelling
-abbrev pub reads_back_as : Asked → DocumentView → Spelling → Bool
-reads_back_as q d x = reads_back q.setting d q.unit (string_bytes x.definitions) (string_bytes x.text)
+-- the renderer came to where the definition does, and the mark is where it began
+pub record Came (old : Site) (new : Rendering) (answer : Option Site) : Type 0 where
+  pub arrives : Arrives new answer
+  pub marked : new.at_mark ≡ Some old
 
--- in none of these spellings is the unit read back
-abbrev pub AreRefused : {S : Type 0} → Asked → DocumentView → IndexSet Spelling S → Type 0
-AreRefused q d refused = AllByRecursion (λ x. reads_back_as q d x ≡ false) refused.keys
+-- the definition refuses the unit, unless memory ran out, and the renderer stands where it began
+pub record WentBack (old : Site) (new : Rendering) (e : Error) (answer : Option Site) : Type 0 where
+  pub refused : IsRefusal e answer
+  pub kept : site_of new ≡ old
 
--- the document is the one that a unit leaves which is written so
-abbrev pub Leaves : Asked → DocumentView → DocumentView → Written → Type 0
-Leaves q old new w = new ≡ document_after q.setting old (page_left w.renderer (string_bytes w.spelling.text))
+-- a unit was written as the definition has it, or the renderer went back
+abbrev pub ComesOrBack : {X : Type 0} → Result X Error → Site → Rendering → Option Site → Type 0
+ComesOrBack (Ok x) old new answer = Came old new answer
+ComesOrBack (Err e) old new answer = WentBack old new e answer
+
+-- the unit of a trial was written in one manner, or the renderer went back
+abbrev pub WritesIn : {R X : Type 0} → (R → List ℕ → ParserOptions → ReadingView) → Trial R → Rendering → Rendering → Manner → Result X Error → Type 0
+WritesIn reading t old new m r = ComesOrBack r (site_of old) new (spelled_at (asked_of reading t) (site_of old) m)
 
 -- what trying these spellings of a trial's unit in order came to
-abbrev pub TriesIn : {R : Type 0} → (R → List ℕ → ParserOptions → ReadingView) → Trial R → Document → Document → List Manner → Result (Option (String Global)) Error → Type 0
-TriesIn reading t old new ms r = Tries (asked_of reading t) (document_view old) (document_view new) ms r
+abbrev pub TriesIn : {R : Type 0} → (R → List ℕ → ParserOptions → ReadingView) → Trial R → Document → Rendering → Rendering → List Manner → Result Bool Error → Type 0
+TriesIn reading t d old new ms r = Tries (asked_of reading t) (document_at d (site_of old)) (site_of old) new ms r
 
--- the unit of a trial was written in the preferred spelling
-abbrev pub WritesPreferred : {R : Type 0} → (R → List ℕ → ParserOptions → ReadingView) → Trial R → Document → Document → Result (String Global) Error → Type 0
-WritesPreferred reading t old new r =
+-- the renderer has written what is chosen, and the mark is where it began
+pub record IsWritten (s : Setting) (d : DocumentView) (old : Site) (new : Rendering) (answer : Chosen) : Type 0 where
+  pub written : answer ≡ accepted s d (page_of new)
+  pub marked : new.at_mark ≡ Some old
+
+-- what is chosen is this error, unless memory ran out, and the renderer stands where it began
+pub record IsLeft (old : Site) (new : Rendering) (e : Error) (answer : Chosen) : Type 0 where
+  pub refused : Refuses e answer
+  pub kept : site_of new ≡ old
+
+-- a unit was written as it is chosen, or refused so
+abbrev pub Writes : {X : Type 0} → Result X Error → Setting → DocumentView → Site → Rendering → Chosen → Type 0
+Writes (Ok x) s d old new answer = IsWritten s d old new answer
+Writes (Err e) s d old new answer = IsLeft old new e answer
+
+-- the unit of a trial was written as it is chosen behind a document, or refused so
+abbrev pub WritesChosen : {R X : Type 0} → (R → List ℕ → ParserOptions → ReadingView) → Trial R → Document → Rendering → Rendering → Result X Error → Type 0
+WritesChosen reading t document old new r =
     let q = asked_of reading t in
-    Spells (document_view new) r (preferred q.setting (document_view old) q.unit q.next)
+    let d = document_at document (site_of old) in
+    Writes r q.setting d (site_of old) new (choice q.setting d q.unit q.next)

@@ -1,12 +1,11 @@
 -- What trying some spellings of a unit in order came to.
-use Rattle.std.specs.Prelude.{◌≡◌, ℕ, Bool, true, false, Option, Some, None, Result, Ok, Err, List, [], ◌∷◌, ◌++◌, if◌then◌else◌, map, string_bytes, String}
-use Rattle.std.specs.Global.{Global}
+use Rattle.std.specs.Prelude.{◌≡◌, Bool, true, false, Option, Some, None, Result, Ok, Err, List, [], ◌∷◌, ◌++◌, if◌then◌else◌, map}
 use Rattle.tocmark_event.specs.Options.{OptionsView}
 use Rattle.tocmark_event.specs.View.{EventView}
 use Rattle.tocmark_event.specs.declared.options.Error.{Error}
 use Rattle.tocmark_event.specs.declared.options.Error.TheVariants as error
 use Rattle.tocmark_spelling.specs.Body.{Trees}
-use Rattle.tocmark_spelling.specs.Page.{Page}
+use Rattle.tocmark_spelling.specs.Page.{Page, Site}
 use Rattle.tocmark_spelling.specs.Plan.{Setting, Manner, Plan}
 use Rattle.tocmark_spelling.specs.Spelling.{is_misplaced}
 use Rattle.tocmark_spelling.specs.declared.plan.Layout.{Layout}
@@ -14,7 +13,8 @@ use Rattle.tocmark_spelling.specs.declared.plan.Layout.TheVariants.{Runs}
 use Rattle.tocmark_spelling.specs.declared.plan.TextSpelling.{TextSpelling}
 use Rattle.tocmark_spelling.specs.declared.plan.TextSpelling.TheVariants.{Escaped}
 use Rattle.tocmark_render.specs.Candidates.{delimiter_manners, in_manner, pairs_from, preferred_manner, source_manners}
-use Rattle.tocmark_render.specs.Choice.{first_that_reads_back, document_after}
+use Rattle.tocmark_renderer.specs.WriterOf.{Rendering, page_of, site_of}
+use Rattle.tocmark_render.specs.Choice.{first_that_reads_back}
 use Rattle.tocmark_labels.specs.Document.{DocumentView}
 
 -- what stays the same while spellings of a unit are tried: the setting, the unit, and the event behind it
@@ -44,12 +44,10 @@ first q d ms = first_that_reads_back q.setting d q.unit q.next ms
 abbrev pub misplaced : Asked → Bool
 misplaced q = is_misplaced q.setting [] q.unit
 
--- one of these spellings reads back, with this text, and leaves this document
-pub record Found (q : Asked) (old new : DocumentView) (text : List ℕ) (ms : List Manner) : Type 0 where
-  pub page : Page
-  pub is_first : first q old ms ≡ Some page
-  pub text_is : page.sheet.text ≡ text
-  pub left_is : document_after q.setting old page ≡ new
+-- one of these spellings reads back, the renderer came to the page of the first that does, and the mark is where it began
+pub record Found (q : Asked) (d : DocumentView) (old : Site) (new : Rendering) (ms : List Manner) : Type 0 where
+  pub is_first : first q d ms ≡ Some (page_of new)
+  pub marked : new.at_mark ≡ Some old
   pub placed : misplaced q ≡ false
 
 -- where some spelling was tried, no node of the unit is misplaced
@@ -57,10 +55,10 @@ abbrev pub PlacedIfTried : Asked → List Manner → Type 0
 PlacedIfTried q [] = Unit {0}
 PlacedIfTried q (m ∷ ms) = misplaced q ≡ false
 
--- none of these spellings reads back, and the document stands as it did
-pub record Lost (q : Asked) (old new : DocumentView) (ms : List Manner) : Type 0 where
-  pub none : first q old ms ≡ None
-  pub kept : new ≡ old
+-- none of these spellings reads back, and the renderer stands where it began
+pub record Lost (q : Asked) (d : DocumentView) (old : Site) (new : Rendering) (ms : List Manner) : Type 0 where
+  pub none : first q d ms ≡ None
+  pub kept : site_of new ≡ old
   pub placed : PlacedIfTried q ms
 
 -- an error of a trial
@@ -69,8 +67,13 @@ StopsTrial q error.OutOfMemory = Unit {0}
 StopsTrial q error.UnexpectedEvent = misplaced q ≡ true
 StopsTrial q e = ⊥
 
--- what trying these spellings in order came to
-abbrev pub Tries : Asked → DocumentView → DocumentView → List Manner → Result (Option (String Global)) Error → Type 0
-Tries q old new ms (Ok (Some text)) = Found q old new (string_bytes text) ms
-Tries q old new ms (Ok None) = Lost q old new ms
-Tries q old new ms (Err e) = StopsTrial q e
+-- an error stopped the trials, and the renderer stands where it began
+pub record Stopped (q : Asked) (old : Site) (new : Rendering) (e : Error) : Type 0 where
+  pub stops : StopsTrial q e
+  pub kept : site_of new ≡ old
+
+-- what trying these spellings in order came to, behind a document and from where a renderer stood
+abbrev pub Tries : Asked → DocumentView → Site → Rendering → List Manner → Result Bool Error → Type 0
+Tries q d old new ms (Ok true) = Found q d old new ms
+Tries q d old new ms (Ok false) = Lost q d old new ms
+Tries q d old new ms (Err e) = Stopped q old new e

@@ -1,42 +1,42 @@
 //! The text that is chosen for a unit, and what the unit leaves to later ones.
 
-ghost use Rattle.std.specs.Prelude.{◌≡◌, ◌∷◌, ◌==◌, [], string_bytes, IfOk, OnOk, map, option_map, is_some, None, true};
+ghost use Rattle.std.specs.Prelude.{◌≡◌, ◌∷◌, ◌==◌, [], string_bytes, IfOk, OnErr, OnOk, map, option_map, is_some, None, true};
 ghost use Rattle.std.specs.List.{list_any};
 ghost use Rattle.tocmark_event.specs.Options.{options_view};
 ghost use Rattle.tocmark_spelling.specs.Buffered.{buffered_view, following_view, next_view};
 ghost use Rattle.tocmark_spelling.specs.Plan.{Setting};
 ghost use Rattle.tocmark_spelling.specs.PlanOf.{setting_of};
 ghost use Rattle.tocmark_renderer.specs.JobOf.{manner_view};
-ghost use Rattle.tocmark_unit.specs.Rendered.{page_before};
-ghost use Rattle.tocmark_render.specs.Choice.{choice, document_after, page_in};
+ghost use Rattle.tocmark_renderer.specs.WriterOf.{page_of, sheet_of, site_of};
+ghost use Rattle.tocmark_render.specs.Choice.{choice};
 ghost use Rattle.tocmark_render.specs.Chosen.{chosen};
 ghost use Rattle.tocmark_labels.specs.Definitions.{definitions_text};
 ghost use Rattle.tocmark_labels.specs.Document.{first_document, known_in, literal_in};
-ghost use Rattle.tocmark_render.specs.DocumentOf.{document_view, document_flags, Gives, Spells, kept_view, page_left};
-ghost use Rattle.tocmark_labels.specs.LabelsOf.{label_now, labels_of};
+ghost use Rattle.tocmark_render.specs.DocumentOf.{document_at, document_view, document_flags, Gives, HasRoom, Spells, kept_view, noted, passed};
+ghost use Rattle.tocmark_labels.specs.LabelsOf.{label_now, labels_of, Begins};
 ghost use Rattle.tocmark_render.specs.ReadsBack.{flags_at};
-ghost use Rattle.tocmark_render.specs.TrialOf.{AreRefused, Expects, IsDefined, IsLow, IsReady, Leaves, TriesIn, Writes, WritesPreferred, asked_of, definitions_left, or_no_trees, reads_back_as, spelled_by};
+ghost use Rattle.tocmark_render.specs.TrialOf.{AreRefused, Expects, IsFront, IsLow, IsReady, TriesIn, WritesChosen, asked_of, or_no_trees, read_of, reads_back_in};
 ghost use Rattle.tocmark_labels.specs.Units.{label_for, trees_of};
 
-use crate::manners::preferred_manner;
-use crate::read_back::reads_back;
+use crate::read_back::{behind_definitions, finds};
 use crate::search::choose;
-use crate::trial::Trial;
-use crate::written::{Refused, Spelling, Written};
+use crate::trial::{Refused, Trial, write};
 use std::alloc::{AllocError, Global};
+use std::mem;
 use tocmark_event::event::{Event, EventOf, OwnedEvent, ParserOptions};
 use tocmark_event::options::{Error, Options};
 use tocmark_event::reader::Reader;
-use tocmark_labels::balance::are_balanced;
 use tocmark_labels::definitions::{copied_references, definitions_text};
 use tocmark_labels::labels::Labels;
+use tocmark_labels::pending::Pending;
 use tocmark_labels::placeholder::needs_list_placeholder;
 use tocmark_labels::reserved_label::reserve_list_label;
 use tocmark_labels::taken::Taken;
-use tocmark_renderer::job::{Job, Manner};
-use tocmark_renderer::parts::Reference;
+use tocmark_renderer::job::Manner;
+use tocmark_renderer::parts::{Parts, Reference};
+use tocmark_renderer::renderer::Renderer;
 use tocmark_spelling::buffered::BufferedEvent;
-use tocmark_unit::block::UnitRenderer;
+use tocmark_spelling::trail::Trail;
 use tocmark_unit::findings::findings_of;
 
 /// The flags of both kinds of metadata blocks, which stand only at a document's beginning.
@@ -49,7 +49,10 @@ const METADATA_BLOCKS: ParserOptions = ParserOptions(
 #[derive(Drop)]
 pub struct Document {
     flags: ParserOptions,
-    renderer: UnitRenderer,
+    /// Line feeds at the end of all that was written, prefixes not counted.
+    newlines: usize,
+    /// What the last unit left to its right neighbour.
+    trail: Trail,
     /// What earlier units leave to be defined at the end.
     references: Vec<Reference>,
     /// The labels that earlier units define.
@@ -94,15 +97,17 @@ fn has_bracket(text: &str) -> bool
 }
 
 /// Adds the labels that a reader finds defined in a unit's definitions. An `Err` says that memory ran
-/// out or the reader answered it.
+/// out or the reader answered it; none is added then.
 fn note_known_labels<R: Reader>(
     known: &mut Labels,
     trial: &Trial<'_, '_, R>,
     definitions: &str,
 ) -> Result<(), AllocError>
-    ensures { let reading = R.reading trial.now.reader.now in
+    ensures known { let reading = R.reading trial.now.reader.now in
         OnOk result (labels_of known.new
         ≡ known_in reading trial.now.flags (labels_of known.old) definitions.now) }
+    ensures front { Begins (labels_of known.old) (labels_of known.new) }
+    ensures stays { OnErr result (labels_of known.new ≡ labels_of known.old) }
 {
     if definitions.is_empty() {
         return Ok(());
@@ -112,33 +117,22 @@ fn note_known_labels<R: Reader>(
 }
 
 /// Adds the labels that a reader finds in a unit's text and nothing defines. Only a text with a
-/// bracket is read. An `Err` says that memory ran out or the reader answered it.
+/// bracket is read. An `Err` says that memory ran out or the reader answered it; none is added then.
 fn note_open_labels<R: Reader>(
     literal: &mut Labels,
     trial: &Trial<'_, '_, R>,
     text: &str,
 ) -> Result<(), AllocError>
-    ensures { let reading = R.reading trial.now.reader.now in
+    ensures literal { let reading = R.reading trial.now.reader.now in
         OnOk result (labels_of literal.new
         ≡ literal_in reading trial.now.flags (labels_of literal.old) text.now) }
+    ensures stays { OnErr result (labels_of literal.new ≡ labels_of literal.old) }
 {
     if !has_bracket(text) {
         return Ok(());
     }
     let found = trial.reader.read(trial.alloc, text, trial.flags)?;
     literal.add_all(trial.alloc, &found.unresolved)
-}
-
-/// A text with what it left to the renderer, and the definitions that it needs. An `Err` says that
-/// memory ran out.
-fn written(alloc: Global, text: String, renderer: UnitRenderer) -> Result<Written, AllocError>
-    ensures text { IfOk result (λ w. string_bytes w.spelling.text ≡ string_bytes text) }
-    ensures renderer { IfOk result (λ w. w.renderer ≡ renderer) }
-    ensures defined { IfOk result (λ w. IsDefined w) }
-{
-    let definitions = definitions_text(alloc, &renderer.references, renderer.newlines)?;
-    let spelling = Spelling { definitions, text };
-    Ok(Written { spelling, renderer })
 }
 
 impl Document {
@@ -149,7 +143,8 @@ impl Document {
     {
         Document {
             flags,
-            renderer: UnitRenderer::new(alloc),
+            newlines: 0,
+            trail: Trail::new(),
             references: Vec::new(alloc),
             known: Labels::new(alloc),
             literal: Labels::new(alloc),
@@ -164,7 +159,8 @@ impl Document {
     {
         Ok(Document {
             flags: self.flags,
-            renderer: self.renderer.copied(alloc)?,
+            newlines: self.newlines,
+            trail: self.trail.copied(alloc)?,
             references: copied_references(alloc, &self.references)?,
             known: self.known.copied()?,
             literal: self.literal.copied()?,
@@ -184,188 +180,253 @@ impl Document {
         }
     }
 
-    /// Keeps what the unit that was written last leaves, in this spelling: what it leaves to be
-    /// defined, the labels that the reader finds defined in its definitions, and those that nothing
-    /// defines in its text. An `Err` says that memory ran out or the reader answered it.
-    fn keep<R: Reader>(
-        &mut self,
-        trial: &Trial<'_, '_, R>,
-        spelling: &Spelling,
-    ) -> Result<(), AllocError>
-        ensures kept { let q = asked_of R.reading trial.now in
-            let text = string_bytes spelling.now.text in
-            string_bytes spelling.now.definitions ≡ definitions_left self.old.renderer
-            → OnOk result (document_view self.new ≡ document_after q.setting
-            (document_view self.old) (page_left self.old.renderer text)) }
-        ensures flags { document_flags self.new ≡ document_flags self.old }
-    {
-        let unit = &mut self.renderer;
-        self.references.append(&mut unit.references)?;
-        note_known_labels(&mut self.known, trial, spelling.definitions.as_str())?;
-        note_open_labels(&mut self.literal, trial, spelling.text.as_str())?;
-        self.flushed = true;
-        Ok(())
-    }
-
-    /// A renderer of the next unit, without the definitions of the last one.
-    fn next_renderer(&self, alloc: Global) -> Result<UnitRenderer, AllocError>
-        ensures { IfOk result (λ next. page_before next ≡ page_in (document_view self.now)) }
-    {
-        Ok(UnitRenderer {
-            newlines: self.renderer.newlines,
-            trail: self.renderer.trail.copied(alloc)?,
-            references: Vec::new(alloc),
-        })
-    }
-
-    /// Writes the unit of a trial in one manner. The document stays as it is. An `Err` is as in `block`.
-    fn write<R: Reader>(
-        &self,
-        trial: &Trial<'_, '_, R>,
-        manner: &Manner<'_>,
-    ) -> Result<Written, Error>
-        requires ready { IsReady R.reading trial.now }
-        requires low { IsLow (manner_view manner.now) }
-        ensures { let q = asked_of R.reading trial.now in
-            Writes result (spelled_by q (document_view self.now) (manner_view manner.now)) }
-    {
-        let mut renderer = self.next_renderer(trial.alloc)?;
-        let job = Job {
-            alloc: trial.alloc,
-            options: trial.options,
-            flags: trial.flags,
-            label: trial.label,
-        };
-        let (reader, unit, found) = (trial.reader, trial.unit, trial.found);
-        let text = renderer.render_block(job, reader, unit, found, trial.next, *manner)?;
-        Ok(written(trial.alloc, text, renderer)?)
-    }
-
-    /// Whether the reader finds the unit of a trial in a spelling. An `Err` says that memory ran out or
-    /// the reader answered it.
+    /// Whether the reader finds the unit of a trial in a text that begins with its definitions. One
+    /// that was refused isn't read again, and one that is refused now is noted. An `Err` says that
+    /// memory ran out or the reader answered it.
     fn is_read_back<R: Reader>(
         &self,
         trial: &Trial<'_, '_, R>,
         expected: &[OwnedEvent],
-        spelling: &Spelling,
+        refused: &mut Refused,
+        text: &str,
     ) -> Result<bool, AllocError>
         requires ready { IsReady R.reading trial.now }
         requires expected { Expects trial.now expected.now }
-        ensures { let q = asked_of R.reading trial.now in
-            IfOk result (λ b. b ≡ reads_back_as q (document_view self.now) spelling.now) }
+        requires refused { let q = asked_of R.reading trial.now in
+            AreRefused q (document_view self.now) refused.old }
+        ensures read { let q = asked_of R.reading trial.now in
+            IfOk result (λ b. b ≡ reads_back_in q (document_view self.now) text.now) }
+        ensures refused { let q = asked_of R.reading trial.now in
+            OnOk result (AreRefused q (document_view self.now) refused.new) }
     {
+        if refused.contains(text) {
+            return Ok(false);
+        }
         let taken = Taken {
             known: &self.known,
             reserved: trial.label,
         };
-        reads_back(
-            trial.alloc,
-            trial.reader,
-            self.reading_flags(trial.flags),
-            taken,
-            expected,
-            spelling.definitions.as_str(),
-            spelling.text.as_str(),
-        )
+        let flags = self.reading_flags(trial.flags);
+        if finds(trial.alloc, trial.reader, flags, taken, expected, text)? {
+            return Ok(true);
+        }
+        refused.insert(String::from_str(trial.alloc, text)?)?;
+        Ok(false)
     }
 
-    /// Goes on behind what was written, and hands out its text. An `Err` says that memory ran out or
-    /// the reader answered it.
-    fn accept<R: Reader>(
-        &mut self,
-        trial: &Trial<'_, '_, R>,
-        written: Written,
-    ) -> Result<String, AllocError>
-        ensures text { IfOk result (λ text. string_bytes text
-            ≡ string_bytes written.spelling.text) }
-        ensures left { let q = asked_of R.reading trial.now in
-            IsDefined written
-            → OnOk result (Leaves q (document_view self.old) (document_view self.new) written) }
-        ensures flags { document_flags self.new ≡ document_flags self.old }
-    {
-        let Written { spelling, renderer } = written;
-        self.renderer = renderer;
-        self.keep(trial, &spelling)?;
-        Ok(spelling.text)
-    }
-
-    /// Whether the reader finds the unit of a trial in a spelling; one that came before isn't read again.
-    /// An `Err` says that memory ran out or the reader answered it.
+    /// Whether the reader finds the unit of a trial in what the renderer has written of it, as
+    /// `is_read_back` says.
     fn is_found<R: Reader>(
         &self,
         trial: &Trial<'_, '_, R>,
         expected: &[OwnedEvent],
-        refused: &Refused,
-        spelling: &Spelling,
+        refused: &mut Refused,
+        renderer: &Renderer<'_>,
     ) -> Result<bool, AllocError>
         requires ready { IsReady R.reading trial.now }
         requires expected { Expects trial.now expected.now }
         requires refused { let q = asked_of R.reading trial.now in
-            AreRefused q (document_view self.now) refused.now }
-        ensures { let q = asked_of R.reading trial.now in
-            IfOk result (λ b. b ≡ reads_back_as q (document_view self.now) spelling.now) }
+            AreRefused q (document_view self.now) refused.old }
+        ensures read { let q = asked_of R.reading trial.now in
+            let text = read_of (page_of renderer.now) in
+            IfOk result (λ b. b ≡ reads_back_in q (document_view self.now) text) }
+        ensures refused { let q = asked_of R.reading trial.now in
+            OnOk result (AreRefused q (document_view self.now) refused.new) }
     {
-        if refused.contains(spelling) {
-            return Ok(false);
+        let (references, newlines) = (renderer.references(), renderer.newlines());
+        let definitions = definitions_text(trial.alloc, references, newlines)?;
+        if definitions.is_empty() {
+            return self.is_read_back(trial, expected, refused, renderer.text());
         }
-        self.is_read_back(trial, expected, spelling)
+        let text = behind_definitions(trial.alloc, definitions.as_str(), renderer.text())?;
+        self.is_read_back(trial, expected, refused, text.as_str())
     }
 
-    /// Writes the unit of a trial in one manner, and keeps it if the reader finds these events in that.
-    /// The answer is none elsewhere; the document is then as it was, and the spelling is one of those
-    /// that were refused. An `Err` is as in `block`.
-    pub(crate) fn try_one<R: Reader>(
-        &mut self,
-        trial: &Trial<'_, '_, R>,
+    /// Writes the unit of a trial in one manner, behind a mark, and says whether the reader finds it
+    /// in that. Where it doesn't, the renderer has gone back, and the text is one of those that were
+    /// refused; it has gone back at an `Err`, too, which is as in `block`.
+    pub(crate) fn try_one<'t, R: Reader>(
+        &self,
+        trial: &Trial<'t, '_, R>,
         expected: &[OwnedEvent],
+        renderer: &mut Renderer<'t>,
         refused: &mut Refused,
         manner: &Manner<'_>,
-    ) -> Result<Option<String>, Error>
+    ) -> Result<bool, Error>
         requires ready { IsReady R.reading trial.now }
         requires expected { Expects trial.now expected.now }
         requires low { IsLow (manner_view manner.now) }
         requires refused { let q = asked_of R.reading trial.now in
-            AreRefused q (document_view self.old) refused.old }
-        ensures tried { TriesIn R.reading trial.now self.old self.new
+            AreRefused q (document_view self.now) refused.old }
+        requires front { IsFront (site_of renderer.old) }
+        ensures tried { TriesIn R.reading trial.now self.now renderer.old renderer.new
             (manner_view manner.now ∷ []) result }
         ensures refused { let q = asked_of R.reading trial.now in
-            OnOk result (AreRefused q (document_view self.old) refused.new) }
-        ensures flags { document_flags self.new ≡ document_flags self.old }
+            OnOk result (AreRefused q (document_view self.now) refused.new) }
     {
-        let written = self.write(trial, manner)?;
-        if !self.is_found(trial, expected, refused, &written.spelling)? {
-            refused.insert(written.spelling)?;
-            return Ok(None);
+        write(trial, renderer, manner)?;
+        match self.is_found(trial, expected, refused, renderer) {
+            Ok(true) => Ok(true),
+            Ok(false) => {
+                renderer.back();
+                Ok(false)
+            }
+            Err(_error) => {
+                renderer.back();
+                Err(Error::OutOfMemory)
+            }
         }
-        Ok(Some(self.accept(trial, written)?))
     }
 
-    /// Writes the unit of a trial in the preferred spelling, unread. An `Err` is as in `block`.
-    pub(crate) fn write_preferred<R: Reader>(
+    /// Notes the labels that a reader finds defined in the definitions of a unit, and those that
+    /// nothing defines in its text. An `Err` says that memory ran out or the reader answered it; none
+    /// is noted then.
+    fn note_labels<R: Reader>(
         &mut self,
         trial: &Trial<'_, '_, R>,
-    ) -> Result<String, Error>
-        requires ready { IsReady R.reading trial.now }
-        ensures written { WritesPreferred R.reading trial.now self.old self.new result }
+        definitions: &str,
+        text: &str,
+    ) -> Result<(), AllocError>
+        ensures noted { let reading = R.reading trial.now.reader.now in
+            let flags = trial.now.flags in
+            let old = document_view self.old in
+            OnOk result (document_view self.new ≡ record old {
+              known = known_in reading flags old.known definitions.now;
+              literal = literal_in reading flags old.literal text.now;
+            }) }
+        ensures stays { OnErr result (document_view self.new ≡ document_view self.old) }
+        ensures flags { document_flags self.new ≡ document_flags self.old }
+        ensures references { self.new.references ≡ self.old.references }
+    {
+        let before = self.known.len();
+        note_known_labels(&mut self.known, trial, definitions)?;
+        let noted = note_open_labels(&mut self.literal, trial, text);
+        if noted.is_err() {
+            self.known.truncate(before);
+        }
+        noted
+    }
+
+    /// Notes the labels of a unit as it is written, and makes room for the definitions that it needs.
+    /// An `Err` says that memory ran out or the reader answered it; the document is then as it was.
+    fn note<R: Reader>(
+        &mut self,
+        trial: &Trial<'_, '_, R>,
+        renderer: &Renderer<'_>,
+    ) -> Result<(), AllocError>
+        ensures noted { let s = (asked_of R.reading trial.now).setting in
+            OnOk result (document_view self.new
+            ≡ noted s (document_view self.old) (page_of renderer.now)) }
+        ensures room { OnOk result (HasRoom self.new (page_of renderer.now)) }
+        ensures stays { OnErr result (document_view self.new ≡ document_view self.old) }
         ensures flags { document_flags self.new ≡ document_flags self.old }
     {
-        let manner = preferred_manner(trial.options, false);
-        let written = self.write(trial, &manner)?;
-        Ok(self.accept(trial, written)?)
+        let (references, newlines) = (renderer.references(), renderer.newlines());
+        self.references.reserve(references.len())?;
+        let definitions = definitions_text(trial.alloc, references, newlines)?;
+        self.note_labels(trial, definitions.as_str(), renderer.text())
+    }
+
+    /// A renderer of the next unit, to which the trail is moved.
+    fn begin<'a>(&mut self, alloc: Global) -> Renderer<'a>
+        ensures front { IsFront (site_of result) }
+        ensures view { document_at self.new (site_of result) ≡ document_view self.old }
+        ensures flags { document_flags self.new ≡ document_flags self.old }
+    {
+        let trail = mem::replace(&mut self.trail, Trail::new());
+        Renderer::resume(alloc, self.newlines, trail)
+    }
+
+    /// Takes back what `begin` moved, from a renderer that stands at a unit's front.
+    fn take_back(&mut self, renderer: Renderer<'_>)
+        ensures view { document_view self.new ≡ document_at self.old (site_of renderer.entry) }
+        ensures flags { document_flags self.new ≡ document_flags self.old }
+    {
+        let Parts {
+            newlines,
+            trail,
+            ..
+        } = renderer.into_parts();
+        self.newlines = newlines;
+        self.trail = trail;
+    }
+
+    /// Takes what a unit leaves, and hands out its text. There is room for the definitions that it
+    /// needs.
+    fn pass(&mut self, renderer: Renderer<'_>) -> String
+        requires { HasRoom self.old (page_of renderer) }
+        ensures text { string_bytes result ≡ (sheet_of renderer.entry).text }
+        ensures view { document_view self.new
+            ≡ passed (document_view self.old) (page_of renderer.entry) }
+        ensures flags { document_flags self.new ≡ document_flags self.old }
+    {
+        let Parts {
+            text,
+            newlines,
+            trail,
+            mut references,
+        } = renderer.into_parts();
+        let _room = self.references.append(&mut references);
+        self.newlines = newlines;
+        self.trail = trail;
+        self.flushed = true;
+        text
+    }
+
+    /// Writes the unit of a trial as it is chosen, and notes its labels. At an `Err`, which is as in
+    /// `block`, the document is as it was, and the renderer has gone back.
+    fn write_chosen<'t, R: Reader>(
+        &mut self,
+        trial: &Trial<'t, '_, R>,
+        renderer: &mut Renderer<'t>,
+    ) -> Result<(), Error>
+        requires ready { IsReady R.reading trial.now }
+        requires front { IsFront (site_of renderer.old) }
+        ensures chosen { let reading = R.reading in
+            WritesChosen reading trial.now self.old renderer.old renderer.new result }
+        ensures noted { let s = (asked_of R.reading trial.now).setting in
+            OnOk result (document_view self.new
+            ≡ noted s (document_view self.old) (page_of renderer.new)) }
+        ensures room { OnOk result (HasRoom self.new (page_of renderer.new)) }
+        ensures stays { OnErr result (document_view self.new ≡ document_view self.old) }
+        ensures flags { document_flags self.new ≡ document_flags self.old }
+    {
+        choose(trial, self, renderer)?;
+        if self.note(trial, renderer).is_err() {
+            renderer.back();
+            return Err(Error::OutOfMemory);
+        }
+        Ok(())
+    }
+
+    /// Writes the unit of a trial, by one renderer for all candidates. An `Err` is as in `block`.
+    fn write_unit<R: Reader>(&mut self, trial: &Trial<'_, '_, R>) -> Result<String, Error>
+        requires ready { IsReady R.reading trial.now }
+        ensures chosen { let q = asked_of R.reading trial.now in
+            Spells (document_view self.new) result
+            (choice q.setting (document_view self.old) q.unit q.next) }
+        ensures stays { OnErr result (document_view self.new ≡ document_view self.old) }
+        ensures flags { document_flags self.new ≡ document_flags self.old }
+    {
+        let mut renderer = self.begin(trial.alloc);
+        match self.write_chosen(trial, &mut renderer) {
+            Ok(()) => Ok(self.pass(renderer)),
+            Err(error) => {
+                self.take_back(renderer);
+                Err(error)
+            }
+        }
     }
 
     /// The label that is reserved for the lists of the last unit, if it waits. An `Err` says that memory
     /// ran out.
-    fn label_at_end(
-        &self,
-        alloc: Global,
-        unit: &[BufferedEvent],
-    ) -> Result<Option<String>, AllocError>
+    fn label_at_end(&self, alloc: Global, unit: &Pending) -> Result<Option<String>, AllocError>
         ensures { IfOk result (λ label. option_map string_bytes label ≡
-            label_for (document_view self.now) (map buffered_view unit.now) None) }
+            label_for (document_view self.now) unit.now.events None) }
     {
         if needs_list_placeholder(alloc, unit)? {
-            let label = reserve_list_label(alloc, &self.known, &self.literal, unit)?;
+            let events = unit.events();
+            let label = reserve_list_label(alloc, &self.known, &self.literal, events)?;
             Ok(Some(label))
         } else {
             Ok(None)
@@ -377,12 +438,11 @@ impl Document {
     fn label_for(
         &self,
         alloc: Global,
-        unit: &[BufferedEvent],
+        unit: &Pending,
         next: Option<&Event<'_>>,
     ) -> Result<Option<String>, AllocError>
-        ensures { let unit = map buffered_view unit.now in
-            IfOk result (λ label. option_map string_bytes label ≡
-            label_for (document_view self.now) unit (next_view next.entry)) }
+        ensures { IfOk result (λ label. option_map string_bytes label ≡
+            label_for (document_view self.now) unit.now.events (next_view next.entry)) }
     {
         match next {
             Some(_) => Ok(None),
@@ -407,6 +467,7 @@ impl Document {
             let f = or_no_trees (trees_of (map buffered_view unit.now)) in
             Spells (document_view self.new) result
             (choice s (document_view self.old) f (following_view next.entry)) }
+        ensures stays { OnErr result (document_view self.new ≡ document_view self.old) }
         ensures flags { document_flags self.new ≡ document_flags self.old }
     {
         let found = findings_of(alloc, reader, options, self.flags, unit)?;
@@ -420,7 +481,7 @@ impl Document {
             label,
             options,
         };
-        choose(&trial, self)
+        self.write_unit(&trial)
     }
 
     /// Writes a unit and gives its text.
@@ -432,34 +493,35 @@ impl Document {
     /// preferred spelling, as is one whose options aren't accepted, and any with other markers. The last
     /// unit, which no event follows, has a label that is reserved for its lists, if one needs a placeholder.
     ///
-    /// An `Err` is `UnexpectedEvent` where the unit's events aren't balanced, and where one stands where it
-    /// may not, as a heading in a heading; `Unrepresentable` where no spelling of a unit with delimiters
-    /// is read back, though the options are accepted; and `OutOfMemory` where memory ran out or the
-    /// reader answered it. The document is of no use after it.
+    /// An `Err` is `UnexpectedEvent` where a container of the unit is open, and where an event
+    /// stands where it may not, as a heading in a heading; `Unrepresentable` where no spelling of a
+    /// unit with delimiters is read back, though the options are accepted; and `OutOfMemory` where
+    /// memory ran out or the reader answered it. The document is then as it was.
     pub fn block<R: Reader>(
         &mut self,
         alloc: Global,
         reader: &R,
-        unit: &[BufferedEvent],
+        unit: &Pending,
         next: Option<&Event<'_>>,
         options: &Options<'_>,
     ) -> Result<String, Error>
         ensures chosen { let flags = document_flags self.old in
             let s = setting_of (options_view options.now) flags (R.reading reader.now) None in
-            let unit = map buffered_view unit.now in
             Spells (document_view self.new) result
-            (chosen s (document_view self.old) unit (next_view next.entry)) }
+            (chosen s (document_view self.old) unit.now.events (next_view next.entry)) }
+        ensures stays { OnErr result (document_view self.new ≡ document_view self.old) }
         ensures flags { document_flags self.new ≡ document_flags self.old }
     {
-        if !are_balanced(alloc, unit)? {
+        if !unit.is_whole() {
             return Err(Error::UnexpectedEvent);
         }
         let label = self.label_for(alloc, unit, next)?;
         let next = kept_event(alloc, next)?;
+        let events = unit.events();
         self.chosen(
             alloc,
             reader,
-            unit,
+            events,
             lent_event(&next),
             lent_label(&label),
             options,
@@ -472,6 +534,6 @@ impl Document {
         ensures { Gives result
             (definitions_text (document_view self.now).references (document_view self.now).feeds) }
     {
-        Ok(definitions_text(alloc, &self.references, self.renderer.newlines)?)
+        Ok(definitions_text(alloc, &self.references, self.newlines)?)
     }
 }

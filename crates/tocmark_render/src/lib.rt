@@ -4,7 +4,6 @@
 pub mod document;
 pub mod laws;
 mod manners;
-pub mod read_back;
+mod read_back;
 mod search;
 mod trial;
-mod written;

@@ -5,21 +5,23 @@ ghost use Rattle.std.specs.List.{AllByRecursion, list_any};
 ghost use Rattle.tocmark_event.specs.Options.{options_view};
 ghost use Rattle.tocmark_spelling.specs.Buffered.{buffered_view};
 ghost use Rattle.tocmark_renderer.specs.JobOf.{manner_view};
-ghost use Rattle.tocmark_render.specs.Choice.{choice, has_standard_markers};
-ghost use Rattle.tocmark_render.specs.DocumentOf.{Spells, document_flags, document_view, is_delimiter_event, is_sourced_event};
+ghost use Rattle.tocmark_renderer.specs.WriterOf.{site_of};
+ghost use Rattle.tocmark_render.specs.Choice.{has_standard_markers};
+ghost use Rattle.tocmark_render.specs.DocumentOf.{is_delimiter_event, is_sourced_event};
 ghost use Rattle.tocmark_render.specs.Tries.{manners_for};
-ghost use Rattle.tocmark_render.specs.TrialOf.{Expects, IsLow, IsReady, TriesIn, asked_of, options_in};
+ghost use Rattle.tocmark_render.specs.TrialOf.{Expects, IsFront, IsLow, IsReady, TriesIn, WritesChosen, options_in};
 ghost use Rattle.tocmark_render.specs.Validates.{validates};
 
 use crate::document::Document;
 use crate::manners::{candidates, has_standard_markers};
-use crate::trial::Trial;
+use crate::trial::{Trial, write_preferred};
 use indexmap::IndexSet;
 use tocmark_event::event::{EventOf, OwnedEvent, ParserOptions, TagOf};
 use tocmark_event::options::{Error, Options};
 use tocmark_event::reader::Reader;
 use tocmark_read_back::expected::expected;
 use tocmark_renderer::job::Manner;
+use tocmark_renderer::renderer::Renderer;
 use tocmark_spelling::buffered::BufferedEvent;
 
 /// Whether an event with a text in the source waits.
@@ -73,50 +75,52 @@ fn has_delimiters(unit: &[BufferedEvent]) -> bool
     false
 }
 
-/// Tries manners in order, up to the first in which the unit is read back. A spelling that came before
-/// isn't read again.
-fn try_all<R: Reader>(
-    trial: &Trial<'_, '_, R>,
+/// Tries manners in order, up to the first in which the unit is read back: the renderer has written
+/// it then, behind a mark. Where there is none, and at an `Err`, the renderer has gone back.
+fn try_all<'t, R: Reader>(
+    trial: &Trial<'t, '_, R>,
     expected: &[OwnedEvent],
-    document: &mut Document,
+    document: &Document,
+    renderer: &mut Renderer<'t>,
     manners: &[Manner<'_>],
-) -> Result<Option<String>, Error>
+) -> Result<bool, Error>
     requires ready { IsReady R.reading trial.now }
     requires expected { Expects trial.now expected.now }
     requires low { AllByRecursion IsLow (map manner_view manners.now) }
-    ensures tried { TriesIn R.reading trial.now document.old document.new
+    requires front { IsFront (site_of renderer.old) }
+    ensures { TriesIn R.reading trial.now document.now renderer.old renderer.new
         (map manner_view manners.now) result }
-    ensures flags { document_flags document.new ≡ document_flags document.old }
 {
     let mut refused = IndexSet::new(trial.alloc);
     for manner in manners {
-        match document.try_one(trial, expected, &mut refused, manner)? {
-            Some(text) => return Ok(Some(text)),
-            None => {}
+        if document.try_one(trial, expected, renderer, &mut refused, manner)? {
+            return Ok(true);
         }
     }
-    Ok(None)
+    Ok(false)
 }
 
-/// Tries all candidates of a unit, if it has some. What the reader must find is made once for all.
-fn search<R: Reader>(
-    trial: &Trial<'_, '_, R>,
-    document: &mut Document,
+/// Tries all candidates of a unit, if it has some, as `try_all` does. What the reader must find is
+/// made once for all.
+fn search<'t, R: Reader>(
+    trial: &Trial<'t, '_, R>,
+    document: &Document,
+    renderer: &mut Renderer<'t>,
     has_source: bool,
     has_delimiters: bool,
-) -> Result<Option<String>, Error>
+) -> Result<bool, Error>
     requires ready { IsReady R.reading trial.now }
     requires standard { has_standard_markers (options_in trial.now) ≡ true }
-    ensures tried { TriesIn R.reading trial.now document.old document.new
+    requires front { IsFront (site_of renderer.old) }
+    ensures { TriesIn R.reading trial.now document.now renderer.old renderer.new
         (manners_for (options_in trial.now) has_source has_delimiters) result }
-    ensures flags { document_flags document.new ≡ document_flags document.old }
 {
     let manners = candidates(trial.alloc, trial.options, has_source, has_delimiters)?;
     if manners.is_empty() {
-        return Ok(None);
+        return Ok(false);
     }
     let expected = expected(trial.alloc, trial.unit)?;
-    try_all(trial, &expected, document, &manners)
+    try_all(trial, &expected, document, renderer, &manners)
 }
 
 /// Whether options are accepted with these flags.
@@ -126,32 +130,33 @@ fn accepts(options: &Options<'_>, flags: ParserOptions) -> bool
     options.validate(flags).is_ok()
 }
 
-/// Writes a unit in the first of its candidates that is read back.
+/// Writes a unit in the first of its candidates that is read back, behind a mark.
 ///
 /// Where none is, a unit without delimiters is written in the preferred spelling, as one is whose
 /// options aren't accepted; and one with other markers than Markdown's at once. An `Err` is
 /// `UnexpectedEvent` where a node of the unit is misplaced, `Unrepresentable` where no spelling of a
-/// unit with delimiters is read back, and `OutOfMemory` where memory ran out or the reader answered it.
-pub fn choose<R: Reader>(trial: &Trial<'_, '_, R>, document: &mut Document) -> Result<String, Error>
+/// unit with delimiters is read back, and `OutOfMemory` where memory ran out or the reader answered it;
+/// the renderer has gone back then.
+pub fn choose<'t, R: Reader>(
+    trial: &Trial<'t, '_, R>,
+    document: &Document,
+    renderer: &mut Renderer<'t>,
+) -> Result<(), Error>
     requires ready { IsReady R.reading trial.now }
-    ensures chosen { let q = asked_of R.reading trial.now in
-        Spells (document_view document.new) result
-        (choice q.setting (document_view document.old) q.unit q.next) }
-    ensures flags { document_flags document.new ≡ document_flags document.old }
+    requires front { IsFront (site_of renderer.old) }
+    ensures { WritesChosen R.reading trial.now document.now renderer.old renderer.new result }
 {
     if !has_standard_markers(trial.options) {
-        return document.write_preferred(trial);
+        return write_preferred(trial, renderer);
     }
     let is_accepted = accepts(trial.options, trial.flags);
     let has_delimiters = has_delimiters(trial.unit);
-    match search(trial, document, has_source(trial.unit), has_delimiters)? {
-        Some(text) => Ok(text),
-        None => {
-            if has_delimiters && is_accepted {
-                Err(Error::Unrepresentable)
-            } else {
-                document.write_preferred(trial)
-            }
-        }
+    let has_source = has_source(trial.unit);
+    if search(trial, document, renderer, has_source, has_delimiters)? {
+        return Ok(());
     }
+    if has_delimiters && is_accepted {
+        return Err(Error::Unrepresentable);
+    }
+    write_preferred(trial, renderer)
 }

@@ -1,12 +1,26 @@
-//! What stays the same while spellings of a unit are tried.
+//! A unit for which spellings are tried, and how it is written in one of them.
 
+ghost use Rattle.tocmark_renderer.specs.JobOf.{manner_view};
+ghost use Rattle.tocmark_renderer.specs.WriterOf.{site_of};
+ghost use Rattle.tocmark_render.specs.Candidates.{preferred_manner};
+ghost use Rattle.tocmark_render.specs.TrialOf.{IsFront, IsLow, IsReady, WritesIn, options_in};
+
+use crate::manners::preferred_manner;
+use indexmap::IndexSet;
 use std::alloc::Global;
 use tocmark_event::event::{OwnedEvent, ParserOptions};
-use tocmark_event::options::Options;
+use tocmark_event::options::{Error, Options};
+use tocmark_event::reader::Reader;
+use tocmark_renderer::job::{Job, Manner};
+use tocmark_renderer::renderer::Renderer;
 use tocmark_spelling::buffered::BufferedEvent;
+use tocmark_unit::block::write_unit;
 use tocmark_unit::findings::Findings;
 
-/// A unit for which spellings are tried.
+/// The texts of a unit, each behind the definitions that it needs, that weren't read back.
+pub type Refused = IndexSet<String>;
+
+/// What stays the same while spellings of a unit are tried.
 #[derive(Clone, Copy)]
 pub struct Trial<'t, 'o, R> {
     pub alloc: Global,
@@ -21,4 +35,45 @@ pub struct Trial<'t, 'o, R> {
     /// The label that is reserved for lists, if there is one.
     pub label: Option<&'t str>,
     pub options: &'t Options<'o>,
+}
+
+/// Writes the unit of a trial in one manner, behind a mark. An `Err` is as in `write_unit`; the
+/// renderer has gone back then.
+pub fn write<'t, R: Reader>(
+    trial: &Trial<'t, '_, R>,
+    renderer: &mut Renderer<'t>,
+    manner: &Manner<'_>,
+) -> Result<(), Error>
+    requires ready { IsReady R.reading trial.now }
+    requires low { IsLow (manner_view manner.now) }
+    requires front { IsFront (site_of renderer.old) }
+    ensures { let m = manner_view manner.now in
+        WritesIn R.reading trial.now renderer.old renderer.new m result }
+{
+    let job = Job {
+        alloc: trial.alloc,
+        options: trial.options,
+        flags: trial.flags,
+        label: trial.label,
+    };
+    let (reader, unit, found) = (trial.reader, trial.unit, trial.found);
+    renderer.mark();
+    let result = write_unit(renderer, job, reader, unit, found, trial.next, *manner);
+    if result.is_err() {
+        renderer.back();
+    }
+    result
+}
+
+/// Writes the unit of a trial in the preferred spelling, unread, as `write` does.
+pub fn write_preferred<'t, R: Reader>(
+    trial: &Trial<'t, '_, R>,
+    renderer: &mut Renderer<'t>,
+) -> Result<(), Error>
+    requires ready { IsReady R.reading trial.now }
+    requires front { IsFront (site_of renderer.old) }
+    ensures { let m = preferred_manner (options_in trial.now) in
+        WritesIn R.reading trial.now renderer.old renderer.new m result }
+{
+    write(trial, renderer, &preferred_manner(trial.options, false))
 }

@@ -13,7 +13,6 @@ use tocmark_renderer::parts::{Held, Reference};
 use tocmark_renderer::renderer::Renderer;
 use tocmark_spelling::list_choice::ListChoice;
 use tocmark_spelling::trail::Trail;
-use tocmark_unit::block::UnitRenderer;
 
 /// The number that a list goes on with.
 fn next_number(content: &Content) -> Option<u64> {
@@ -229,21 +228,4 @@ fn is_written_again(alloc: Global, tag: &TagOf<String>) -> Result<bool, AllocErr
 fn a_delimiter_is_written_again(rt: HostRuntime) {
     let tag = TagOf::Strikethrough;
     assert!(rt; is_written_again(rt.alloc(), &tag) == Ok(true));
-}
-
-fn is_copied(alloc: Global) -> Result<bool, AllocError> {
-    let line = String::from_str(alloc, " > >")?;
-    let reference = reference(alloc)?;
-    let mut units = UnitRenderer::new(alloc);
-    units.newlines = 2;
-    units.trail.quote_line = Some(line);
-    units.references.push(reference)?;
-    let copy = units.copied(alloc)?;
-    let has_line = is_line(&copy.trail.quote_line, " > >");
-    Ok(copy.newlines == 2 && has_line && is_reference(copy.references.first()))
-}
-
-#[test]
-fn a_copy_has_its_references(rt: HostRuntime) {
-    assert!(rt; is_copied(rt.alloc()) == Ok(true));
 }

@@ -2,4 +2,3 @@
 pub mod FindingsOf
 pub mod NeighboursOf
 pub mod Turn
-pub mod Rendered

@@ -8,4 +8,4 @@
 pub mod block;
 pub mod findings;
 pub mod laws;
-pub mod turn;
+mod turn;

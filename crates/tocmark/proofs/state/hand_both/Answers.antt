@@ -2,7 +2,6 @@ use Rattle.std.proofs.Common.{◌≡◌, ◌+◌, ◌∙◌, ℕ, Err, Ok, ap, l
 use Rattle.std.proofs.lemmas.List.Sums.{sum_by-append}
 use Rattle.std.proofs.lemmas.Result.{err_from_is_err_and}
 use Rattle.tocmark.specs.Walk.{done, Done, hand_walk, handed_text, two_texts}
-use Rattle.tocmark.specs.StateView.{at_most}
 use Rattle.tocmark.proofs.Walks.{Makes-then, RefusesAt-longer, sum_by-handed_text}
 use Rattle.tocmark.proofs.state.hand_both.Goals as goal
 

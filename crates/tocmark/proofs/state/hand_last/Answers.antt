@@ -1,4 +1,4 @@
-use Rattle.std.proofs.Common.{◌≡◌, ◌∙◌, [], List, ℕ, ap, length, refl, subst, sum_by, sym}
+use Rattle.std.proofs.Common.{◌∙◌, [], List, ℕ, ap, length, refl, subst, sum_by, sym}
 use Rattle.std.proofs.lemmas.Result.{IfOk-weaker, err_from_is_err_and}
 use Rattle.tocmark.specs.StateView.{at_most}
 use Rattle.tocmark.specs.Walk.{Walk, Done, done, last_walk, two_texts}

@@ -12,11 +12,11 @@ pub loop-event-preserved : goal.loop-event-preserved
 loop-event-preserved g c =
     let i = c.loop-event.invariant in
     let how = rendering_with g.R.Reader.reading c.args.tools.now in
-    let s = standing_of c.args.held.now in
-    let t = standing_of c.loop-event.held in
+    let s = standing_of c.args.work.now in
+    let t = standing_of c.loop-event.work in
     let ys = c.loop-event.yielded in
     let y = c.in-Some.event in
-    let m = λ (source : List ℕ). Makes-pairs {X = ℕ} g.W.Taker.takes g.W.Taker.refuses c.args.writer.now c.loop-event.writer c.take.new.writer (Ok c.in_ok-written.written) (standing_of c.take.new.held) how source s t ys y (i.2 source) (i.3 source) c.in_ok-written.ensures.made in (
+    let m = λ (source : List ℕ). Makes-pairs {X = ℕ} g.W.Taker.takes g.W.Taker.refuses c.args.writer.now c.loop-event.writer c.take.new.writer (Ok c.in_ok-written.written) (standing_of c.take.new.work) how source s t ys y (i.2 source) (i.3 source) c.in_ok-written.ensures.made in (
       search rules,
       search rules,
       λ source. (m source).0,
@@ -39,13 +39,13 @@ returns-in_err-written g c =
     let q = err_from_is_err_and c.from_residual.result c.from_residual.ensures.1 in
     let i = c.loop-event.invariant in
     let how = rendering_with g.R.Reader.reading c.args.tools.now in
-    let s = standing_of c.args.held.now in
-    let t = standing_of c.loop-event.held in
+    let s = standing_of c.args.work.now in
+    let t = standing_of c.loop-event.work in
     let ys = c.loop-event.yielded in
     let y = c.in-Some.event in
     rw (q.1, q.2) (
       ys ++ y ∷ [],
       (c.next.new.self, rw (← c.into_iter-event-iterator.ensures.into_iter_gives) (Yields-more g.I.Iterator.next_gives c.into_iter-event-iterator.result ys c.loop-event.event-iterator y c.next.new.self c.loop-event.yielded_by c.in-Some.ensures.steps), λ h. no_ok h),
-      λ source. Makes-pairs {X = Progress} g.W.Taker.takes g.W.Taker.refuses c.args.writer.now c.loop-event.writer c.take.new.writer (Err c.in_err-written.field-0.0) (standing_of c.take.new.held) how source s t ys y (i.2 source) (i.3 source) c.in_err-written.ensures.made,
+      λ source. Makes-pairs {X = Progress} g.W.Taker.takes g.W.Taker.refuses c.args.writer.now c.loop-event.writer c.take.new.writer (Err c.in_err-written.field-0.0) (standing_of c.take.new.work) how source s t ys y (i.2 source) (i.3 source) c.in_err-written.ensures.made,
       λ source. tt,
     )

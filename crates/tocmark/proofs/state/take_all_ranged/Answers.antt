@@ -17,11 +17,11 @@ loop-event-preserved g c =
     let i = c.loop-event.invariant in
     let how = rendering_with g.R.Reader.reading c.args.tools.now in
     let source = c.args.source.now in
-    let s = standing_of c.args.held.now in
-    let t = standing_of c.loop-event.held in
+    let s = standing_of c.args.work.now in
+    let t = standing_of c.loop-event.work in
     let ys = c.loop-event.yielded in
     let y : Bor ParserEvent × Option Range = (c.in-Some.event, c.in-Some.range) in
-    let m = Makes-ranged {X = ℕ} g.W.Taker.takes g.W.Taker.refuses c.args.writer.now c.loop-event.writer c.take_ranged.new.writer (Ok c.in_ok-written.written) (standing_of c.take_ranged.new.held) how source s t ys y i.2 i.3 c.in_ok-written.ensures.made in (
+    let m = Makes-ranged {X = ℕ} g.W.Taker.takes g.W.Taker.refuses c.args.writer.now c.loop-event.writer c.take_ranged.new.writer (Ok c.in_ok-written.written) (standing_of c.take_ranged.new.work) how source s t ys y i.2 i.3 c.in_ok-written.ensures.made in (
       search rules,
       search rules,
       m.0,
@@ -36,13 +36,13 @@ returns-in_err-written g c =
     let i = c.loop-event.invariant in
     let how = rendering_with g.R.Reader.reading c.args.tools.now in
     let source = c.args.source.now in
-    let s = standing_of c.args.held.now in
-    let t = standing_of c.loop-event.held in
+    let s = standing_of c.args.work.now in
+    let t = standing_of c.loop-event.work in
     let ys = c.loop-event.yielded in
     let y : Bor ParserEvent × Option Range = (c.in-Some.event, c.in-Some.range) in
     rw (q.1, q.2) (
       ys ++ y ∷ [],
       (c.next.new.self, rw (← c.into_iter-event-iterator.ensures.into_iter_gives) (Yields-more g.I.Iterator.next_gives c.into_iter-event-iterator.result ys c.loop-event.event-iterator y c.next.new.self c.loop-event.yielded_by c.in-Some.ensures.steps), λ h. no_ok h),
-      Makes-ranged {X = Progress} g.W.Taker.takes g.W.Taker.refuses c.args.writer.now c.loop-event.writer c.take_ranged.new.writer (Err c.in_err-written.field-0.0) (standing_of c.take_ranged.new.held) how source s t ys y i.2 i.3 c.in_err-written.ensures.made,
+      Makes-ranged {X = Progress} g.W.Taker.takes g.W.Taker.refuses c.args.writer.now c.loop-event.writer c.take_ranged.new.writer (Err c.in_err-written.field-0.0) (standing_of c.take_ranged.new.work) how source s t ys y i.2 i.3 c.in_err-written.ensures.made,
       tt,
     )

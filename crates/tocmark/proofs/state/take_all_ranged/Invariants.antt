@@ -8,6 +8,6 @@ abbrev pub invariant-loop-event : goal.invariant-loop-event
 invariant-loop-event g l =
     (goal.iterator-loop-event g).can_next l.event-iterator ×
     (goal.iterator-loop-event g).is_finite l.event-iterator ×
-    (walk (rendering_with g.R.Reader.reading l.fn.tools) l.source (standing_of l.fn.held) (ranged_pairs l.yielded)).outcome ≡ Ok (standing_of l.held) ×
-    FoldsTo g.W.Taker.takes l.fn.writer (walk (rendering_with g.R.Reader.reading l.fn.tools) l.source (standing_of l.fn.held) (ranged_pairs l.yielded)).texts l.writer ×
-    Counts l.progress (length l.yielded) (sum_by length (walk (rendering_with g.R.Reader.reading l.fn.tools) l.source (standing_of l.fn.held) (ranged_pairs l.yielded)).texts)
+    (walk (rendering_with g.R.Reader.reading l.fn.tools) l.source (standing_of l.fn.work) (ranged_pairs l.yielded)).outcome ≡ Ok (standing_of l.work) ×
+    FoldsTo g.W.Taker.takes l.fn.writer (walk (rendering_with g.R.Reader.reading l.fn.tools) l.source (standing_of l.fn.work) (ranged_pairs l.yielded)).texts l.writer ×
+    Counts l.progress (length l.yielded) (sum_by length (walk (rendering_with g.R.Reader.reading l.fn.tools) l.source (standing_of l.fn.work) (ranged_pairs l.yielded)).texts)

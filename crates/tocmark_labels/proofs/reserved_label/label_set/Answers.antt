@@ -7,4 +7,4 @@ use Rattle.tocmark_labels.proofs.reserved_label.label_set.Goals as goal
 pub loop-id-preserved : goal.loop-id-preserved
 loop-id-preserved c = λ label.
     ids-more c.args.ids.now c.loop-id.id-index _ _ (labels_of c.loop-id.labels) (labels_of c.add.new.self) label (is_among (folded_ids c.args.ids.now) label)
-    c.loop-id-test.true refl c.in_ok-add.ensures (c.loop-id.invariant label)
+    c.loop-id-test.true refl c.in_ok-add.ensures.added (c.loop-id.invariant label)

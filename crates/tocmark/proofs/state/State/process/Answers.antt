@@ -12,7 +12,7 @@ returns-in-Ok-clause-active g c a =
       e.0,
       c.into_iter-events.ensures.into_iter_gives,
       e.1,
-      λ flags source p h. Adds-with g.W.Taker.takes g.W.Taker.refuses c.args.writer.now c.take_all.new.writer (owned_options_view c.args.self.now.options) (options_view c.lent_options.result) (g.R.Reader.reading c.args.self.now.reader) flags source (Ok c.in-Ok.progress) (standing_of c.take_all.new.held) p (pairs e.0) (standing_of c.args.self.now.held) c.lent_options.ensures h.standing (e.2 source) (rw length-map (e.3 source)),
+      λ flags source p h. Adds-with g.W.Taker.takes g.W.Taker.refuses c.args.writer.now c.take_all.new.writer (owned_options_view c.args.self.now.options) (options_view c.lent_options.result) (g.R.Reader.reading c.args.self.now.reader) flags source (Ok c.in-Ok.progress) (standing_of c.take_all.new.work) p (pairs e.0) (standing_of c.args.self.now.work) c.lent_options.ensures h.standing (e.2 source) (rw length-map (e.3 source)),
     )
 
 pub returns-in-Err-clause-active : goal.returns-in-Err-clause-active
@@ -23,5 +23,5 @@ returns-in-Err-clause-active g c a =
       e.0,
       c.into_iter-events.ensures.into_iter_gives,
       e.1,
-      λ flags source p h. Adds-with g.W.Taker.takes g.W.Taker.refuses c.args.writer.now c.take_all.new.writer (owned_options_view c.args.self.now.options) (options_view c.lent_options.result) (g.R.Reader.reading c.args.self.now.reader) flags source (Err c.in-Err.error) (standing_of c.take_all.new.held) p (pairs e.0) (standing_of c.args.self.now.held) c.lent_options.ensures h.standing (e.2 source) tt,
+      λ flags source p h. Adds-with g.W.Taker.takes g.W.Taker.refuses c.args.writer.now c.take_all.new.writer (owned_options_view c.args.self.now.options) (options_view c.lent_options.result) (g.R.Reader.reading c.args.self.now.reader) flags source (Err c.in-Err.error) (standing_of c.take_all.new.work) p (pairs e.0) (standing_of c.args.self.now.work) c.lent_options.ensures h.standing (e.2 source) tt,
     )

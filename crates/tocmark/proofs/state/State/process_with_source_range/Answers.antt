@@ -12,7 +12,7 @@ returns-in-Ok-clause-active g c a =
       e.0,
       c.into_iter-pairs.ensures.into_iter_gives,
       e.1,
-      λ flags p h. Adds-with g.W.Taker.takes g.W.Taker.refuses c.args.writer.now c.take_all_ranged.new.writer (owned_options_view c.args.self.now.options) (options_view c.lent_options.result) (g.R.Reader.reading c.args.self.now.reader) flags c.args.source.now (Ok c.in-Ok.progress) (standing_of c.take_all_ranged.new.held) p (ranged_pairs e.0) (standing_of c.args.self.now.held) c.lent_options.ensures h.standing e.2 (rw length-map e.3),
+      λ flags p h. Adds-with g.W.Taker.takes g.W.Taker.refuses c.args.writer.now c.take_all_ranged.new.writer (owned_options_view c.args.self.now.options) (options_view c.lent_options.result) (g.R.Reader.reading c.args.self.now.reader) flags c.args.source.now (Ok c.in-Ok.progress) (standing_of c.take_all_ranged.new.work) p (ranged_pairs e.0) (standing_of c.args.self.now.work) c.lent_options.ensures h.standing e.2 (rw length-map e.3),
     )
 
 pub returns-in-Err-clause-active : goal.returns-in-Err-clause-active
@@ -23,5 +23,5 @@ returns-in-Err-clause-active g c a =
       e.0,
       c.into_iter-pairs.ensures.into_iter_gives,
       e.1,
-      λ flags p h. Adds-with g.W.Taker.takes g.W.Taker.refuses c.args.writer.now c.take_all_ranged.new.writer (owned_options_view c.args.self.now.options) (options_view c.lent_options.result) (g.R.Reader.reading c.args.self.now.reader) flags c.args.source.now (Err c.in-Err.cause) (standing_of c.take_all_ranged.new.held) p (ranged_pairs e.0) (standing_of c.args.self.now.held) c.lent_options.ensures h.standing e.2 tt,
+      λ flags p h. Adds-with g.W.Taker.takes g.W.Taker.refuses c.args.writer.now c.take_all_ranged.new.writer (owned_options_view c.args.self.now.options) (options_view c.lent_options.result) (g.R.Reader.reading c.args.self.now.reader) flags c.args.source.now (Err c.in-Err.cause) (standing_of c.take_all_ranged.new.work) p (ranged_pairs e.0) (standing_of c.args.self.now.work) c.lent_options.ensures h.standing e.2 tt,
     )
