@@ -2,6 +2,6 @@
 #![tactic(auto)]
 
 pub mod gathering;
-pub mod option;
+mod option;
 pub mod script;
 pub mod statement;

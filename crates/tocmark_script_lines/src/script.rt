@@ -76,6 +76,8 @@ pub enum Setting {
     Cuts,
     FailAt(usize),
     ReadFailAt(usize),
+    /// The core reader, which looks this label up in vain in each text, too.
+    Unresolved(String),
 }
 
 /// What a script says.
@@ -136,6 +138,7 @@ impl<'a> Script<'a> {
             Setting::Cuts => self.compares_cuts = true,
             Setting::FailAt(place) => self.refused_text = Some(place),
             Setting::ReadFailAt(place) => self.refused_reading = Some(place),
+            Setting::Unresolved(label) => self.reader = ScriptReader::Labelled(label),
         }
     }
 

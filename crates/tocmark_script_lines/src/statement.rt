@@ -107,8 +107,11 @@ fn repeat(alloc: Global, cursor: &mut Cursor<'_>) -> Result<Statement, LineFault
     }
 }
 
-fn reader(cursor: &mut Cursor<'_>) -> Result<Other, LineFault> {
-    cursor.expect_known(&[("nothing", ())], "nothing")?;
+fn reader(alloc: Global, cursor: &mut Cursor<'_>) -> Result<Other, LineFault> {
+    let readers = [("nothing", false), ("unresolved", true)];
+    if cursor.expect_known(&readers, "nothing, or unresolved and a string")? {
+        return Ok(Other::Set(Setting::Unresolved(cursor.string(alloc)?)));
+    }
     Ok(Other::ReaderNothing)
 }
 
@@ -236,7 +239,7 @@ fn other_statement(alloc: Global, name: &str, cursor: &mut Cursor<'_>) -> Result
         "Cut" => Ok(Other::Cut),
         "Finish" => Ok(Other::Finish),
         "Clone" => Ok(Other::Clone),
-        "Reader" => reader(cursor),
+        "Reader" => reader(alloc, cursor),
         "Reads" => reads(alloc, cursor),
         _ => setting_or_question(alloc, name, cursor),
     }

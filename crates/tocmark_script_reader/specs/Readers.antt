@@ -1,5 +1,5 @@
 -- What the reader of a script reads a text as.
-use Rattle.std.specs.Prelude.{ℕ, List, [], map}
+use Rattle.std.specs.Prelude.{ℕ, List, [], ◌∷◌, ◌++◌, map, string_bytes}
 use Rattle.std.specs.Option.{unwrap_or}
 use Rattle.std.specs.HashMap.{get_by_text}
 use Rattle.tocmark_event.specs.Text.{ParserEvent, text_of}
@@ -8,7 +8,7 @@ use Rattle.tocmark_event.specs.Reading.{ReadingView}
 use Rattle.tocmark_core_reader.specs.Reading.{core_reading}
 use Rattle.tocmark_script_reader.specs.declared.readers.Table.{Table as ReadingTable}
 use Rattle.tocmark_script_reader.specs.declared.readers.ScriptReader.{ScriptReader}
-use Rattle.tocmark_script_reader.specs.declared.readers.ScriptReader.TheVariants.{Core, Table}
+use Rattle.tocmark_script_reader.specs.declared.readers.ScriptReader.TheVariants.{Core, Labelled, Table}
 
 -- an event with its range, as a plain value
 abbrev pub ranged_view : ParserEvent × (ℕ × ℕ) → EventView × (ℕ × ℕ)
@@ -26,7 +26,16 @@ table_reading t text = record {
   unresolved = [];
 }
 
--- the core reader's reading, or the table's, which depends on the text alone
+-- the core reader's reading, with one label more that was looked up in vain
+abbrev pub labelled_reading : List ℕ → List ℕ → ReadingView
+labelled_reading label text = let found = core_reading text in record {
+  events = found.events;
+  defined = found.defined;
+  unresolved = found.unresolved ++ (label ∷ []);
+}
+
+-- the core reader's reading, with its label or without, or the table's, which depends on the text alone
 abbrev pub script_reading : ScriptReader → List ℕ → ReadingView
 script_reading Core text = core_reading text
+script_reading (Labelled l) text = labelled_reading (string_bytes l) text
 script_reading (Table t) text = table_reading t text

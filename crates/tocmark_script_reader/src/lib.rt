@@ -1,4 +1,4 @@
-//! The reader of a script: the core reader, or a table of readings.
+//! The reader of a script: the core reader, with a label more or without, or a table of readings.
 #![tactic(auto)]
 
 pub mod readers;

@@ -1,7 +1,8 @@
 //! The reader of a script.
 
 ghost use Rattle.std.specs.Prelude.{◌≡◌, IfOk, map};
-ghost use Rattle.tocmark_script_reader.specs.Readers.{ranged_view};
+ghost use Rattle.tocmark_event.specs.Reading.{reading_view};
+ghost use Rattle.tocmark_script_reader.specs.Readers.{labelled_reading, ranged_view};
 
 use std::alloc::{AllocError, Global};
 use std::cell::Cell;
@@ -20,10 +21,12 @@ pub struct Table<'a> {
     pub otherwise: ReadEvents<'a>,
 }
 
-/// The reader of a script: the core reader, or a table of readings.
+/// The reader of a script: the core reader, that with one label more that it looked up in vain in each
+/// text, or a table of readings.
 #[derive(Drop)]
 pub enum ScriptReader<'a> {
     Core,
+    Labelled(String),
     Table(Table<'a>),
 }
 
@@ -41,7 +44,6 @@ fn copied_events(
 }
 
 impl<'a> Table<'a> {
-    ghost use Rattle.tocmark_event.specs.Reading.{reading_view};
     ghost use Rattle.tocmark_script_reader.specs.Readers.{table_events, table_reading};
 
     /// A table without readings.
@@ -69,6 +71,21 @@ impl<'a> Table<'a> {
     }
 }
 
+/// The core reader's reading of a text, with one label more that was looked up in vain.
+fn read_with_label(
+    alloc: Global,
+    text: &str,
+    flags: ParserOptions,
+    label: &str,
+) -> Result<Reading, AllocError>
+    ensures { IfOk result (λ found. reading_view found ≡ labelled_reading label.now text.now) }
+{
+    let mut reading = CoreReader.read(alloc, text, flags)?;
+    let label = String::from_str(alloc, label)?;
+    reading.unresolved.push(label)?;
+    Ok(reading)
+}
+
 /// The core reader has its reading of a text, and a table the events that it has for it.
 impl Reader for ScriptReader<'_> {
     ghost use Rattle.tocmark_script_reader.specs.Readers.{script_reading};
@@ -78,6 +95,7 @@ impl Reader for ScriptReader<'_> {
     fn read(&self, alloc: Global, text: &str, flags: ParserOptions) -> Result<Reading, AllocError> {
         match self {
             ScriptReader::Core => CoreReader.read(alloc, text, flags),
+            ScriptReader::Labelled(label) => read_with_label(alloc, text, flags, label.as_str()),
             ScriptReader::Table(table) => table.read(alloc, text),
         }
     }
