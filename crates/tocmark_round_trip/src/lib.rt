@@ -2,6 +2,8 @@
 //! alike.
 #![tactic(auto)]
 
+pub mod texts;
+
 use std::alloc::{AllocError, Global};
 use tocmark::{Error, cmark};
 use tocmark_ahead::same_events::same_events;
