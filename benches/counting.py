@@ -3,11 +3,14 @@ import os
 import re
 import subprocess
 import sys
+import tempfile
 
 TOP = os.path.dirname(os.path.dirname(os.path.abspath(__file__)))
 NAME = f"benches/{os.path.basename(sys.argv[0])}"
 MEMCHECK = ["valgrind", "--tool=memcheck", "--leak-check=no", "--undef-value-errors=no"]
 CACHEGRIND = ["valgrind", "--tool=cachegrind", "--cache-sim=no", "--cachegrind-out-file=/dev/null"]
+CALLGRIND = ["valgrind", "--tool=callgrind", "--callgrind-out-file=/dev/null"]
+READING = "tocmark_core_reader::reader::CoreReaderReader::read"
 
 
 def built(crate):
@@ -40,7 +43,27 @@ def counted(words, text=""):
     return ran.stdout.split(b"\n")[0].decode(), int(instructions[1].replace(b",", b""))
 
 
+def counted_in_readings(words, text=""):
+    """The number of instructions that a command took in readings of the core reader."""
+    ran = run([*CALLGRIND, f"--toggle-collect={READING}", *words], text)
+    return int(re.search(rb"Collected : (\d+)", ran.stderr)[1])
+
+
 def allocated(words, text=""):
     """How often a command asked for memory; where a list grows, that is once for each time."""
     ran = run([*MEMCHECK, *words], text)
     return int(re.search(rb"total heap usage: ([\d,]+) allocs", ran.stderr)[1].replace(b",", b""))
+
+
+def ended(words, file=None):
+    """The status of a command, what it wrote on standard error, its seconds of processor time, and the bytes that it took
+    at most. A process begins with the memory of the one that starts it, so a small one stands between."""
+    watch = (
+        "import os, sys; p = os.spawnv(os.P_NOWAIT, sys.argv[2], sys.argv[2:]); _, s, u = os.wait4(p, 0);"
+        "open(sys.argv[1], 'w').write(f'{os.waitstatus_to_exitcode(s)} {u.ru_utime + u.ru_stime} {u.ru_maxrss}')"
+    )
+    with tempfile.NamedTemporaryFile("r") as told, open(file or os.devnull, "rb") as text:
+        command = [sys.executable, "-I", "-S", "-c", watch, told.name, *words]
+        ran = subprocess.run(command, stdin=text, stdout=subprocess.DEVNULL, stderr=subprocess.PIPE)
+        status, seconds, memory = told.read().split()
+    return int(status), ran.stderr.decode(), float(seconds), int(memory) * 1024

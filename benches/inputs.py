@@ -1,9 +1,11 @@
 """Markdown that is meant to make a reader slow: each input is a name, a size and a text of that size. Beside it stand two
 large texts as people write them."""
 import glob
+import json
 import os
 import shutil
 
+TOP = os.path.dirname(os.path.dirname(os.path.abspath(__file__)))
 SIZE = 100_000
 DEPTH = 10_000
 LARGE_SIZE = 3_000_000
@@ -262,7 +264,22 @@ def plain_paragraphs():
     return paragraph * (LARGE_SIZE // len(paragraph))
 
 
+def marked_paragraphs():
+    """The same with a word in each that is emphasized."""
+    return plain_paragraphs().replace(" mean ", " *mean* ")
+
+
+def standard_examples():
+    """The examples of the CommonMark standard one after the other with an empty line between, two hundred times."""
+    with open(f"{TOP}/crates/tocmark_commonmark/stdin", encoding="utf-8") as file:
+        examples = [json.loads(line) for line in file if line.startswith('"')]
+    return "".join(f"{text}\n" for text in examples) * 200
+
+
 # large texts, as people write them: a name and what makes the text
 LARGE = [("guides", guides), ("plain paragraphs", plain_paragraphs)]
+
+# large texts for which programs are compared
+COMPARED = [("guides", guides), ("marked paragraphs", marked_paragraphs), ("standard", standard_examples)]
 
 GROUPS = {"named": NAMED, "blocks": BLOCKS, "inlines": INLINES}
