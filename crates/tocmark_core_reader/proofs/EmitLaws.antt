@@ -1,4 +1,4 @@
--- Whatever the nodes are, their events are balanced and have good ranges.
+-- Whatever the nodes are, their events are balanced and have good ranges; so those of a reading are and have.
 use Rattle.std.proofs.Common.{◌≡◌, ℕ, zero, suc, Bool, false, cond, ◌&&◌, List, [], ◌∷◌, ◌++◌, take, drop, map, reverse, true, refl, ap, sym, subst, ◌∙◌, arith}
 use Rattle.std.specs.List.{fold, AllByRecursion}
 use Rattle.std.proofs.lemmas.List.{take-append-drop, reverse-append, map-append}
@@ -10,9 +10,12 @@ use Rattle.std.specs.Str.{IsUtf8, IsCharBoundary}
 use Rattle.std.proofs.lemmas.Str.{IsCharBoundary-start}
 use Rattle.tocmark_event.specs.Text.{ParserEvent, text_of}
 use Rattle.tocmark_event.specs.View.{EventView, Start, End, Leaf, TagView, LeafView, event_view, end_of}
+use Rattle.tocmark_event.specs.Reading.{ReadingView, reading_view}
+use Rattle.tocmark_event.specs.declared.reader.Reading.{Reading}
 use Rattle.tocmark_event.specs.Forest.{Forest, empty, leaf, node, flat_onto, flat, IsBalanced}
 use Rattle.tocmark_event.specs.declared.event.TagEnd.{TagEnd}
 use Rattle.tocmark_core_reader.specs.Emitted.{ItemView, Container, Source, Given, NodeView, shown, end_event, closings, step, put, closed, emitted, Writing}
+use Rattle.tocmark_core_reader.specs.Reading.{core_reading, found_in}
 use Rattle.tocmark_core_reader.specs.Range.{is_cut, snapped, IsGoodRange, HasGoodRanges}
 use Rattle.tocmark_core_reader.specs.declared.emit.Open.{Open}
 
@@ -91,7 +94,7 @@ levels s ((Start t, r) ∷ es) h = with_start_first s t (unplaced es) (subst (λ
 levels s ((End k, r) ∷ es) h = subst (λ (l : List TagEnd). Levels l (End k ∷ unplaced es)) (sym (h.1)) (empty, unplaced es, refl, levels (h.0) es (h.2))
 levels s ((Leaf l, r) ∷ es) h = with_leaf_first s l (unplaced es) (subst (λ (x : List TagEnd). Levels x (unplaced es)) (sym (h.1)) (levels (h.0) es (h.2)))
 
-pub emitted_balanced : (text : List ℕ) (nodes : List NodeView) → IsBalanced (map (λ e. e.0) (emitted text nodes))
+emitted_balanced : (text : List ℕ) (nodes : List NodeView) → IsBalanced (map (λ e. e.0) (emitted text nodes))
 emitted_balanced text nodes =
     let start : Writing = record { events = []; stack = [] } in
     levels [] (emitted text nodes) (leads_closed 0 (fold (step text) start nodes) (leads_fold text nodes start refl))
@@ -101,7 +104,7 @@ unplaced_shown : (es : List (ParserEvent × (ℕ × ℕ))) → unplaced (map sho
 unplaced_shown [] = refl
 unplaced_shown (e ∷ es) = ap (λ x. event_view text_of e.0 ∷ x) (unplaced_shown es)
 
-pub shown_balanced : (es : List (ParserEvent × (ℕ × ℕ))) (text : List ℕ) (nodes : List NodeView) → map shown es ≡ emitted text nodes → IsBalanced (map (λ e. event_view text_of e.0) es)
+shown_balanced : (es : List (ParserEvent × (ℕ × ℕ))) (text : List ℕ) (nodes : List NodeView) → map shown es ≡ emitted text nodes → IsBalanced (map (λ e. event_view text_of e.0) es)
 shown_balanced es text nodes h =
     subst (λ (x : List EventView). IsBalanced x) (sym (ap unplaced h) ∙ unplaced_shown es) (emitted_balanced text nodes)
 
@@ -163,7 +166,7 @@ fine_fold text utf8 [] w h = h
 fine_fold text utf8 (n ∷ ns) w h =
     fine_fold text utf8 ns (step text w n) (fine_put text n.item _ (closed n.depth w) (snapped_good text n.start n.end utf8) (fine_closed text n.depth w h))
 
-pub emitted_good : (text : List ℕ) (nodes : List NodeView) → IsUtf8 text → HasGoodRanges text (emitted text nodes)
+emitted_good : (text : List ℕ) (nodes : List NodeView) → IsUtf8 text → HasGoodRanges text (emitted text nodes)
 emitted_good text nodes utf8 =
     let start : Writing = record { events = []; stack = [] } in
     (fine_closed text 0 (fold (step text) start nodes) (fine_fold text utf8 nodes start (record { events = tt; stack = tt }))).events
@@ -172,6 +175,16 @@ good_shown : (text : List ℕ) (es : List (ParserEvent × (ℕ × ℕ))) → Has
 good_shown text [] h = tt
 good_shown text (e ∷ es) h = (h.0, good_shown text es (h.1))
 
-pub shown_good : (es : List (ParserEvent × (ℕ × ℕ))) (text : List ℕ) (nodes : List NodeView) → IsUtf8 text → map shown es ≡ emitted text nodes → HasGoodRanges text es
+shown_good : (es : List (ParserEvent × (ℕ × ℕ))) (text : List ℕ) (nodes : List NodeView) → IsUtf8 text → map shown es ≡ emitted text nodes → HasGoodRanges text es
 shown_good es text nodes utf8 h =
     good_shown text es (subst (λ (x : List Marked). HasGoodRanges text x) (sym h) (emitted_good text nodes utf8))
+
+-- of a reading
+
+pub reading_balanced : (r : Reading) (text : List ℕ) → reading_view r ≡ core_reading text → IsBalanced (map (λ e. event_view text_of e.0) r.events.items)
+unfolding core_reading
+reading_balanced r text h = shown_balanced r.events.items text (found_in text).nodes (ap (λ (v : ReadingView). v.events) h)
+
+pub reading_good : (r : Reading) (text : List ℕ) → IsUtf8 text → reading_view r ≡ core_reading text → HasGoodRanges text r.events.items
+unfolding core_reading
+reading_good r text utf8 h = shown_good r.events.items text (found_in text).nodes utf8 (ap (λ (v : ReadingView). v.events) h)

@@ -1,3 +1,4 @@
+pub mod Behind
 pub mod EmitLaws
 pub mod Finding
 pub mod PlainEvents

@@ -6,6 +6,7 @@ use Rattle.tocmark_core_reader.specs.Words.{cleaned}
 use Rattle.tocmark_event.specs.Text.{ParserEvent, text_of}
 use Rattle.tocmark_event.specs.View.{EventView, Start, End, Leaf, TagView, LeafView, Text, Code, Html, InlineHtml, SoftBreak, HardBreak, Rule, tag_view, event_view, end_of}
 use Rattle.tocmark_core_reader.specs.Range.{snapped}
+use Rattle.tocmark_core_reader.specs.declared.emit.Emission.{Emission}
 use Rattle.tocmark_core_reader.specs.declared.emit.Item.{Item}
 use Rattle.tocmark_core_reader.specs.declared.emit.Item.TheVariants as item
 use Rattle.tocmark_core_reader.specs.declared.emit.Node.{Node}
@@ -48,6 +49,10 @@ shown e = (event_view text_of e.0, e.1)
 pub record Writing : Type 0 where
   pub events : List (EventView × (ℕ × ℕ))
   pub stack : List Open
+
+-- what is written so far as plain values
+abbrev pub emission_view : Emission → Writing
+emission_view e = record { events = map shown e.events.items; stack = e.stack.items }
 
 -- the End of a container, with the range of its Start
 abbrev pub end_event : Open → EventView × (ℕ × ℕ)

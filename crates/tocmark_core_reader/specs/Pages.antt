@@ -12,7 +12,7 @@ use Rattle.tocmark_core_blocks.specs.declared.page.BlockKind.{BlockKind}
 use Rattle.tocmark_core_blocks.specs.declared.page.BlockKind.TheVariants as kind
 use Rattle.tocmark_core_inlines.specs.Inlines as inlines
 use Rattle.tocmark_core_inlines.specs.declared.definitions.Entry.{Entry}
-use Rattle.tocmark_core_reader.specs.Emitted.{ItemView, NodeView, Container, Given, node_view}
+use Rattle.tocmark_core_reader.specs.Emitted.{ItemView, NodeView, Container, Given, Writing, emission_view, step}
 use Rattle.tocmark_core_reader.specs.Inlines.{inline_node}
 use Rattle.tocmark_core_reader.specs.Words.{cleaned, info_text, spaces_text}
 use Rattle.tocmark_core_reader.specs.declared.page.Assembly.{Assembly}
@@ -75,9 +75,26 @@ pub record State : Type 0 where
   pub nodes : List NodeView
   pub inlines : inlines.State
 
--- the nodes so far as plain values
-abbrev pub assembly_view : Assembly → State
-assembly_view a = record { nodes = map node_view a.nodes.items; inlines = inlines.inlines_view a.inlines }
+-- the events of the nodes so far, and what the inlines have beside the source
+pub record Progress : Type 0 where
+  pub writing : Writing
+  pub inlines : inlines.State
+
+-- events and inlines as plain values
+abbrev pub assembly_view : Assembly → Progress
+assembly_view a = record { writing = emission_view a.emission; inlines = inlines.inlines_view a.inlines }
+
+-- the nodes are written behind what is written
+abbrev pub written_behind : List ℕ → Writing → State → Progress
+written_behind text w s = record { writing = fold (step text) w s.nodes; inlines = s.inlines }
+
+-- nothing is written but the nodes
+abbrev pub written_alone : List ℕ → State → Progress
+written_alone text s = written_behind text (record { events = []; stack = [] }) s
+
+-- the nodes that a change puts behind none are written behind what is written
+abbrev pub written_by : List ℕ → (State → State) → Progress → Progress
+written_by text change p = written_behind text p.writing (change (record { nodes = []; inlines = p.inlines }))
 
 -- the nodes of the inlines that were found
 abbrev pub with_inlines : inlines.State → State → State

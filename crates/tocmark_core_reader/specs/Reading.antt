@@ -1,5 +1,5 @@
 -- The reading of a text.
-use Rattle.std.specs.Prelude.{ℕ, List, Option, map, string_bytes}
+use Rattle.std.specs.Prelude.{ℕ, List, Option}
 use Rattle.std.specs.List.{fold}
 use Rattle.tocmark_event.specs.Reading.{ReadingView}
 use Rattle.tocmark_core_scan.specs.Label.{first_place}
@@ -7,9 +7,8 @@ use Rattle.tocmark_core_blocks.specs.Blocks.{blocks_of}
 use Rattle.tocmark_core_blocks.specs.Definitions.{DefinitionView}
 use Rattle.tocmark_core_inlines.specs.Definitions as defs
 use Rattle.tocmark_core_inlines.specs.declared.definitions.Entry.{Entry}
-use Rattle.tocmark_core_reader.specs.Emitted.{NodeView, node_view, emitted}
+use Rattle.tocmark_core_reader.specs.Emitted.{NodeView, emitted}
 use Rattle.tocmark_core_reader.specs.Pages.{assembled}
-use Rattle.tocmark_core_reader.specs.declared.reader.Found.{Found}
 
 -- one more definition
 unfoldable pub define_step : defs.State → DefinitionView → defs.State
@@ -28,14 +27,6 @@ pub record FoundView : Type 0 where
   pub nodes : List NodeView
   pub defined : List (List ℕ)
   pub unresolved : List (List ℕ)
-
--- nodes and labels as plain values
-abbrev pub found_view : Found → FoundView
-found_view f = record {
-  nodes = map node_view f.nodes.items;
-  defined = map string_bytes f.defined.items;
-  unresolved = map string_bytes f.unresolved.items;
-}
 
 -- blocks, then definitions, then inlines
 unfoldable pub found_in : List ℕ → FoundView

@@ -1,11 +1,10 @@
 //! From nodes to events.
 
-ghost use Rattle.std.specs.Prelude.{◌≡◌, ◌++◌, ◌∷◌, [], map, take, IfOk, OnOk};
+ghost use Rattle.std.specs.Prelude.{◌≡◌, ◌++◌, ◌∷◌, [], map, IfOk, OnOk};
 ghost use Rattle.tocmark_event.specs.Text.{text_of};
-ghost use Rattle.tocmark_event.specs.View.{event_view, tag_view, end_of, Start};
-ghost use Rattle.tocmark_event.specs.Forest.{IsBalanced};
-ghost use Rattle.tocmark_core_reader.specs.Range.{is_cut, snapped, IsGoodRange, HasGoodRanges};
-ghost use Rattle.tocmark_core_reader.specs.Emitted.{item_view, node_view, shown, closings, source_text, put, step, emitted};
+ghost use Rattle.tocmark_event.specs.View.{event_view, tag_view};
+ghost use Rattle.tocmark_core_reader.specs.Range.{is_cut, snapped, IsGoodRange};
+ghost use Rattle.tocmark_core_reader.specs.Emitted.{Container, item_view, node_view, emission_view, shown, closed, source_text, put, step};
 
 use crate::words::cleaned_part;
 use std::alloc::{AllocError, Global};
@@ -45,6 +44,14 @@ pub struct Open {
     pub range: (usize, usize),
 }
 
+/// The events so far, each with its range in bytes, and the containers that are open, the outermost
+/// first.
+#[derive(Drop)]
+pub struct Emission {
+    pub events: Vec<Marked>,
+    pub stack: Vec<Open>,
+}
+
 type Marked = (Event<'static>, (usize, usize));
 
 fn is_cut(text: &str, at: usize) -> bool
@@ -69,20 +76,6 @@ fn snapped(text: &str, start: usize, end: usize) -> (usize, usize)
     }
 }
 
-/// Ends the containers from a depth on, the innermost first.
-fn close_to(out: &mut Vec<Marked>, stack: &mut Vec<Open>, depth: usize) -> Result<(), AllocError>
-    ensures events { OnOk result (map shown out.new.items
-        ≡ map shown out.old.items ++ closings depth stack.old.items) }
-    ensures stack { OnOk result (stack.new.items ≡ take depth stack.old.items) }
-{
-    while stack.len() > depth {
-        if let Some(last) = stack.pop() {
-            out.push((Event::End(last.end), last.range))?;
-        }
-    }
-    Ok(())
-}
-
 fn source_text(
     alloc: Global,
     text: &str,
@@ -105,93 +98,82 @@ fn push(
     Ok(())
 }
 
-/// Begins a container.
-fn begin(
-    out: &mut Vec<Marked>,
-    stack: &mut Vec<Open>,
-    tag: Tag<'static>,
-    range: (usize, usize),
-) -> Result<(), AllocError>
-    ensures events { OnOk result (map shown out.new.items
-        ≡ map shown out.old.items ++ (Start (tag_view text_of tag.entry), range) ∷ []) }
-    ensures stack { OnOk result (stack.new.items ≡ stack.old.items
-        ++ record { end = end_of (tag_view text_of tag.entry); range = range } ∷ []) }
-{
-    stack.push(Open {
-        end: tag.to_end(),
-        range,
-    })?;
-    push(out, Event::Start(tag), range)
-}
-
-/// Puts one item behind the events so far.
-fn put(
-    alloc: Global,
-    text: &str,
-    out: &mut Vec<Marked>,
-    stack: &mut Vec<Open>,
-    item: Item,
-    range: (usize, usize),
-) -> Result<(), AllocError>
-    ensures { OnOk result
-        (let after = put text.now (item_view item) range
-        (record { events = map shown out.old.items; stack = stack.old.items }) in
-        (map shown out.new.items ≡ after.events) × (stack.new.items ≡ after.stack)) }
-{
-    match item {
-        Item::Container(tag) => begin(out, stack, tag, range),
-        Item::Source => push(out, Event::Text(source_text(alloc, text, range)?), range),
-        Item::Text(words) => push(out, Event::Text(words), range),
-        Item::Code(words) => push(out, Event::Code(words), range),
-        Item::Html(words) => push(out, Event::Html(words), range),
-        Item::InlineHtml(words) => push(out, Event::InlineHtml(words), range),
-        Item::SoftBreak => push(out, Event::SoftBreak, range),
-        Item::HardBreak => push(out, Event::HardBreak, range),
-        Item::Rule => push(out, Event::Rule, range),
+impl Emission {
+    /// Ends the containers from a depth on, the innermost first.
+    fn close_to(&mut self, depth: usize) -> Result<(), AllocError>
+        ensures { OnOk result (emission_view self.new ≡ closed depth (emission_view self.old)) }
+    {
+        while self.stack.len() > depth {
+            if let Some(last) = self.stack.pop() {
+                self.events.push((Event::End(last.end), last.range))?;
+            }
+        }
+        Ok(())
     }
-}
 
-/// Writes one node.
-fn write(
-    alloc: Global,
-    text: &str,
-    out: &mut Vec<Marked>,
-    stack: &mut Vec<Open>,
-    node: Node,
-) -> Result<(), AllocError>
-    ensures { OnOk result
-        (let after = step text.now
-        (record { events = map shown out.old.items; stack = stack.old.items }) (node_view node)
-        in (map shown out.new.items ≡ after.events) × (stack.new.items ≡ after.stack)) }
-{
-    close_to(out, stack, node.depth)?;
-    let range = snapped(text, node.start, node.end);
-    put(alloc, text, out, stack, node.item, range)
-}
-
-fn write_all(alloc: Global, text: &str, nodes: Vec<Node>) -> Result<Vec<Marked>, AllocError>
-    ensures { IfOk result (λ v.
-        map shown v.items ≡ emitted text.now (map node_view nodes.items)) }
-{
-    let mut out = Vec::new(alloc);
-    let mut stack = Vec::new(alloc);
-    for node in nodes {
-        write(alloc, text, &mut out, &mut stack, node)?;
+    /// Begins a container.
+    fn begin(
+        &mut self,
+        text: &str,
+        tag: Tag<'static>,
+        range: (usize, usize),
+    ) -> Result<(), AllocError>
+        ensures { OnOk result (emission_view self.new
+            ≡ put text.now (Container (tag_view text_of tag.entry)) range (emission_view self.old)) }
+    {
+        self.stack.push(Open {
+            end: tag.to_end(),
+            range,
+        })?;
+        push(&mut self.events, Event::Start(tag), range)
     }
-    close_to(&mut out, &mut stack, 0)?;
-    Ok(out)
-}
 
-/// The events of the nodes, each with its range in bytes: whatever the nodes are, the events are
-/// balanced and the ranges are in order, within the text and on boundaries of characters. A node whose
-/// range is none of the text gets an empty one at the front. An `Err` says that memory ran out.
-#[tactic(auto, using(crate::proofs::EmitLaws::shown_balanced, crate::proofs::EmitLaws::shown_good))]
-pub fn emit(alloc: Global, text: &str, nodes: Vec<Node>) -> Result<Vec<Marked>, AllocError>
-    ensures exact { IfOk result (λ v.
-        map shown v.items ≡ emitted text.now (map node_view nodes.items)) }
-    ensures balanced { IfOk result (λ v. IsBalanced (map (λ e. event_view text_of e.0) v.items)) }
-    ensures ranges { IfOk result (λ v. HasGoodRanges text.now v.items) }
-{
-    let events = write_all(alloc, text, nodes)?;
-    Ok(events)
+    /// Puts one item behind the events so far.
+    fn put(
+        &mut self,
+        alloc: Global,
+        text: &str,
+        item: Item,
+        range: (usize, usize),
+    ) -> Result<(), AllocError>
+        ensures { OnOk result (emission_view self.new
+            ≡ put text.now (item_view item) range (emission_view self.old)) }
+    {
+        match item {
+            Item::Container(tag) => self.begin(text, tag, range),
+            Item::Source => push(
+                &mut self.events,
+                Event::Text(source_text(alloc, text, range)?),
+                range,
+            ),
+            Item::Text(words) => push(&mut self.events, Event::Text(words), range),
+            Item::Code(words) => push(&mut self.events, Event::Code(words), range),
+            Item::Html(words) => push(&mut self.events, Event::Html(words), range),
+            Item::InlineHtml(words) => push(&mut self.events, Event::InlineHtml(words), range),
+            Item::SoftBreak => push(&mut self.events, Event::SoftBreak, range),
+            Item::HardBreak => push(&mut self.events, Event::HardBreak, range),
+            Item::Rule => push(&mut self.events, Event::Rule, range),
+        }
+    }
+
+    /// Writes one node. Its range is that of the event if it is in order, within the text and on
+    /// boundaries of characters; else the event gets an empty one at the front.
+    pub fn write(&mut self, alloc: Global, text: &str, node: Node) -> Result<(), AllocError>
+        ensures { OnOk result (emission_view self.new
+            ≡ step text.now (emission_view self.old) (node_view node)) }
+    {
+        self.close_to(node.depth)?;
+        let range = snapped(text, node.start, node.end);
+        self.put(alloc, text, node.item, range)
+    }
+
+    /// Ends all containers, and gives the events.
+    pub fn finish(self) -> Result<Vec<Marked>, AllocError>
+        ensures { IfOk result (λ events.
+            map shown events.items ≡ (closed 0 (emission_view self)).events) }
+    {
+        let mut all = self;
+        all.close_to(0)?;
+        Ok(all.events)
+    }
 }

@@ -1,13 +1,14 @@
 //! From the nodes of inlines to those of events.
 
-ghost use Rattle.std.specs.Prelude.{◌≡◌, ◌++◌, map, IfOk, OnOk};
+ghost use Rattle.std.specs.Prelude.{◌≡◌, map, IfOk, OnOk};
+ghost use Rattle.std.specs.List.{fold};
 ghost use Rattle.tocmark_event.specs.Text.{text_of};
 ghost use Rattle.tocmark_event.specs.View.{tag_view};
-ghost use Rattle.tocmark_core_reader.specs.Emitted.{item_view, node_view};
+ghost use Rattle.tocmark_core_reader.specs.Emitted.{item_view, node_view, emission_view, step};
 ghost use Rattle.tocmark_core_reader.specs.Inlines.{target_at, link_of, image_of, span_tag, leaf_item, inline_item, inline_node};
 ghost use Rattle.std.specs.Prelude.{encode_utf8};
 
-use crate::emit::{Item, Node};
+use crate::emit::{Emission, Item, Node};
 use crate::words::stretch_text;
 use std::alloc::{AllocError, Global};
 use tocmark_core_inlines::role::{Leaf, Span, Stretch, Target};
@@ -122,19 +123,21 @@ fn inline_node(
     })
 }
 
-/// Puts the nodes of inlines behind others.
-pub fn push_inlines(
+/// Writes the nodes of inlines behind what is written.
+pub fn write_inlines(
     alloc: Global,
-    out: &mut Vec<Node>,
+    out: &mut Emission,
+    text: &str,
     texts: &[u8],
     targets: &[Target],
     nodes: &[inline::Node],
 ) -> Result<(), AllocError>
-    ensures { OnOk result (map node_view out.new.items
-        ≡ map node_view out.old.items ++ map (inline_node texts.now targets.now) nodes.now) }
+    ensures { OnOk result (emission_view out.new
+        ≡ fold (step text.now) (emission_view out.old)
+        (map (inline_node texts.now targets.now) nodes.now)) }
 {
     for node in nodes {
-        out.push(inline_node(alloc, texts, targets, *node)?)?;
+        out.write(alloc, text, inline_node(alloc, texts, targets, *node)?)?;
     }
     Ok(())
 }

@@ -1,16 +1,19 @@
-//! From blocks to nodes.
+//! From blocks to events.
 
-ghost use Rattle.std.specs.Prelude.{◌≡◌, ◌++◌, ◌∷◌, [], map, IfOk, OnOk};
+ghost use Rattle.std.specs.Prelude.{◌≡◌, [], map, IfOk, OnOk};
+ghost use Rattle.std.specs.List.{fold};
 ghost use Rattle.tocmark_event.specs.Text.{text_of};
 ghost use Rattle.tocmark_event.specs.View.{tag_view};
 ghost use Rattle.tocmark_core_inlines.specs.Definitions.{entry_of};
-ghost use Rattle.tocmark_core_reader.specs.Emitted.{node_view, item_view};
-ghost use Rattle.tocmark_core_reader.specs.Pages.{pieces_of, content_line, space_nodes, line_item, line_nodes, lines_nodes, block_tag, is_unwrapped, block_node, assembly_view, leaf_inlines, with_block, with_lines, with_rule, wrapped, paragraph_taken, block_taken, assembled};
+ghost use Rattle.tocmark_core_inlines.specs.Inlines.{inlines_view};
+ghost use Rattle.tocmark_core_reader.specs.Emitted.{item_view, emission_view, step};
+ghost use Rattle.tocmark_core_reader.specs.Pages.{pieces_of, content_line, space_nodes, line_item, line_nodes, lines_nodes, block_tag, is_unwrapped, block_node, assembly_view, leaf_inlines, with_block, with_lines, with_rule, wrapped, paragraph_taken, block_taken, assembled, written_alone, written_by};
 
-use crate::emit::{Item, Node};
-use crate::inline::push_inlines;
+use crate::emit::{Emission, Item, Node};
+use crate::inline::write_inlines;
 use crate::words::{cleaned_part, info_text, spaces_text};
 use std::alloc::{AllocError, Global};
+use std::mem;
 use tocmark_core_blocks::{Block, BlockKind, Piece};
 use tocmark_core_inlines::definitions::Definitions;
 use tocmark_core_inlines::inlines::{Inlines, read_inlines};
@@ -51,24 +54,27 @@ fn content_lines(lines: &mut Vec<Line>, pieces: &[Piece]) -> Result<(), AllocErr
     Ok(())
 }
 
-/// The spaces that are left of a partly used tab.
+/// Writes the spaces that are left of a partly used tab.
 #[tactic(auto, unfolding(crate::specs::Pages::space_nodes))]
-fn push_spaces(
+fn write_spaces(
     alloc: Global,
-    out: &mut Vec<Node>,
+    out: &mut Emission,
+    text: &str,
     depth: usize,
     line: Piece,
 ) -> Result<(), AllocError>
-    ensures { OnOk result (map node_view out.new.items
-        ≡ map node_view out.old.items ++ space_nodes depth line) }
+    ensures { OnOk result (emission_view out.new
+        ≡ fold (step text.now) (emission_view out.old) (space_nodes depth line)) }
 {
     if 0 < line.spaces {
-        out.push(Node {
+        let spaces = CowStr::Owned(spaces_text(alloc, line.spaces)?);
+        let node = Node {
             depth,
-            item: Item::Text(CowStr::Owned(spaces_text(alloc, line.spaces)?)),
+            item: Item::Text(spaces),
             start: minus(line.start, 1),
             end: line.start,
-        })?;
+        };
+        out.write(alloc, text, node)?;
     }
     Ok(())
 }
@@ -86,44 +92,46 @@ fn line_item(alloc: Global, text: &str, html: bool, line: Piece) -> Result<Item,
     }
 }
 
-/// The nodes of a line of code or HTML.
+/// Writes a line of code or HTML.
 #[tactic(auto, unfolding(crate::specs::Pages::line_nodes))]
-fn push_line(
+fn write_line(
     alloc: Global,
-    out: &mut Vec<Node>,
+    out: &mut Emission,
     text: &str,
     html: bool,
     depth: usize,
     line: Piece,
 ) -> Result<(), AllocError>
-    ensures { OnOk result (map node_view out.new.items
-        ≡ map node_view out.old.items ++ line_nodes text.now html depth line) }
+    ensures { OnOk result (emission_view out.new
+        ≡ fold (step text.now) (emission_view out.old) (line_nodes text.now html depth line)) }
 {
-    push_spaces(alloc, out, depth, line)?;
+    write_spaces(alloc, out, text, depth, line)?;
     if line.start < line.next {
-        out.push(Node {
+        let node = Node {
             depth,
             item: line_item(alloc, text, html, line)?,
             start: line.start,
             end: line.next,
-        })?;
+        };
+        out.write(alloc, text, node)?;
     }
     Ok(())
 }
 
-fn push_lines(
+fn write_lines(
     alloc: Global,
-    out: &mut Vec<Node>,
+    out: &mut Emission,
     text: &str,
     html: bool,
     depth: usize,
     lines: &[Piece],
 ) -> Result<(), AllocError>
-    ensures { OnOk result (map node_view out.new.items
-        ≡ map node_view out.old.items ++ lines_nodes text.now html depth lines.now) }
+    ensures { OnOk result (emission_view out.new
+        ≡ fold (step text.now) (emission_view out.old)
+        (lines_nodes text.now html depth lines.now)) }
 {
     for line in lines {
-        push_line(alloc, out, text, html, depth, *line)?;
+        write_line(alloc, out, text, html, depth, *line)?;
     }
     Ok(())
 }
@@ -168,73 +176,83 @@ fn is_unwrapped(blocks: &[Block], block: Block) -> bool
     }
 }
 
-fn push_block(
+fn write_block(
     alloc: Global,
-    out: &mut Vec<Node>,
+    out: &mut Emission,
     text: &str,
     block: Block,
 ) -> Result<(), AllocError>
-    ensures { OnOk result (map node_view out.new.items
-        ≡ map node_view out.old.items ++ block_node text.now block ∷ []) }
+    ensures { OnOk result (emission_view out.new
+        ≡ step text.now (emission_view out.old) (block_node text.now block)) }
 {
-    out.push(Node {
+    let node = Node {
         depth: block.depth,
         item: Item::Container(block_tag(alloc, text, block.kind)?),
         start: block.start,
         end: block.end,
-    })?;
-    Ok(())
+    };
+    out.write(alloc, text, node)
 }
 
-/// The nodes so far, what their inlines have beside the source, and a list for the lines of a leaf.
+/// What inlines have beside the source where none is read yet; `texts` are those of the definitions.
+fn no_inlines(alloc: Global, texts: Vec<u8>) -> Inlines
+    ensures { inlines_view result
+        ≡ record { nodes = []; targets = []; texts = texts.items; missed = [] } }
+{
+    Inlines {
+        nodes: Vec::new(alloc),
+        targets: Vec::new(alloc),
+        texts,
+        missed: Vec::new(alloc),
+    }
+}
+
+/// What is written so far, what the inlines have beside the source, and a list for the lines of a leaf.
 #[derive(Drop)]
 pub struct Assembly {
-    pub nodes: Vec<Node>,
+    pub emission: Emission,
     pub inlines: Inlines,
     pub lines: Vec<Line>,
 }
 
-/// Reads the inlines of a leaf.
-#[tactic(auto, unfolding(crate::specs::Pages::leaf_inlines))]
-fn read_leaf(
-    alloc: Global,
-    text: &str,
-    definitions: &Definitions,
-    pieces: &[Piece],
-    depth: usize,
-    before: Assembly,
-) -> Result<Assembly, AllocError>
-    ensures { IfOk result (λ a.
-        assembly_view a
-        ≡ leaf_inlines text.now (entry_of definitions.now) pieces.now depth (assembly_view before)) }
-{
-    let mut nodes = before.nodes;
-    let mut lines = before.lines;
-    content_lines(&mut lines, pieces)?;
-    let content = content_of(alloc, text.as_bytes(), &lines)?;
-    let mut found = read_inlines(alloc, before.inlines, &content, depth, definitions)?;
-    push_inlines(
-        alloc,
-        &mut nodes,
-        &found.texts,
-        &found.targets,
-        &found.nodes,
-    )?;
-    found.nodes.clear();
-    Ok(Assembly {
-        nodes,
-        inlines: found,
-        lines,
-    })
-}
-
 impl Assembly {
+    /// Reads the inlines of a leaf.
+    #[tactic(auto, unfolding(crate::specs::Pages::leaf_inlines))]
+    fn read_leaf(
+        &mut self,
+        alloc: Global,
+        text: &str,
+        definitions: &Definitions,
+        pieces: &[Piece],
+        depth: usize,
+    ) -> Result<(), AllocError>
+        ensures { OnOk result (assembly_view self.new ≡ written_by text.now
+            (leaf_inlines text.now (entry_of definitions.now) pieces.now depth)
+            (assembly_view self.old)) }
+    {
+        content_lines(&mut self.lines, pieces)?;
+        let content = content_of(alloc, text.as_bytes(), &self.lines)?;
+        let before = mem::replace(&mut self.inlines, no_inlines(alloc, Vec::new(alloc)));
+        let mut found = read_inlines(alloc, before, &content, depth, definitions)?;
+        write_inlines(
+            alloc,
+            &mut self.emission,
+            text,
+            &found.texts,
+            &found.targets,
+            &found.nodes,
+        )?;
+        found.nodes.clear();
+        self.inlines = found;
+        Ok(())
+    }
+
     #[tactic(auto, unfolding(crate::specs::Pages::with_block))]
     fn open(&mut self, alloc: Global, text: &str, block: Block) -> Result<(), AllocError>
         ensures { OnOk result (assembly_view self.new
-            ≡ with_block text.now block (assembly_view self.old)) }
+            ≡ written_by text.now (with_block text.now block) (assembly_view self.old)) }
     {
-        push_block(alloc, &mut self.nodes, text, block)
+        write_block(alloc, &mut self.emission, text, block)
     }
 
     #[tactic(auto, unfolding(crate::specs::Pages::with_lines))]
@@ -247,12 +265,13 @@ impl Assembly {
         lines: &[Piece],
     ) -> Result<(), AllocError>
         ensures { OnOk result (assembly_view self.new
-            ≡ with_lines text.now html block lines.now (assembly_view self.old)) }
+            ≡ written_by text.now (with_lines text.now html block lines.now)
+            (assembly_view self.old)) }
     {
-        push_block(alloc, &mut self.nodes, text, block)?;
-        push_lines(
+        write_block(alloc, &mut self.emission, text, block)?;
+        write_lines(
             alloc,
-            &mut self.nodes,
+            &mut self.emission,
             text,
             html,
             plus(block.depth, 1),
@@ -261,106 +280,93 @@ impl Assembly {
     }
 
     #[tactic(auto, unfolding(crate::specs::Pages::with_rule))]
-    fn take_rule(&mut self, block: Block) -> Result<(), AllocError>
-        ensures { OnOk result (assembly_view self.new ≡ with_rule block (assembly_view self.old)) }
+    fn take_rule(&mut self, alloc: Global, text: &str, block: Block) -> Result<(), AllocError>
+        ensures { OnOk result (assembly_view self.new
+            ≡ written_by text.now (with_rule block) (assembly_view self.old)) }
     {
-        self.nodes.push(Node {
+        let node = Node {
             depth: block.depth,
             item: Item::Rule,
             start: block.start,
             end: block.end,
-        })?;
-        Ok(())
+        };
+        self.emission.write(alloc, text, node)
     }
-}
 
-/// A paragraph or a heading with its inlines.
-#[tactic(auto, unfolding(crate::specs::Pages::wrapped))]
-fn read_wrapped(
-    alloc: Global,
-    text: &str,
-    definitions: &Definitions,
-    pieces: &[Piece],
-    block: Block,
-    before: Assembly,
-) -> Result<Assembly, AllocError>
-    ensures { IfOk result (λ a.
-        assembly_view a
-        ≡ wrapped text.now (entry_of definitions.now) pieces.now block (assembly_view before)) }
-{
-    let mut before = before;
-    before.open(alloc, text, block)?;
-    read_leaf(
-        alloc,
-        text,
-        definitions,
-        pieces,
-        plus(block.depth, 1),
-        before,
-    )
-}
-
-#[tactic(auto, unfolding(crate::specs::Pages::paragraph_taken))]
-fn read_paragraph(
-    alloc: Global,
-    text: &str,
-    definitions: &Definitions,
-    pieces: &[Piece],
-    unwrapped: bool,
-    block: Block,
-    before: Assembly,
-) -> Result<Assembly, AllocError>
-    ensures { IfOk result (λ a.
-        assembly_view a
-        ≡ paragraph_taken text.now (entry_of definitions.now) pieces.now unwrapped block
-        (assembly_view before)) }
-{
-    if block.last <= block.first {
-        Ok(before)
-    } else if unwrapped {
-        read_leaf(alloc, text, definitions, pieces, block.depth, before)
-    } else {
-        read_wrapped(alloc, text, definitions, pieces, block, before)
+    /// A paragraph or a heading with its inlines.
+    fn read_wrapped(
+        &mut self,
+        alloc: Global,
+        text: &str,
+        definitions: &Definitions,
+        pieces: &[Piece],
+        block: Block,
+    ) -> Result<(), AllocError>
+        ensures { OnOk result (assembly_view self.new ≡ written_by text.now
+            (wrapped text.now (entry_of definitions.now) pieces.now block)
+            (assembly_view self.old)) }
+    {
+        self.open(alloc, text, block)?;
+        self.read_leaf(alloc, text, definitions, pieces, plus(block.depth, 1))
     }
-}
 
-/// One more block.
-#[tactic(auto, unfolding(crate::specs::Pages::block_taken))]
-fn read_block(
-    alloc: Global,
-    text: &str,
-    definitions: &Definitions,
-    all: &[Piece],
-    unwrapped: bool,
-    block: Block,
-    before: Assembly,
-) -> Result<Assembly, AllocError>
-    ensures { IfOk result (λ a.
-        assembly_view a
-        ≡ block_taken text.now (entry_of definitions.now) all.now unwrapped block
-        (assembly_view before)) }
-{
-    let pieces = pieces_of(all, block.first, block.last);
-    let mut before = before;
-    match block.kind {
-        BlockKind::Paragraph => {
-            return read_paragraph(alloc, text, definitions, pieces, unwrapped, block, before);
+    #[tactic(auto, unfolding(crate::specs::Pages::paragraph_taken))]
+    fn read_paragraph(
+        &mut self,
+        alloc: Global,
+        text: &str,
+        definitions: &Definitions,
+        pieces: &[Piece],
+        unwrapped: bool,
+        block: Block,
+    ) -> Result<(), AllocError>
+        ensures { OnOk result (assembly_view self.new ≡ written_by text.now
+            (paragraph_taken text.now (entry_of definitions.now) pieces.now unwrapped block)
+            (assembly_view self.old)) }
+    {
+        if block.last <= block.first {
+            Ok(())
+        } else if unwrapped {
+            self.read_leaf(alloc, text, definitions, pieces, block.depth)
+        } else {
+            self.read_wrapped(alloc, text, definitions, pieces, block)
         }
-        BlockKind::Heading(_) => {
-            return read_wrapped(alloc, text, definitions, pieces, block, before);
-        }
-        BlockKind::Quote => before.open(alloc, text, block)?,
-        BlockKind::List(_) => before.open(alloc, text, block)?,
-        BlockKind::Item => before.open(alloc, text, block)?,
-        BlockKind::Indented => before.take_lines(alloc, text, false, block, pieces)?,
-        BlockKind::Fenced(_, _) => before.take_lines(alloc, text, false, block, pieces)?,
-        BlockKind::Html => before.take_lines(alloc, text, true, block, pieces)?,
-        BlockKind::Rule => before.take_rule(block)?,
     }
-    Ok(before)
+
+    /// One more block; `all` are the pieces of all blocks.
+    #[tactic(auto, unfolding(crate::specs::Pages::block_taken))]
+    fn read_block(
+        &mut self,
+        alloc: Global,
+        text: &str,
+        definitions: &Definitions,
+        all: &[Piece],
+        unwrapped: bool,
+        block: Block,
+    ) -> Result<(), AllocError>
+        ensures { OnOk result (assembly_view self.new ≡ written_by text.now
+            (block_taken text.now (entry_of definitions.now) all.now unwrapped block)
+            (assembly_view self.old)) }
+    {
+        let pieces = pieces_of(all, block.first, block.last);
+        match block.kind {
+            BlockKind::Paragraph => {
+                self.read_paragraph(alloc, text, definitions, pieces, unwrapped, block)
+            }
+            BlockKind::Heading(_) => self.read_wrapped(alloc, text, definitions, pieces, block),
+            BlockKind::Quote => self.open(alloc, text, block),
+            BlockKind::List(_) => self.open(alloc, text, block),
+            BlockKind::Item => self.open(alloc, text, block),
+            BlockKind::Indented => self.take_lines(alloc, text, false, block, pieces),
+            BlockKind::Fenced(_, _) => self.take_lines(alloc, text, false, block, pieces),
+            BlockKind::Html => self.take_lines(alloc, text, true, block, pieces),
+            BlockKind::Rule => self.take_rule(alloc, text, block),
+        }
+    }
 }
 
-/// All blocks with their inlines; `texts` are those of the definitions.
+/// All blocks with their inlines; `texts` are those of the definitions. The nodes of a block are
+/// written before the next one is read.
 pub fn assemble(
     alloc: Global,
     text: &str,
@@ -369,31 +375,20 @@ pub fn assemble(
     pieces: &[Piece],
     texts: Vec<u8>,
 ) -> Result<Assembly, AllocError>
-    ensures { IfOk result (λ a.
-        assembly_view a
-        ≡ assembled text.now (entry_of definitions.now) blocks.now pieces.now texts.items) }
+    ensures { IfOk result (λ a. assembly_view a ≡ written_alone text.now
+        (assembled text.now (entry_of definitions.now) blocks.now pieces.now texts.items)) }
 {
     let mut assembly = Assembly {
-        nodes: Vec::new(alloc),
-        inlines: Inlines {
-            nodes: Vec::new(alloc),
-            targets: Vec::new(alloc),
-            texts,
-            missed: Vec::new(alloc),
+        emission: Emission {
+            events: Vec::new(alloc),
+            stack: Vec::new(alloc),
         },
+        inlines: no_inlines(alloc, texts),
         lines: Vec::new(alloc),
     };
     for block in blocks {
         let unwrapped = is_unwrapped(blocks, *block);
-        assembly = read_block(
-            alloc,
-            text,
-            definitions,
-            pieces,
-            unwrapped,
-            *block,
-            assembly,
-        )?;
+        assembly.read_block(alloc, text, definitions, pieces, unwrapped, *block)?;
     }
     Ok(assembly)
 }

@@ -3,9 +3,9 @@
 ghost use Rattle.std.specs.Prelude.{◌≡◌, map, string_bytes, IfOk, OnOk};
 ghost use Rattle.tocmark_core_blocks.specs.Definitions.{definition_view};
 ghost use Rattle.tocmark_core_inlines.specs.Definitions.{collected_view, entry_of};
-ghost use Rattle.tocmark_core_reader.specs.Reading.{define_step, collected, first_entry, found_view, found_in};
+ghost use Rattle.tocmark_core_reader.specs.Reading.{define_step, collected, first_entry, core_reading};
+ghost use Rattle.tocmark_event.specs.Reading.{reading_view};
 
-use crate::emit::{Node, emit};
 use crate::page::assemble;
 use std::alloc::{AllocError, Global};
 use tocmark_core_blocks::{LinkDefinition, read_blocks};
@@ -53,17 +53,10 @@ fn definitions(
     Ok(Definitions { places, entries })
 }
 
-/// The nodes of a text, and its labels.
-#[derive(Drop)]
-struct Found {
-    nodes: Vec<Node>,
-    defined: Vec<String>,
-    unresolved: Vec<String>,
-}
-
-#[tactic(auto, unfolding(crate::specs::Reading::found_in))]
-fn find(alloc: Global, text: &str) -> Result<Found, AllocError>
-    ensures { IfOk result (λ f. found_view f ≡ found_in text.now) }
+/// The events of a text, and its labels.
+#[tactic(auto, unfolding(crate::specs::Reading::found_in, crate::specs::Reading::core_reading))]
+fn find(alloc: Global, text: &str) -> Result<Reading, AllocError>
+    ensures { IfOk result (λ found. reading_view found ≡ core_reading text.now) }
 {
     let blocks = read_blocks(alloc, text.as_bytes())?;
     let Collected {
@@ -82,9 +75,10 @@ fn find(alloc: Global, text: &str) -> Result<Found, AllocError>
         &blocks.pieces,
         texts,
     )?;
+    drop(blocks);
     let unresolved = distinct_labels(alloc, &page.inlines.texts, &page.inlines.missed)?;
-    Ok(Found {
-        nodes: page.nodes,
+    Ok(Reading {
+        events: page.emission.finish()?,
         defined,
         unresolved,
     })
@@ -104,7 +98,7 @@ impl Reader for CoreReader {
     ghost reading = { λ _ text _. core_reading text };
 
     /// The reading of a text, with ranges in bytes. An `Err` says that memory ran out.
-    #[tactic(auto, unfolding(crate::specs::Reading::core_reading))]
+    #[tactic(auto, using(crate::proofs::EmitLaws::reading_balanced, crate::proofs::EmitLaws::reading_good))]
     fn read(&self, alloc: Global, text: &str, _flags: ParserOptions) -> Result<Reading, AllocError>
         ensures reading { IfOk result (λ found. reading_view found ≡ core_reading text.now) }
         ensures balanced { IfOk result (λ found.
@@ -116,10 +110,6 @@ impl Reader for CoreReader {
             IsReadAs (reading_view found) (lines_paragraph (meant l) (map meant ms))) }
     {
         let found = find(alloc, text)?;
-        Ok(Reading {
-            events: emit(alloc, text, found.nodes)?,
-            defined: found.defined,
-            unresolved: found.unresolved,
-        })
+        Ok(found)
     }
 }
