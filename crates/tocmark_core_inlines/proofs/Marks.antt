@@ -1,11 +1,11 @@
 -- Lists of roles by the numbers of their marks.
-use Rattle.std.proofs.Common.{◌≡◌, ℕ, zero, suc, ◌+◌, List, [], ◌∷◌, map, replicate, take, refl, sym, ap, ◌∙◌, ◌<◌, length, get_or, arith}
+use Rattle.std.proofs.Common.{◌≡◌, ℕ, zero, suc, ◌+◌, ◌-◌, List, [], ◌∷◌, map, replicate, take, refl, sym, ap, subst, ◌∙◌, ◌<◌, ◌≤◌, length, get_or, arith}
 use Rattle.std.specs.Prelude.{slice_get, slice_set, Option}
 use Rattle.std.proofs.lemmas.Option.{slice_get-get_or}
-use Rattle.std.specs.List.{fold}
+use Rattle.std.specs.List.{fold, insert}
 use Rattle.std.specs.Option.{option_map_or}
 use Rattle.std.proofs.lemmas.List.Sums.{fold_more}
-use Rattle.tocmark_core_inlines.specs.Role.{role_at, with_mark}
+use Rattle.tocmark_core_inlines.specs.Role.{IsSlot, role_at, with_mark}
 use Rattle.tocmark_core_inlines.specs.declared.role.Mark.{Mark}
 use Rattle.tocmark_core_inlines.specs.declared.role.Role.{Role}
 use Rattle.tocmark_core_inlines.specs.declared.role.Role.TheVariants.{Plain}
@@ -24,6 +24,32 @@ set_again l i j a b e = sym (twice l j a b) ∙ ap (λ k. slice_set (slice_set l
     twice [] i a b = refl
     twice (x ∷ l) zero a b = refl
     twice (x ∷ l) (suc i) a b = ap (λ r. x ∷ r) (twice l i a b)
+
+-- what is set at two places may be set in either order
+pub set_apart : {A : Type 0} (l : List A) (i j : ℕ) (a b : A) → j < i → slice_set (slice_set l j b) i a ≡ slice_set (slice_set l i a) j b
+set_apart [] i j a b h = refl
+set_apart (x ∷ l) zero j a b h = absurd (omega (arith, h))
+set_apart (x ∷ l) (suc i) zero a b h = refl
+set_apart (x ∷ l) (suc i) (suc j) a b h = ap (λ r. x ∷ r) (set_apart l i j a b (let k : j < i = omega (arith, h) in k))
+
+-- a mark behind all
+insert_last : (marks : List Mark) (m : Mark) (roles : List Role) → fold with_mark roles (insert marks (length marks) m) ≡ with_mark (fold with_mark roles marks) m
+insert_last [] m roles = refl
+insert_last (x ∷ marks) m roles = insert_last marks m (with_mark roles x)
+
+pub slot_last : (marks : List Mark) (place k : ℕ) → k ≡ length marks → IsSlot marks place k
+slot_last marks place k e = subst (IsSlot marks place) (sym e) (λ roles r. insert_last marks (record { place = place; role = r }) roles)
+
+-- a mark in front of one that stands at a later place
+insert_step : (marks : List Mark) (k : ℕ) (d m : Mark) (roles : List Role) → k < length marks → m.place < (get_or marks k d).place → fold with_mark roles (insert marks k m) ≡ fold with_mark roles (insert marks (suc k) m)
+insert_step [] k d m roles within later = absurd (omega (arith, within))
+insert_step (x ∷ marks) zero d m roles within later = ap (λ rs. fold with_mark rs marks) (set_apart roles x.place m.place x.role m.role later)
+insert_step (x ∷ marks) (suc k) d m roles within later = insert_step marks k d m (with_mark roles x) (let w : k < length marks = omega (arith, within) in w) later
+
+pub slot_down : (marks : List Mark) (place k : ℕ) (d : Mark) → 0 < k → k ≤ length marks → place < (get_or marks (k - 1) d).place → IsSlot marks place k → IsSlot marks place (k - 1)
+slot_down marks place k d some within later h =
+    let next : k ≡ suc (k - 1) = omega (arith, some) in
+    λ roles r. insert_step marks (k - 1) d (record { place = place; role = r }) roles (omega (arith, some, within)) later ∙ subst (IsSlot marks place) next h roles r
 
 -- a byte without a number is plain
 pub unmarked : (marks : List Mark) (n : ℕ) → map (role_at marks) (replicate n 0) ≡ replicate n Plain

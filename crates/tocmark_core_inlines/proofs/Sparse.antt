@@ -67,6 +67,14 @@ placed s r = by_resume (nat_le s.resume s.place)
     by_resume true = ap (λ p. plus p 1) (shown_place r s)
     by_resume false = refl
 
+passed_place : (end : ℕ) (s : State) → (passed end s).place ≡ end
+unfolding passed
+passed_place end s = refl
+
+mark_place : (u : State) (k : Mark) → (mark_step u k).place ≡ plus k.place 1
+unfolding mark_step
+mark_place u k = placed (passed k.place u) k.role ∙ ap (λ i. plus i 1) (passed_place k.place u)
+
 -- one plain byte, and then more up to a place
 plain_more : (s : State) (end : ℕ) → s.place < end → end < 2 ^ 64 → passed end (role_step s Plain) ≡ passed end s
 unfolding passed role_step shown
@@ -89,6 +97,62 @@ plain_more s end h fits = by_resume (nat_le s.resume s.place) refl
         let above : s.place < s.resume = grind (arith, nat_tests) in
         let same : max s.resume (plus s.place 1) ≡ max s.resume s.place = omega (arith, next) in
         ap (λ p. (record s { text = if nat_lt p end then begun_at p s.text else s.text; place = end })) same
+
+-- a pass to the place where it stands changes nothing
+pub passed_here : (s : State) (end : ℕ) → s.place ≡ end → s ≡ passed end s
+unfolding passed
+passed_here s end at =
+    let none : nat_lt (max s.resume s.place) end ≡ false = no_lt (max s.resume s.place) end (omega (arith, at)) in
+    ap (λ i. record s { place = i }) at ∙ rw none refl
+
+-- the text that is open behind plain bytes from one place to another
+abbrev text_from : ℕ → ℕ → Option ℕ → Option ℕ
+text_from from end o = if nat_lt from end then begun_at from o else o
+
+text_on : (resume place k n : ℕ) (o : Option ℕ) → place ≤ k → k ≤ n → text_from (max resume k) n (text_from (max resume place) k o) ≡ text_from (max resume place) n o
+text_on resume place k n o low high = by_gap (nat_lt (max resume place) k) refl
+  where
+    by_gap : (t : Bool) → nat_lt (max resume place) k ≡ t → text_from (max resume k) n (if t then begun_at (max resume place) o else o) ≡ text_from (max resume place) n o
+    by_gap true e =
+        let near : max resume place < k = grind (arith, nat_tests) in
+        let far : nat_lt (max resume place) n ≡ true = yes_lt (max resume place) n (omega (arith, near, high)) in
+        either (nat_lt (max resume k) n) (begun_at (max resume k) (begun_at (max resume place) o)) (begun_at (max resume place) o) (begun_twice (max resume k) (max resume place) o)
+        ∙ rw far refl
+    by_gap false e =
+        let at : k ≤ max resume place = grind (arith, nat_tests) in
+        let same : max resume k ≡ max resume place = omega (arith, at, low) in
+        ap (λ f. text_from f n o) same
+
+-- a pass to a place and on is one pass
+passed_on : (s : State) (k n : ℕ) → s.place ≤ k → k ≤ n → passed n (passed k s) ≡ passed n s
+unfolding passed
+passed_on s k n low high = ap (λ (o : Option ℕ). record s { text = o; place = n }) (text_on s.resume s.place k n s.text low high)
+
+-- a plain byte that is passed later on
+pub plain_next : (s : State) (k : ℕ) → s.place ≤ k → k + 1 < 2 ^ 64 → passed (k + 1) s ≡ role_step (passed k s) Plain
+plain_next s k low fits =
+    let here : (passed k s).place ≡ k = passed_place k s in
+    let one : plus k 1 ≡ k + 1 = omega (arith, fits) in
+    let there : (role_step (passed k s) Plain).place ≡ k + 1 = placed (passed k s) Plain ∙ ap (λ p. plus p 1) here ∙ one in
+    sym (passed_here (role_step (passed k s) Plain) (k + 1) there
+    ∙ plain_more (passed k s) (k + 1) (omega (arith, here)) fits
+    ∙ passed_on s k (k + 1) low (omega arith))
+
+-- a byte that has a mark
+pub mark_taken : (t s : State) (k : ℕ) (q r : Role) → q ≡ r → k + 1 < 2 ^ 64 → t ≡ mark_step s (record { place = k; role = q }) → passed (k + 1) t ≡ role_step (passed k s) r
+unfolding mark_step
+mark_taken t s k q r e fits h =
+    let one : plus k 1 ≡ k + 1 = omega (arith, fits) in
+    let there : (role_step (passed k s) q).place ≡ k + 1 = placed (passed k s) q ∙ ap (λ p. plus p 1) (passed_place k s) ∙ one in
+    ap (passed (k + 1)) h
+    ∙ sym (passed_here (role_step (passed k s) q) (k + 1) there)
+    ∙ ap (role_step (passed k s)) e
+
+pub mark_reached : (t s : State) (k : ℕ) (q : Role) → k + 1 < 2 ^ 64 → t ≡ mark_step s (record { place = k; role = q }) → t.place ≤ k + 1
+mark_reached t s k q fits h =
+    let one : plus k 1 ≡ k + 1 = omega (arith, fits) in
+    let there : t.place ≡ k + 1 = ap (λ (u : State). u.place) h ∙ mark_place s (record { place = k; role = q }) ∙ one in
+    omega (arith, there)
 
 -- plain bytes up to a place
 pub plain_fold : (n : ℕ) (s : State) → s.place + n < 2 ^ 64 → fold role_step s (replicate n Plain) ≡ passed (s.place + n) s
@@ -145,10 +209,6 @@ next_from m from end h =
     below : (a b : ℕ) → nat_lt a b ≡ true → a < b
     below a b e = grind (arith, nat_tests)
 
-passed_place : (end : ℕ) (s : State) → (passed end s).place ≡ end
-unfolding passed
-passed_place end s = refl
-
 -- the step to a mark is that over the plain bytes before it and its own
 marked_step : (s t : State) (rs : List Role) (from : ℕ) (m : Mark) → fold role_step s rs ≡ t → t.place ≡ from → from ≤ m.place → m.place < 2 ^ 64 → fold role_step s (rs ++ (replicate (m.place - from) Plain ++ m.role ∷ [])) ≡ mark_step t m
 unfolding mark_step
@@ -159,10 +219,6 @@ marked_step s t rs from m e at h fits =
     ∙ ap (λ (u : State). fold role_step u (replicate wide Plain ++ m.role ∷ [])) e
     ∙ fold-append role_step t (replicate wide Plain) (m.role ∷ [])
     ∙ ap (λ (u : State). role_step u m.role) (plain_fold wide t (omega (arith, there, fits)) ∙ ap (λ p. passed p t) there)
-
-mark_place : (u : State) (k : Mark) → (mark_step u k).place ≡ plus k.place 1
-unfolding mark_step
-mark_place u k = placed (passed k.place u) k.role ∙ ap (λ i. plus i 1) (passed_place k.place u)
 
 -- marks in order, over a text of which so much is read
 marks_fold : (marks : List Mark) (from end : ℕ) (rs : List Role) (s t : State) → ascend from end marks ≡ true → end < 2 ^ 64 → from ≤ end → length rs ≡ from → fold role_step s rs ≡ t → t.place ≡ from → fold role_step s (fold with_mark (rs ++ replicate (end - from) Plain) marks) ≡ passed end (fold mark_step t marks)

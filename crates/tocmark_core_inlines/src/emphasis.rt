@@ -76,10 +76,9 @@ impl Openers {
         let inner = minus(plus(opener.place, opener.count), width);
         let span = if two { Span::Strong } else { Span::Emphasis };
         let end = plus(closer.place, width);
-        roles.put(minus(plus(opener.place, opener.count), 1), Role::Hidden)?;
-        roles.put(inner, Role::Open(span, end))?;
-        roles.put(closer.place, Role::Hidden)?;
-        roles.put(minus(end, 1), Role::Close(end))?;
+        let last = minus(plus(opener.place, opener.count), 1);
+        roles.put_behind(last, inner, Role::Open(span, end))?;
+        roles.put_behind(closer.place, minus(end, 1), Role::Close(end))?;
         let left = minus(opener.count, width);
         if left == 0 {
             self.stack.truncate(k);

@@ -1,12 +1,12 @@
 //! What the bytes of a leaf's text are.
 
-ghost use Rattle.std.specs.Prelude.{◌≡◌, IfOk, OnOk, map, replicate, slice_set};
-ghost use Rattle.tocmark_core_inlines.specs.Role.{role_at, roles_of, with_mark};
+ghost use Rattle.std.specs.Prelude.{◌≡◌, ◌≤◌, IfOk, OnOk, length, map, replicate, slice_set};
+ghost use Rattle.tocmark_core_inlines.specs.Role.{IsSlot, role_at, roles_of, with_mark};
 ghost use Rattle.std.specs.List.{fold};
 ghost use Rattle.tocmark_core_inlines.specs.declared.role.Role.TheVariants.{Plain, Hidden};
 
 use std::alloc::{AllocError, Global};
-use tocmark_core_scan::basic::set;
+use tocmark_core_scan::basic::{minus, set};
 use tocmark_event::event::LinkType;
 
 /// A stretch of the texts that a document's inlines have beside its source.
@@ -79,6 +79,25 @@ pub struct Roles {
     pub marks: Vec<Mark>,
 }
 
+/// In front of so many marks at most another one is put.
+const FEW: usize = 8;
+
+/// The number of marks behind which one more goes: all but the last ones that stand at later places, if
+/// these are few, or else all.
+#[tactic(auto, using(crate::proofs::Marks::slot_last, crate::proofs::Marks::slot_down))]
+fn slot(marks: &[Mark], place: usize) -> usize
+    ensures within { result ≤ length marks.now }
+    ensures goes { IsSlot marks.now place result }
+{
+    let first = minus(marks.len(), FEW);
+    for k in (first..marks.len()).rev() {
+        if marks[k].place <= place {
+            return k + 1;
+        }
+    }
+    if first == 0 { 0 } else { marks.len() }
+}
+
 fn zeros(alloc: Global, count: usize) -> Result<Vec<usize>, AllocError>
     ensures { IfOk result (λ v. v.items ≡ replicate count 0) }
 {
@@ -111,20 +130,27 @@ impl Roles {
     pub fn put(&mut self, place: usize, role: Role) -> Result<(), AllocError>
         ensures { OnOk result (roles_of self.new ≡ slice_set (roles_of self.old) place role) }
     {
-        self.marks.push(Mark { place, role })?;
+        let at = slot(&self.marks, place);
+        self.marks.insert(at, Mark { place, role })?;
         Ok(())
     }
 
-    /// Hides the byte at a place, and gives one a role. An `Err` says that memory ran out.
-    #[tactic(auto, using(crate::proofs::Marks::set_again))]
+    /// Hides the byte at a place, and gives one a role, in the order of their places. An `Err` says that
+    /// memory ran out.
+    #[tactic(auto, using(crate::proofs::Marks::set_again, crate::proofs::Marks::set_apart))]
     pub fn put_behind(&mut self, hidden: usize, place: usize, role: Role) -> Result<(), AllocError>
         ensures { OnOk result (roles_of self.new
             ≡ slice_set (slice_set (roles_of self.old) hidden Hidden) place role) }
     {
-        if hidden != place {
+        if hidden < place {
             self.put(hidden, Role::Hidden)?;
+            self.put(place, role)
+        } else if place < hidden {
+            self.put(place, role)?;
+            self.put(hidden, Role::Hidden)
+        } else {
+            self.put(place, role)
         }
-        self.put(place, role)
     }
 
     /// For each byte the number of its last mark, from 1 on; 0 where it has none. An `Err` says that

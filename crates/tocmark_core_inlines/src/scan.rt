@@ -393,8 +393,11 @@ impl Scanner {
         } else {
             Span::Link(number)
         };
-        self.roles.put(minus(bracket.inner, 1), Role::Hidden)?;
-        self.roles.put(bracket.start, Role::Open(span, end))?;
+        self.roles.put_behind(
+            minus(bracket.inner, 1),
+            bracket.start,
+            Role::Open(span, end),
+        )?;
         self.roles.put(self.place, Role::Close(end))?;
         self.resume = end;
         Ok(())

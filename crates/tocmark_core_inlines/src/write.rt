@@ -1,9 +1,9 @@
 //! The second pass over a leaf's text: from what each byte is to nodes.
 
-ghost use Rattle.std.specs.Prelude.{◌≡◌, ◌++◌, IfOk, OnOk, map};
+ghost use Rattle.std.specs.Prelude.{◌≡◌, ◌+◌, ◌^◌, ◌<◌, ◌≤◌, ◌++◌, IfOk, OnOk, map};
 ghost use Rattle.std.specs.List.{fold};
 ghost use Rattle.tocmark_core_scan.specs.Content.{content_view};
-ghost use Rattle.tocmark_core_inlines.specs.Role.{roles_of};
+ghost use Rattle.tocmark_core_inlines.specs.Role.{role_at, roles_of};
 ghost use Rattle.tocmark_core_inlines.specs.Write.{writing, pushed, flushed, opened, closed, single, gone_on, shown, role_step, passed, mark_step, is_between, ascend, written, moved};
 
 use crate::role::{Leaf, Mark, Role, Roles, Span};
@@ -173,16 +173,45 @@ impl Writer {
         Ok(())
     }
 
-    /// Takes the bytes one by one.
+    /// Takes the byte at a place by the number of its mark. One without a mark is passed later on.
+    #[tactic(auto, using(crate::proofs::Sparse::plain_next))]
+    fn take_number(&mut self, roles: &Roles, place: usize, number: usize) -> Result<(), AllocError>
+        requires { (self.old.place ≤ place) × (place + 1 < 2 ^ 64) }
+        ensures role { OnOk result (passed (place + 1) (writing self.new)
+            ≡ role_step (passed place (writing self.old)) (role_at roles.now.marks.items number)) }
+        ensures place { OnOk result (self.new.place ≤ place + 1) }
+    {
+        if number == 0 {
+            return Ok(());
+        }
+        self.step_to(Mark {
+            place,
+            role: roles.role_at(number),
+        })
+    }
+
+    /// Takes the bytes of a text from its front, by the numbers of their marks.
+    fn take_numbers(&mut self, roles: &Roles, numbers: &[usize]) -> Result<(), AllocError>
+        requires { self.old.place ≡ 0 }
+        ensures { OnOk result (writing self.new
+            ≡ fold role_step (writing self.old)
+            (map (role_at roles.now.marks.items) numbers.now)) }
+    {
+        for (place, number) in numbers.iter().enumerate() {
+            self.take_number(roles, place, *number)?;
+        }
+        self.pass(numbers.len());
+        Ok(())
+    }
+
+    /// Takes the bytes of a text from its front, where its marks aren't in order.
     fn take_roles(&mut self, alloc: Global, roles: &Roles) -> Result<(), AllocError>
+        requires { self.old.place ≡ 0 }
         ensures { OnOk result (writing self.new
             ≡ fold role_step (writing self.old) (roles_of roles.now)) }
     {
         let numbers = roles.numbers(alloc)?;
-        for number in &numbers {
-            self.step(roles.role_at(*number))?;
-        }
-        Ok(())
+        self.take_numbers(roles, &numbers)
     }
 }
 
