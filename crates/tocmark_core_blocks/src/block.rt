@@ -35,6 +35,14 @@ pub struct Place {
     pub depth: usize,
 }
 
+/// A line with its columns, and the text that it stands in.
+#[derive(Clone, Copy)]
+pub struct Row<'t, 'c> {
+    pub text: &'t [u8],
+    pub cells: &'c Cells,
+    pub line: Line,
+}
+
 /// The range of a fence's info string.
 #[tactic(auto, unfolding(crate::specs::Blocks::info_of))]
 fn info_of(cells: &Cells, cursor: Cursor, fence: Fence, line: Line) -> BlockKind
@@ -61,20 +69,19 @@ impl Page {
     fn open_quote(
         &mut self,
         alloc: Global,
-        text: &[u8],
-        cells: &Cells,
-        line: Line,
+        row: &Row<'_, '_>,
         place: Place,
     ) -> Result<Place, AllocError>
         ensures { IfOk result (λ next.
-            (page self.new, next) ≡ quote_opened text.now cells.now line place (page self.old)) }
+            (page self.new, next)
+            ≡ quote_opened row.now.text.now row.now.cells.now row.now.line place (page self.old)) }
     {
-        self.close_to(alloc, text, place.depth)?;
+        self.close_to(alloc, row.text, place.depth)?;
         self.leave_list();
-        let start = cell_place(cells, place.cursor.ink, line.end);
-        self.open(Container::Quote, BlockKind::Quote, start, line)?;
+        let start = cell_place(row.cells, place.cursor.ink, row.line.end);
+        self.open(Container::Quote, BlockKind::Quote, start, row.line)?;
         Ok(Place {
-            cursor: after_quote(cells, place.cursor),
+            cursor: after_quote(row.cells, place.cursor),
             depth: self.opened.len(),
         })
     }
@@ -110,21 +117,26 @@ impl Page {
     fn open_item(
         &mut self,
         alloc: Global,
-        text: &[u8],
-        cells: &Cells,
-        line: Line,
+        row: &Row<'_, '_>,
         place: Place,
         item: ItemStart,
     ) -> Result<Place, AllocError>
         ensures { IfOk result (λ next.
-            (page self.new, next) ≡ item_opened text.now cells.now line place item (page self.old)) }
+            (page self.new, next)
+            ≡ item_opened row.now.text.now row.now.cells.now row.now.line place item
+            (page self.old)) }
     {
-        self.close_to(alloc, text, place.depth)?;
-        let start = cell_place(cells, place.cursor.ink, line.end);
-        self.start_list(item, start, line)?;
-        self.open(Container::Item(item.width), BlockKind::Item, start, line)?;
+        self.close_to(alloc, row.text, place.depth)?;
+        let start = cell_place(row.cells, place.cursor.ink, row.line.end);
+        self.start_list(item, start, row.line)?;
+        self.open(
+            Container::Item(item.width),
+            BlockKind::Item,
+            start,
+            row.line,
+        )?;
         Ok(Place {
-            cursor: moved(cells, place.cursor, item.next),
+            cursor: moved(row.cells, place.cursor, item.next),
             depth: self.opened.len(),
         })
     }
@@ -134,25 +146,24 @@ impl Page {
     fn open_once(
         &mut self,
         alloc: Global,
-        text: &[u8],
-        cells: &Cells,
-        line: Line,
+        row: &Row<'_, '_>,
         tail: Tail,
         place: Place,
     ) -> Result<Option<Place>, AllocError>
         ensures { IfOk result (λ next.
             (page self.new, next)
-            ≡ container_once text.now cells.now line tail place (page self.old)) }
+            ≡ container_once row.now.text.now row.now.cells.now row.now.line tail place
+            (page self.old)) }
     {
         let directly = self.goes_directly(place.depth);
-        match container_at(cells, tail, place.cursor, directly) {
+        match container_at(row.cells, tail, place.cursor, directly) {
             None => Ok(None),
             Some(ContainerStart::Quote) => {
-                let next = self.open_quote(alloc, text, cells, line, place)?;
+                let next = self.open_quote(alloc, row, place)?;
                 Ok(Some(next))
             }
             Some(ContainerStart::Item(item)) => {
-                let next = self.open_item(alloc, text, cells, line, place, item)?;
+                let next = self.open_item(alloc, row, place, item)?;
                 Ok(Some(next))
             }
         }
@@ -163,19 +174,18 @@ impl Page {
     fn open_all(
         &mut self,
         alloc: Global,
-        text: &[u8],
-        cells: &Cells,
-        line: Line,
+        row: &Row<'_, '_>,
         tail: Tail,
         first: Place,
     ) -> Result<Place, AllocError>
         ensures { IfOk result (λ last.
             (page self.new, last)
-            ≡ containers_opened text.now cells.now line tail first (page self.old)) }
+            ≡ containers_opened row.now.text.now row.now.cells.now row.now.line tail first
+            (page self.old)) }
     {
         let mut place = first;
-        for _fuel in (0..cells.len()).rev() {
-            match self.open_once(alloc, text, cells, line, tail, place)? {
+        for _fuel in (0..row.cells.len()).rev() {
+            match self.open_once(alloc, row, tail, place)? {
                 None => return Ok(place),
                 Some(next) => place = next,
             }
@@ -197,20 +207,14 @@ impl Page {
 
     /// Puts a line of code or HTML into the open leaf.
     #[tactic(auto, unfolding(crate::specs::Blocks::code_taken))]
-    fn take_code(
-        &mut self,
-        text: &[u8],
-        cells: &Cells,
-        column: usize,
-        line: Line,
-    ) -> Result<(), AllocError>
+    fn take_code(&mut self, row: &Row<'_, '_>, column: usize) -> Result<(), AllocError>
         ensures { OnOk result (page self.new
-            ≡ code_taken text.now cells.now column line (page self.old)) }
+            ≡ code_taken row.now.text.now row.now.cells.now column row.now.line (page self.old)) }
     {
-        let code = code_piece(cells, column, line);
-        let keeps = keeps_line(cells, column, self.leaf);
-        self.take_piece(code, line, keeps)?;
-        self.end_html(piece(text, code.start, code.end));
+        let code = code_piece(row.cells, column, row.line);
+        let keeps = keeps_line(row.cells, column, self.leaf);
+        self.take_piece(code, row.line, keeps)?;
+        self.end_html(piece(row.text, code.start, code.end));
         Ok(())
     }
 
@@ -232,60 +236,56 @@ impl Page {
     fn take_text(
         &mut self,
         alloc: Global,
-        text: &[u8],
-        cells: &Cells,
-        line: Line,
+        row: &Row<'_, '_>,
         place: Place,
     ) -> Result<(), AllocError>
         ensures { OnOk result (page self.new
-            ≡ text_taken text.now cells.now line place (page self.old)) }
+            ≡ text_taken row.now.text.now row.now.cells.now row.now.line place (page self.old)) }
     {
-        let words = text_piece(cells, place.cursor, line);
+        let words = text_piece(row.cells, place.cursor, row.line);
         if !is_paragraph(self.leaf) {
-            self.close_to(alloc, text, place.depth)?;
-            self.open_leaf(Leaf::Paragraph, BlockKind::Paragraph, words.start, line)?;
+            self.close_to(alloc, row.text, place.depth)?;
+            self.open_leaf(Leaf::Paragraph, BlockKind::Paragraph, words.start, row.line)?;
         }
         self.start_text(words.start);
-        self.take_piece(words, line, true)
+        self.take_piece(words, row.line, true)
     }
 
     #[tactic(auto, unfolding(crate::specs::Blocks::indented_started))]
     fn start_indented(
         &mut self,
         alloc: Global,
-        text: &[u8],
-        cells: &Cells,
-        line: Line,
+        row: &Row<'_, '_>,
         place: Place,
         column: usize,
     ) -> Result<(), AllocError>
         ensures { OnOk result (page self.new
-            ≡ indented_started text.now cells.now line place column (page self.old)) }
+            ≡ indented_started row.now.text.now row.now.cells.now row.now.line place column
+            (page self.old)) }
     {
-        self.close_to(alloc, text, place.depth)?;
-        let start = cell_place(cells, column, line.end);
-        self.open_leaf(Leaf::Indented, BlockKind::Indented, start, line)?;
-        self.take_code(text, cells, column, line)
+        self.close_to(alloc, row.text, place.depth)?;
+        let start = cell_place(row.cells, column, row.line.end);
+        self.open_leaf(Leaf::Indented, BlockKind::Indented, start, row.line)?;
+        self.take_code(row, column)
     }
 
     #[tactic(auto, unfolding(crate::specs::Blocks::heading_started))]
     fn start_heading(
         &mut self,
         alloc: Global,
-        text: &[u8],
-        cells: &Cells,
-        line: Line,
+        row: &Row<'_, '_>,
         place: Place,
         heading: Heading,
     ) -> Result<(), AllocError>
         ensures { OnOk result (page self.new
-            ≡ heading_started text.now cells.now line place heading (page self.old)) }
+            ≡ heading_started row.now.text.now row.now.cells.now row.now.line place heading
+            (page self.old)) }
     {
-        self.close_to(alloc, text, place.depth)?;
-        let start = cell_place(cells, place.cursor.ink, line.end);
+        self.close_to(alloc, row.text, place.depth)?;
+        let start = cell_place(row.cells, place.cursor.ink, row.line.end);
         let kind = BlockKind::Heading(heading.level);
-        self.open_leaf(Leaf::Nothing, kind, start, line)?;
-        self.take_piece(heading_piece(cells, heading, line), line, true)?;
+        self.open_leaf(Leaf::Nothing, kind, start, row.line)?;
+        self.take_piece(heading_piece(row.cells, heading, row.line), row.line, true)?;
         self.finish_leaf();
         Ok(())
     }
@@ -294,55 +294,51 @@ impl Page {
     fn start_fence(
         &mut self,
         alloc: Global,
-        text: &[u8],
-        cells: &Cells,
-        line: Line,
+        row: &Row<'_, '_>,
         place: Place,
         fence: Fence,
     ) -> Result<(), AllocError>
         ensures { OnOk result (page self.new
-            ≡ fence_started text.now cells.now line place fence (page self.old)) }
+            ≡ fence_started row.now.text.now row.now.cells.now row.now.line place fence
+            (page self.old)) }
     {
-        self.close_to(alloc, text, place.depth)?;
-        let start = cell_place(cells, place.cursor.ink, line.end);
-        let kind = info_of(cells, place.cursor, fence, line);
-        self.open_leaf(Leaf::Fenced(fence), kind, start, line)
+        self.close_to(alloc, row.text, place.depth)?;
+        let start = cell_place(row.cells, place.cursor.ink, row.line.end);
+        let kind = info_of(row.cells, place.cursor, fence, row.line);
+        self.open_leaf(Leaf::Fenced(fence), kind, start, row.line)
     }
 
     #[tactic(auto, unfolding(crate::specs::Blocks::html_started))]
     fn start_html(
         &mut self,
         alloc: Global,
-        text: &[u8],
-        cells: &Cells,
-        line: Line,
+        row: &Row<'_, '_>,
         place: Place,
         kind: HtmlKind,
     ) -> Result<(), AllocError>
         ensures { OnOk result (page self.new
-            ≡ html_started text.now cells.now line place kind (page self.old)) }
+            ≡ html_started row.now.text.now row.now.cells.now row.now.line place kind
+            (page self.old)) }
     {
-        self.close_to(alloc, text, place.depth)?;
-        let start = cell_place(cells, place.cursor.column, line.end);
-        self.open_leaf(Leaf::Html(kind), BlockKind::Html, start, line)?;
-        self.take_code(text, cells, place.cursor.column, line)
+        self.close_to(alloc, row.text, place.depth)?;
+        let start = cell_place(row.cells, place.cursor.column, row.line.end);
+        self.open_leaf(Leaf::Html(kind), BlockKind::Html, start, row.line)?;
+        self.take_code(row, place.cursor.column)
     }
 
     #[tactic(auto, unfolding(crate::specs::Blocks::rule_started))]
     fn start_rule(
         &mut self,
         alloc: Global,
-        text: &[u8],
-        cells: &Cells,
-        line: Line,
+        row: &Row<'_, '_>,
         place: Place,
     ) -> Result<(), AllocError>
         ensures { OnOk result (page self.new
-            ≡ rule_started text.now cells.now line place (page self.old)) }
+            ≡ rule_started row.now.text.now row.now.cells.now row.now.line place (page self.old)) }
     {
-        self.close_to(alloc, text, place.depth)?;
-        let start = cell_place(cells, place.cursor.ink, line.end);
-        self.open_leaf(Leaf::Nothing, BlockKind::Rule, start, line)?;
+        self.close_to(alloc, row.text, place.depth)?;
+        let start = cell_place(row.cells, place.cursor.ink, row.line.end);
+        self.open_leaf(Leaf::Nothing, BlockKind::Rule, start, row.line)?;
         self.finish_leaf();
         Ok(())
     }
@@ -379,24 +375,23 @@ impl Page {
     fn take_underline(
         &mut self,
         alloc: Global,
-        text: &[u8],
-        cells: &Cells,
-        line: Line,
+        row: &Row<'_, '_>,
         tail: Tail,
         place: Place,
         level: HeadingLevel,
     ) -> Result<(), AllocError>
         ensures { OnOk result (page self.new
-            ≡ underline_taken text.now cells.now line tail place level (page self.old)) }
+            ≡ underline_taken row.now.text.now row.now.cells.now row.now.line tail place level
+            (page self.old)) }
     {
-        self.settle(alloc, text)?;
+        self.settle(alloc, row.text)?;
         if self.has_text() {
-            self.underline(level, line);
+            self.underline(level, row.line);
             return Ok(());
         }
-        match rule_at(cells, tail, place.cursor.ink) {
-            LeafStart::Rule => self.start_rule(alloc, text, cells, line, place),
-            _ => self.take_text(alloc, text, cells, line, place),
+        match rule_at(row.cells, tail, place.cursor.ink) {
+            LeafStart::Rule => self.start_rule(alloc, row, place),
+            _ => self.take_text(alloc, row, place),
         }
     }
 
@@ -405,31 +400,24 @@ impl Page {
     fn start(
         &mut self,
         alloc: Global,
-        text: &[u8],
-        cells: &Cells,
-        line: Line,
+        row: &Row<'_, '_>,
         tail: Tail,
         place: Place,
         leaf: LeafStart,
     ) -> Result<(), AllocError>
         ensures { OnOk result (page self.new
-            ≡ started leaf text.now cells.now line tail place (page self.old)) }
+            ≡ started leaf row.now.text.now row.now.cells.now row.now.line tail place
+            (page self.old)) }
     {
         match leaf {
-            LeafStart::Blank => self.close_to(alloc, text, place.depth),
-            LeafStart::Text => self.take_text(alloc, text, cells, line, place),
-            LeafStart::Indented(column) => {
-                self.start_indented(alloc, text, cells, line, place, column)
-            }
-            LeafStart::Heading(heading) => {
-                self.start_heading(alloc, text, cells, line, place, heading)
-            }
-            LeafStart::Fence(fence) => self.start_fence(alloc, text, cells, line, place, fence),
-            LeafStart::Html(kind) => self.start_html(alloc, text, cells, line, place, kind),
-            LeafStart::Underline(level) => {
-                self.take_underline(alloc, text, cells, line, tail, place, level)
-            }
-            LeafStart::Rule => self.start_rule(alloc, text, cells, line, place),
+            LeafStart::Blank => self.close_to(alloc, row.text, place.depth),
+            LeafStart::Text => self.take_text(alloc, row, place),
+            LeafStart::Indented(column) => { self.start_indented(alloc, row, place, column) }
+            LeafStart::Heading(heading) => { self.start_heading(alloc, row, place, heading) }
+            LeafStart::Fence(fence) => self.start_fence(alloc, row, place, fence),
+            LeafStart::Html(kind) => self.start_html(alloc, row, place, kind),
+            LeafStart::Underline(level) => { self.take_underline(alloc, row, tail, place, level) }
+            LeafStart::Rule => self.start_rule(alloc, row, place),
         }
     }
 
@@ -438,25 +426,23 @@ impl Page {
     fn start_line(
         &mut self,
         alloc: Global,
-        text: &[u8],
-        cells: &Cells,
-        line: Line,
+        row: &Row<'_, '_>,
         first: Place,
     ) -> Result<(), AllocError>
         ensures { OnOk result (page self.new
-            ≡ leaf_started text.now cells.now line first (page self.old)) }
+            ≡ leaf_started row.now.text.now row.now.cells.now row.now.line first (page self.old)) }
     {
-        let tail = tail_of(cells);
-        let place = self.open_all(alloc, text, cells, line, tail, first)?;
+        let tail = tail_of(row.cells);
+        let place = self.open_all(alloc, row, tail, first)?;
         let in_paragraph = is_paragraph(self.leaf);
         let directly = self.goes_directly(place.depth);
         let rest = piece(
-            text,
-            cell_place(cells, place.cursor.ink, line.end),
-            line.end,
+            row.text,
+            cell_place(row.cells, place.cursor.ink, row.line.end),
+            row.line.end,
         );
-        let leaf = leaf_at(cells, rest, tail, place.cursor, in_paragraph, directly);
-        self.start(alloc, text, cells, line, tail, place, leaf)
+        let leaf = leaf_at(row.cells, rest, tail, place.cursor, in_paragraph, directly);
+        self.start(alloc, row, tail, place, leaf)
     }
 
     #[tactic(auto, unfolding(crate::specs::Blocks::turn_of))]
@@ -490,26 +476,20 @@ impl Page {
 
     /// Takes the columns of a line.
     #[tactic(auto, unfolding(crate::specs::Blocks::cells_taken))]
-    fn take_cells(
-        &mut self,
-        alloc: Global,
-        text: &[u8],
-        cells: &Cells,
-        line: Line,
-    ) -> Result<(), AllocError>
+    fn take_cells(&mut self, alloc: Global, row: &Row<'_, '_>) -> Result<(), AllocError>
         ensures { OnOk result (page self.new
-            ≡ cells_taken text.now cells.now line (page self.old)) }
+            ≡ cells_taken row.now.text.now row.now.cells.now row.now.line (page self.old)) }
     {
-        let (depth, cursor) = matched(cells, &self.opened, &self.quotes);
+        let (depth, cursor) = matched(row.cells, &self.opened, &self.quotes);
         let place = Place { cursor, depth };
-        self.touch_line(line, depth);
-        match self.turn_of(cells, place) {
+        self.touch_line(row.line, depth);
+        match self.turn_of(row.cells, place) {
             Turn::Closes => {
-                self.end_leaf(line);
+                self.end_leaf(row.line);
                 Ok(())
             }
-            Turn::Takes(column) => self.take_code(text, cells, column, line),
-            Turn::Passes => self.start_line(alloc, text, cells, line, place),
+            Turn::Takes(column) => self.take_code(row, column),
+            Turn::Passes => self.start_line(alloc, row, place),
         }
     }
 
@@ -525,7 +505,7 @@ impl Page {
         ensures { OnOk result (page self.new ≡ line_taken text.now (page self.old) line) }
     {
         cells.read(text, line)?;
-        self.take_cells(alloc, text, cells, line)
+        self.take_cells(alloc, &Row { text, cells, line })
     }
 
     fn take_lines(&mut self, alloc: Global, text: &[u8], lines: &[Line]) -> Result<(), AllocError>
