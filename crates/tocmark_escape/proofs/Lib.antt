@@ -1,6 +1,7 @@
 pub mod CharacterLemmas
 pub mod EscapeLemmas
 pub mod Bare
+pub mod Runs
 pub mod SpanLemmas
 pub mod ReadBack
 pub mod SpanReads

@@ -1,10 +1,11 @@
 //! How a stretch of text is written, so that it is read back as that text.
 
-ghost use Rattle.std.specs.Prelude.{◌≡◌, ◌++◌, ◌&&◌, chars, encode_utf8_all, string_bytes, false, IfOk, OnOk};
+ghost use Rattle.std.specs.Prelude.{◌≡◌, ◌++◌, ◌&&◌, chars, drop, encode_utf8_all, string_bytes, take, false, IfOk, OnOk};
 ghost use Rattle.std.specs.Char.{is_ascii_digit};
+ghost use Rattle.std.specs.List.{prefix_len};
 ghost use Rattle.tocmark_event.specs.View.{event_view};
 ghost use Rattle.std.specs.Option.{option_map, option_map_or};
-ghost use Rattle.tocmark_escape.specs.Bare.{is_bare};
+ghost use Rattle.tocmark_escape.specs.Bare.{is_mark, is_bare, bare_size, last_of};
 ghost use Rattle.tocmark_escape.specs.Characters.{is_alphanumeric};
 ghost use Rattle.tocmark_escape.specs.Escape.{place_of, has, spot_from, escaped, written, reference, coded, with_backslash, needs_backslash, is_read_as_marker, is_literal, is_encoded, is_marker, is_alone, ends_line, goes_on_marker, doubles_backslash, opens_superscript, opens_emphasis, opens_cell, opens_heading, opens_label, is_own_token};
 
@@ -268,32 +269,71 @@ fn push_character(to: &mut String, place: &EscapePlace<'_>, spot: Spot) -> Resul
     }
 }
 
-/// Whether a character behind another one is a letter, a digit or a space of ASCII that stands for
-/// itself.
-fn is_bare(place: &EscapePlace<'_>, before: Option<char>, c: char) -> bool
-    ensures { result ≡ is_bare (place_of place.now) before c }
+// Each mark stands at its own place, and a comma at every other place.
+static MARKS: [u8; 256] = *b"\
+    ,,,,,,,,,,\n,,\r,,,,,,,,,,,,,,,,,,\
+    ,!,#$,&,,,*,,,,,,,,,,,,,,,,,<,,,\
+    ,,,,,,,,,,,,,,,,,,,,,,,,,,,[\\]^_\
+    `,,,,,,,,,,,,,,,,,,,,,,,,,,{|,~,\
+    ,,,,,,,,,,,,,,,,,,,,,,,,,,,,,,,,\
+    ,,,,,,,,,,,,,,,,,,,,,,,,,,,,,,,,\
+    ,,,,,,,,,,,,,,,,,,,,,,,,,,,,,,,,\
+    ,,,,,,,,,,,,,,,,,,,,,,,,,,,,,,,,";
+
+/// Whether a byte behind another character could be part of a marker, or is written as a reference.
+fn is_mark(byte: u8) -> bool
+    ensures { result ≡ is_mark byte }
 {
-    let is_plain = c.is_ascii_alphanumeric() || c == ' ';
-    is_plain && before.is_some() && !place.last_encoded && c != place.token
+    MARKS[byte as usize] != b','
 }
 
-/// Writes a character before the rest of its stretch.
-fn push_next(
-    to: &mut String,
-    place: &EscapePlace<'_>,
-    before: Option<char>,
-    only_digits: bool,
-    character: char,
-    after: &str,
-) -> Result<(), AllocError>
-    ensures { let spot = spot_from before only_digits character (chars after.now) in
-        OnOk result (string_bytes to.new
-        ≡ string_bytes to.old ++ encode_utf8_all (written (place_of place.now) spot)) }
+/// How many bytes at the front of a text are no marks.
+fn bare_front(bytes: &[u8]) -> usize
+    ensures { result ≡ prefix_len is_bare bytes.now }
 {
-    if is_bare(place, before, character) {
-        return to.push(character);
+    bytes.iter().take_while(|byte| !is_mark(**byte)).count()
+}
+
+/// How many bytes at the front of a text stand for themselves behind another character: none behind
+/// digits alone, before what may be encoded, or where emphasis has a marker of its own.
+fn bare_size(place: &EscapePlace<'_>, only_digits: bool, text: &str) -> usize
+    ensures { result ≡ bare_size (place_of place.now) only_digits text.now }
+{
+    if only_digits || place.last_encoded || !matches!(place.token, '*' | '_') {
+        0
+    } else {
+        bare_front(text.as_bytes())
     }
-    push_character(to, place, spot_from(before, only_digits, character, after))
+}
+
+/// The run of these bytes, and the rest of the text.
+fn cut_bare<'a>(place: &EscapePlace<'_>, only_digits: bool, text: &'a str) -> (&'a str, &'a str)
+    ensures front { let size = bare_size (place_of place.now) only_digits text.now in
+        result.0.now ≡ take size text.now }
+    ensures back { let size = bare_size (place_of place.now) only_digits text.now in
+        result.1.now ≡ drop size text.now }
+{
+    text.split_at(bare_size(place, only_digits, text))
+}
+
+/// Writes a run as it is; behind most marks there is none.
+fn push_run(to: &mut String, run: &str) -> Result<(), AllocError>
+    ensures { OnOk result (string_bytes to.new ≡ string_bytes to.old ++ run.now) }
+{
+    if run.is_empty() {
+        return Ok(());
+    }
+    to.push_str(run)
+}
+
+/// The last one of a character and those of a text behind it.
+fn last_of(character: char, text: &str) -> char
+    ensures { result ≡ last_of character (chars text.now) }
+{
+    match text.chars().next_back() {
+        Some(last) => last,
+        None => character,
+    }
 }
 
 /// A stretch of text as it is written at its place, so that it is read back as that text.
@@ -309,16 +349,14 @@ pub fn escape_text(alloc: Global, text: &str, place: &EscapePlace<'_>) -> Result
     let mut only_digits = true;
     let mut rest = text.chars();
     while let Some(character) = rest.next() {
-        push_next(
-            &mut escaped,
-            place,
-            before,
-            only_digits,
-            character,
-            rest.as_str(),
-        )?;
+        let after = rest.as_str();
+        let spot = spot_from(before, only_digits, character, after);
+        push_character(&mut escaped, place, spot)?;
         only_digits = is_digits(only_digits, character);
-        before = Some(character);
+        let (run, tail) = cut_bare(place, only_digits, after);
+        push_run(&mut escaped, run)?;
+        before = Some(last_of(character, run));
+        rest = tail.chars();
     }
     Ok(escaped)
 }

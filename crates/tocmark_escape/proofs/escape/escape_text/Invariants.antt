@@ -1,4 +1,4 @@
-use Rattle.std.proofs.Common.{◌≡◌, ◌++◌, IsUtf8, chars, string_bytes, encode_utf8_all}
+use Rattle.std.proofs.Common.{◌≡◌, ◌++◌, IsUtf8, chars, length, string_bytes, encode_utf8_all}
 use Rattle.std.specs.Str.Iter.{chars_rest}
 use Rattle.tocmark_escape.specs.Escape.{place_of, escaped}
 use Rattle.tocmark_escape.proofs.EscapeLemmas.{escape_on}
@@ -10,3 +10,6 @@ invariant-loop-character l = record {
   same : string_bytes l.escaped ++ encode_utf8_all (escape_on (place_of l.place) l.before l.only_digits (chars (chars_rest l.rest)))
       ≡ escaped (place_of l.fn.place) l.fn.text;
 }
+
+abbrev pub decreases-loop-character : goal.decreases-loop-character
+decreases-loop-character l = length (chars_rest l.rest)
