@@ -1,6 +1,6 @@
 -- What is asked of the events round a container, in trees and in the flat list.
-use Rattle.std.proofs.Common.{◌≡◌, if◌then◌else◌, ℕ, zero, suc, ◌+◌, Bool, true, false, Option, List, [], ◌∷◌, ◌++◌, refl, sym, ap, ◌∙◌, take, drop, reverse, subst, length, slice_index, ◌<◌, ◌-◌, arith, get_or}
-use Rattle.std.specs.Prelude.{codes, ◌==◌, not, ◌&&◌, ◌||◌}
+use Rattle.std.proofs.Common.{◌≡◌, if◌then◌else◌, ℕ, zero, suc, ◌+◌, Bool, true, false, Option, List, [], ◌∷◌, ◌++◌, refl, sym, ap, ◌∙◌, take, drop, reverse, subst, length, ◌<◌, ◌-◌, arith, get_or}
+use Rattle.std.specs.Prelude.{codes, ◌==◌, not, ◌&&◌, ◌||◌, None, slice_index_or, unwrap_or}
 use Rattle.std.specs.List.{list_any}
 use Rattle.std.proofs.lemmas.List.{reverse-append, append_assoc, append-nil, drop_more, take_more, length-drop}
 use Rattle.tocmark_event.specs.View.{TagView, Link, Image, SourcedEvent, SourcedLeaf, EventView, Start, End, Leaf, end_of}
@@ -16,6 +16,7 @@ use Rattle.tocmark_spelling.specs.Runs.{opening_run, closing_run, run_at, start_
 use Rattle.tocmark_spelling.specs.Machine.{Layers, layers, with_node, kids_of, around}
 use Rattle.tocmark_spelling.specs.Scans.{span, AreEnds}
 use Rattle.tocmark_ahead.specs.Ahead.{body_in, reads_back, is_named_by_id, behind_body, up_to_end, IsNested, AreNested, opening_ahead, closing_ahead, ends_here, first_width, width_in, width_ahead_of, character_before, character_after, starts_disturber, disturbers, is_disturbed, prefers_ahead, has_start, has_inline_event, some_start, is_tight_body, sum_starts, count_starts, is_lone_paragraph, AreSeen, HoldMarks, AreDisturbed}
+use Rattle.tocmark_ahead.proofs.Closers.{body-reaches}
 use Rattle.tocmark_ahead.proofs.Gathered.{empty-scan, begins-scan, joined-scan, first-scan}
 use Rattle.tocmark_spelling.proofs.Looks.{leaf-scan}
 use Rattle.tocmark_spelling.proofs.Follows.{kids-flat}
@@ -381,16 +382,17 @@ module _ (es rest : List SourcedEvent) (i : ℕ) (e : SourcedEvent) (at : drop i
       ∙ ap (λ x. get_or x 0 e ∷ reverse (take i es)) (sym (drop_more es i e place-within) ∙ at)
 
 -- a column of marks gives that of the preferences
-pub are-disturbed : (s : Setting) (runs : Bool) (es : List SourcedEvent) (marks : List Bool) (ends : List ℕ) (found : List Bool)
+pub are-disturbed : (s : Setting) (runs : Bool) (es : List SourcedEvent) (marks : List Bool) (ends : List (Option ℕ)) (found : List Bool)
     → marks ≡ disturbers s runs [] es → AreEnds es ends → HoldMarks marks ends found → AreDisturbed s runs es found
 are-disturbed s runs es marks ends found e are hold i t rest at =
     let lt : i < length es = place-within es rest i (Start t) at in
     let within : i < length marks = omega (arith, lt, ap length e ∙ disturbers-length s runs es []) in
-    let width : slice_index ends i - (i + 1) ≡ span 0 (drop (i + 1) es) = omega (arith, are.at i lt) in
+    let reach = body-reaches es rest i t (slice_index_or ends i None) at (are.at i) (length marks) (ap length e ∙ disturbers-length s runs es []) in
+    let width : unwrap_or (slice_index_or ends i None) (length marks) - (i + 1) ≡ span 0 rest = omega (arith, reach) in
     let marked : drop (i + 1) marks ≡ disturbers s runs (reverse (take (i + 1) es)) (drop (i + 1) es) =
     ap (drop (i + 1)) e ∙ disturbers-drop s runs (i + 1) es [] ∙ ap (λ b. disturbers s runs b (drop (i + 1) es)) (append-nil (reverse (take (i + 1) es))) in
     hold.at i within
     ∙ ap (λ n. list_any (λ b. b) (take n (drop (i + 1) marks))) width
-    ∙ ap (λ ms. list_any (λ b. b) (take (span 0 (drop (i + 1) es)) ms)) marked
-    ∙ ap (λ b. is_disturbed s runs b (drop (i + 1) es)) (place-before es rest i (Start t) at)
-    ∙ ap (λ r. is_disturbed s runs (Start t ∷ reverse (take i es)) r) (place-rest es rest i (Start t) at)
+    ∙ ap (λ ms. list_any (λ b. b) (take (span 0 rest) ms)) marked
+    ∙ ap (λ r. list_any (λ b. b) (take (span 0 rest) (disturbers s runs (reverse (take (i + 1) es)) r))) (place-rest es rest i (Start t) at)
+    ∙ ap (λ b. is_disturbed s runs b rest) (place-before es rest i (Start t) at)

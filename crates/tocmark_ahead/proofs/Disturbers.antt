@@ -1,39 +1,40 @@
 -- The starts of the nodes that disturb, one event after the other.
-use Rattle.std.proofs.Common.{◌≡◌, ℕ, suc, ◌+◌, ◌<◌, Bool, Option, List, [], ◌∷◌, ◌++◌, refl, sym, ap, ◌∙◌, take, drop, reverse, length, arith, slice_index, slice_index_or}
+use Rattle.std.proofs.Common.{◌≡◌, ℕ, suc, ◌+◌, ◌<◌, Bool, Option, List, [], ◌∷◌, ◌++◌, refl, sym, ap, ◌∙◌, take, drop, reverse, length, arith, slice_index_or}
 use Rattle.std.specs.Prelude.{◌&&◌}
 use Rattle.std.proofs.lemmas.List.{append_assoc, drop-drop}
-use Rattle.tocmark_event.specs.View.{SourcedEvent, Start, End, Leaf}
+use Rattle.tocmark_event.specs.View.{SourcedEvent, TagView, Start, End, Leaf}
 use Rattle.tocmark_spelling.specs.Plan.{Setting}
 use Rattle.tocmark_spelling.specs.Runs.{start_width, close_width, counts, disturbs_at}
-use Rattle.tocmark_spelling.specs.Scans.{span, AreEnds}
+use Rattle.tocmark_spelling.specs.Scans.{span}
 use Rattle.tocmark_ahead.specs.Ahead.{behind_body, character_before, character_after, starts_disturber, disturbers}
 use Rattle.tocmark_ahead.specs.Sides.{mark_of, no_side, AreRound}
 use Rattle.tocmark_ahead.specs.declared.sides.Side.{Side}
 use Rattle.tocmark_ahead.proofs.Ahead.{place-rest, place-before, place-within}
 
 mark-is : (s : Setting) (runs : Bool) (e : SourcedEvent) (before rest : List SourcedEvent) (b f a : Option ℕ)
-    → b ≡ character_before runs before → f ≡ character_after runs start_width rest → a ≡ character_after runs close_width (behind_body rest)
+    → b ≡ character_before runs before → f ≡ character_after runs start_width rest
+    → ((t : TagView) → e ≡ Start t → a ≡ character_after runs close_width (behind_body rest))
     → mark_of s runs e b f a ≡ starts_disturber s runs before e rest
-mark-is s runs (Start t) before rest b f a p q r = λ i. counts runs t && disturbs_at s (p i) (q i) (r i)
+mark-is s runs (Start t) before rest b f a p q r = let behind = r t refl in λ i. counts runs t && disturbs_at s (p i) (q i) (behind i)
 mark-is s runs (End k) before rest b f a p q r = refl
 mark-is s runs (Leaf l) before rest b f a p q r = refl
 
 module _ (es rest : List SourcedEvent) (n : ℕ) (e : SourcedEvent) (at : drop n es ≡ e ∷ rest) where
   -- the event at a place by the columns
-  pub mark-at : (s : Setting) (runs : Bool) (ends : List ℕ) (befores starts_on ends_on : List Side) (m : Bool) (b f a : Option ℕ)
-      → AreEnds es ends → AreRound runs es befores starts_on ends_on
-      → b ≡ (slice_index_or befores n no_side).character → f ≡ (slice_index_or starts_on (n + 1) no_side).character → a ≡ (slice_index_or ends_on (slice_index ends n + 1) no_side).character
+  pub mark-at : (s : Setting) (runs : Bool) (end : ℕ) (befores starts_on ends_on : List Side) (m : Bool) (b f a : Option ℕ)
+      → ((t : TagView) → drop n es ≡ Start t ∷ rest → end ≡ n + 1 + span 0 rest) → AreRound runs es befores starts_on ends_on
+      → b ≡ (slice_index_or befores n no_side).character → f ≡ (slice_index_or starts_on (n + 1) no_side).character → a ≡ (slice_index_or ends_on (end + 1) no_side).character
       → m ≡ mark_of s runs e b f a → m ≡ starts_disturber s runs (reverse (take n es)) e rest
-  mark-at s runs ends befores starts_on ends_on m b f a are round p q r is =
+  mark-at s runs end befores starts_on ends_on m b f a reach round p q r is =
       let lt : n < length es = place-within es rest n e at in
       let next : drop (n + 1) es ≡ rest = place-rest es rest n e at in
-      let place : slice_index ends n + 1 ≡ n + 1 + suc (span 0 (drop (n + 1) es)) = omega (arith, are.at n lt) in
-      let beyond : drop (slice_index ends n + 1) es ≡ behind_body rest =
-      ap (λ k. drop k es) place ∙ sym (drop-drop (suc (span 0 (drop (n + 1) es))) (n + 1) es) ∙ ap behind_body next in
+      let beyond : (t : TagView) → e ≡ Start t → drop (end + 1) es ≡ behind_body rest = λ t start.
+      let place : end + 1 ≡ n + 1 + suc (span 0 rest) = omega (arith, reach t (at ∙ ap (λ x. x ∷ rest) start)) in
+      ap (λ k. drop k es) place ∙ sym (drop-drop (suc (span 0 rest)) (n + 1) es) ∙ ap (drop (suc (span 0 rest))) next in
       is ∙ mark-is s runs e (reverse (take n es)) rest b f a
       (p ∙ round.before n lt)
       (q ∙ round.starts (n + 1) ∙ ap (character_after runs start_width) next)
-      (r ∙ round.behind (slice_index ends n + 1) ∙ ap (character_after runs close_width) beyond)
+      (λ t start. r ∙ round.behind (end + 1) ∙ ap (character_after runs close_width) (beyond t start))
 
   -- one mark more
   pub marks-step : (s : Setting) (runs : Bool) (marks new whole : List Bool) (m : Bool) → new ≡ marks ++ m ∷ [] → m ≡ starts_disturber s runs (reverse (take n es)) e rest

@@ -1,6 +1,6 @@
 -- What the spelling of a container asks of the events round it, as functions of the flat list: of the events before its
 -- Start, the last one first, and of those behind it.
-use Rattle.std.specs.Prelude.{◌≡◌, ℕ, zero, suc, ◌+◌, ◌==◌, Bool, true, false, not, ◌&&◌, ◌||◌, if◌then◌else◌, Option, List, [], ◌∷◌, ◌++◌, map, codes, take, drop, reverse, length, nat_lt, slice_index, slice_index_or, ◌-◌, ◌<◌, None, Some}
+use Rattle.std.specs.Prelude.{◌≡◌, ℕ, zero, suc, ◌+◌, ◌==◌, Bool, true, false, not, ◌&&◌, ◌||◌, if◌then◌else◌, Option, List, [], ◌∷◌, ◌++◌, map, codes, take, drop, reverse, length, nat_lt, slice_index_or, ◌-◌, ◌<◌, None, Some, unwrap_or}
 use Rattle.std.specs.List.{list_any}
 use Rattle.tocmark_event.specs.View.{TagView, Link, Image, unsourced, SourcedEvent, EventView, LeafView, Start, End, Leaf, end_of}
 use Rattle.tocmark_event.specs.Forest.{flat_onto, flat}
@@ -209,15 +209,18 @@ abbrev pub first_mark : ℕ → List Bool → Option ℕ
 first_mark i [] = None
 first_mark i (b ∷ bs) = if b then Some i else first_mark (i + 1) bs
 
--- whether there is such a place and it comes before an end
-abbrev pub comes_before : Option ℕ → ℕ → Bool
-comes_before None end_place = false
-comes_before (Some place) end_place = nat_lt place end_place
+-- whether there is such a place and it comes before an end; any does where there is no end
+abbrev pub comes_before : Option ℕ → Option ℕ → Bool
+comes_before None end = false
+comes_before (Some place) None = true
+comes_before (Some place) (Some end) = nat_lt place end
 
--- for each place whether one behind it and before its end is marked
-pub record HoldMarks (marks : List Bool) (ends : List ℕ) (found : List Bool) : Type 0 where
+-- for each place whether one behind it and before its end is marked, or one behind it where it has no end
+pub record HoldMarks (marks : List Bool) (ends : List (Option ℕ)) (found : List Bool) : Type 0 where
   pub len : length found ≡ length marks
-  pub at : (i : ℕ) → i < length marks → slice_index_or found i false ≡ list_any (λ b. b) (take (slice_index ends i - (i + 1)) (drop (i + 1) marks))
+  pub at : (i : ℕ) → i < length marks
+      → slice_index_or found i false
+      ≡ list_any (λ b. b) (take (unwrap_or (slice_index_or ends i None) (length marks) - (i + 1)) (drop (i + 1) marks))
 
 -- for each Start whether a node of its body disturbs
 abbrev pub AreDisturbed : Setting → Bool → List SourcedEvent → List Bool → Type 0

@@ -13,6 +13,7 @@ ghost use Rattle.tocmark_spelling.specs.Plan.{Setting};
 ghost use Rattle.tocmark_spelling.specs.Scans.{AreEnds};
 
 use crate::boundary::is_boundary;
+use crate::ends::{body_end, end_at};
 use crate::sides::{Counted, Side, sides_ahead, sides_before};
 use std::alloc::{AllocError, Global};
 use tocmark_event::event::{EventOf, TagOf};
@@ -142,7 +143,7 @@ fn disturbers<R: Reader>(
     reader: &R,
     runs: bool,
     events: &[BufferedEvent],
-    ends: &[usize],
+    ends: &[Option<usize>],
     round: &Round,
 ) -> Result<Vec<bool>, AllocError>
     requires ends { AreEnds (map buffered_view events.now) ends.now }
@@ -160,19 +161,21 @@ fn disturbers<R: Reader>(
         let i = marks.len();
         let left = character_at(&round.before, i);
         let first = character_behind(&round.starts, i);
-        let after = character_behind(&round.ends, ends[i]);
+        let after = character_behind(&round.ends, body_end(ends, i));
         let mark = mark_of(alloc, reader, runs, event, left, first, after)?;
         marks.push(mark)?;
     }
     Ok(marks)
 }
 
-fn comes_before(place: Option<usize>, end: usize) -> bool
+/// Whether there is a place and it comes before an end; any does where there is no end.
+fn comes_before(place: Option<usize>, end: Option<usize>) -> bool
     ensures { result ≡ comes_before place end }
 {
-    match place {
-        None => false,
-        Some(place) => place < end,
+    match (place, end) {
+        (None, _) => false,
+        (Some(_), None) => true,
+        (Some(place), Some(end)) => place < end,
     }
 }
 
@@ -182,11 +185,16 @@ fn nearer(is_marked: bool, place: usize, nearest: Option<usize>) -> Option<usize
     if is_marked { Some(place) } else { nearest }
 }
 
-/// For each place whether one behind it and before its end is marked.
+/// For each place whether one behind it and before its end is marked, or one behind it where it
+/// has no end.
 ///
 /// Where the marks are at the starts that would need asterisks that could close what is round them, that
 /// is whether a container prefers the underscore. An `Err` says that memory ran out.
-pub fn marks_within(alloc: Global, marks: &[bool], ends: &[usize]) -> Result<Vec<bool>, AllocError>
+pub fn marks_within(
+    alloc: Global,
+    marks: &[bool],
+    ends: &[Option<usize>],
+) -> Result<Vec<bool>, AllocError>
     requires { length ends.now ≡ length marks.now }
     ensures marked { IfOk result (λ found. HoldMarks marks.now ends.now found.items) }
     ensures disturbed { (s : Setting) (runs : Bool) (es : List SourcedEvent)
@@ -198,7 +206,7 @@ pub fn marks_within(alloc: Global, marks: &[bool], ends: &[usize]) -> Result<Vec
     let mut i = marks.len();
     while i > 0 {
         i -= 1;
-        found[i] = comes_before(nearest, ends[i]);
+        found[i] = comes_before(nearest, end_at(ends, i));
         nearest = nearer(marks[i], i, nearest);
     }
     Ok(found)
@@ -219,7 +227,7 @@ pub fn preferences<R: Reader>(
     reader: &R,
     runs: bool,
     events: &[BufferedEvent],
-    ends: &[usize],
+    ends: &[Option<usize>],
 ) -> Result<Vec<bool>, AllocError>
     requires { AreEnds (map buffered_view events.now) ends.now }
     ensures { (o : OptionsView) (flags : ParserOptions) (label : Option (List ℕ))

@@ -1,5 +1,5 @@
 -- What the columns say of a place is what an opening there is told.
-use Rattle.std.proofs.Common.{◌≡◌, ℕ, zero, suc, ◌+◌, ◌-◌, ◌<◌, ◌≤◌, Bool, true, false, List, ◌∷◌, ◌++◌, Option, Some, None, IfSome, refl, sym, ap, ◌∙◌, subst, map, drop, take, reverse, length, get_or, slice_index, slice_index_or, arith, if◌then◌else◌}
+use Rattle.std.proofs.Common.{◌≡◌, ℕ, zero, suc, ◌+◌, ◌-◌, ◌<◌, ◌≤◌, Bool, true, false, List, ◌∷◌, ◌++◌, Option, Some, None, IfSome, refl, sym, ap, ◌∙◌, subst, map, drop, take, reverse, length, get_or, slice_index_or, arith, if◌then◌else◌}
 use Rattle.std.specs.Prelude.{not, ◌&&◌, ◌||◌, ◌==◌}
 use Rattle.std.proofs.lemmas.List.{reverse-append, drop-drop, length-drop}
 use Rattle.std.proofs.lemmas.Bool.{eqb-true, false≢true}
@@ -18,7 +18,7 @@ use Rattle.tocmark_spelling.specs.Marker.{ends_delimiter, is_strong}
 use Rattle.tocmark_spelling.specs.Page.{front}
 use Rattle.tocmark_spelling.specs.PlanOf.{setting_of}
 use Rattle.tocmark_spelling.specs.Runs.{Run, behind_run, is_marker, marker_only, text_only, tag_width, start_width, close_width}
-use Rattle.tocmark_spelling.specs.Scans.{span, AreEnds}
+use Rattle.tocmark_spelling.specs.Scans.{span}
 use Rattle.tocmark_spelling.specs.Words.{or_else}
 use Rattle.tocmark_spelling.specs.declared.buffered.BufferedEvent.{BufferedEvent}
 use Rattle.tocmark_spelling.proofs.Turns.{before-event, drop-all, drop-event, events-take, length-events}
@@ -120,20 +120,17 @@ start-is : (es rest : List SourcedEvent) (i : ℕ) (e : SourcedEvent) (t : TagVi
 start-is es rest i e t a b = ap (λ x. get_or x 0 e) (sym a ∙ b)
 
 -- a place where a container of emphasis or strong emphasis starts
-module _ (reading : Readings) (es rest : List SourcedEvent) (i end : ℕ) (e : SourcedEvent) (t : TagView) (c : Columns) (preferred : Bool) (next : Option EventView) (own : ℕ) (before first last after : Side) (n : Node) (ends : List ℕ) (cols : AreColumns reading es c) (are : AreEnds es ends) (end_is : end ≡ slice_index ends i) (event : drop i es ≡ e ∷ drop (i + 1) es) (begins : Begins es i t rest) (found : IsFound es i end e c preferred next own before first last after n) where
+module _ (reading : Readings) (es rest : List SourcedEvent) (i end : ℕ) (e : SourcedEvent) (t : TagView) (c : Columns) (preferred : Bool) (next : Option EventView) (own : ℕ) (before first last after : Side) (n : Node) (cols : AreColumns reading es c) (end_is : end ≡ i + 1 + span 0 rest) (event : drop i es ≡ e ∷ drop (i + 1) es) (begins : Begins es i t rest) (found : IsFound es i end e c preferred next own before first last after n) where
   lt : i < length es
   lt = place-within es rest i (Start t) begins.at
-
-  end-place : end ≡ i + 1 + span 0 rest
-  end-place = end_is ∙ are.at i lt ∙ ap (λ x. i + 1 + span 0 x) (place-rest es rest i (Start t) begins.at)
 
   end-within : end < length es
   end-within =
       let less = nested-within t rest begins.nested in
-      omega (arith, less, end-place, lt, sym (length-drop i es) ∙ ap length begins.at)
+      omega (arith, less, end_is, lt, sym (length-drop i es) ∙ ap length begins.at)
 
   behind : drop (end + 1) es ≡ behind_body rest
-  behind = behind-end es rest i end t begins.at end-place
+  behind = behind-end es rest i end t begins.at end_is
 
   tag-is : tag_at n ≡ t
   tag-is =
@@ -156,7 +153,7 @@ module _ (reading : Readings) (es rest : List SourcedEvent) (i end : ℕ) (e : S
       found.closing
       ∙ ap (λ w. run_of w last after) own-is
       ∙ ap (λ s. run_of (tag_width t) s after)
-      (found.last_is ∙ cols.ends_before end end-within ∙ ap (side_at false close_width) (before-end es rest i end t begins.at end-place))
+      (found.last_is ∙ cols.ends_before end end-within ∙ ap (side_at false close_width) (before-end es rest i end t begins.at end_is))
       ∙ ap (λ s. run_of (tag_width t) (side_at false close_width (up_to_end (Start t ∷ reverse (take i es)) rest)) s)
       (found.after_is ∙ cols.ends_ahead (end + 1) ∙ ap (side_at true close_width) behind)
 
@@ -220,11 +217,9 @@ literals-low reading es c cols i end own own' before first last after n lt openi
     }
 
 -- the event just behind a container
-pub next-is : (es rest : List SourcedEvent) (i : ℕ) (t : TagView) (ends : List ℕ) → AreEnds es ends → Begins es i t rest → or_else (front (drop (slice_index ends i + 1) es)) None ≡ front (behind_body rest)
-next-is es rest i t ends are begins =
-    let lt : i < length es = place-within es rest i (Start t) begins.at in
-    let place : slice_index ends i ≡ i + 1 + span 0 rest = are.at i lt ∙ ap (λ x. i + 1 + span 0 x) (place-rest es rest i (Start t) begins.at) in
-    or-none (front (drop (slice_index ends i + 1) es)) ∙ ap front (behind-end es rest i (slice_index ends i) t begins.at place)
+pub next-is : (es rest : List SourcedEvent) (i end : ℕ) (t : TagView) → end ≡ i + 1 + span 0 rest → Begins es i t rest → or_else (front (drop (end + 1) es)) None ≡ front (behind_body rest)
+next-is es rest i end t place begins =
+    or-none (front (drop (end + 1) es)) ∙ ap front (behind-end es rest i end t begins.at place)
   where
     or-none : (o : Option EventView) → or_else o None ≡ o
     or-none None = refl

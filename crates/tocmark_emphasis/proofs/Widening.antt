@@ -1,16 +1,16 @@
 -- The widths, one event after the other from the last one on.
-use Rattle.std.proofs.Common.{◌≡◌, ℕ, suc, ◌+◌, ◌*◌, ◌≤◌, ◌<◌, Bool, true, false, List, [], ◌∷◌, refl, sym, ap, ◌∙◌, length, arith, subst, drop, get_or, slice_index}
+use Rattle.std.proofs.Common.{◌≡◌, ℕ, suc, ◌+◌, ◌*◌, ◌≤◌, Bool, true, false, List, [], ◌∷◌, refl, sym, ap, ◌∙◌, length, arith, subst, drop, get_or}
 use Rattle.std.proofs.lemmas.List.{drop_all, get_or_past, drop-drop}
 use Rattle.tocmark_event.specs.View.{SourcedEvent, TagView, Emphasis, Strong, Start, End, Leaf}
-use Rattle.tocmark_spelling.specs.Scans.{span, AreEnds}
+use Rattle.tocmark_spelling.specs.Scans.{span}
 use Rattle.tocmark_ahead.specs.Ahead.{behind_body, ends_here, first_width, width_in}
 use Rattle.tocmark_emphasis.specs.Widths.{width_with}
 
 -- one event more in front
-with-event : (e : SourcedEvent) (rest : List SourcedEvent) → width_with e (ends_here (behind_body rest)) (width_in rest) ≡ width_in (e ∷ rest)
-with-event (Start t) rest = refl
-with-event (End k) rest = refl
-with-event (Leaf l) rest = refl
+with-event : (e : SourcedEvent) (rest : List SourcedEvent) (last : Bool) → ((t : TagView) → e ≡ Start t → last ≡ ends_here (behind_body rest)) → width_with e last (width_in rest) ≡ width_in (e ∷ rest)
+with-event (Start t) rest last h = ap (λ b. width_with (Start t) b (width_in rest)) (h t refl)
+with-event (End k) rest last h = refl
+with-event (Leaf l) rest last h = refl
 
 first-bound : (t : TagView) (last : Bool) (n m : ℕ) → n ≤ m → first_width t last n ≤ m
 first-bound Emphasis true n m h = omega arith
@@ -38,20 +38,20 @@ pub bound-of : (es : List SourcedEvent) (width : ℕ) → width ≡ width_in es 
 bound-of es width e = let h = width-bound es in omega (arith, e, h)
 
 -- the width at the place before
-pub width-step : (es : List SourcedEvent) (ends : List ℕ) (e : SourcedEvent) (last : Bool) (width next i k : ℕ)
-    → AreEnds es ends → i ≡ k + 1 → k < length es → drop k es ≡ e ∷ drop (k + 1) es
-    → last ≡ ends_here (drop (slice_index ends k + 1) es)
+pub width-step : (es : List SourcedEvent) (e : SourcedEvent) (last : Bool) (width next i k end : ℕ)
+    → ((t : TagView) → drop k es ≡ Start t ∷ drop (k + 1) es → end ≡ k + 1 + span 0 (drop (k + 1) es)) → i ≡ k + 1 → drop k es ≡ e ∷ drop (k + 1) es
+    → last ≡ ends_here (drop (end + 1) es)
     → width ≡ width_in (drop i es)
     → next ≡ width_with e last width → next ≡ width_in (drop k es)
-width-step es ends e last width next i k are q lt at end h n =
-    let place : slice_index ends k + 1 ≡ k + 1 + suc (span 0 (drop (k + 1) es)) = omega (arith, are.at k lt) in
-    let beyond : drop (slice_index ends k + 1) es ≡ behind_body (drop (k + 1) es) =
-    ap (λ j. drop j es) place ∙ sym (drop-drop (suc (span 0 (drop (k + 1) es))) (k + 1) es) in
+width-step es e last width next i k end reach q at is h n =
+    let rest = drop (k + 1) es in
+    let beyond : (t : TagView) → e ≡ Start t → drop (end + 1) es ≡ behind_body rest = λ t start.
+    let place : end + 1 ≡ k + 1 + suc (span 0 rest) = omega (arith, reach t (at ∙ ap (λ x. x ∷ rest) start)) in
+    ap (λ j. drop j es) place ∙ sym (drop-drop (suc (span 0 rest)) (k + 1) es) in
     let P : ℕ → Type 0 = λ i. width ≡ width_in (drop i es) in
     n
-    ∙ ap (λ b. width_with e b width) (end ∙ ap ends_here beyond)
-    ∙ ap (width_with e (ends_here (behind_body (drop (k + 1) es)))) (subst P q h)
-    ∙ with-event e (drop (k + 1) es)
+    ∙ ap (width_with e last) (subst P q h)
+    ∙ with-event e rest last (λ t start. is ∙ ap ends_here (beyond t start))
     ∙ ap width_in (sym at)
 
 -- behind the last place

@@ -51,7 +51,7 @@ pub fn columns_of<R: Reader>(
     alloc: Global,
     reader: &R,
     events: &[BufferedEvent],
-    ends: &[usize],
+    ends: &[Option<usize>],
 ) -> Result<Columns, AllocError>
     requires { AreEnds (map buffered_view events.now) ends.now }
     ensures { IfOk result (λ columns.

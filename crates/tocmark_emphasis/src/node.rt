@@ -1,6 +1,6 @@
 //! A node of emphasis or strong emphasis, as its opening sees it.
 
-ghost use Rattle.std.specs.Prelude.{◌≡◌, ◌≤◌, ◌<◌, ◌+◌, if◌then◌else◌, map, take, drop, reverse, length, slice_index, slice_index_or, IfOk, Some, None, string_bytes, false, List};
+ghost use Rattle.std.specs.Prelude.{◌≡◌, ◌≤◌, ◌<◌, ◌+◌, if◌then◌else◌, map, take, drop, reverse, length, slice_index_or, IfOk, Some, None, string_bytes, false, List};
 ghost use Rattle.tocmark_event.specs.View.{event_view, unsourced, SourcedEvent, TagView};
 ghost use Rattle.tocmark_ahead.specs.Sides.{no_side, run_of};
 ghost use Rattle.tocmark_emphasis.specs.ColumnsOf.{AreColumns};
@@ -20,6 +20,7 @@ ghost use Rattle.tocmark_spelling.specs.Words.{asterisk, first_character, or_els
 use crate::columns::Columns;
 use crate::widths::width_behind;
 use std::alloc::AllocError;
+use tocmark_ahead::ends::body_end;
 use tocmark_ahead::sides::Side;
 use tocmark_event::event::{EventOf, OwnedEvent, TagEnd, TagOf};
 use tocmark_marker::facts::{Node, Run};
@@ -199,7 +200,7 @@ fn opening_width(widths: &[usize], place: usize, own: usize) -> Result<usize, Al
 /// containers end.
 pub fn next_in_unit<'e>(
     events: &'e [BufferedEvent],
-    ends: &[usize],
+    ends: &[Option<usize>],
     place: usize,
 ) -> Option<&'e OwnedEvent>
     requires within { place < length events.now }
@@ -208,7 +209,7 @@ pub fn next_in_unit<'e>(
         → Begins (map buffered_view events.entry.now) place t rest
         → following_view result ≡ front (behind_body rest) }
 {
-    following(events, ends[place], None)
+    following(events, body_end(ends, place), None)
 }
 
 /// The node of emphasis or strong emphasis that starts at this place of a unit's events.
@@ -219,7 +220,7 @@ pub fn next_in_unit<'e>(
 pub fn node_at(
     columns: &Columns,
     events: &[BufferedEvent],
-    ends: &[usize],
+    ends: &[Option<usize>],
     place: usize,
     preferred: bool,
     next: Option<&OwnedEvent>,
@@ -236,7 +237,7 @@ pub fn node_at(
 {
     let strong = starts_strong(&events[place]);
     let own = width_of(strong);
-    let end = ends[place];
+    let end = body_end(ends, place);
     let before = side_at(&columns.starts_before, place);
     let opening = run_between(own, before, side_behind(&columns.starts_ahead, place))?;
     let last = side_at(&columns.ends_before, end);

@@ -9,6 +9,7 @@ ghost use Rattle.tocmark_spelling.specs.Buffered.{buffered_view};
 ghost use Rattle.tocmark_spelling.specs.Scans.{AreEnds};
 
 use std::alloc::{AllocError, Global};
+use tocmark_ahead::ends::body_end;
 use tocmark_event::event::{EventOf, TagOf};
 use tocmark_spelling::buffered::BufferedEvent;
 
@@ -59,7 +60,7 @@ fn width_with(event: &BufferedEvent, is_last: bool, width: usize) -> usize
 pub fn opening_widths(
     alloc: Global,
     events: &[BufferedEvent],
-    ends: &[usize],
+    ends: &[Option<usize>],
 ) -> Result<Vec<usize>, AllocError>
     requires { AreEnds (map buffered_view events.now) ends.now }
     ensures { IfOk result (λ widths. AreWidths (map buffered_view events.now) widths.items) }
@@ -69,7 +70,7 @@ pub fn opening_widths(
     let mut i = events.len();
     while i > 0 {
         i -= 1;
-        let is_last = ends_behind(events, ends[i]);
+        let is_last = ends_behind(events, body_end(ends, i));
         width = width_with(&events[i], is_last, width);
         widths[i] = width;
     }

@@ -1,9 +1,8 @@
 -- The lists that need a placeholder are found among the events in a row.
-use Rattle.std.proofs.Common.{◌≡◌, ℕ, zero, suc, ◌+◌, ◌<◌, ◌≤◌, Bool, true, false, ◌||◌, ◌&&◌, Option, Some, None, List, [], ◌∷◌, ◌++◌, refl, sym, ap, ◌∙◌, map, drop, length, get_or, slice_index, arith, ⊎_elim}
+use Rattle.std.proofs.Common.{◌≡◌, ℕ, zero, suc, ◌+◌, ◌<◌, ◌≤◌, Bool, true, false, ◌||◌, ◌&&◌, Option, Some, None, List, [], ◌∷◌, ◌++◌, refl, sym, ap, ◌∙◌, map, drop, length, get_or, arith}
 use Rattle.std.specs.Prelude.{is_some}
-use Rattle.std.proofs.lemmas.Bool.{false≢true, true≢false, cases_lt, or_parts}
-use Rattle.std.proofs.lemmas.Grind.{get_or_default_zero}
-use Rattle.std.proofs.lemmas.List.{drop-drop, get_or_past}
+use Rattle.std.proofs.lemmas.Bool.{false≢true, true≢false, or_parts}
+use Rattle.std.proofs.lemmas.List.{drop-drop, length-drop}
 use Rattle.tocmark_event.specs.Forest.{empty, leaf, node, flat, flat_onto}
 use Rattle.tocmark_event.specs.View.{TagView, SourcedEvent, Start, End, Leaf, unsourced, end_of}
 use Rattle.tocmark_event.specs.declared.event.TagEnd.{TagEnd}
@@ -12,12 +11,13 @@ use Rattle.tocmark_spelling.specs.Kinds.{is_item, is_list, is_paragraph, and_is,
 use Rattle.tocmark_spelling.specs.Page.{Around, front}
 use Rattle.tocmark_spelling.specs.Runs.{inside, beyond, past, ahead_of}
 use Rattle.tocmark_spelling.specs.Buffered.{buffered_view}
-use Rattle.tocmark_spelling.specs.Scans.{span, AreEnds}
+use Rattle.tocmark_spelling.specs.Scans.{span}
 use Rattle.tocmark_spelling.specs.declared.buffered.BufferedEvent.{BufferedEvent}
-use Rattle.tocmark_spelling.proofs.Turns.{events-drop, drop-event, drop-all}
+use Rattle.tocmark_spelling.proofs.Turns.{events-drop, drop-event}
 use Rattle.tocmark_labels.specs.Placeholder.{is_inline_end_or_leaf, begins_with_empty_item, is_only_item, is_ambiguous_list, needs_placeholder_at, needs_placeholder, whole}
 use Rattle.tocmark_labels.specs.Units.{placeholder_in, trees_of, waits}
 use Rattle.tocmark_labels.specs.Waiting.{begins_empty_item, begins_three_ends, begins_only_item, from_end, starts_ambiguous_list, has_ambiguous_list, has_list}
+use Rattle.tocmark_ahead.proofs.Ahead.{place-rest}
 use Rattle.tocmark_labels.proofs.Balanced.{flat-of-trees}
 
 -- ---- the End of the container in which a forest stands
@@ -179,32 +179,27 @@ waits-more unit more h some = sym (waits-balanced (unit ++ more) some) ∙ waiti
 
 -- ---- the events from an End on, by its place
 
-end-within : (evs : List SourcedEvent) (ends : List ℕ) (i : ℕ) → AreEnds evs ends → i + 2 < length ends → drop (get_or ends (i + 2) (length ends)) evs ≡ from_end (drop 2 (drop (i + 1) evs))
-end-within evs ends i h lt =
-    let es = drop (i + 1 + 2) evs in
-    let there : drop 2 (drop (i + 1) evs) ≡ es = drop-drop 2 (i + 1) evs in
-    let len = h.len in
-    let at : slice_index ends (i + 2) ≡ i + 2 + 1 + span 0 (drop (i + 2 + 1) evs) = h.at (i + 2) (omega (arith, len)) in
-    let n : i + 2 + 1 ≡ i + 1 + 2 = omega arith in
-    let same : span 0 (drop (i + 2 + 1) evs) ≡ span 0 es = ap (λ n. span 0 (drop n evs)) n in
-    let zero : get_or ends (i + 2) (length ends) ≡ get_or ends (i + 2) 0 = get_or_default_zero ends (i + 2) (length ends) lt in
-    let place : get_or ends (i + 2) (length ends) ≡ i + 1 + 2 + span 0 es = omega (arith, at, same, zero) in
-    ap (λ n. drop n evs) place ∙ sym (drop-drop (span 0 es) (i + 1 + 2) evs) ∙ ap from_end (sym there)
+-- no container starts past the last event
+pub none-past : (es rest : List SourcedEvent) (i n : ℕ) (t : TagView) → length es ≤ i → drop i es ≡ Start t ∷ rest → n ≡ i + 1 + span 0 rest
+none-past es rest i n t le at = let count = sym (length-drop i es) ∙ ap length at in absurd (omega (arith, le, count))
 
-end-past : (evs : List SourcedEvent) (ends : List ℕ) (i : ℕ) → AreEnds evs ends → length ends ≤ i + 2 → drop (get_or ends (i + 2) (length ends)) evs ≡ from_end (drop 2 (drop (i + 1) evs))
-end-past evs ends i h le =
-    let len = h.len in
-    let there : drop 2 (drop (i + 1) evs) ≡ [] = drop-drop 2 (i + 1) evs ∙ drop-all evs (i + 1 + 2) (omega (arith, len)) in
-    ap (λ n. drop n evs) (get_or_past ends (i + 2) (length ends) le) ∙ drop-all evs (length ends) (omega (arith, len)) ∙ ap from_end (sym there)
+-- the events from the End on of the container that starts at a place
+pub end-events : (es found : List BufferedEvent) (rest : List SourcedEvent) (i place : ℕ) (t : TagView) → drop i (map buffered_view es) ≡ Start t ∷ rest → place ≡ i + 1 + span 0 rest → found ≡ drop place es
+    → map buffered_view found ≡ from_end rest
+end-events es found rest i place t at p e =
+    ap (map buffered_view) e
+    ∙ events-drop es place
+    ∙ ap (λ n. drop n (map buffered_view es)) p
+    ∙ sym (drop-drop (span 0 rest) (i + 1) (map buffered_view es))
+    ∙ ap (drop (span 0 rest)) (place-rest (map buffered_view es) rest i (Start t) at)
 
-end-place : (evs : List SourcedEvent) (ends : List ℕ) (i : ℕ) → AreEnds evs ends → drop (get_or ends (i + 2) (length ends)) evs ≡ from_end (drop 2 (drop (i + 1) evs))
-end-place evs ends i h = ⊎_elim (λ (lt : i + 2 < length ends). end-within evs ends i h lt) (λ (le : length ends ≤ i + 2). end-past evs ends i h le) (cases_lt (i + 2) (length ends))
-
--- the events from the End of the container that is innermost behind the second event after a place
-pub end-events : (es found : List BufferedEvent) (ends : List ℕ) (i place : ℕ) → AreEnds (map buffered_view es) ends → place ≡ get_or ends (i + 2) (length ends) → found ≡ drop place es
-    → map buffered_view found ≡ from_end (drop 2 (drop (i + 1) (map buffered_view es)))
-end-events es found ends i place h p e =
-    ap (map buffered_view) e ∙ events-drop es place ∙ ap (λ n. drop n (map buffered_view es)) p ∙ end-place (map buffered_view es) ends i h
+-- the events from its End on matter where the second event starts a container
+only-behind : (es behind : List SourcedEvent) → ((t : TagView) (rest : List SourcedEvent) → drop 1 es ≡ Start t ∷ rest → behind ≡ from_end rest) → begins_only_item es behind ≡ begins_only_item es (from_end (drop 2 es))
+only-behind [] behind h = refl
+only-behind (e ∷ []) behind h = refl
+only-behind (e ∷ Start t ∷ es) behind h = ap (begins_only_item (e ∷ Start t ∷ es)) (h t es refl)
+only-behind (e ∷ End k ∷ es) behind h = no-paragraph (starts is_item (unsourced e)) (begins_three_ends behind) (begins_three_ends (from_end es))
+only-behind (e ∷ Leaf l ∷ es) behind h = no-paragraph (starts is_item (unsourced e)) (begins_three_ends behind) (begins_three_ends (from_end es))
 
 -- ---- one event after the other
 
@@ -212,7 +207,7 @@ rest-event : (es rest : List BufferedEvent) (i : ℕ) → rest ≡ drop (i + 1) 
 rest-event es rest i e = ap (map buffered_view) e ∙ events-drop es (i + 1)
 
 module _ (es rest behind : List BufferedEvent) (i : ℕ) (b : BufferedEvent) (inline found whole : Bool) (lt : i < length es) (e : b ≡ get_or es i b) (r : rest ≡ drop (i + 1) es)
-    (d : map buffered_view behind ≡ from_end (drop 2 (drop (i + 1) (map buffered_view es))))
+    (d : (t : TagView) (from : List SourcedEvent) → drop (i + 2) (map buffered_view es) ≡ Start t ∷ from → map buffered_view behind ≡ from_end from)
     (f : found ≡ starts_ambiguous_list inline (buffered_view b) (map buffered_view rest) (map buffered_view behind))
     (h : has_ambiguous_list inline (drop i (map buffered_view es)) ≡ whole) where
   abbrev ahead : List SourcedEvent
@@ -221,12 +216,16 @@ module _ (es rest behind : List BufferedEvent) (i : ℕ) (b : BufferedEvent) (in
   abbrev later : Bool
   later = has_ambiguous_list (is_inline_end_or_leaf (unsourced (buffered_view b))) ahead
 
+  second-behind : drop (i + 2) (map buffered_view es) ≡ drop 1 ahead
+  second-behind = let q : i + 2 ≡ i + 1 + 1 = omega arith in ap (λ n. drop n (map buffered_view es)) q ∙ sym (drop-drop 1 (i + 1) (map buffered_view es))
+
   -- a list that starts with this event, or one behind it
   list-more : (found || later) ≡ whole
   list-more =
+      let item : Bool → Bool = λ x. starts is_list (unsourced (buffered_view b)) && ((begins_empty_item ahead && inline) || x) in
       ap (λ x. x || later) f
       ∙ ap (λ x. starts_ambiguous_list inline (buffered_view b) x (map buffered_view behind) || later) (rest-event es rest i r)
-      ∙ ap (λ x. starts_ambiguous_list inline (buffered_view b) ahead x || later) d
+      ∙ ap (λ x. item x || later) (only-behind ahead (map buffered_view behind) (λ t from at. d t from (second-behind ∙ at)))
       ∙ ap (has_ambiguous_list inline) (sym (drop-event es i b lt e))
       ∙ h
 

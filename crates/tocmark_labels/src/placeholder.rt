@@ -1,17 +1,17 @@
 //! Whether a list in a unit needs a placeholder.
 
-ghost use Rattle.std.specs.Prelude.{◌≡◌, ◌+◌, drop, false, length, map, slice_index_or, IfOk};
-ghost use Rattle.tocmark_event.specs.View.{unsourced};
+ghost use Rattle.std.specs.Prelude.{◌≡◌, ◌∷◌, ◌+◌, drop, false, map, IfOk, List};
+ghost use Rattle.tocmark_event.specs.View.{unsourced, SourcedEvent, Start, TagView};
 ghost use Rattle.tocmark_spelling.specs.Buffered.{buffered_view};
 ghost use Rattle.tocmark_spelling.specs.Kinds.{is_item, is_list, is_paragraph, starts};
-ghost use Rattle.tocmark_spelling.specs.Scans.{AreEnds};
+ghost use Rattle.tocmark_spelling.specs.Scans.{span, AreEnds};
 ghost use Rattle.tocmark_labels.specs.Placeholder.{is_inline_end_or_leaf};
 ghost use Rattle.tocmark_labels.specs.Units.{waits};
 ghost use Rattle.tocmark_labels.specs.Waiting.{is_end, begins_empty_item, begins_three_ends, begins_only_item, from_end, starts_ambiguous_list, has_ambiguous_list, has_list};
 
 use crate::pending::Pending;
 use std::alloc::{AllocError, Global};
-use tocmark_ahead::ends::matching_ends;
+use tocmark_ahead::ends::{body_end, matching_ends};
 use tocmark_event::event::{EventOf, TagOf};
 use tocmark_links::named::rest_of;
 use tocmark_spelling::buffered::BufferedEvent;
@@ -114,30 +114,36 @@ fn starts_ambiguous_list(
         && ((begins_empty_item(rest) && behind_inline) || begins_only_item(rest, behind))
 }
 
-/// Where the container ends that is innermost behind the second event after a place, if there are so
-/// many.
-fn end_after(ends: &[usize], i: usize) -> usize
-    ensures { result ≡ slice_index_or ends.now (i + 2) (length ends.now) }
+/// The place behind the body of the container that the second event after a place starts.
+fn end_after(ends: &[Option<usize>], i: usize) -> usize
+    ensures { (es : List SourcedEvent) (t : TagView) (rest : List SourcedEvent)
+        → AreEnds es ends.now → drop (i + 2) es ≡ Start t ∷ rest
+        → result ≡ i + 2 + 1 + span 0 rest }
 {
     let count = ends.len();
     if count > 2 && i < count - 2 {
-        ends[i + 2]
+        body_end(ends, i + 2)
     } else {
         count
     }
 }
 
-/// The events from the end of the container that is innermost behind the second event after a place.
-fn from_end_after<'a>(events: &'a [BufferedEvent], ends: &[usize], i: usize) -> &'a [BufferedEvent]
+/// The events from the end on of the container that the second event after a place starts.
+fn from_end_after<'a>(
+    events: &'a [BufferedEvent],
+    ends: &[Option<usize>],
+    i: usize,
+) -> &'a [BufferedEvent]
     requires ends { AreEnds (map buffered_view events.now) ends.now }
-    ensures { map buffered_view result.now
-        ≡ from_end (drop 2 (drop (i + 1) (map buffered_view events.now))) }
+    ensures { (t : TagView) (rest : List SourcedEvent)
+        → drop (i + 2) (map buffered_view events.now) ≡ Start t ∷ rest
+        → map buffered_view result.now ≡ from_end rest }
 {
     rest_of(events, end_after(ends, i))
 }
 
 /// Whether some list would be read otherwise without a placeholder, given where the containers end.
-fn has_ambiguous_list(events: &[BufferedEvent], ends: &[usize]) -> bool
+fn has_ambiguous_list(events: &[BufferedEvent], ends: &[Option<usize>]) -> bool
     requires ends { AreEnds (map buffered_view events.now) ends.now }
     ensures { result ≡ has_ambiguous_list false (map buffered_view events.now) }
 {

@@ -1,9 +1,9 @@
 -- For which links and images the id stands in place of the body.
-use Rattle.std.proofs.Common.{◌≡◌, ◌∙◌, sym, ap, refl, ℕ, zero, suc, ◌+◌, ◌-◌, ◌<◌, ◌≤◌, Bool, true, false, List, [], ◌∷◌, ◌++◌, Option, length, map, drop, take, slice_index, slice_index_or, arith, append-nil, append_assoc, get_or, Result, Ok, Err, IfOk}
+use Rattle.std.proofs.Common.{◌≡◌, ◌∙◌, sym, ap, refl, ℕ, zero, suc, ◌+◌, ◌-◌, ◌<◌, ◌≤◌, Bool, true, false, List, [], ◌∷◌, ◌++◌, Option, length, map, drop, take, slice_index_or, arith, append-nil, append_assoc, get_or, Result, Ok, Err, IfOk}
 use Rattle.std.specs.Prelude.{◌&&◌, ◌||◌, codes}
 use Rattle.std.specs.List.{list_any}
 use Rattle.std.proofs.lemmas.Bool.{false≢true}
-use Rattle.std.proofs.lemmas.List.{drop_all, drop_more, drop-map, length-map, take-map}
+use Rattle.std.proofs.lemmas.List.{drop_all, drop_more, drop-map, take-map}
 use Rattle.tocmark_event.specs.Merged.{after_text, merged}
 use Rattle.tocmark_event.specs.Reading.{ReadingView, reading_view}
 use Rattle.tocmark_event.specs.Text.{ParserEvent, text_of}
@@ -11,12 +11,13 @@ use Rattle.tocmark_event.specs.View.{LeafView, TagView, Link, Image, Paragraph, 
 use Rattle.tocmark_event.specs.declared.event.TagEnd.{TagEnd}
 use Rattle.tocmark_event.specs.declared.event.TagEnd.TheVariants as end
 use Rattle.tocmark_event.specs.declared.reader.Reading.{Reading}
+use Rattle.tocmark_ahead.proofs.Ahead.{place-rest}
 use Rattle.tocmark_ahead.specs.Ahead.{body_in, is_named_by_id, reads_back}
 use Rattle.tocmark_spelling.specs.Buffered.{buffered_view, event_of, sourced}
 use Rattle.tocmark_spelling.specs.ById.{events_of, is_one_link, is_same_kind}
 use Rattle.tocmark_spelling.specs.Plan.{Setting}
 use Rattle.tocmark_spelling.specs.SameEvents.{same_events}
-use Rattle.tocmark_spelling.specs.Scans.{AreEnds, span}
+use Rattle.tocmark_spelling.specs.Scans.{span}
 use Rattle.tocmark_spelling.specs.Spelling.{id_of}
 use Rattle.tocmark_spelling.specs.declared.buffered.BufferedEvent.{BufferedEvent}
 use Rattle.tocmark_links.specs.Named.{asks_reader, begins_link, is_named, mark_of, may_be_named, starts_paragraph}
@@ -171,16 +172,15 @@ all-named s es found i k past h =
     ap (λ bs. slice_index_or bs k false) (sym (append-nil found) ∙ ap (λ xs. found ++ names s xs) (sym (drop_all i es past)) ∙ h)
     ∙ names-at s es k
 
--- the body behind a place
-pub body-is : (bs : List BufferedEvent) (ends : List ℕ) (i width : ℕ) → i < length bs → AreEnds (map buffered_view bs) ends → width ≡ slice_index ends i - (i + 1)
-    → map buffered_view (take width (drop (i + 1) bs)) ≡ body_in (drop (i + 1) (map buffered_view bs))
-body-is bs ends i width lt are w =
+-- the body of the container that starts at a place
+pub body-is : (bs : List BufferedEvent) (t : TagView) (rest : List SourcedEvent) (i width end : ℕ) → drop i (map buffered_view bs) ≡ Start t ∷ rest → end ≡ i + 1 + span 0 rest → width ≡ end - (i + 1)
+    → map buffered_view (take width (drop (i + 1) bs)) ≡ body_in rest
+body-is bs t rest i width end at q w =
+    let wide : width ≡ span 0 rest = omega (arith, w, q) in
     sym (take-map buffered_view width (drop (i + 1) bs))
     ∙ ap (take width) (sym (drop-map buffered_view (i + 1) bs))
-    ∙ ap (λ n. take n (drop (i + 1) (map buffered_view bs))) wide
-  where
-    wide : width ≡ span 0 (drop (i + 1) (map buffered_view bs))
-    wide = omega (arith, w, are.at i (omega (arith, lt, length-map bs buffered_view)))
+    ∙ ap (take width) (place-rest (map buffered_view bs) rest i (Start t) at)
+    ∙ ap (λ n. take n rest) wide
 
 -- what stands at a place
 pub place-at : (bs : List BufferedEvent) (i : ℕ) (b : BufferedEvent) → i < length bs → b ≡ get_or bs i b → drop i (map buffered_view bs) ≡ buffered_view b ∷ drop (i + 1) (map buffered_view bs)

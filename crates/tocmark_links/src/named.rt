@@ -6,7 +6,7 @@ ghost use Rattle.tocmark_ahead.specs.Ahead.{body_in, is_named_by_id, reads_back}
 ghost use Rattle.tocmark_event.specs.Merged.{merged};
 ghost use Rattle.tocmark_event.specs.Options.{OptionsView};
 ghost use Rattle.tocmark_event.specs.Text.{text_of};
-ghost use Rattle.tocmark_event.specs.View.{End, SourcedEvent, end_of, event_view, tag_view, unsourced};
+ghost use Rattle.tocmark_event.specs.View.{End, SourcedEvent, Start, TagView, end_of, event_view, tag_view, unsourced};
 ghost use Rattle.tocmark_event.specs.declared.event.TagEnd.TheVariants as end;
 ghost use Rattle.tocmark_links.specs.Named.{asks_reader, begins_link, is_named, mark_of, may_be_named, starts_image, starts_link, starts_paragraph, AreNamed};
 ghost use Rattle.tocmark_spelling.specs.Buffered.{buffered_view};
@@ -18,6 +18,7 @@ ghost use Rattle.tocmark_spelling.specs.Scans.{AreEnds};
 
 use crate::opening::id_of;
 use std::alloc::{AllocError, Global};
+use tocmark_ahead::ends::body_end;
 use tocmark_event::event::{Event, EventOf, LinkType, OwnedEvent, ParserOptions, TagEnd, TagOf};
 use tocmark_event::reader::Reader;
 use tocmark_read_back::alike::alike;
@@ -199,7 +200,7 @@ fn is_named_by_id<R: Reader>(
     }
 }
 
-/// Whether an event starts a link or image whose id stands in place of this body.
+/// Whether an event starts a link or image whose id stands in place of its body, which is this.
 fn is_named<R: Reader>(
     alloc: Global,
     reader: &R,
@@ -208,7 +209,8 @@ fn is_named<R: Reader>(
     body: &[BufferedEvent],
 ) -> Result<bool, AllocError>
     ensures { (o : OptionsView) (label : Option (List ℕ)) (rest : List SourcedEvent)
-        → map buffered_view body.now ≡ body_in rest
+        → ((t : TagView) → buffered_view event.now ≡ Start t
+        → map buffered_view body.now ≡ body_in rest)
         → IfOk result (λ b. b ≡ is_named (setting_of o flags (R.reading reader.now) label)
         (buffered_view event.now ∷ rest)) }
 {
@@ -240,14 +242,20 @@ fn first_of(events: &[BufferedEvent], width: usize) -> &[BufferedEvent]
     }
 }
 
-/// The body behind a place of a unit, given where its containers end.
-fn body_behind<'e>(events: &'e [BufferedEvent], ends: &[usize], i: usize) -> &'e [BufferedEvent]
+/// The body of the container that starts at a place of a unit, given where its containers end.
+fn body_behind<'e>(
+    events: &'e [BufferedEvent],
+    ends: &[Option<usize>],
+    i: usize,
+) -> &'e [BufferedEvent]
     requires at { i < length events.now }
     requires ends { AreEnds (map buffered_view events.now) ends.now }
-    ensures { map buffered_view result.now
-        ≡ body_in (drop (i + 1) (map buffered_view events.now)) }
+    ensures { (t : TagView) (rest : List SourcedEvent)
+        → drop i (map buffered_view events.now) ≡ Start t ∷ rest
+        → map buffered_view result.now ≡ body_in rest }
 {
-    first_of(rest_of(events, i + 1), ends[i].saturating_sub(i + 1))
+    let width = body_end(ends, i).saturating_sub(i + 1);
+    first_of(rest_of(events, i + 1), width)
 }
 
 /// Whether at a place of a unit a link or image starts whose id stands in place of its body.
@@ -256,7 +264,7 @@ fn is_named_at<R: Reader>(
     reader: &R,
     flags: ParserOptions,
     events: &[BufferedEvent],
-    ends: &[usize],
+    ends: &[Option<usize>],
     i: usize,
 ) -> Result<bool, AllocError>
     requires at { i < length events.now }
@@ -278,7 +286,7 @@ pub fn named<R: Reader>(
     reader: &R,
     flags: ParserOptions,
     events: &[BufferedEvent],
-    ends: &[usize],
+    ends: &[Option<usize>],
 ) -> Result<Vec<bool>, AllocError>
     requires ends { AreEnds (map buffered_view events.now) ends.now }
     ensures { IfOk result (λ found. AreNamed (R.reading reader.now) flags

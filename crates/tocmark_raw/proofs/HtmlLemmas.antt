@@ -5,7 +5,7 @@ use Rattle.std.specs.Str.{trim_start}
 use Rattle.std.proofs.lemmas.Bool.{lt-ltb, le-ltb}
 use Rattle.std.proofs.lemmas.List.{drop_all, take-append-drop, length-drop}
 use Rattle.std.proofs.lemmas.Str.{IsUtf8-nil, IsUtf8-append}
-use Rattle.tocmark_event.specs.View.{HtmlBlock, SourcedEvent, Start, End, Leaf, LeafView, Text, Code, InlineMath, DisplayMath, Html, InlineHtml, FootnoteReference, SoftBreak, HardBreak, Rule, TaskListMarker}
+use Rattle.tocmark_event.specs.View.{TagView, HtmlBlock, SourcedEvent, Start, End, Leaf, LeafView, Text, Code, InlineMath, DisplayMath, Html, InlineHtml, FootnoteReference, SoftBreak, HardBreak, Rule, TaskListMarker}
 use Rattle.tocmark_ahead.specs.Ahead.{first_of, body_in}
 use Rattle.tocmark_ahead.proofs.Gathered.{joined-scan, first-scan}
 use Rattle.tocmark_spelling.specs.Body.{html_in, html_of_leaf}
@@ -251,14 +251,14 @@ start-is rest front text h whole =
     ∙ body-html rest
 
 pub finds : (evs : List SourcedEvent) (e : SourcedEvent) (k end after events : ℕ) (text : List ℕ) (ahead : HtmlAhead) (x : HtmlFacts)
-    → drop k evs ≡ e ∷ drop (k + 1) evs → end ≡ k + 1 + span 0 (drop (k + 1) evs) → after ≡ length (all_html (drop end evs)) → events ≡ length evs - end
+    → drop k evs ≡ e ∷ drop (k + 1) evs → ((t : TagView) → e ≡ Start t → end ≡ k + 1 + span 0 (drop (k + 1) evs)) → after ≡ length (all_html (drop end evs)) → events ≡ length evs - end
     → text ≡ all_html evs → AreHtmlTexts (drop (k + 1) evs) → ahead ≡ ahead_of (drop (k + 1) evs) → x ≡ event_facts e text after events ahead
     → IsFound evs k x
 finds evs e k end after events text ahead x at there ha hn whole h b is other found =
     let rest = drop (k + 1) evs in
     let same : e ≡ Start HtmlBlock = same-first e (Start HtmlBlock) rest other (sym at ∙ found) in
     let behind : rest ≡ other = same-rest e (Start HtmlBlock) rest other (sym at ∙ found) in
-    let tail : drop end evs ≡ drop (span 0 rest) rest = ap (λ n. drop n evs) there ∙ drop-two (k + 1) (span 0 rest) evs in
+    let tail : drop end evs ≡ drop (span 0 rest) rest = ap (λ n. drop n evs) (there HtmlBlock same) ∙ drop-two (k + 1) (span 0 rest) evs in
     let size : events ≡ length (drop (span 0 rest) rest) = hn ∙ sym (length-drop end evs) ∙ ap length tail in
     let bytes : after ≡ length (all_html (drop (span 0 rest) rest)) = ha ∙ ap (λ y. length (all_html y)) tail in
     is ∙ ap (λ y. event_facts y text after events ahead) same

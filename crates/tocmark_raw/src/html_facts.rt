@@ -14,7 +14,7 @@ use crate::block_ends::closed_by;
 use crate::html_ahead::{HtmlAhead, ahead_at, blank_by, nothing_ahead, opening_in};
 use crate::kinds::opens_html;
 use std::alloc::{AllocError, Global};
-use tocmark_ahead::ends::matching_ends;
+use tocmark_ahead::ends::{body_end, matching_ends};
 use tocmark_event::event::EventOf;
 use tocmark_spelling::buffered::BufferedEvent;
 
@@ -104,7 +104,7 @@ fn number_at(numbers: &[usize], place: usize) -> usize
 fn found(
     alloc: Global,
     events: &[BufferedEvent],
-    ends: &[usize],
+    ends: &[Option<usize>],
     text: &[u8],
     lower: &[u8],
 ) -> Result<Vec<HtmlFacts>, AllocError>
@@ -119,7 +119,7 @@ fn found(
     let mut i = events.len();
     while i > 0 {
         i -= 1;
-        let end = number_at(ends, i);
+        let end = body_end(ends, i);
         let after = number_at(&lefts, end);
         let behind = events.len().saturating_sub(end);
         facts[i] = event_facts(&events[i], text, after, behind, ahead);

@@ -1,5 +1,5 @@
 -- What a scan over flat events finds.
-use Rattle.std.specs.Prelude.{◌≡◌, ◌<◌, ℕ, zero, suc, ◌+◌, Bool, false, List, [], ◌∷◌, length, drop, slice_index}
+use Rattle.std.specs.Prelude.{◌≡◌, ℕ, zero, suc, ◌+◌, Bool, false, if◌then◌else◌, nat_lt, Option, Some, None, List, [], ◌∷◌, length, drop, slice_get, slice_index_or}
 use Rattle.tocmark_event.specs.View.{SourcedEvent, LeafView, Start, End, Leaf}
 
 -- how many events stand before the End of the container that is open with so many others inside it, or before the list's end
@@ -10,10 +10,20 @@ span zero (End k ∷ es) = 0
 span (suc d) (End k ∷ es) = suc (span d es)
 span d (Leaf l ∷ es) = suc (span d es)
 
--- for each event the place of the End of the container that is innermost just after it
-pub record AreEnds (es : List SourcedEvent) (ends : List ℕ) : Type 0 where
+-- the place of that End, if it stands there, among events that stand from a place on
+abbrev pub end_from : ℕ → ℕ → List SourcedEvent → Option ℕ
+end_from d i es = if nat_lt (span d es) (length es) then Some (i + span d es) else None
+
+-- the place where the container ends that the first of these events starts, which stands at a place; none where it starts none
+-- or the container isn't ended
+abbrev pub end_at : ℕ → List SourcedEvent → Option ℕ
+end_at i (Start t ∷ es) = end_from 0 (i + 1) es
+end_at i es = None
+
+-- at each Start the place where its container ends, if it does; none at other events
+pub record AreEnds (es : List SourcedEvent) (ends : List (Option ℕ)) : Type 0 where
   pub len : length ends ≡ length es
-  pub at : (i : ℕ) → i < length es → slice_index ends i ≡ i + 1 + span 0 (drop (i + 1) es)
+  pub at : (i : ℕ) → slice_index_or ends i None ≡ end_at i (drop i es)
 
 -- a list without its first number; nothing of an empty one
 abbrev pub tail_of : List ℕ → List ℕ
@@ -25,6 +35,11 @@ abbrev pub closers_before : SourcedEvent → ℕ → List ℕ → List ℕ
 closers_before (End k) i closers = i ∷ closers
 closers_before (Start t) i closers = tail_of closers
 closers_before (Leaf l) i closers = closers
+
+-- the first of them is that of the container that an event starts
+abbrev pub closer_of : SourcedEvent → List ℕ → Option ℕ
+closer_of (Start t) closers = slice_get closers 0
+closer_of e closers = None
 
 -- a leaf that passes a test
 abbrev pub is_leaf : (LeafView → Bool) → SourcedEvent → Bool

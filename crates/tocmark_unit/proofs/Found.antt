@@ -1,5 +1,5 @@
 -- What is found at a place of a unit's events.
-use Rattle.std.proofs.Common.{◌≡◌, ℕ, zero, suc, ◌+◌, ◌-◌, ◌<◌, Bool, true, false, List, [], ◌∷◌, refl, sym, ap, ◌∙◌, subst, drop, length, map, slice_index, arith}
+use Rattle.std.proofs.Common.{◌≡◌, ℕ, zero, suc, Bool, true, false, List, [], ◌∷◌, refl, ap, ◌∙◌, subst, drop}
 use Rattle.std.specs.Prelude.{◌||◌}
 use Rattle.std.proofs.lemmas.Bool.{false≢true}
 use Rattle.tocmark_ahead.proofs.Ahead.{nested-at}
@@ -7,16 +7,12 @@ use Rattle.tocmark_ahead.specs.Ahead.{AreNested}
 use Rattle.tocmark_emphasis.specs.NodeOf.{Begins}
 use Rattle.tocmark_event.specs.Forest.{flat}
 use Rattle.tocmark_event.specs.View.{TagView, Emphasis, Strong, SourcedEvent, Start}
-use Rattle.tocmark_spelling.proofs.Turns.{events-drop, length-events}
 use Rattle.tocmark_spelling.specs.Body.{Trees}
-use Rattle.tocmark_spelling.specs.Buffered.{buffered_view}
 use Rattle.tocmark_spelling.specs.Kinds.{is_emphasis_or_strong}
 use Rattle.tocmark_spelling.specs.Look.{Look}
 use Rattle.tocmark_spelling.specs.Opening.{open_emphasis, opening_of}
 use Rattle.tocmark_spelling.specs.Page.{Path, Page}
 use Rattle.tocmark_spelling.specs.Plan.{Setting, Manner}
-use Rattle.tocmark_spelling.specs.Scans.{span, AreEnds}
-use Rattle.tocmark_spelling.specs.declared.buffered.BufferedEvent.{BufferedEvent}
 use Rattle.tocmark_unit.specs.FindingsOf.{has_emphasis}
 
 or-right : (a b : Bool) → b ≡ true → a || b ≡ true
@@ -41,16 +37,8 @@ begins f es i t rest is at delimits =
       nested = (subst AreNested (ap (drop i) is ∙ at) (nested-at f i)).0;
     }
 
--- how many events stand in a body
-pub width-at : (es : List SourcedEvent) (ends : List ℕ) (i : ℕ) → AreEnds es ends → i < length es → slice_index ends i - (i + 1) ≡ span 0 (drop (i + 1) es)
-width-at es ends i h lt = let at = h.at i lt in omega (arith, at)
-
 -- the row of emphasis and strong emphasis
 pub emphasis-row : (s : Setting) (m : Manner) (t : TagView) (l : Look) (path : Path) (p : Page) → is_emphasis_or_strong t ≡ true → open_emphasis s m t l path p ≡ opening_of s m t l path p
 emphasis-row s m Emphasis l path p e = refl
 emphasis-row s m Strong l path p e = refl
 emphasis-row s m t l path p e = absurd (false≢true e)
-
--- the events behind a place are as many
-pub rest-length : (es : List BufferedEvent) (i : ℕ) (rest : List BufferedEvent) → rest ≡ drop (i + 1) es → length rest ≡ length (drop (i + 1) (map buffered_view es))
-rest-length es i rest e = ap length e ∙ sym (length-events (drop (i + 1) es)) ∙ ap length (events-drop es (i + 1))

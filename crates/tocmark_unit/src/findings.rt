@@ -22,8 +22,8 @@ use tocmark_spelling::buffered::BufferedEvent;
 /// What is found out of a unit's events once, before they are written in one manner or another.
 #[derive(Drop)]
 pub struct Findings {
-    /// For each event where the container that is innermost behind it ends.
-    pub ends: Vec<usize>,
+    /// At each start where its container ends, if it does.
+    pub ends: Vec<Option<usize>>,
     /// What the bodies of the containers are like.
     pub facts: Vec<BodyFacts>,
     /// What code and HTML blocks ask of their texts.
@@ -60,7 +60,7 @@ fn emphasis_columns<R: Reader>(
     alloc: Global,
     reader: &R,
     unit: &[BufferedEvent],
-    ends: &[usize],
+    ends: &[Option<usize>],
 ) -> Result<Columns, AllocError>
     requires { AreEnds (map buffered_view unit.now) ends.now }
     ensures { IfOk result (λ columns. has_emphasis (map buffered_view unit.now) ≡ true

@@ -1,6 +1,6 @@
 //! One event of a unit.
 
-ghost use Rattle.std.specs.Prelude.{◌≡◌, ◌<◌, ◌≤◌, ◌+◌, ◌-◌, map, drop, take, reverse, length, slice_index, slice_index_or, string_bytes, true, false, IfOk, OnOk};
+ghost use Rattle.std.specs.Prelude.{◌≡◌, ◌<◌, ◌≤◌, ◌+◌, ◌-◌, map, drop, take, reverse, length, slice_index_or, string_bytes, true, false, IfOk, OnOk};
 ghost use Rattle.std.specs.Str.{IsCharBoundary};
 ghost use Rattle.tocmark_closings.specs.Leads.{Closes, is_closed};
 ghost use Rattle.tocmark_containers.specs.FrameOf.{level_of};
@@ -19,12 +19,14 @@ ghost use Rattle.tocmark_spelling.specs.Look.{is_preferred, Look};
 ghost use Rattle.tocmark_spelling.specs.Opening.{opening, opening_of};
 ghost use Rattle.tocmark_spelling.specs.Page.{front};
 ghost use Rattle.tocmark_spelling.specs.Plan.{Setting, Manner as AnyManner};
-ghost use Rattle.tocmark_unit.specs.NeighboursOf.{is_leaf_event, look_in, opening_in, rest_in, AreFound, IsForest};
+ghost use Rattle.tocmark_spelling.specs.Scans.{end_at, AreEnds};
+ghost use Rattle.tocmark_unit.specs.NeighboursOf.{is_leaf_event, look_in, opening_in, rest_in, unit_in, AreFound, IsForest};
 ghost use Rattle.tocmark_unit.specs.Turn.{Turns};
 
 use crate::findings::Findings;
 use std::alloc::{AllocError, Global};
 use tocmark_ahead::body_facts::facts_at;
+use tocmark_ahead::ends::{body_end, end_at};
 use tocmark_closings::close::close;
 use tocmark_containers::frame::Frame;
 use tocmark_emphasis::node::{following, next_in_unit, node_at};
@@ -245,8 +247,6 @@ fn end(renderer: &mut Renderer<'_>, alloc: Global, options: &Options<'_>) -> Res
 
 /// What the opening of a container that starts here is told.
 fn ahead_of<'e>(around: Neighbours<'e>) -> Ahead<'e>
-    requires within { around.place < length around.unit.now }
-    requires ends { length around.found.now.ends.items ≡ length around.unit.now }
     ensures { (reading : Reading) (o : OptionsView) (flags : ParserOptions)
         (s : Setting) (m : AnyManner) (t : TagView)
         → AreFound reading o flags (Start t) around.entry
@@ -261,7 +261,7 @@ fn ahead_of<'e>(around: Neighbours<'e>) -> Ahead<'e>
     let raw = raw_at(&found.raw, place);
     Ahead {
         body: facts_at(&found.facts, place),
-        next: following(unit, end_of(around), next),
+        next: following(unit, body_end(&found.ends, place), next),
         longest: raw.longest,
         blank: raw.blank,
         closed: raw.closed,
@@ -292,14 +292,14 @@ fn start_before<'a, R: Reader>(
         result renderer.old renderer.new }
     ensures mark { renderer.new.at_mark ≡ renderer.old.at_mark }
 {
-    let width = width_of(around);
-    if width >= rest_of(around).len() {
-        return Err(Error::UnexpectedEvent);
-    }
+    let end = match end_of(around) {
+        Some(end) => end,
+        None => return Err(Error::UnexpectedEvent),
+    };
     start(renderer, job, reader, manner, event, tag, around)?;
     if is_named(around) {
         write_id(renderer, tag)?;
-        Ok(width)
+        Ok(width_before(end, around))
     } else {
         Ok(0)
     }
@@ -373,24 +373,20 @@ fn rest_of<'e>(around: Neighbours<'e>) -> &'e [BufferedEvent]
     &around.unit[around.place + 1..]
 }
 
-/// The place of the end of the container that is innermost behind it.
-fn end_of(around: Neighbours<'_>) -> usize
-    requires within { around.place < length around.unit.now }
-    requires ends { length around.found.now.ends.items ≡ length around.unit.now }
-    ensures { result ≡ slice_index around.entry.found.now.ends.items around.entry.place }
+/// Where the container ends that starts here, if it does.
+fn end_of(around: Neighbours<'_>) -> Option<usize>
+    ensures { AreEnds (unit_in around.entry) around.entry.found.now.ends.items
+        → result ≡ end_at around.entry.place (drop around.entry.place (unit_in around.entry)) }
 {
-    around.found.ends[around.place]
+    end_at(&around.found.ends, around.place)
 }
 
-/// How many events stand between.
-fn width_of(around: Neighbours<'_>) -> usize
-    requires within { around.place < length around.unit.now }
-    requires ends { length around.found.now.ends.items ≡ length around.unit.now }
-    ensures { result
-        ≡ slice_index around.entry.found.now.ends.items around.entry.place
-        - (around.entry.place + 1) }
+/// How many events stand between this one and a place behind it.
+fn width_before(end: usize, around: Neighbours<'_>) -> usize
+    requires { around.place < length around.unit.now }
+    ensures { result ≡ end - (around.entry.place + 1) }
 {
-    end_of(around).saturating_sub(around.place + 1)
+    end.saturating_sub(around.place + 1)
 }
 
 /// Whether the id of the link or image that starts here stands in place of its body.

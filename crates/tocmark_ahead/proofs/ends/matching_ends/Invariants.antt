@@ -1,6 +1,6 @@
-use Rattle.std.proofs.Common.{◌≡◌, map, ◌+◌, ◌<◌, ◌≤◌, ℕ, drop, length, get_or, reverse, slice_index}
+use Rattle.std.proofs.Common.{◌≡◌, map, ◌≤◌, ℕ, None, drop, length, reverse, slice_get, slice_index_or}
 use Rattle.tocmark_spelling.specs.Buffered.{buffered_view}
-use Rattle.tocmark_spelling.specs.Scans.{span}
+use Rattle.tocmark_spelling.specs.Scans.{end_at, end_from}
 use Rattle.tocmark_ahead.proofs.ends.matching_ends.Given as goal
 
 abbrev pub invariant-loop-i : goal.invariant-loop-i
@@ -8,8 +8,8 @@ invariant-loop-i l =
     record {
       within : l.i ≤ length l.events;
       len : length l.ends.items ≡ length l.events;
-      closers : (d : ℕ) → get_or (reverse l.closers.items) d (length l.events) ≡ l.i + span d (drop l.i (map buffered_view l.events));
-      ends : (j : ℕ) → l.i ≤ j → j < length l.events → slice_index l.ends.items j ≡ j + 1 + span 0 (drop (j + 1) (map buffered_view l.events));
+      closers : (d : ℕ) → slice_get (reverse l.closers.items) d ≡ end_from d l.i (drop l.i (map buffered_view l.events));
+      ends : (j : ℕ) → l.i ≤ j → slice_index_or l.ends.items j None ≡ end_at j (drop j (map buffered_view l.events));
     }
 
 abbrev pub decreases-loop-i : goal.decreases-loop-i

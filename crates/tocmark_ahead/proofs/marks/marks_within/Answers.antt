@@ -1,5 +1,7 @@
-use Rattle.std.proofs.Common.{◌≡◌, ◌+◌, ◌-◌, ◌<◌, ◌≤◌, ℕ, Bool, false, take, drop, length, get_or, arith, subst, length-set, rules}
+use Rattle.std.proofs.Common.{◌≡◌, ◌+◌, ◌-◌, ◌<◌, ◌≤◌, ℕ, Bool, false, None, ap, ◌∙◌, take, drop, length, get_or, arith, subst, length-set, rules}
+use Rattle.std.specs.Prelude.{unwrap_or}
 use Rattle.std.specs.List.{list_any}
+use Rattle.tocmark_ahead.specs.Ahead.{comes_before}
 use Rattle.tocmark_ahead.proofs.Nearest.{nearest-step, nearest-none, found-at, found-step}
 use Rattle.tocmark_ahead.proofs.Ahead.{are-disturbed}
 use Rattle.tocmark_ahead.proofs.marks.marks_within.Goals as goal
@@ -20,12 +22,12 @@ loop-i-preserved c =
     let k = c.loop-i.i - 1 in
     let q : c.loop-i.i ≡ k + 1 = omega arith in
     let lt : k < length marks = omega arith in
-    let P : ℕ → Type 0 = λ i. (j : ℕ) → i ≤ j → j < length marks → get_or c.loop-i.found.items j false ≡ list_any (λ b. b) (take (get_or ends j 0 - (j + 1)) (drop (j + 1) marks)) in
+    let P : ℕ → Type 0 = λ i. (j : ℕ) → i ≤ j → j < length marks → get_or c.loop-i.found.items j false ≡ list_any (λ b. b) (take (unwrap_or (get_or ends j None) (length marks) - (j + 1)) (drop (j + 1) marks)) in
     record {
       within = omega arith;
       len = omega (arith, length-set {A = Bool}, c.loop-i.invariant.len);
       nearest = nearest-step marks c.loop-i.nearest c.nearer-nearest.result c.loop-i.i k _ q lt c.loop-i.invariant.nearest c.nearer-nearest.ensures;
-      found = found-step c.loop-i.found.items marks ends k c.comes_before.result (omega (arith, c.loop-i.invariant.len)) (found-at marks ends c.loop-i.nearest c.comes_before.result c.loop-i.i k q c.loop-i.invariant.nearest c.comes_before.ensures) (subst P q c.loop-i.invariant.found);
+      found = found-step c.loop-i.found.items marks ends k c.comes_before.result (omega (arith, c.loop-i.invariant.len)) (found-at marks ends c.loop-i.nearest c.comes_before.result c.loop-i.i k q c.loop-i.invariant.nearest (c.comes_before.ensures ∙ ap (comes_before c.loop-i.nearest) c.end_at.ensures.value)) (subst P q c.loop-i.invariant.found);
     }
 
 pub returns-clause-marked : goal.returns-clause-marked

@@ -1,4 +1,4 @@
-use Rattle.std.proofs.Common.{◌∙◌, ◌+◌, refl, ap, map, arith, slice_index, slice_index_or}
+use Rattle.std.proofs.Common.{◌∙◌, ◌+◌, ap, map, arith, slice_index_or}
 use Rattle.tocmark_ahead.specs.Sides.{no_side}
 use Rattle.tocmark_spelling.specs.Buffered.{buffered_view, following_view}
 use Rattle.tocmark_spelling.specs.Edges.{edge_after}
@@ -11,9 +11,9 @@ returns-clause-node c = λ reading cols t rest begins.
     let a = c.args in
     let es = map buffered_view a.events.now in
     let i = a.place in
-    let end = slice_index a.ends.now i in
+    let end = c.body_end-end.result in
     let event = drop-event a.events.now i c.index-events-place.result c.requires.within c.index-events-place.is in
-    node-is reading es rest i end (buffered_view c.index-events-place.result) t a.columns.now a.preferred (following_view a.next) c.width_of-own.result c.side_at-before.result c.side_behind.result c.side_at-last.result c.side_behind-2.result _ a.ends.now cols c.requires.ends refl event begins (record {
+    node-is reading es rest i end (buffered_view c.index-events-place.result) t a.columns.now a.preferred (following_view a.next) c.width_of-own.result c.side_at-before.result c.side_behind.result c.side_at-last.result c.side_behind-2.result _ cols (c.body_end-end.ensures.start es t rest c.requires.ends begins.at) event begins (record {
       strong = c.starts_strong-strong.ensures;
       follows = c.follows_closing.ensures;
       next_is = c.edge_after.ensures ∙ ap edge_after c.following.ensures;
@@ -33,7 +33,7 @@ returns-clause-low c = λ reading cols.
     let a = c.args in
     let es = map buffered_view a.events.now in
     let i = a.place in
-    let end = slice_index a.ends.now i in
+    let end = c.body_end-end.result in
     literals-low reading es a.columns.now cols i end c.width_of-own.result c.width_of-own.result c.side_at-before.result c.side_behind.result c.side_at-last.result c.side_behind-2.result _ (omega (arith, c.requires.within, length-events a.events.now)) c.in_ok-opening.ensures c.in_ok-closing.ensures
     (c.side_at-before.ensures ∙ ap (λ x. slice_index_or x i no_side) c.deref.ensures.value)
     (c.side_behind-2.ensures ∙ ap (λ x. slice_index_or x (end + 1) no_side) c.deref-4.ensures.value)

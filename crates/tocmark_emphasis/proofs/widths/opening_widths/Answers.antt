@@ -1,6 +1,8 @@
-use Rattle.std.proofs.Common.{rules, ◌≡◌, ◌∙◌, ◌+◌, ◌-◌, ◌<◌, ◌≤◌, ℕ, sym, ap, length, map, drop, get_or, arith, subst, length-set}
+use Rattle.std.proofs.Common.{rules, ◌≡◌, ◌∙◌, ◌+◌, ◌-◌, ◌<◌, ◌≤◌, ℕ, sym, ap, length, map, drop, get_or, arith, subst, length-set, ◌∷◌}
 use Rattle.std.proofs.lemmas.List.{length-drop}
+use Rattle.tocmark_event.specs.View.{TagView, Start}
 use Rattle.tocmark_spelling.specs.Buffered.{buffered_view}
+use Rattle.tocmark_spelling.specs.Scans.{span}
 use Rattle.tocmark_ahead.specs.Ahead.{width_in}
 use Rattle.tocmark_ahead.proofs.FactLemmas.{place-set}
 use Rattle.tocmark_ahead.proofs.SideLaws.{room, small}
@@ -34,7 +36,9 @@ loop-i-preserved c =
     let lt : k < length c.args.events.now = omega arith in
     let at = drop-event c.args.events.now k _ lt c.index-events-i.is in
     let value : ℕ → ℕ = λ j. width_in (drop j evs) in
-    let next = width-step evs c.args.ends.now _ c.ends_behind-is_last.result c.loop-i.width c.width_with-width.result c.loop-i.i k c.requires q (omega (arith, length-events c.args.events.now)) at c.ends_behind-is_last.ensures c.loop-i.invariant.width c.width_with-width.ensures in
+    let reach : (t : TagView) → drop k evs ≡ Start t ∷ drop (k + 1) evs → c.body_end.result ≡ k + 1 + span 0 (drop (k + 1) evs) = λ t start.
+    c.body_end.ensures.start evs t (drop (k + 1) evs) c.requires start in
+    let next = width-step evs _ c.ends_behind-is_last.result c.loop-i.width c.width_with-width.result c.loop-i.i k c.body_end.result reach q at c.ends_behind-is_last.ensures c.loop-i.invariant.width c.width_with-width.ensures in
     let P : ℕ → Type 0 = λ i. (j : ℕ) → i ≤ j → get_or c.loop-i.widths.items j 0 ≡ value j in
     record {
       within = omega arith;

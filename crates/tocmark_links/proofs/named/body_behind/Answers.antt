@@ -4,6 +4,6 @@ use Rattle.tocmark_links.proofs.Names.{body-is}
 use Rattle.tocmark_links.proofs.named.body_behind.Goals as goal
 
 pub returns : goal.returns
-returns c =
-    ap (map buffered_view) (c.first_of.ensures ∙ ap (take c.saturating_sub.result) c.rest_of.ensures)
-    ∙ body-is c.args.events.now c.args.ends.now c.args.i c.saturating_sub.result c.requires.at c.requires.ends c.saturating_sub.ensures
+returns c = λ t rest at.
+    ap (map buffered_view) (c.first_of.ensures ∙ ap (take c.saturating_sub-width.result) c.rest_of.ensures)
+    ∙ body-is c.args.events.now t rest c.args.i c.saturating_sub-width.result c.body_end.result at (c.body_end.ensures.start (map buffered_view c.args.events.now) t rest c.requires.ends at) c.saturating_sub-width.ensures

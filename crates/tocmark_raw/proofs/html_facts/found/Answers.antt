@@ -1,6 +1,8 @@
-use Rattle.std.proofs.Common.{◌≡◌, ◌∙◌, ◌+◌, ◌-◌, ◌<◌, ◌≤◌, ℕ, suc, ap, sym, length, map, drop, get_or, arith, subst, length-set}
+use Rattle.std.proofs.Common.{◌≡◌, ◌∙◌, ◌+◌, ◌-◌, ◌<◌, ◌≤◌, ℕ, suc, ap, sym, length, map, drop, get_or, arith, subst, length-set, ◌∷◌}
 use Rattle.std.proofs.lemmas.List.{length-drop}
+use Rattle.tocmark_event.specs.View.{TagView, Start}
 use Rattle.tocmark_spelling.specs.Buffered.{buffered_view}
+use Rattle.tocmark_spelling.specs.Scans.{span}
 use Rattle.tocmark_spelling.proofs.Turns.{drop-event, length-events}
 use Rattle.tocmark_ahead.proofs.FactLemmas.{place-set}
 use Rattle.tocmark_raw.specs.Html.{no_html}
@@ -43,10 +45,12 @@ loop-i-preserved c =
     let held = c.loop-i.invariant in
     let texts = subst (λ i. AreHtmlTexts (drop i evs)) q held.texts in
     let behind = held.ahead ∙ ap (λ i. ahead_of (drop i evs)) q in
-    let end = c.number_at-end.ensures ∙ c.requires.ends.at k small in
-    let later : c.loop-i.i ≤ c.number_at-end.result = omega (arith, end) in
-    let after = c.number_at-after.ensures ∙ ap (λ xs. get_or xs c.number_at-end.result 0) c.deref.ensures.value ∙ held.lefts c.number_at-end.result later in
-    let left_behind : c.saturating_sub-behind.result ≡ length evs - c.number_at-end.result = c.saturating_sub-behind.ensures ∙ ap (λ n. n - c.number_at-end.result) (sym count) in
+    let end = c.body_end-end.result in
+    let reach : (t : TagView) → buffered_view c.index-events-i.result ≡ Start t → end ≡ k + 1 + span 0 (drop (k + 1) evs) = λ t start.
+    c.body_end-end.ensures.start evs t (drop (k + 1) evs) c.requires.ends (at ∙ ap (λ x. x ∷ drop (k + 1) evs) start) in
+    let later : c.loop-i.i ≤ end = omega (arith, c.body_end-end.ensures.behind evs c.requires.ends small) in
+    let after = c.number_at-after.ensures ∙ ap (λ xs. get_or xs end 0) c.deref.ensures.value ∙ held.lefts end later in
+    let left_behind : c.saturating_sub-behind.result ≡ length evs - end = c.saturating_sub-behind.ensures ∙ ap (λ n. n - end) (sym count) in
     let events_here : length a.events.now - k ≡ suc (length (drop (k + 1) evs)) = omega (arith, count, length-drop (k + 1) evs) in
     let ahead = ahead-step evs _ k (length a.events.now - k) a.text.now c.loop-i.ahead c.ahead_at-ahead.result at_again c.requires.text events_here c.ahead_at-ahead.ensures.text texts behind c.ahead_at-ahead.ensures.ahead in
     let P : ℕ → HtmlFacts → Type 0 = IsFound evs in
@@ -63,7 +67,7 @@ loop-i-preserved c =
       ahead = ahead;
       lefts = place-set lefts 0 k c.ahead_at-ahead.result.left value (omega (arith, held.numbers)) (ap (λ (x : HtmlAhead). x.left) ahead) (subst R q held.lefts);
       found = place-holds P facts no_html k c.event_facts.result (omega (arith, held.len))
-          (finds evs _ k c.number_at-end.result c.number_at-after.result c.saturating_sub-behind.result a.text.now c.loop-i.ahead c.event_facts.result
-          at end after left_behind c.requires.text texts behind c.event_facts.ensures)
+          (finds evs _ k end c.number_at-after.result c.saturating_sub-behind.result a.text.now c.loop-i.ahead c.event_facts.result
+          at reach after left_behind c.requires.text texts behind c.event_facts.ensures)
           (subst Q q held.found);
     }
