@@ -1,15 +1,23 @@
--- What a reader found is compared from the front with what must be read.
-use Rattle.std.proofs.Common.{◌≡◌, ◌∙◌, sym, ap, refl, ℕ, ◌+◌, ◌<◌, Bool, true, false, List, [], ◌∷◌, ◌++◌, Option, Some, None, length, map, drop, get_or, bytes_eq, arith, unwrap_or, drop-drop, drop_of_length-le, length-drop, append-nil, eq-eqb, eqb-true, leb-true, leb-false}
-use Rattle.std.specs.Prelude.{◌&&◌, nat_eq, if◌then◌else◌}
-use Rattle.std.specs.List.{starts_with}
-use Rattle.std.proofs.lemmas.Bool.{false≢true}
-use Rattle.std.proofs.lemmas.List.{drop_more, drop-map}
-use Rattle.tocmark_event.proofs.Merging.{after_text-twice}
+-- What a reader found is compared with what must be read.
+use Rattle.std.proofs.Common.{◌≡◌, ◌∙◌, sym, ap, refl, ℕ, suc, arith, Bool, true, false, List, [], ◌∷◌, ◌++◌, Option, length, map, drop, bytes_eq, append-nil, eq-eqb, eqb-true}
+use Rattle.std.specs.Prelude.{◌&&◌, ◌||◌, ◌==◌, nat_eq, if◌then◌else◌}
+use Rattle.std.specs.List.{list_any, starts_with}
+use Rattle.std.proofs.lemmas.Bool.{false≢true, true≢false}
+use Rattle.std.proofs.lemmas.Bool.Decides.{nat_tests}
+use Rattle.std.proofs.lemmas.List.{drop-map, length-map}
 use Rattle.tocmark_event.specs.Merged.{after_text, merged}
-use Rattle.tocmark_event.specs.View.{EventView, Leaf, Text}
+use Rattle.tocmark_event.specs.View.{EventView, SourcedEvent, Start, End, Leaf, Text, Paragraph, unsourced}
+use Rattle.tocmark_event.specs.declared.event.TagEnd.TheVariants as end
+use Rattle.tocmark_spelling.specs.Buffered.{buffered_view, event_of, sourced}
 use Rattle.tocmark_spelling.specs.SameEvents.{same_event, same_events}
-use Rattle.tocmark_read_back.specs.declared.agrees.Reached.{Reached}
-use Rattle.tocmark_read_back.specs.Agrees.{begins_with_text, read_in, is_read, agree_behind, agree_at, agree_from}
+use Rattle.tocmark_spelling.specs.declared.buffered.BufferedEvent.{BufferedEvent}
+use Rattle.tocmark_read_back.specs.Agrees.{begins_paragraph}
+use Rattle.tocmark_read_back.specs.InParagraph.{in_paragraph, stands_alone}
+
+-- a text stands first
+abbrev pub begins_with_text : List EventView → Bool
+begins_with_text (Leaf (Text t) ∷ es) = true
+begins_with_text es = false
 
 and-true : (b : Bool) → (b && true) ≡ b
 and-true true = refl
@@ -65,44 +73,6 @@ text-last t [] = refl
 text-last t (Leaf (Text v) ∷ es) = refl
 text-last t (e ∷ es) = refl
 
--- a text that was found, where a text must be read
-text-begun : (es ys : List EventView) (u t : List ℕ) (matched : Option ℕ) → agree_at (Leaf (Text t) ∷ es) matched (Leaf (Text u) ∷ ys) ≡ same_events (after_text t (merged es)) (Leaf (Text (drop (unwrap_or matched 0) u)) ∷ ys)
-text-begun es ys u t None = refl
-text-begun es ys u t (Some n) = ap (λ e. same_events e (Leaf (Text (drop n u)) ∷ ys)) (after_text-twice [] t (merged es))
-
-text-elsewhere : (es ys : List EventView) (y : EventView) (t : List ℕ) (matched : Option ℕ) → begins_with_text (y ∷ []) ≡ false → false ≡ agree_at (Leaf (Text t) ∷ es) matched (y ∷ ys)
-text-elsewhere es ys y t None h = sym (text-only t y (merged es) ys h)
-text-elsewhere es ys (Leaf (Text u)) t (Some n) h = absurd (false≢true (sym h))
-text-elsewhere es ys y t (Some n) h = refl
-
-module _ (es ys : List EventView) (matched : Option ℕ) (t : List ℕ) where
-  pub text-reads : (y : EventView) (n : ℕ) → read_in y (unwrap_or matched 0) t ≡ Some n → agree_behind es n (y ∷ ys) ≡ agree_at (Leaf (Text t) ∷ es) matched (y ∷ ys)
-  text-reads (Leaf (Text u)) n h = by (starts_with nat_eq (drop from u) t) refl h
-    where
-      from : ℕ
-      from = unwrap_or matched 0
-
-      by : (b : Bool) → starts_with nat_eq (drop from u) t ≡ b → (if b then Some (from + length t) else None) ≡ Some n → agree_behind es n (Leaf (Text u) ∷ ys) ≡ agree_at (Leaf (Text t) ∷ es) matched (Leaf (Text u) ∷ ys)
-      by true e h =
-          ap (λ k. agree_behind es k (Leaf (Text u) ∷ ys)) (sym (ap (λ o. unwrap_or o 0) h))
-          ∙ sym (texts-front t (drop (from + length t) u) (merged es) ys)
-          ∙ ap (λ w. same_events (after_text t (merged es)) (Leaf (Text w) ∷ ys)) (ap (λ w. t ++ w) (sym (drop-drop (length t) from u)) ∙ sym (starts-splits t (drop from u) e))
-          ∙ sym (text-begun es ys u t matched)
-      by false e h = absurd cc
-  text-reads y n h = absurd cc
-
-  pub text-differs : (y : EventView) → read_in y (unwrap_or matched 0) t ≡ None → false ≡ agree_at (Leaf (Text t) ∷ es) matched (y ∷ ys)
-  text-differs (Leaf (Text u)) h = by (starts_with nat_eq (drop from u) t) refl h
-    where
-      from : ℕ
-      from = unwrap_or matched 0
-
-      by : (b : Bool) → starts_with nat_eq (drop from u) t ≡ b → (if b then Some (from + length t) else None) ≡ None → false ≡ agree_at (Leaf (Text t) ∷ es) matched (Leaf (Text u) ∷ ys)
-      by true e h = absurd cc
-      by false e h = sym (texts-differ t (drop from u) (merged es) ys e) ∙ sym (text-begun es ys u t matched)
-  text-differs y h = text-elsewhere es ys y t matched refl
-
--- behind the text
 pub merged-begins : (es : List EventView) → begins_with_text es ≡ false → begins_with_text (merged es) ≡ false
 merged-begins [] h = refl
 merged-begins (Leaf (Text t) ∷ es) h = absurd (false≢true (sym h))
@@ -117,60 +87,111 @@ pub front-merged : (e : EventView) (es : List EventView) → begins_with_text (e
 front-merged (Leaf (Text t)) es h = absurd (false≢true (sym h))
 front-merged e es h = refl
 
-pub begins-alone : (e : EventView) (es : List EventView) → begins_with_text (e ∷ []) ≡ false → begins_with_text (e ∷ es) ≡ false
-begins-alone (Leaf (Text t)) es h = h
-begins-alone e es h = refl
+-- ---- events in a paragraph
 
--- behind a text all of which is read
-read-behind : (es ys : List EventView) (y : EventView) (n : ℕ) → begins_with_text es ≡ false → is_read y n ≡ true → same_events (merged es) ys ≡ agree_behind es n (y ∷ ys)
-read-behind es ys (Leaf (Text u)) n h e =
-    sym (ap (λ r. same_events (after_text [] (merged es)) (Leaf (Text r) ∷ ys)) (drop_of_length-le u (leb-true (length u) n e))
-    ∙ ap (λ x. same_events x (Leaf (Text []) ∷ ys)) (empty-text (merged es) (merged-begins es h)))
-read-behind es ys y n h e = absurd (false≢true e)
+unsourced-is : (e : EventView) (source : Option (List ℕ)) → e ≡ unsourced (sourced e source)
+unsourced-is (Start t) source = refl
+unsourced-is (End k) source = refl
+unsourced-is (Leaf l) source = refl
 
-begun-differs : (es ys : List EventView) (r : List ℕ) → 0 < length r → same_events (Leaf (Text []) ∷ es) (Leaf (Text r) ∷ ys) ≡ false
-begun-differs es ys [] h = absurd (omega (arith, h))
-begun-differs es ys (x ∷ r) h = refl
+events-are : (bs : List BufferedEvent) → map event_of bs ≡ map unsourced (map buffered_view bs)
+events-are [] = refl
+events-are (b ∷ bs) = ap (λ e. e ∷ map event_of bs) (unsourced-is (event_of b) _) ∙ ap (λ es. unsourced (buffered_view b) ∷ es) (events-are bs)
 
-read-short : (es ys : List EventView) (y : EventView) (n : ℕ) → begins_with_text es ≡ false → is_read y n ≡ false → false ≡ agree_behind es n (y ∷ ys)
-read-short es ys (Leaf (Text u)) n h e =
-    sym (ap (λ x. same_events x (Leaf (Text (drop n u)) ∷ ys)) (empty-text (merged es) (merged-begins es h))
-    ∙ begun-differs (merged es) ys (drop n u) (omega (arith, leb-false (length u) n e, length-drop n u)))
-read-short es ys y n h e = refl
+-- whether a block is among them
+blocks-after : (t : List ℕ) (es : List EventView) → list_any stands_alone (after_text t es) ≡ list_any stands_alone es
+blocks-after t [] = refl
+blocks-after t (Leaf (Text u) ∷ es) = refl
+blocks-after t (e ∷ es) = refl
 
--- a place among the views of a list
-module _ {A : Type 0} (f : A → EventView) (xs : List A) (i : ℕ) (x : A) (lt : i < length xs) (is : x ≡ get_or xs i x) where
-  view-at : drop i (map f xs) ≡ f x ∷ drop (i + 1) (map f xs)
-  view-at = drop-map f i xs ∙ ap (map f) (drop_more xs i x lt) ∙ ap (λ y. f y ∷ map f (drop (i + 1) xs)) (sym is) ∙ ap (λ ys. f x ∷ ys) (sym (drop-map f (i + 1) xs))
+blocks-merged : (es : List EventView) → list_any stands_alone (merged es) ≡ list_any stands_alone es
+blocks-merged [] = refl
+blocks-merged (Leaf (Text t) ∷ es) = blocks-after t (merged es) ∙ blocks-merged es
+blocks-merged (e ∷ es) = ap (λ b. stands_alone e || b) (blocks-merged es)
 
-  module _ (es : List EventView) (matched : Option ℕ) (t : List ℕ) where
-    pub at_text-reads : (n : ℕ) → read_in (f x) (unwrap_or matched 0) t ≡ Some n → agree_behind es n (drop i (map f xs)) ≡ agree_at (Leaf (Text t) ∷ es) matched (drop i (map f xs))
-    at_text-reads n h = ap (agree_behind es n) view-at ∙ text-reads es (drop (i + 1) (map f xs)) matched t (f x) n h ∙ sym (ap (agree_at (Leaf (Text t) ∷ es) matched) view-at)
+abbrev pub with_ends : List EventView → List EventView
+with_ends es = Start Paragraph ∷ es ++ End end.Paragraph ∷ []
 
-    pub at_text-differs : read_in (f x) (unwrap_or matched 0) t ≡ None → false ≡ agree_at (Leaf (Text t) ∷ es) matched (drop i (map f xs))
-    at_text-differs h = text-differs es (drop (i + 1) (map f xs)) matched t (f x) h ∙ sym (ap (agree_at (Leaf (Text t) ∷ es) matched) view-at)
+with-block : (es : List EventView) → list_any stands_alone es ≡ true → in_paragraph es ≡ es
+with-block [] h = refl
+with-block (e ∷ es) h = ap (λ (b : Bool). if b then e ∷ es else with_ends (e ∷ es)) h
 
-  module _ (es : List EventView) (matched : Option ℕ) (n : ℕ) (begun : matched ≡ Some n) (begins : begins_with_text es ≡ false) where
-    pub behind-read : is_read (f x) n ≡ true → same_events (merged es) (drop (i + 1) (map f xs)) ≡ agree_at es matched (drop i (map f xs))
-    behind-read h = read-behind es (drop (i + 1) (map f xs)) (f x) n begins h ∙ sym (ap (agree_at es matched) view-at ∙ ap (λ m. agree_at es m (f x ∷ drop (i + 1) (map f xs))) begun)
+without-block : (e : EventView) (es : List EventView) → list_any stands_alone (e ∷ es) ≡ false → in_paragraph (e ∷ es) ≡ with_ends (e ∷ es)
+without-block e es h = ap (λ (b : Bool). if b then e ∷ es else with_ends (e ∷ es)) h
 
-    pub behind-short : is_read (f x) n ≡ false → false ≡ agree_at es matched (drop i (map f xs))
-    behind-short h = read-short es (drop (i + 1) (map f xs)) (f x) n begins h ∙ sym (ap (agree_at es matched) view-at ∙ ap (λ m. agree_at es m (f x ∷ drop (i + 1) (map f xs))) begun)
+text-without : (t : List ℕ) (es : List EventView) → list_any stands_alone es ≡ false → in_paragraph (after_text t es) ≡ with_ends (after_text t es)
+text-without t [] h = refl
+text-without t (Leaf (Text u) ∷ es) h = without-block (Leaf (Text (t ++ u))) es h
+text-without t (e ∷ es) h = without-block (Leaf (Text t)) (e ∷ es) h
 
-  module _ (es : List EventView) (e : EventView) (b same : Bool) (no_text : begins_with_text (e ∷ []) ≡ false) (asked : same_events (merged (e ∷ es)) (drop i (map f xs)) ≡ b) (is_same : same ≡ same_event e (f x)) where
-    front-step : (same && same_events (merged es) (drop (i + 1) (map f xs))) ≡ b
-    front-step =
-        ap (λ s. s && same_events (merged es) (drop (i + 1) (map f xs))) is_same
-        ∙ sym (ap (same_events (merged (e ∷ es))) view-at ∙ ap (λ m. same_events m (f x ∷ drop (i + 1) (map f xs))) (front-merged e es no_text))
-        ∙ asked
+not-empty : (n : ℕ) → (suc n == 0) ≡ false
+not-empty n = by (suc n == 0) refl
+  where
+    by : (b : Bool) → (suc n == 0) ≡ b → (suc n == 0) ≡ false
+    by true h = absurd (grind (arith, nat_tests))
+    by false h = h
 
-    pub other-differs : same ≡ false → false ≡ b
-    other-differs h = sym (ap (λ s. s && same_events (merged es) (drop (i + 1) (map f xs))) h) ∙ front-step
+-- events are, and what else is asked of them
+asked : (e : EventView) (es : List EventView) (b : Bool) → ((length (e ∷ es) == 0) || b) ≡ b
+asked e es b = ap (λ z. z || b) (not-empty (length es))
 
-    pub other-same : same ≡ true → same_events (merged es) (drop (i + 1) (map f xs)) ≡ b
-    other-same h = sym (ap (λ s. s && same_events (merged es) (drop (i + 1) (map f xs))) h) ∙ front-step
+as-they-are : (es : List EventView) → ((length es == 0) || list_any stands_alone es) ≡ true → in_paragraph (merged es) ≡ merged es
+as-they-are [] h = refl
+as-they-are (e ∷ es) h = with-block (merged (e ∷ es)) (blocks-merged (e ∷ es) ∙ sym (asked e es (list_any stands_alone (e ∷ es))) ∙ h)
 
--- the comparison ends where the next event differs
-pub differs-here : {A : Type 0} (f : A → EventView) (xs : List A) (i : ℕ) (x : A) (ys : List EventView) (r : Reached) (b : Bool) → i < length xs → x ≡ get_or xs i x → false ≡ agree_from (f x ∷ map f (drop (i + 1) xs)) ys r → agree_from (map f (drop i xs)) ys r ≡ b → false ≡ b
-differs-here f xs i x ys r b lt is differs same =
-    differs ∙ ap (λ es. agree_from es ys r) (sym (ap (map f) (drop_more xs i x lt) ∙ ap (λ y. f y ∷ map f (drop (i + 1) xs)) (sym is))) ∙ same
+inline-ones : (e : EventView) (es : List EventView) → list_any stands_alone (e ∷ es) ≡ false → in_paragraph (merged (e ∷ es)) ≡ with_ends (merged (e ∷ es))
+inline-ones (Leaf (Text t)) es h = text-without t (merged es) (blocks-merged es ∙ h)
+inline-ones e es h = without-block e (merged es) (ap (λ b. stands_alone e || b) (blocks-merged es) ∙ h)
+
+in-paragraph : (es : List EventView) → ((length es == 0) || list_any stands_alone es) ≡ false → in_paragraph (merged es) ≡ with_ends (merged es)
+in-paragraph [] h = absurd (true≢false h)
+in-paragraph (e ∷ es) h = inline-ones e es (sym (asked e es (list_any stands_alone (e ∷ es))) ∙ h)
+
+-- a unit with a block, or an empty one, is compared as it is
+module _ (xs : List EventView) (bs : List BufferedEvent) (stays : Bool) (is : stays ≡ ((length bs == 0) || list_any stands_alone (map event_of bs))) where
+  views-stay : stays ≡ ((length (map event_of bs) == 0) || list_any stands_alone (map event_of bs))
+  views-stay = is ∙ ap (λ b. b || list_any stands_alone (map event_of bs)) (ap (λ n. n == 0) (sym (length-map bs event_of)))
+
+  pub agrees-as-it-is : stays ≡ true → same_events xs (merged (map event_of bs ++ [])) ≡ same_events xs (in_paragraph (merged (map unsourced (map buffered_view bs))))
+  agrees-as-it-is h =
+      ap (λ ys. same_events xs (merged ys)) (append-nil (map event_of bs))
+      ∙ ap (same_events xs) (sym (as-they-are (map event_of bs) (sym views-stay ∙ h)))
+      ∙ ap (λ ys. same_events xs (in_paragraph (merged ys))) (events-are bs)
+
+  -- any other stands in a paragraph
+  pub agrees-in-paragraph : stays ≡ false → same_events xs (with_ends (merged (map event_of bs))) ≡ same_events xs (in_paragraph (merged (map unsourced (map buffered_view bs))))
+  agrees-in-paragraph h =
+      ap (same_events xs) (sym (in-paragraph (map event_of bs) (sym views-stay ∙ h)))
+      ∙ ap (λ ys. same_events xs (in_paragraph (merged ys))) (events-are bs)
+
+-- ---- a paragraph of events
+
+text-ended : (t : List ℕ) (es : List EventView) → after_text t (es ++ End end.Paragraph ∷ []) ≡ after_text t es ++ End end.Paragraph ∷ []
+text-ended t [] = refl
+text-ended t (Leaf (Text u) ∷ es) = refl
+text-ended t (e ∷ es) = refl
+
+ended : (es : List EventView) → merged (es ++ End end.Paragraph ∷ []) ≡ merged es ++ End end.Paragraph ∷ []
+ended [] = refl
+ended (Leaf (Text t) ∷ es) = ap (after_text t) (ended es) ∙ text-ended t (merged es)
+ended (e ∷ es) = ap (λ xs. e ∷ xs) (ended es)
+
+first-then : (e : EventView) (es ys : List EventView) → (same_event e (Start Paragraph) && same_events (merged es) ys) ≡ same_events (merged (e ∷ es)) (Start Paragraph ∷ ys)
+first-then (Leaf (Text t)) es ys = sym (text-only t (Start Paragraph) (merged es) ys refl)
+first-then e es ys = refl
+
+pub not-begun : (es ys : List EventView) → begins_paragraph es ≡ false → false ≡ same_events (merged es) (Start Paragraph ∷ ys)
+not-begun [] ys h = refl
+not-begun (e ∷ es) ys h = sym (ap (λ b. b && same_events (merged es) ys) h) ∙ first-then e es ys
+
+begun : (es ys : List EventView) → begins_paragraph es ≡ true → same_events (merged (drop 1 es)) ys ≡ same_events (merged es) (Start Paragraph ∷ ys)
+begun [] ys h = absurd (false≢true h)
+begun (e ∷ es) ys h = sym (ap (λ b. b && same_events (merged es) ys) h) ∙ first-then e es ys
+
+-- what stands behind the start of a paragraph is compared with the events and its end
+pub behind-start : {A : Type 0} (f : A → EventView) (found rest : List A) (es : List EventView) → rest ≡ drop 1 found → begins_paragraph (map f found) ≡ true
+    → same_events (merged (map f rest)) (merged (es ++ End end.Paragraph ∷ [])) ≡ same_events (merged (map f found)) (with_ends (merged es))
+behind-start f found rest es is h =
+    ap (λ xs. same_events (merged xs) (merged (es ++ End end.Paragraph ∷ []))) (ap (map f) is ∙ sym (drop-map f 1 found))
+    ∙ ap (same_events (merged (drop 1 (map f found)))) (ended es)
+    ∙ begun (map f found) (merged es ++ End end.Paragraph ∷ []) h

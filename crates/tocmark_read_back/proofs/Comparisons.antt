@@ -10,9 +10,8 @@ use Rattle.tocmark_event.proofs.Merging.{after_text-twice}
 use Rattle.tocmark_event.specs.Merged.{after_text, merged}
 use Rattle.tocmark_event.specs.View.{EventView, Leaf, Text}
 use Rattle.tocmark_spelling.specs.SameEvents.{event_key, same_event, same_events}
-use Rattle.tocmark_read_back.specs.Agrees.{begins_with_text}
 use Rattle.tocmark_read_back.specs.Alike.{alike, cut, first, text_in}
-use Rattle.tocmark_read_back.proofs.Agreements.{empty-text, front-merged, merged-begins, starts-splits, text-last, text-only, texts-differ, texts-front}
+use Rattle.tocmark_read_back.proofs.Agreements.{begins_with_text, empty-text, front-merged, merged-begins, starts-splits, text-last, text-only, texts-differ, texts-front}
 
 same_event-equiv : IsEquivalence same_event
 same_event-equiv =

@@ -86,7 +86,10 @@ fn first_found<'e, 't>(found: &'e [(Event<'t>, (usize, usize))]) -> Option<&'e E
     }
 }
 
-fn rest_found<'e, 't>(found: &'e [(Event<'t>, (usize, usize))]) -> &'e [(Event<'t>, (usize, usize))]
+/// All that was found behind the first event.
+pub(crate) fn rest_found<'e, 't>(
+    found: &'e [(Event<'t>, (usize, usize))],
+) -> &'e [(Event<'t>, (usize, usize))]
     ensures { result.now ≡ drop 1 found.now }
 {
     if found.is_empty() { found } else { &found[1..] }

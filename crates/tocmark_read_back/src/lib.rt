@@ -3,4 +3,3 @@
 
 pub mod agrees;
 pub mod alike;
-pub mod expected;

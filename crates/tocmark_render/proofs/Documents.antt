@@ -1,6 +1,6 @@
 -- What is written for a unit is what is chosen for it.
-use Rattle.std.proofs.Common.{◌≡◌, Bool, true, false, Option, Some, None, Err, List, [], ◌∷◌, refl, sym, ap, ◌∙◌}
-use Rattle.std.specs.Prelude.{◌||◌, is_some}
+use Rattle.std.proofs.Common.{◌≡◌, ℕ, Result, Ok, Bool, true, false, Option, Some, None, Err, List, [], ◌∷◌, refl, sym, ap, ◌∙◌}
+use Rattle.std.specs.Prelude.{◌||◌, is_some, OnOk}
 use Rattle.std.specs.List.{list_any}
 use Rattle.std.proofs.lemmas.Bool.{false≢true, true≢false}
 use Rattle.tocmark_event.specs.Forest.{empty, leaf, node, flat, flat_onto}
@@ -75,6 +75,14 @@ delimiters-flat es f e = sym (or-false (is_delimiter_block f)) ∙ sym (delimite
 pub passed-noted : (s : Setting) (d : DocumentView) (here : Site) (p : Page) → passed (noted s d p) p ≡ document_after s (record d { trail = here.page.trail; feeds = here.page.sheet.feeds }) p
 unfolding document_after
 passed-noted s d here p = refl
+
+-- a document with other labels
+pub with-labels : (d : DocumentView) (known k literal l : List (List ℕ)) → known ≡ k → literal ≡ l → record d { known = known; literal = literal } ≡ record d { known = k; literal = l }
+with-labels d known k literal l e f = λ j. record d { known = e j; literal = f j }
+
+pub on-ok : {A E P Q : Type 0} (r : Result A E) → (P → Q) → OnOk r P → OnOk r Q
+on-ok (Ok x) f h = f h
+on-ok (Err e) f h = tt
 
 -- ---- a unit as its events
 

@@ -1,5 +1,5 @@
 -- The manners in which a unit is tried ask for ASCII where their layouts choose among single bytes.
-use Rattle.std.proofs.Common.{◌≡◌, sym, subst, ℕ, zero, suc, ◌<◌, Bool, true, false, ◌||◌, if◌then◌else◌, List, [], ◌∷◌, ◌++◌, bytes_eq, codes, flat_map, get_or, length, map, slice_index, arith, ⊎_elim}
+use Rattle.std.proofs.Common.{◌≡◌, sym, subst, ℕ, zero, suc, ◌<◌, Bool, true, false, ◌||◌, if◌then◌else◌, List, [], ◌∷◌, bytes_eq, codes, get_or, length, map, slice_index, arith, ⊎_elim}
 use Rattle.std.specs.Prelude.{◌==◌}
 use Rattle.std.specs.List.{AllByRecursion}
 use Rattle.std.proofs.lemmas.Bool.{false≢true, or_cases}
@@ -7,22 +7,15 @@ use Rattle.std.proofs.lemmas.Bool.Decides.{Decides-eqb}
 use Rattle.std.proofs.lemmas.Slice.Eq.{bytes_eq-Decides}
 use Rattle.tocmark_event.specs.Options.{OptionsView}
 use Rattle.tocmark_spelling.specs.Plan.{Manner, Plan}
-use Rattle.tocmark_render.specs.Candidates.{delimiter_manners, fallback_manners, fallbacks, other_emphasis, other_strong, source_manners}
+use Rattle.tocmark_render.specs.Candidates.{fallback_manners, other_emphasis, other_strong, source_manners}
 use Rattle.tocmark_render.specs.Choice.{has_standard_markers}
 use Rattle.tocmark_render.specs.TrialOf.{IsLow}
-use Rattle.tocmark_render.specs.Tries.{manners_for, run_manners}
+use Rattle.tocmark_render.specs.Tries.{run_manners}
 use Rattle.tocmark_render.proofs.Trials.{both_true}
 
-low-append : (a b : List Manner) → AllByRecursion IsLow a → AllByRecursion IsLow b → AllByRecursion IsLow (a ++ b)
-low-append [] b h k = k
-low-append (m ∷ a) b h k = (h.0, low-append a b h.1 k)
-
-low-fallbacks : (plans : List Plan) → AllByRecursion IsLow (flat_map fallback_manners plans)
-low-fallbacks [] = tt
-low-fallbacks (p ∷ plans) =
-    low-append (fallback_manners p) (flat_map fallback_manners plans)
-    ((λ _. (omega arith, omega arith)), ((λ _. (omega arith, omega arith)), ((λ _. (omega arith, omega arith)), ((λ _. (omega arith, omega arith)), tt))))
-    (low-fallbacks plans)
+-- a fallback with each pair of markers
+pub low-fallback : (p : Plan) → AllByRecursion IsLow (fallback_manners p)
+low-fallback p = ((λ _. (omega arith, omega arith)), ((λ _. (omega arith, omega arith)), ((λ _. (omega arith, omega arith)), ((λ _. (omega arith, omega arith)), tt))))
 
 low-emphasis : (e : ℕ) → ((e == 42) || (e == 95)) ≡ true → e < 128
 low-emphasis e h =
@@ -54,23 +47,14 @@ module _ (o : OptionsView) (standard : has_standard_markers o ≡ true) where
       let each = both_true ((o.emphasis_token == 42) || (o.emphasis_token == 95)) (bytes_eq o.strong_token (codes "**") || bytes_eq o.strong_token (codes "__")) standard in
       (low-emphasis o.emphasis_token each.0, low-strong o.strong_token each.1)
 
-  low-source : (src del : Bool) → AllByRecursion IsLow (if src then source_manners o del else [])
-  low-source false del = tt
-  low-source true false = ((λ e. absurd (false≢true e)), tt)
-  low-source true true = ((λ e. absurd (false≢true e)), ((λ _. own-markers), tt))
+  -- the manners from the source
+  pub low-source : (del : Bool) → AllByRecursion IsLow (source_manners o del)
+  low-source false = ((λ e. absurd (false≢true e)), tt)
+  low-source true = ((λ e. absurd (false≢true e)), ((λ _. own-markers), tt))
 
-  low-delimiters : (del : Bool) → AllByRecursion IsLow (if del then delimiter_manners o else [])
-  low-delimiters false = tt
-  low-delimiters true =
-      low-append (run_manners o) (flat_map fallback_manners fallbacks)
-      ((λ e. absurd (false≢true e)), ((λ _. own-markers), ((λ _. (low-other-emphasis o.emphasis_token, own-markers.1)), ((λ _. (own-markers.0, low-other-strong o.strong_token)), ((λ _. (low-other-emphasis o.emphasis_token, low-other-strong o.strong_token)), tt)))))
-      (low-fallbacks fallbacks)
-
-  -- all candidates under options with markers that Markdown reads
-  pub low-candidates : (src del : Bool) (ms : List Manner) → ms ≡ manners_for o src del → AllByRecursion IsLow ms
-  low-candidates src del ms e =
-      subst (AllByRecursion IsLow) (sym e)
-      (low-append (if src then source_manners o del else []) (if del then delimiter_manners o else []) (low-source src del) (low-delimiters del))
+  -- the preferred one, and those by runs
+  pub low-runs : AllByRecursion IsLow (run_manners o)
+  low-runs = ((λ e. absurd (false≢true e)), ((λ _. own-markers), ((λ _. (low-other-emphasis o.emphasis_token, own-markers.1)), ((λ _. (own-markers.0, low-other-strong o.strong_token)), ((λ _. (low-other-emphasis o.emphasis_token, low-other-strong o.strong_token)), tt)))))
 
 -- a manner among those that ask for ASCII
 pub low-at : {C : Type 0} (f : C → Manner) (xs : List C) (i : ℕ) (d : C) → i < length xs → AllByRecursion IsLow (map f xs) → IsLow (f (get_or xs i d))

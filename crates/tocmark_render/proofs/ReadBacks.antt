@@ -26,7 +26,7 @@ module _ (is_taken : List ℕ → Bool) (expected : List EventView) (r : Reading
   pub not-found : same_events found expected ≡ false → false ≡ found_in is_taken expected q
   not-found h = sym (ap (λ b. b && not (list_any is_taken q.unresolved)) (sym same ∙ h))
 
-  pub found-open : (taken : Bool) → same_events found expected ≡ true → taken ≡ list_any is_taken (map string_bytes r.unresolved.items) → not taken ≡ found_in is_taken expected q
-  found-open taken h t =
-      ap not (t ∙ ap (λ q. list_any is_taken q.unresolved) is_read)
+  pub found-open : (taken b : Bool) → same_events found expected ≡ true → taken ≡ list_any is_taken (map string_bytes r.unresolved.items) → taken ≡ b → not b ≡ found_in is_taken expected q
+  found-open taken b h t e =
+      ap not (sym e ∙ t ∙ ap (λ q. list_any is_taken q.unresolved) is_read)
       ∙ sym (ap (λ b. b && not (list_any is_taken q.unresolved)) (sym same ∙ h))

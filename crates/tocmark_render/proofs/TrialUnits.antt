@@ -7,7 +7,7 @@ use Rattle.std.proofs.lemmas.Bool.Decides.{nat_tests}
 use Rattle.tocmark_event.specs.Forest.{flat}
 use Rattle.tocmark_event.specs.Merged.{merged}
 use Rattle.tocmark_event.specs.Reading.{ReadingView}
-use Rattle.tocmark_event.specs.View.{EventView, SourcedEvent, unsourced}
+use Rattle.tocmark_event.specs.View.{SourcedEvent, unsourced}
 use Rattle.tocmark_event.specs.declared.event.flags.ParserOptions.{ParserOptions}
 use Rattle.tocmark_event.specs.declared.options.Error.{Error}
 use Rattle.tocmark_event.specs.declared.options.Error.TheVariants as error
@@ -23,7 +23,7 @@ use Rattle.tocmark_renderer.specs.declared.job.Manner as declared
 use Rattle.tocmark_spelling.proofs.Refusals.{none-misplaced}
 use Rattle.tocmark_read_back.specs.InParagraph.{in_paragraph}
 use Rattle.tocmark_render.specs.Candidates.{has_source, is_delimiter_block, preferred_manner}
-use Rattle.tocmark_render.specs.Choice.{Chosen, accepted_if, definitions_of, first_that_reads_back, if_read_back, page_in, page_of, page_read_back, preferred, spelled}
+use Rattle.tocmark_render.specs.Choice.{Chosen, accepted_if, first_that_reads_back, if_read_back, page_in, page_of, page_read_back, preferred, spelled}
 use Rattle.tocmark_labels.specs.Document.{DocumentView}
 use Rattle.tocmark_render.specs.DocumentOf.{Refuses, is_delimiter_event, is_sourced_event}
 use Rattle.tocmark_labels.specs.Placeholder.{whole}
@@ -64,27 +64,26 @@ module _ {R : Type 0} (reading : R → List ℕ → ParserOptions → ReadingVie
     q = asked_of reading t
 
     -- a reader that finds the unit, and leaves no label open that is taken, reads it back
-    pub trial-read : (es : List EventView) (text : List ℕ) (x : ParserOptions) → es ≡ in_paragraph (merged (map unsourced (events_in t))) → x ≡ flags_at q.setting d → found_in (is_taken q.setting d) es (q.setting.reading text x) ≡ reads_back_in q d text
-    trial-read es text x e ex =
-        ap (λ v. found_in (is_taken q.setting d) es (q.setting.reading text v)) ex
-        ∙ ap (λ es. found_in (is_taken q.setting d) es (q.setting.reading text (flags_at q.setting d))) (e ∙ ap (λ es. in_paragraph (merged (map unsourced es))) (sym trial-flat))
+    pub trial-read : (text : List ℕ) (x : ParserOptions) → x ≡ flags_at q.setting d → found_in (is_taken q.setting d) (in_paragraph (merged (map unsourced (events_in t)))) (q.setting.reading text x) ≡ reads_back_in q d text
+    trial-read text x ex =
+        ap (λ v. found_in (is_taken q.setting d) (in_paragraph (merged (map unsourced (events_in t)))) (q.setting.reading text v)) ex
+        ∙ ap (λ es. found_in (is_taken q.setting d) (in_paragraph (merged (map unsourced es))) (q.setting.reading text (flags_at q.setting d))) (sym trial-flat)
 
 -- where a manner asks for ASCII as plain values, its delimiters do
 pub low-asked : (m : declared.Manner) → IsLow (manner_view m) → AsksLow m.delimiters
 low-asked m h e = record { emphasis = (h e).0; strong = (h e).1 }
 
--- ---- what is read of a page
+-- ---- what is read of a text and the definitions before it
 
 -- without definitions it is the text
-pub read-plain : (p : Page) (defs text : List ℕ) → defs ≡ definitions_of p → (length defs == 0) ≡ true → text ≡ p.sheet.text → text ≡ read_of p
-read-plain p [] text e h t = t ∙ ap (λ v. whole_text v p.sheet.text) e
-read-plain p (b ∷ defs) text e h t = absurd (grind (arith, nat_tests))
+pub whole-alone : (defs text : List ℕ) → (length defs == 0) ≡ true → text ≡ whole_text defs text
+whole-alone [] text h = refl
+whole-alone (b ∷ defs) text h = absurd (grind (arith, nat_tests))
 
 -- else the text stands behind them and a blank line
-pub read-behind : (p : Page) (defs text all : List ℕ) → defs ≡ definitions_of p → (length defs == 0) ≡ false → text ≡ p.sheet.text → all ≡ defs ++ codes "\n\n" ++ text → all ≡ read_of p
-read-behind p [] text all e h t a = absurd (true≢false h)
-read-behind p (b ∷ defs) text all e h t a =
-    a ∙ ap (λ v. (b ∷ defs) ++ codes "\n\n" ++ v) t ∙ ap (λ v. whole_text v p.sheet.text) e
+pub whole-behind : (defs text all : List ℕ) → (length defs == 0) ≡ false → all ≡ defs ++ codes "\n\n" ++ text → all ≡ whole_text defs text
+whole-behind [] text all h a = absurd (true≢false h)
+whole-behind (b ∷ defs) text all h a = a
 
 -- ---- one trial
 

@@ -1,11 +1,12 @@
 -- A search over candidates that goes on where an earlier one found nothing.
-use Rattle.std.proofs.Common.{◌≡◌, ◌∙◌, sym, ap, refl, subst, ℕ, ◌+◌, ◌<◌, ◌≤◌, Bool, true, false, ◌&&◌, Option, Some, None, Result, Ok, Err, List, [], ◌∷◌, ◌++◌, length, map, drop, get_or, arith}
-use Rattle.std.proofs.lemmas.List.{drop_more, drop_all}
+use Rattle.std.proofs.Common.{◌≡◌, ◌∙◌, sym, ap, refl, subst, ℕ, ◌+◌, ◌<◌, ◌≤◌, Bool, true, false, ◌&&◌, Option, Some, None, Result, Ok, Err, List, [], ◌∷◌, ◌++◌, length, map, flat_map, drop, get_or, arith}
+use Rattle.std.proofs.lemmas.List.{drop_more, drop_all, length-map}
 use Rattle.tocmark_event.specs.declared.options.Error.{Error}
 use Rattle.tocmark_spelling.specs.Page.{Page}
-use Rattle.tocmark_spelling.specs.Plan.{Setting, Manner}
-use Rattle.std.specs.Prelude.{is_none, ◌↔◌, ◌==◌, if◌then◌else◌}
-use Rattle.std.proofs.lemmas.Bool.Decides.{nat_tests}
+use Rattle.tocmark_spelling.specs.Plan.{Setting, Manner, Plan}
+use Rattle.tocmark_spelling.specs.declared.plan.Layout.{Layout}
+use Rattle.tocmark_spelling.specs.declared.plan.TextSpelling.{TextSpelling}
+use Rattle.std.specs.Prelude.{is_none, ◌↔◌, if◌then◌else◌}
 use Rattle.std.proofs.lemmas.Bool.{false≢true, true≢false}
 use Rattle.tocmark_event.specs.Options.{OptionsView}
 use Rattle.tocmark_event.specs.declared.options.Error.TheVariants as error
@@ -13,7 +14,7 @@ use Rattle.tocmark_spelling.specs.Body.{Trees}
 use Rattle.tocmark_spelling.specs.Page.{Site}
 use Rattle.tocmark_spelling.specs.Spelling.{spelling}
 use Rattle.tocmark_spelling.proofs.Refusals.{none-misplaced}
-use Rattle.tocmark_render.specs.Candidates.{candidates, has_source, is_delimiter_block, preferred_manner, source_manners, delimiter_manners}
+use Rattle.tocmark_render.specs.Candidates.{candidates, fallback_manners, fallbacks, has_source, is_delimiter_block, preferred_manner, source_manners, delimiter_manners}
 use Rattle.tocmark_renderer.specs.WriterOf as renderer
 use Rattle.tocmark_renderer.specs.WriterOf.{Rendering, site_of}
 use Rattle.tocmark_render.specs.Choice.{Chosen, choice, preferred, accepted, accepted_if, page_of, page_in, by_markers, unless_misplaced, first_or, has_standard_markers, first_that_reads_back, page_read_back, spelled}
@@ -22,7 +23,7 @@ use Rattle.tocmark_labels.specs.Placeholder.{whole}
 use Rattle.tocmark_render.specs.Validates.{validates}
 use Rattle.tocmark_labels.specs.Document.{DocumentView}
 use Rattle.tocmark_render.specs.TrialOf.{IsLeft, IsWritten, Writes}
-use Rattle.tocmark_render.specs.Tries.{Asked, Found, Lost, PlacedIfTried, Stopped, StopsTrial, Tries, first, misplaced}
+use Rattle.tocmark_render.specs.Tries.{if_delimiters, if_source, manners_for, plan_view, Asked, Found, Lost, PlacedIfTried, Stopped, StopsTrial, Tries, first, misplaced}
 
 -- two truths, each by itself
 pub both_true : (a b : Bool) → (a && b) ≡ true → (a ≡ true) × (b ≡ true)
@@ -95,56 +96,175 @@ pub views-end : {C : Type 0} (f : C → Manner) (xs : List C) (i : ℕ) → leng
 views-end f xs i past = ap (map f) (drop_all i xs past)
 
 -- a trial from where a renderer stands again is one from where it began
-from-there : (q : Asked) (d : Site → DocumentView) (old here : Site) (new : Rendering) (ms : List Manner) (r : Result Bool Error) → here ≡ old → Tries q (d here) here new ms r → Tries q (d old) old new ms r
+from-there : {X : Type 0} (q : Asked) (d : Site → DocumentView) (old here : Site) (new : Rendering) (ms : List Manner) (r : Result (Option X) Error) → here ≡ old → Tries q (d here) here new ms r → Tries q (d old) old new ms r
 from-there q d old here new ms r e h = subst (λ x. Tries q (d x) x new ms r) e h
 
+-- an answer that is nothing else
+pub none-left : {X : Type 0} (o : Option X) → ((x : X) → o ≡ Some x → ⊥) → o ≡ None
+none-left None h = refl
+none-left (Some x) h = absurd (h x refl)
+
+-- the next candidates were tried
+module _ {X : Type 0} (q : Asked) (d : Site → DocumentView) (old : Site) (mid new : Rendering) (all head rest : List Manner) (before : GoesOn q (d old) old mid all (head ++ rest))
+    (o : Option X) (tried : Tries q (d (site_of mid)) (site_of mid) new head (Ok o)) where
+  from-old : Tries q (d old) old new head (Ok o)
+  from-old = from-there q d old (site_of mid) new head (Ok o) before.kept tried
+
+  -- one of them reads back
+  pub next-found : (x : X) → o ≡ Some x → Found q (d old) old new all
+  next-found x e =
+      let more : Found q (d old) old new (head ++ rest) = found-before q (d old) old new head rest (subst (λ o. Tries q (d old) old new head (Ok o)) e from-old) in
+      record { is_first = before.same ∙ more.is_first; marked = more.marked; placed = more.placed }
+
+  -- none of them does
+  pub next-lost : o ≡ None → GoesOn q (d old) old new all rest
+  next-lost e =
+      let lost : Lost q (d old) old new head = subst (λ o. Tries q (d old) old new head (Ok o)) e from-old in
+      record {
+        kept = lost.kept;
+        same = before.same ∙ first-more q (d old) head rest ∙ ap (λ o. found_or_else o (first q (d old) rest)) lost.none;
+        placed = λ p. before.placed (placed-more q head rest lost.placed p);
+      }
+
+goes-on-at : (q : Asked) (d : DocumentView) (old : Site) (now : Rendering) (all a b : List Manner) → a ≡ b → GoesOn q d old now all a → GoesOn q d old now all b
+goes-on-at q d old now all a b e h = subst (GoesOn q d old now all) e h
+
+-- what trying the rest comes to is what trying all comes to
+pub rest-tried : {X : Type 0} (q : Asked) (d : Site → DocumentView) (old : Site) (mid new : Rendering) (all rest : List Manner) (r : Result (Option X) Error) → GoesOn q (d old) old mid all rest → Tries q (d (site_of mid)) (site_of mid) new rest r → Tries q (d old) old new all r
+rest-tried q d old mid new all rest r before tried = by r (from-there q d old (site_of mid) new rest r before.kept tried)
+  where
+    by : {X : Type 0} (r : Result (Option X) Error) → Tries q (d old) old new rest r → Tries q (d old) old new all r
+    by (Ok (Some x)) h = record { is_first = before.same ∙ h.is_first; marked = h.marked; placed = h.placed }
+    by (Ok None) h = record { none = before.same ∙ h.none; kept = h.kept; placed = before.placed h.placed }
+    by (Err e) h = h
+
 -- the next candidate, of a list that is tried from a place on, was tried
-module _ {C : Type 0} (f : C → Manner) (cs : List C) (i : ℕ) (c : C) (q : Asked) (d : Site → DocumentView) (old : Site) (mid new : Rendering)
-    (lt : i < length cs) (before : GoesOn q (d old) old mid (map f cs) (map f (drop i cs))) where
+module _ {C X : Type 0} (f : C → Manner) (cs : List C) (i : ℕ) (c : C) (q : Asked) (d : Site → DocumentView) (old : Site) (mid new : Rendering)
+    (lt : i < length cs) (before : GoesOn q (d old) old mid (map f cs) (map f (drop i cs))) (o : Option X) where
   abbrev next : Manner
   next = f (get_or cs i c)
 
   abbrev rest : List Manner
   rest = map f (drop (i + 1) cs)
 
-  same-from : first q (d old) (map f cs) ≡ first q (d old) ((next ∷ []) ++ rest)
-  same-from = before.same ∙ ap (first q (d old)) (views-at f cs i c lt)
+  at-next : GoesOn q (d old) old mid (map f cs) ((next ∷ []) ++ rest)
+  at-next = goes-on-at q (d old) old mid (map f cs) (map f (drop i cs)) ((next ∷ []) ++ rest) (views-at f cs i c lt) before
 
   -- it reads back
-  pub one-found : (b : Bool) → b ≡ true → Tries q (d (site_of mid)) (site_of mid) new (next ∷ []) (Ok b) → Found q (d old) old new (map f cs)
-  one-found b e tried =
-      let found : Found q (d old) old new (next ∷ []) = subst (λ x. Tries q (d old) old new (next ∷ []) (Ok x)) e (from-there q d old (site_of mid) new (next ∷ []) (Ok b) before.kept tried) in
-      let more : Found q (d old) old new ((next ∷ []) ++ rest) = found-before q (d old) old new (next ∷ []) rest found in
-      record { is_first = same-from ∙ more.is_first; marked = more.marked; placed = more.placed }
+  pub one-found : (x : X) → o ≡ Some x → Tries q (d (site_of mid)) (site_of mid) new (next ∷ []) (Ok o) → Found q (d old) old new (map f cs)
+  one-found x e tried = next-found q d old mid new (map f cs) (next ∷ []) rest at-next o tried x e
 
   -- it doesn't
-  pub one-lost : (b : Bool) → b ≡ false → Tries q (d (site_of mid)) (site_of mid) new (next ∷ []) (Ok b) → GoesOn q (d old) old new (map f cs) rest
-  one-lost b e tried =
-      let lost : Lost q (d old) old new (next ∷ []) = subst (λ x. Tries q (d old) old new (next ∷ []) (Ok x)) e (from-there q d old (site_of mid) new (next ∷ []) (Ok b) before.kept tried) in
-      record {
-        kept = lost.kept;
-        same = same-from ∙ first-more q (d old) (next ∷ []) rest ∙ ap (λ o. found_or_else o (first q (d old) rest)) lost.none;
-        placed = λ p. before.placed (subst (PlacedIfTried q) (sym (views-at f cs i c lt)) (placed-more q (next ∷ []) rest lost.placed p));
-      }
+  pub one-lost : o ≡ None → Tries q (d (site_of mid)) (site_of mid) new (next ∷ []) (Ok o) → GoesOn q (d old) old new (map f cs) rest
+  one-lost e tried = next-lost q d old mid new (map f cs) (next ∷ []) rest at-next o tried e
+
+-- the next candidates, some for each element of a list that is gone through, were tried
+module _ {C X : Type 0} (f : C → List Manner) (cs : List C) (i : ℕ) (c : C) (q : Asked) (d : Site → DocumentView) (old : Site) (mid new : Rendering) (all head : List Manner)
+    (lt : i < length cs) (is : head ≡ f (get_or cs i c)) (before : GoesOn q (d old) old mid all (flat_map f (drop i cs))) (o : Option X) where
+  abbrev later : List Manner
+  later = flat_map f (drop (i + 1) cs)
+
+  at-some : GoesOn q (d old) old mid all (head ++ later)
+  at-some =
+      goes-on-at q (d old) old mid all (flat_map f (drop i cs)) (head ++ later)
+      (ap (flat_map f) (drop_more cs i c lt) ∙ ap (λ ms. ms ++ later) (sym is))
+      before
+
+  -- one of them reads back
+  pub some-found : (x : X) → o ≡ Some x → Tries q (d (site_of mid)) (site_of mid) new head (Ok o) → Found q (d old) old new all
+  some-found x e tried = next-found q d old mid new all head later at-some o tried x e
+
+  -- none of them does
+  pub some-lost : o ≡ None → Tries q (d (site_of mid)) (site_of mid) new head (Ok o) → GoesOn q (d old) old new all later
+  some-lost e tried = next-lost q d old mid new all head later at-some o tried e
 
 -- an error stopped a trial from where a renderer stands again
 pub stopped-there : (q : Asked) (old here : Site) (new : Rendering) (e : Error) → here ≡ old → Stopped q here new e → Stopped q old new e
 stopped-there q old here new e is h = subst (λ x. Stopped q x new e) is h
 
-pub tries-same : (q : Asked) (d : DocumentView) (old : Site) (new : Rendering) (a b : List Manner) (r : Result Bool Error) → a ≡ b → Tries q d old new a r → Tries q d old new b r
+pub tries-same : {X : Type 0} (q : Asked) (d : DocumentView) (old : Site) (new : Rendering) (a b : List Manner) (r : Result (Option X) Error) → a ≡ b → Tries q d old new a r → Tries q d old new b r
 tries-same q d old new a b r e h = subst (λ ms. Tries q d old new ms r) e h
 
 -- no candidate was tried yet
 pub goes-on-all : (q : Asked) (d : DocumentView) (now : Rendering) (ms : List Manner) → GoesOn q d (site_of now) now ms ms
 goes-on-all q d now ms = record { kept = refl; same = refl; placed = λ p. p }
 
-lost-none : (q : Asked) (d : DocumentView) (now : Rendering) (ms : List Manner) → ms ≡ [] → Lost q d (site_of now) now ms
-lost-none q d now ms e = lost-all q d (site_of now) now ms ms (goes-on-all q d now ms) e
+-- a fallback, as the code names it, with each pair of markers
+abbrev pub fallback_at : Layout × TextSpelling → List Manner
+fallback_at plan = fallback_manners (plan_view plan)
 
--- there is nothing to try
-pub lost-empty : {C : Type 0} (f : C → Manner) (xs : List C) (q : Asked) (d : DocumentView) (now : Rendering) (ms : List Manner) → (length xs == 0) ≡ true → map f xs ≡ ms → Lost q d (site_of now) now ms
-lost-empty f [] q d now ms h e = lost-none q d now ms (sym e)
-lost-empty f (x ∷ xs) q d now ms h e = absurd (grind (arith, nat_tests))
+flat-map : (plans : List (Layout × TextSpelling)) → flat_map fallback_at plans ≡ flat_map fallback_manners (map plan_view plans)
+flat-map [] = refl
+flat-map (p ∷ plans) = ap (λ ms. fallback_at p ++ ms) (flat-map plans)
+
+-- no fallback was tried yet
+pub fallbacks-begin : (q : Asked) (d : DocumentView) (now : Rendering) (plans : List (Layout × TextSpelling)) → map plan_view plans ≡ fallbacks → GoesOn q d (site_of now) now (flat_map fallback_manners fallbacks) (flat_map fallback_at plans)
+fallbacks-begin q d now plans e =
+    goes-on-at q d (site_of now) now (flat_map fallback_manners fallbacks) (flat_map fallback_manners fallbacks) (flat_map fallback_at plans)
+    (ap (flat_map fallback_manners) (sym e) ∙ sym (flat-map plans))
+    (goes-on-all q d now (flat_map fallback_manners fallbacks))
+
+module _ (plans : List (Layout × TextSpelling)) (i : ℕ) (are : map plan_view plans ≡ fallbacks) where
+  fourteen : length plans ≡ 14
+  fourteen = sym (length-map plans plan_view) ∙ ap (λ (ps : List Plan). length ps) are
+
+  -- some weren't
+  pub fallbacks-left : i < 14 → i < length plans
+  fallbacks-left lt = omega (arith, lt, fourteen)
+
+  -- all were
+  pub fallbacks-end : 14 ≤ i → flat_map fallback_at (drop i plans) ≡ []
+  fallbacks-end past = ap (flat_map fallback_at) (drop_all i plans (omega (arith, past, fourteen)))
+
+-- nothing is tried of a unit without a source
+pub no-source : (q : Asked) (d : DocumentView) (now : Rendering) (o : OptionsView) (src del : Bool) → src ≡ false → Lost q d (site_of now) now (if_source src o del)
+no-source q d now o src del e =
+    lost-all q d (site_of now) now (if_source src o del) (if_source src o del) (goes-on-all q d now (if_source src o del)) (ap (λ b. if_source b o del) e)
+
+pub source-tried : {X : Type 0} (q : Asked) (d : DocumentView) (old : Site) (new : Rendering) (o : OptionsView) (src del x : Bool) (ms : List Manner) (r : Result (Option X) Error) → src ≡ true → del ≡ x → ms ≡ source_manners o x → Tries q d old new ms r → Tries q d old new (if_source src o del) r
+source-tried q d old new o src del x ms r s e is h =
+    tries-same q d old new ms (if_source src o del) r (is ∙ ap (source_manners o) (sym e) ∙ ap (λ b. if_source b o del) (sym s)) h
+
+-- the candidates from the source were tried, and then those of a unit with delimiters
+module _ {X : Type 0} (q : Asked) (d : Site → DocumentView) (now mid : Rendering) (o : OptionsView) (src del : Bool) (answer : Option X) (tried : Tries q (d (site_of now)) (site_of now) mid (if_source src o del) (Ok answer)) where
+  abbrev whole_list : List Manner
+  whole_list = manners_for o src del
+
+  begin : GoesOn q (d (site_of now)) (site_of now) now whole_list (if_source src o del ++ if_delimiters del o)
+  begin = goes-on-all q (d (site_of now)) now whole_list
+
+  pub source-found : (x : X) → answer ≡ Some x → Found q (d (site_of now)) (site_of now) mid whole_list
+  source-found x e = next-found q d (site_of now) now mid whole_list (if_source src o del) (if_delimiters del o) begin answer tried x e
+
+  module _ (e : answer ≡ None) where
+    source-lost : GoesOn q (d (site_of now)) (site_of now) mid whole_list (if_delimiters del o)
+    source-lost = next-lost q d (site_of now) now mid whole_list (if_source src o del) (if_delimiters del o) begin answer tried e
+
+    pub source-kept : site_of mid ≡ site_of now
+    source-kept = source-lost.kept
+
+    pub then-delimiters : {Y : Type 0} (new : Rendering) (r : Result (Option Y) Error) → del ≡ true → Tries q (d (site_of mid)) (site_of mid) new (delimiter_manners o) r → Tries q (d (site_of now)) (site_of now) new whole_list r
+    then-delimiters new r h t =
+        rest-tried q d (site_of now) mid new whole_list (if_delimiters del o) r source-lost
+        (tries-same q (d (site_of mid)) (site_of mid) new (delimiter_manners o) (if_delimiters del o) r (ap (λ b. if_delimiters b o) (sym h)) t)
+
+    pub no-delimiters : del ≡ false → Lost q (d (site_of now)) (site_of now) mid whole_list
+    no-delimiters h = lost-all q (d (site_of now)) (site_of now) mid whole_list (if_delimiters del o) source-lost (ap (λ b. if_delimiters b o) h)
+
+-- the manners by runs were tried, and then the fallbacks
+module _ {X : Type 0} (q : Asked) (d : Site → DocumentView) (now mid : Rendering) (runs later : List Manner) (answer : Option X) (tried : Tries q (d (site_of now)) (site_of now) mid runs (Ok answer)) where
+  pub runs-found : (x : X) → answer ≡ Some x → Found q (d (site_of now)) (site_of now) mid (runs ++ later)
+  runs-found x e = next-found q d (site_of now) now mid (runs ++ later) runs later (goes-on-all q (d (site_of now)) now (runs ++ later)) answer tried x e
+
+  module _ (e : answer ≡ None) where
+    runs-lost : GoesOn q (d (site_of now)) (site_of now) mid (runs ++ later) later
+    runs-lost = next-lost q d (site_of now) now mid (runs ++ later) runs later (goes-on-all q (d (site_of now)) now (runs ++ later)) answer tried e
+
+    pub runs-kept : site_of mid ≡ site_of now
+    runs-kept = runs-lost.kept
+
+    pub then-later : {Y : Type 0} (new : Rendering) (r : Result (Option Y) Error) → Tries q (d (site_of mid)) (site_of mid) new later r → Tries q (d (site_of now)) (site_of now) new (runs ++ later) r
+    then-later new r t = rest-tried q d (site_of now) mid new (runs ++ later) later r runs-lost t
 
 -- ---- what the search comes to is the choice
 
@@ -239,14 +359,14 @@ module _ (q : Asked) (d : DocumentView) (o : OptionsView) (src del acc : Bool) (
   left-stopped old new e h = record { refused = stop-refuses q d e h.stops; kept = h.kept }
 
   -- a spelling was found
-  pub written-found : (old : Site) (new : Rendering) (b : Bool) → has_standard_markers o ≡ true → Tries q d old new tried_list (Ok b) → b ≡ true → IsWritten q.setting d old new (choice q.setting d q.unit q.next)
-  written-found old new b m t e =
-      let found : Found q d old new (candidates q.setting.options q.unit) = subst (Found q d old new) lists (subst (λ b. Tries q d old new tried_list (Ok b)) e t) in
+  pub written-found : {X : Type 0} (old : Site) (new : Rendering) (answer : Option X) (x : X) → has_standard_markers o ≡ true → Tries q d old new tried_list (Ok answer) → answer ≡ Some x → IsWritten q.setting d old new (choice q.setting d q.unit q.next)
+  written-found old new answer x m t e =
+      let found : Found q d old new (candidates q.setting.options q.unit) = subst (Found q d old new) lists (subst (λ o. Tries q d old new tried_list (Ok o)) e t) in
       record { written = choice-found q d (standard true m) old new found; marked = found.marked }
 
-  module _ (old : Site) (mid : Rendering) (b : Bool) (m : has_standard_markers o ≡ true) (t : Tries q d old mid tried_list (Ok b)) (e : b ≡ false) where
+  module _ {X : Type 0} (old : Site) (mid : Rendering) (answer : Option X) (m : has_standard_markers o ≡ true) (t : Tries q d old mid tried_list (Ok answer)) (e : answer ≡ None) where
     lost : Lost q d old mid tried_list
-    lost = subst (λ b. Tries q d old mid tried_list (Ok b)) e t
+    lost = subst (λ o. Tries q d old mid tried_list (Ok o)) e t
 
     all-lost : first q d (candidates q.setting.options q.unit) ≡ None
     all-lost = subst (λ ms. first q d ms ≡ None) lists lost.none
@@ -269,5 +389,5 @@ module _ (q : Asked) (d : DocumentView) (o : OptionsView) (src del acc : Bool) (
     }
 
     -- no spelling was found, and the unit is written in the preferred one
-    pub writes-lost : {X : Type 0} (new : Rendering) (r : Result X Error) → (del && acc) ≡ false → Writes r q.setting d old new (preferred q.setting d q.unit q.next) → Writes r q.setting d old new (choice q.setting d q.unit q.next)
+    pub writes-lost : {Y : Type 0} (new : Rendering) (r : Result Y Error) → (del && acc) ≡ false → Writes r q.setting d old new (preferred q.setting d q.unit q.next) → Writes r q.setting d old new (choice q.setting d q.unit q.next)
     writes-lost new r n h = subst (Writes r q.setting d old new) (sym (choice-lost q d (standard true m) all-lost (sym delimited ∙ n))) h

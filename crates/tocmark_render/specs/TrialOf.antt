@@ -1,15 +1,13 @@
 -- What a trial of a unit asks, as plain values.
-use Rattle.std.specs.Prelude.{◌≡◌, ◌<◌, ℕ, Bool, true, false, slice_index, List, Option, Some, None, Result, Ok, Err, is_some, map, string_bytes, String}
+use Rattle.std.specs.Prelude.{◌≡◌, ◌<◌, ℕ, Bool, true, false, slice_index, List, Option, Some, None, Result, Ok, Err, IfOk, IfSome, is_some, map, string_bytes, String}
 use Rattle.std.specs.Global.{Global}
 use Rattle.std.specs.List.{AllByRecursion}
 use Rattle.indexmap.specs.IndexSet.{IndexSet}
 use Rattle.tocmark_emphasis.specs.Low.{chooses_bytes}
 use Rattle.tocmark_event.specs.Forest.{empty}
-use Rattle.tocmark_event.specs.Merged.{merged}
 use Rattle.tocmark_event.specs.Options.{OptionsView, options_view}
 use Rattle.tocmark_event.specs.Reading.{ReadingView}
-use Rattle.tocmark_event.specs.View.{SourcedEvent, event_view, unsourced}
-use Rattle.tocmark_event.specs.declared.event.EventOf.{EventOf}
+use Rattle.tocmark_event.specs.View.{SourcedEvent}
 use Rattle.tocmark_event.specs.declared.event.flags.ParserOptions.{ParserOptions}
 use Rattle.tocmark_event.specs.declared.options.Error.{Error}
 use Rattle.tocmark_spelling.specs.Body.{Trees}
@@ -20,16 +18,16 @@ use Rattle.tocmark_spelling.specs.PlanOf.{setting_of}
 use Rattle.tocmark_spelling.specs.Spelling.{spelling}
 use Rattle.tocmark_unit.specs.FindingsOf.{AreFindings}
 use Rattle.tocmark_renderer.specs.WriterOf.{Arrives, IsRefusal, Rendering, blank, page_of, site_of}
-use Rattle.tocmark_read_back.specs.InParagraph.{in_paragraph}
 use Rattle.tocmark_render.specs.Choice.{Chosen, accepted, choice, definitions_of}
 use Rattle.tocmark_labels.specs.Document.{DocumentView}
-use Rattle.tocmark_render.specs.DocumentOf.{Refuses, document_at}
+use Rattle.tocmark_render.specs.DocumentOf.{Refuses, document_at, document_view}
 use Rattle.tocmark_labels.specs.LabelsOf.{label_now}
 use Rattle.tocmark_labels.specs.Placeholder.{whole}
 use Rattle.tocmark_render.specs.ReadsBack.{flags_at, is_read_back, whole_text}
 use Rattle.tocmark_render.specs.Tries.{Asked, Tries}
 use Rattle.tocmark_labels.specs.Units.{trees_of}
 use Rattle.tocmark_render.specs.declared.document.Document.{Document}
+use Rattle.tocmark_render.specs.declared.read_back.ReadBack.{ReadBack}
 use Rattle.tocmark_render.specs.declared.trial.Trial.{Trial}
 
 -- a forest that is there, or none of its trees
@@ -62,10 +60,6 @@ pub record IsReady {R : Type 0} (reading : R → List ℕ → ParserOptions → 
 abbrev pub IsLow : Manner → Type 0
 IsLow m = chooses_bytes m.plan.layout ≡ true → (m.markers.emphasis < 128) × (slice_index m.markers.strong 0 < 128)
 
--- these are the events that the reader must find
-abbrev pub Expects : {R : Type 0} → Trial R → List (EventOf (String Global)) → Type 0
-Expects t expected = map (event_view string_bytes) expected ≡ in_paragraph (merged (map unsourced (events_in t)))
-
 -- nothing is written of the unit
 abbrev pub IsFront : Site → Type 0
 IsFront here = here ≡ blank here.page.sheet.feeds here.page.trail
@@ -81,6 +75,15 @@ read_of p = whole_text (definitions_of p) p.sheet.text
 -- whether the unit is read back in a text that begins with its definitions
 abbrev pub reads_back_in : Asked → DocumentView → List ℕ → Bool
 reads_back_in q d text = is_read_back q.setting d q.unit (q.setting.reading text (flags_at q.setting d))
+
+-- the labels that a reader looks up in vain in a text that begins with the unit's definitions
+abbrev pub unresolved_in : Asked → DocumentView → List ℕ → List (List ℕ)
+unresolved_in q d text = (q.setting.reading text (flags_at q.setting d)).unresolved
+
+-- what is known of a page is so: its definitions, and the labels that a reader looks up in vain in what is read of it
+pub record IsKnown (q : Asked) (d : DocumentView) (p : Page) (known : ReadBack) : Type 0 where
+  pub definitions : string_bytes known.definitions ≡ definitions_of p
+  pub unresolved : map string_bytes known.unresolved.items ≡ unresolved_in q d (read_of p)
 
 -- in none of these texts is the unit read back
 abbrev pub AreRefused : {S : Type 0} → Asked → DocumentView → IndexSet (String Global) S → Type 0
@@ -106,8 +109,12 @@ abbrev pub WritesIn : {R X : Type 0} → (R → List ℕ → ParserOptions → R
 WritesIn reading t old new m r = ComesOrBack r (site_of old) new (spelled_at (asked_of reading t) (site_of old) m)
 
 -- what trying these spellings of a trial's unit in order came to
-abbrev pub TriesIn : {R : Type 0} → (R → List ℕ → ParserOptions → ReadingView) → Trial R → Document → Rendering → Rendering → List Manner → Result Bool Error → Type 0
+abbrev pub TriesIn : {R X : Type 0} → (R → List ℕ → ParserOptions → ReadingView) → Trial R → Document → Rendering → Rendering → List Manner → Result (Option X) Error → Type 0
 TriesIn reading t d old new ms r = Tries (asked_of reading t) (document_at d (site_of old)) (site_of old) new ms r
+
+-- what is known of a spelling that is read back is so of the page that the renderer came to
+abbrev pub KnowsIn : {R E : Type 0} → (R → List ℕ → ParserOptions → ReadingView) → Trial R → Document → Rendering → Result (Option ReadBack) E → Type 0
+KnowsIn reading t d new r = IfOk r (λ known. IfSome known (IsKnown (asked_of reading t) (document_view d) (page_of new)))
 
 -- the renderer has written what is chosen, and the mark is where it began
 pub record IsWritten (s : Setting) (d : DocumentView) (old : Site) (new : Rendering) (answer : Chosen) : Type 0 where

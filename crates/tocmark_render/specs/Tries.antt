@@ -31,10 +31,17 @@ plan_view p = record { layout = p.0; text = p.1 }
 abbrev pub run_manners : OptionsView → List Manner
 run_manners o = preferred_manner o ∷ map (λ m. in_manner Runs Escaped m false) (pairs_from o.emphasis_token o.strong_token)
 
+-- those from the source, if some text of the unit is known there
+abbrev pub if_source : Bool → OptionsView → Bool → List Manner
+if_source has_source o delimiters = if has_source then source_manners o delimiters else []
+
+-- those of a unit with delimiters, if it has some
+abbrev pub if_delimiters : Bool → OptionsView → List Manner
+if_delimiters delimiters o = if delimiters then delimiter_manners o else []
+
 -- the spellings that are tried: from the source, and escaped for a unit with delimiters
 abbrev pub manners_for : OptionsView → Bool → Bool → List Manner
-manners_for o has_source delimiters =
-    (if has_source then source_manners o delimiters else []) ++ (if delimiters then delimiter_manners o else [])
+manners_for o has_source delimiters = if_source has_source o delimiters ++ if_delimiters delimiters o
 
 -- the first of these spellings that reads back
 abbrev pub first : Asked → DocumentView → List Manner → Option Page
@@ -73,7 +80,7 @@ pub record Stopped (q : Asked) (old : Site) (new : Rendering) (e : Error) : Type
   pub kept : site_of new ≡ old
 
 -- what trying these spellings in order came to, behind a document and from where a renderer stood
-abbrev pub Tries : Asked → DocumentView → Site → Rendering → List Manner → Result Bool Error → Type 0
-Tries q d old new ms (Ok true) = Found q d old new ms
-Tries q d old new ms (Ok false) = Lost q d old new ms
+abbrev pub Tries : {X : Type 0} → Asked → DocumentView → Site → Rendering → List Manner → Result (Option X) Error → Type 0
+Tries q d old new ms (Ok (Some x)) = Found q d old new ms
+Tries q d old new ms (Ok None) = Lost q d old new ms
 Tries q d old new ms (Err e) = Stopped q old new e

@@ -1,8 +1,9 @@
 //! The text that is chosen for a unit, and what the unit leaves to later ones.
 
-ghost use Rattle.std.specs.Prelude.{◌≡◌, ◌∷◌, ◌==◌, [], string_bytes, IfOk, OnErr, OnOk, map, option_map, is_some, None, true};
+ghost use Rattle.std.specs.Prelude.{◌≡◌, ◌∷◌, ◌==◌, ℕ, List, [], string_bytes, IfOk, IfSome, OnErr, OnOk, map, option_map, is_some, None, true};
 ghost use Rattle.std.specs.List.{list_any};
 ghost use Rattle.tocmark_event.specs.Options.{options_view};
+ghost use Rattle.tocmark_event.specs.Reading.{ReadingView};
 ghost use Rattle.tocmark_spelling.specs.Buffered.{buffered_view, following_view, next_view};
 ghost use Rattle.tocmark_spelling.specs.Plan.{Setting};
 ghost use Rattle.tocmark_spelling.specs.PlanOf.{setting_of};
@@ -14,11 +15,11 @@ ghost use Rattle.tocmark_labels.specs.Definitions.{definitions_text};
 ghost use Rattle.tocmark_labels.specs.Document.{first_document, known_in, literal_in};
 ghost use Rattle.tocmark_render.specs.DocumentOf.{document_at, document_view, document_flags, Gives, HasRoom, Spells, kept_view, noted, passed};
 ghost use Rattle.tocmark_labels.specs.LabelsOf.{label_now, labels_of, Begins};
-ghost use Rattle.tocmark_render.specs.ReadsBack.{flags_at};
-ghost use Rattle.tocmark_render.specs.TrialOf.{AreRefused, Expects, IsFront, IsLow, IsReady, TriesIn, WritesChosen, asked_of, or_no_trees, read_of, reads_back_in};
+ghost use Rattle.tocmark_render.specs.ReadsBack.{flags_at, whole_text};
+ghost use Rattle.tocmark_render.specs.TrialOf.{AreRefused, IsFront, IsKnown, IsLow, IsReady, KnowsIn, TriesIn, WritesChosen, asked_of, or_no_trees, read_of, reads_back_in, unresolved_in};
 ghost use Rattle.tocmark_labels.specs.Units.{label_for, trees_of};
 
-use crate::read_back::{behind_definitions, finds};
+use crate::read_back::{ReadBack, behind_definitions, find};
 use crate::search::choose;
 use crate::trial::{Refused, Trial, write};
 use std::alloc::{AllocError, Global};
@@ -116,6 +117,27 @@ fn note_known_labels<R: Reader>(
     known.add_all(trial.alloc, &found.defined)
 }
 
+/// Adds the labels of a unit's text that nothing defines, if the text has a bracket: these are those
+/// that a reader finds in it. An `Err` says that memory ran out; none is added then.
+fn add_open_labels(
+    literal: &mut Labels,
+    alloc: Global,
+    text: &str,
+    unresolved: &[String],
+) -> Result<(), AllocError>
+    ensures literal { (reading : List ℕ → ParserOptions → ReadingView) (flags : ParserOptions)
+        → map string_bytes unresolved.now ≡ (reading text.now flags).unresolved
+        → OnOk result (labels_of literal.new
+        ≡ literal_in reading flags (labels_of literal.old) text.now) }
+    ensures stays { OnErr result (labels_of literal.new ≡ labels_of literal.old) }
+{
+    if has_bracket(text) {
+        literal.add_all(alloc, unresolved)
+    } else {
+        Ok(())
+    }
+}
+
 /// Adds the labels that a reader finds in a unit's text and nothing defines. Only a text with a
 /// bracket is read. An `Err` says that memory ran out or the reader answered it; none is added then.
 fn note_open_labels<R: Reader>(
@@ -180,96 +202,128 @@ impl Document {
         }
     }
 
-    /// Whether the reader finds the unit of a trial in a text that begins with its definitions. One
-    /// that was refused isn't read again, and one that is refused now is noted. An `Err` says that
-    /// memory ran out or the reader answered it.
-    fn is_read_back<R: Reader>(
+    /// The labels that the reader looks up in vain in a text that begins with the definitions of a
+    /// trial's unit, if it finds the unit there. One that was refused isn't read again, and one that
+    /// is refused now is noted. An `Err` says that memory ran out or the reader answered it.
+    fn find_in<R: Reader>(
         &self,
         trial: &Trial<'_, '_, R>,
-        expected: &[OwnedEvent],
         refused: &mut Refused,
         text: &str,
-    ) -> Result<bool, AllocError>
+    ) -> Result<Option<Vec<String>>, AllocError>
         requires ready { IsReady R.reading trial.now }
-        requires expected { Expects trial.now expected.now }
         requires refused { let q = asked_of R.reading trial.now in
             AreRefused q (document_view self.now) refused.old }
         ensures read { let q = asked_of R.reading trial.now in
-            IfOk result (λ b. b ≡ reads_back_in q (document_view self.now) text.now) }
+            IfOk result (λ found. is_some found ≡ reads_back_in q (document_view self.now) text.now) }
+        ensures unresolved { let q = asked_of R.reading trial.now in
+            IfOk result (λ found. IfSome found (λ labels.
+            map string_bytes labels.items ≡ unresolved_in q (document_view self.now) text.now)) }
         ensures refused { let q = asked_of R.reading trial.now in
             OnOk result (AreRefused q (document_view self.now) refused.new) }
     {
         if refused.contains(text) {
-            return Ok(false);
+            return Ok(None);
         }
         let taken = Taken {
             known: &self.known,
             reserved: trial.label,
         };
         let flags = self.reading_flags(trial.flags);
-        if finds(trial.alloc, trial.reader, flags, taken, expected, text)? {
-            return Ok(true);
+        let found = find(trial.alloc, trial.reader, flags, taken, trial.unit, text)?;
+        if let Some(labels) = found {
+            return Ok(Some(labels));
         }
         refused.insert(String::from_str(trial.alloc, text)?)?;
-        Ok(false)
+        Ok(None)
     }
 
-    /// Whether the reader finds the unit of a trial in what the renderer has written of it, as
-    /// `is_read_back` says.
-    fn is_found<R: Reader>(
+    /// The same for a text and the definitions that stand before it.
+    fn find_behind<R: Reader>(
         &self,
         trial: &Trial<'_, '_, R>,
-        expected: &[OwnedEvent],
+        refused: &mut Refused,
+        definitions: &str,
+        text: &str,
+    ) -> Result<Option<Vec<String>>, AllocError>
+        requires ready { IsReady R.reading trial.now }
+        requires refused { let q = asked_of R.reading trial.now in
+            AreRefused q (document_view self.now) refused.old }
+        ensures read { let q = asked_of R.reading trial.now in
+            let whole = whole_text definitions.now text.now in
+            IfOk result (λ found. is_some found ≡ reads_back_in q (document_view self.now) whole) }
+        ensures unresolved { let q = asked_of R.reading trial.now in
+            let whole = whole_text definitions.now text.now in
+            IfOk result (λ found. IfSome found (λ labels.
+            map string_bytes labels.items ≡ unresolved_in q (document_view self.now) whole)) }
+        ensures refused { let q = asked_of R.reading trial.now in
+            OnOk result (AreRefused q (document_view self.now) refused.new) }
+    {
+        if definitions.is_empty() {
+            return self.find_in(trial, refused, text);
+        }
+        let whole = behind_definitions(trial.alloc, definitions, text)?;
+        self.find_in(trial, refused, whole.as_str())
+    }
+
+    /// What is known of what the renderer has written of a trial's unit, if the reader finds the unit
+    /// in that, as `find_in` says.
+    fn find_written<R: Reader>(
+        &self,
+        trial: &Trial<'_, '_, R>,
         refused: &mut Refused,
         renderer: &Renderer<'_>,
-    ) -> Result<bool, AllocError>
+    ) -> Result<Option<ReadBack>, AllocError>
         requires ready { IsReady R.reading trial.now }
-        requires expected { Expects trial.now expected.now }
         requires refused { let q = asked_of R.reading trial.now in
             AreRefused q (document_view self.now) refused.old }
         ensures read { let q = asked_of R.reading trial.now in
             let text = read_of (page_of renderer.now) in
-            IfOk result (λ b. b ≡ reads_back_in q (document_view self.now) text) }
+            IfOk result (λ found. is_some found ≡ reads_back_in q (document_view self.now) text) }
+        ensures known { let q = asked_of R.reading trial.now in
+            let d = document_view self.now in
+            IfOk result (λ found. IfSome found (IsKnown q d (page_of renderer.now))) }
         ensures refused { let q = asked_of R.reading trial.now in
             OnOk result (AreRefused q (document_view self.now) refused.new) }
     {
         let (references, newlines) = (renderer.references(), renderer.newlines());
         let definitions = definitions_text(trial.alloc, references, newlines)?;
-        if definitions.is_empty() {
-            return self.is_read_back(trial, expected, refused, renderer.text());
+        match self.find_behind(trial, refused, definitions.as_str(), renderer.text())? {
+            None => Ok(None),
+            Some(unresolved) => Ok(Some(ReadBack {
+                definitions,
+                unresolved,
+            })),
         }
-        let text = behind_definitions(trial.alloc, definitions.as_str(), renderer.text())?;
-        self.is_read_back(trial, expected, refused, text.as_str())
     }
 
-    /// Writes the unit of a trial in one manner, behind a mark, and says whether the reader finds it
-    /// in that. Where it doesn't, the renderer has gone back, and the text is one of those that were
-    /// refused; it has gone back at an `Err`, too, which is as in `block`.
+    /// Writes the unit of a trial in one manner, behind a mark, and says what is known of that if the
+    /// reader finds the unit in it. Where it doesn't, the renderer has gone back, and the text is one of
+    /// those that were refused; it has gone back at an `Err`, too, which is as in `block`.
     pub(crate) fn try_one<'t, R: Reader>(
         &self,
         trial: &Trial<'t, '_, R>,
-        expected: &[OwnedEvent],
         renderer: &mut Renderer<'t>,
         refused: &mut Refused,
         manner: &Manner<'_>,
-    ) -> Result<bool, Error>
+    ) -> Result<Option<ReadBack>, Error>
         requires ready { IsReady R.reading trial.now }
-        requires expected { Expects trial.now expected.now }
         requires low { IsLow (manner_view manner.now) }
         requires refused { let q = asked_of R.reading trial.now in
             AreRefused q (document_view self.now) refused.old }
         requires front { IsFront (site_of renderer.old) }
         ensures tried { TriesIn R.reading trial.now self.now renderer.old renderer.new
             (manner_view manner.now ∷ []) result }
+        ensures known { KnowsIn R.reading trial.now self.now renderer.new result }
         ensures refused { let q = asked_of R.reading trial.now in
             OnOk result (AreRefused q (document_view self.now) refused.new) }
     {
         write(trial, renderer, manner)?;
-        match self.is_found(trial, expected, refused, renderer) {
-            Ok(true) => Ok(true),
-            Ok(false) => {
+        match self.find_written(trial, refused, renderer) {
+            Ok(Some(known)) => Ok(Some(known)),
+            Ok(None) => {
                 renderer.back();
-                Ok(false)
+                Ok(None)
             }
             Err(_error) => {
                 renderer.back();
@@ -307,9 +361,49 @@ impl Document {
         noted
     }
 
-    /// Notes the labels of a unit as it is written, and makes room for the definitions that it needs.
-    /// An `Err` says that memory ran out or the reader answered it; the document is then as it was.
-    fn note<R: Reader>(
+    /// Whether a unit's text is read by itself and under these flags when it is searched: it needs no
+    /// definitions, and no metadata is read that the flags may ask for.
+    fn reads_alone(&self, flags: ParserOptions, definitions: &str) -> bool
+        ensures definitions { result ≡ true → definitions.now ≡ [] }
+        ensures flags { (s : Setting) → s.flags ≡ flags → result ≡ true
+            → flags_at s (document_view self.now) ≡ flags }
+    {
+        let reading_flags = self.reading_flags(flags);
+        definitions.is_empty() && reading_flags.0 == flags.0
+    }
+
+    /// Notes the labels of a unit that is read back, as `note_labels` does. Its text isn't read again
+    /// where the search has read just that.
+    fn note_known<R: Reader>(
+        &mut self,
+        trial: &Trial<'_, '_, R>,
+        known: &ReadBack,
+        text: &str,
+    ) -> Result<(), AllocError>
+        requires unresolved { let q = asked_of R.reading trial.now in
+            let whole = whole_text (string_bytes known.now.definitions) text.now in
+            map string_bytes known.now.unresolved.items
+            ≡ unresolved_in q (document_view self.old) whole }
+        ensures noted { let reading = R.reading trial.now.reader.now in
+            let flags = trial.now.flags in
+            let old = document_view self.old in
+            OnOk result (document_view self.new ≡ record old {
+              known = known_in reading flags old.known (string_bytes known.now.definitions);
+              literal = literal_in reading flags old.literal text.now;
+            }) }
+        ensures stays { OnErr result (document_view self.new ≡ document_view self.old) }
+        ensures flags { document_flags self.new ≡ document_flags self.old }
+        ensures references { self.new.references ≡ self.old.references }
+    {
+        if self.reads_alone(trial.flags, known.definitions.as_str()) {
+            add_open_labels(&mut self.literal, trial.alloc, text, &known.unresolved)
+        } else {
+            self.note_labels(trial, known.definitions.as_str(), text)
+        }
+    }
+
+    /// Notes the labels of a unit that no reader has read, as `note_labels` does.
+    fn note_unread<R: Reader>(
         &mut self,
         trial: &Trial<'_, '_, R>,
         renderer: &Renderer<'_>,
@@ -317,14 +411,37 @@ impl Document {
         ensures noted { let s = (asked_of R.reading trial.now).setting in
             OnOk result (document_view self.new
             ≡ noted s (document_view self.old) (page_of renderer.now)) }
+        ensures stays { OnErr result (document_view self.new ≡ document_view self.old) }
+        ensures flags { document_flags self.new ≡ document_flags self.old }
+        ensures references { self.new.references ≡ self.old.references }
+    {
+        let (references, newlines) = (renderer.references(), renderer.newlines());
+        let definitions = definitions_text(trial.alloc, references, newlines)?;
+        self.note_labels(trial, definitions.as_str(), renderer.text())
+    }
+
+    /// Notes the labels of a unit as it is written, and makes room for the definitions that it needs.
+    /// An `Err` says that memory ran out or the reader answered it; the document is then as it was.
+    fn note<R: Reader>(
+        &mut self,
+        trial: &Trial<'_, '_, R>,
+        renderer: &Renderer<'_>,
+        known: Option<ReadBack>,
+    ) -> Result<(), AllocError>
+        requires known { let q = asked_of R.reading trial.now in
+            IfSome known (IsKnown q (document_view self.old) (page_of renderer.now)) }
+        ensures noted { let s = (asked_of R.reading trial.now).setting in
+            OnOk result (document_view self.new
+            ≡ noted s (document_view self.old) (page_of renderer.now)) }
         ensures room { OnOk result (HasRoom self.new (page_of renderer.now)) }
         ensures stays { OnErr result (document_view self.new ≡ document_view self.old) }
         ensures flags { document_flags self.new ≡ document_flags self.old }
     {
-        let (references, newlines) = (renderer.references(), renderer.newlines());
-        self.references.reserve(references.len())?;
-        let definitions = definitions_text(trial.alloc, references, newlines)?;
-        self.note_labels(trial, definitions.as_str(), renderer.text())
+        self.references.reserve(renderer.references().len())?;
+        match known {
+            Some(known) => self.note_known(trial, &known, renderer.text()),
+            None => self.note_unread(trial, renderer),
+        }
     }
 
     /// A renderer of the next unit, to which the trail is moved.
@@ -391,8 +508,8 @@ impl Document {
         ensures stays { OnErr result (document_view self.new ≡ document_view self.old) }
         ensures flags { document_flags self.new ≡ document_flags self.old }
     {
-        choose(trial, self, renderer)?;
-        if self.note(trial, renderer).is_err() {
+        let known = choose(trial, self, renderer)?;
+        if self.note(trial, renderer, known).is_err() {
             renderer.back();
             return Err(Error::OutOfMemory);
         }

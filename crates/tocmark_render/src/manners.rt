@@ -1,6 +1,6 @@
 //! The manners in which a unit may be written.
 
-ghost use Rattle.std.specs.Prelude.{◌≡◌, ◌++◌, ℕ, List, map, false, IfOk, OnOk, flat_map};
+ghost use Rattle.std.specs.Prelude.{◌≡◌, ◌++◌, ℕ, List, map, false, true, IfOk, OnOk, flat_map};
 ghost use Rattle.tocmark_event.specs.Options.{options_view};
 ghost use Rattle.tocmark_renderer.specs.JobOf.{manner_view};
 ghost use Rattle.tocmark_spelling.specs.declared.plan.Layout.TheVariants as layout;
@@ -85,7 +85,7 @@ fn fallback(plan: (Layout, TextSpelling), emphasis: char, strong: &str) -> Manne
 }
 
 /// One fallback with each pair of markers.
-fn with_all_markers<'a>(plan: (Layout, TextSpelling)) -> [Manner<'a>; 4]
+pub fn with_all_markers<'a>(plan: (Layout, TextSpelling)) -> [Manner<'a>; 4]
     ensures { map manner_view result ≡ fallback_manners (plan_view plan) }
 {
     [
@@ -97,7 +97,7 @@ fn with_all_markers<'a>(plan: (Layout, TextSpelling)) -> [Manner<'a>; 4]
 }
 
 /// The fourteen fallbacks.
-fn fallback_plans() -> [(Layout, TextSpelling); 14]
+pub fn fallback_plans() -> [(Layout, TextSpelling); 14]
     ensures { map plan_view result ≡ fallbacks }
 {
     let shared = |ends: bool, adjacent: bool, split: bool| Layout::Shared {
@@ -123,8 +123,33 @@ fn fallback_plans() -> [(Layout, TextSpelling); 14]
     ]
 }
 
-/// Adds the manners of a unit that is taken from the source: the preferred one, and for a unit with
-/// delimiters one by runs.
+/// The manners of a unit with delimiters that is taken from the source: the preferred one, and one by
+/// runs.
+pub fn source_manners<'a>(options: &Options<'a>) -> [Manner<'a>; 2]
+    ensures { map manner_view result ≡ source_manners (options_view options.now) true }
+{
+    [
+        preferred_manner(options, true),
+        by_runs(options.emphasis_token, options.strong_token, true),
+    ]
+}
+
+/// The preferred manner of a unit with delimiters, and four by runs.
+pub fn run_manners<'a>(options: &Options<'a>) -> [Manner<'a>; 5]
+    ensures { map manner_view result ≡ run_manners (options_view options.now) }
+{
+    let emphasis = options.emphasis_token;
+    let strong = options.strong_token;
+    [
+        preferred_manner(options, false),
+        by_runs(emphasis, strong, false),
+        by_runs(other_emphasis(emphasis), strong, false),
+        by_runs(emphasis, other_strong(strong), false),
+        by_runs(other_emphasis(emphasis), other_strong(strong), false),
+    ]
+}
+
+/// Adds the manners of a unit that is taken from the source.
 fn push_from_source<'a>(
     manners: &mut Vec<Manner<'a>>,
     options: &Options<'a>,
@@ -133,27 +158,11 @@ fn push_from_source<'a>(
     ensures { OnOk result (map manner_view manners.new.items ≡ map manner_view manners.old.items
         ++ source_manners (options_view options.now) has_delimiters) }
 {
-    manners.push(preferred_manner(options, true))?;
     if has_delimiters {
-        manners.push(by_runs(options.emphasis_token, options.strong_token, true))?;
+        manners.extend_from_slice(&source_manners(options))
+    } else {
+        manners.extend_from_slice(&[preferred_manner(options, true)])
     }
-    Ok(())
-}
-
-/// Adds the preferred manner of a unit with delimiters, and four by runs.
-fn push_runs<'a>(manners: &mut Vec<Manner<'a>>, options: &Options<'a>) -> Result<(), AllocError>
-    ensures { OnOk result (map manner_view manners.new.items
-        ≡ map manner_view manners.old.items ++ run_manners (options_view options.now)) }
-{
-    let emphasis = options.emphasis_token;
-    let strong = options.strong_token;
-    manners.extend_from_slice(&[
-        preferred_manner(options, false),
-        by_runs(emphasis, strong, false),
-        by_runs(other_emphasis(emphasis), strong, false),
-        by_runs(emphasis, other_strong(strong), false),
-        by_runs(other_emphasis(emphasis), other_strong(strong), false),
-    ])
 }
 
 /// Adds the fallbacks, each with all markers.
@@ -167,8 +176,8 @@ fn push_fallbacks(manners: &mut Vec<Manner<'_>>) -> Result<(), AllocError>
     Ok(())
 }
 
-/// The manners in which a unit is tried, in order: from the source, where some text is known there, and
-/// escaped for a unit with delimiters. An `Err` says that memory ran out.
+/// The manners in which a unit is tried, in order and as one list: from the source, where some text
+/// is known there, and escaped for a unit with delimiters. An `Err` says that memory ran out.
 pub fn candidates<'a>(
     alloc: Global,
     options: &Options<'a>,
@@ -183,7 +192,7 @@ pub fn candidates<'a>(
         push_from_source(&mut manners, options, has_delimiters)?;
     }
     if has_delimiters {
-        push_runs(&mut manners, options)?;
+        manners.extend_from_slice(&run_manners(options))?;
         push_fallbacks(&mut manners)?;
     }
     Ok(manners)

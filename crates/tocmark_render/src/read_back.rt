@@ -1,36 +1,60 @@
 //! Whether a text is read as the unit that it is written for.
 
-ghost use Rattle.std.specs.Prelude.{◌≡◌, ◌++◌, codes, map, string_bytes, IfOk};
-ghost use Rattle.tocmark_event.specs.View.{event_view};
+ghost use Rattle.std.specs.Prelude.{◌≡◌, ◌++◌, codes, is_some, map, string_bytes, IfOk, IfSome};
+ghost use Rattle.tocmark_event.specs.Merged.{merged};
+ghost use Rattle.tocmark_event.specs.View.{unsourced};
 ghost use Rattle.tocmark_labels.specs.LabelsOf.{is_taken_in};
+ghost use Rattle.tocmark_read_back.specs.InParagraph.{in_paragraph};
 ghost use Rattle.tocmark_render.specs.ReadsBack.{found_in};
+ghost use Rattle.tocmark_spelling.specs.Buffered.{buffered_view};
 
 use std::alloc::{AllocError, Global};
-use tocmark_event::event::{OwnedEvent, ParserOptions};
+use tocmark_event::event::ParserOptions;
 use tocmark_event::reader::{Reader, Reading};
 use tocmark_labels::taken::Taken;
 use tocmark_read_back::agrees::agrees;
+use tocmark_spelling::buffered::BufferedEvent;
 
-/// Whether a reader finds these events in a text, and leaves no label open that is taken. An `Err` says
-/// that memory ran out or the reader answered it.
-pub fn finds<R: Reader>(
+/// What is known of a spelling that is read back.
+#[derive(Drop)]
+pub struct ReadBack {
+    /// The definitions that it needs.
+    pub definitions: String,
+    /// The labels that a reader looks up in vain in it, behind its definitions.
+    pub unresolved: Vec<String>,
+}
+
+/// The labels that a reader looks up in vain in a text, if it finds a unit's events there and none of
+/// these labels is taken. An `Err` says that memory ran out or the reader answered it.
+pub fn find<R: Reader>(
     alloc: Global,
     reader: &R,
     flags: ParserOptions,
     taken: Taken<'_, '_>,
-    expected: &[OwnedEvent],
+    unit: &[BufferedEvent],
     text: &str,
-) -> Result<bool, AllocError>
-    ensures { let events = map (event_view string_bytes) expected.now in
+) -> Result<Option<Vec<String>>, AllocError>
+    ensures found { let views = map buffered_view unit.now in
+        let events = in_paragraph (merged (map unsourced views)) in
         let reading = R.reading reader.now text.now flags in
-        IfOk result (λ b. b ≡ found_in (is_taken_in taken.entry) events reading) }
+        IfOk result (λ found. is_some found ≡ found_in (is_taken_in taken.entry) events reading) }
+    ensures unresolved { let reading = R.reading reader.now text.now flags in
+        IfOk result (λ found. IfSome found
+        (λ labels. map string_bytes labels.items ≡ reading.unresolved)) }
 {
     let reading = reader.read(alloc, text, flags)?;
-    if !agrees(&reading.events, expected) {
-        return Ok(false);
+    let Reading {
+        events,
+        unresolved,
+        ..
+    } = reading;
+    if !agrees(&events, unit) {
+        return Ok(None);
     }
-    let is_taken = taken.contains_any(alloc, &reading.unresolved)?;
-    Ok(!is_taken)
+    if taken.contains_any(alloc, &unresolved)? {
+        return Ok(None);
+    }
+    Ok(Some(unresolved))
 }
 
 /// Definitions and a blank line before a text. An `Err` says that memory ran out.

@@ -1,25 +1,29 @@
 //! The search for a spelling that is read back.
 
-ghost use Rattle.std.specs.Prelude.{◌≡◌, map, true};
+ghost use Rattle.std.specs.Prelude.{◌≡◌, None, flat_map, map, true, IfOk, OnOk};
 ghost use Rattle.std.specs.List.{AllByRecursion, list_any};
 ghost use Rattle.tocmark_event.specs.Options.{options_view};
 ghost use Rattle.tocmark_spelling.specs.Buffered.{buffered_view};
 ghost use Rattle.tocmark_renderer.specs.JobOf.{manner_view};
 ghost use Rattle.tocmark_renderer.specs.WriterOf.{site_of};
+ghost use Rattle.tocmark_render.specs.Candidates.{delimiter_manners, fallback_manners, fallbacks, preferred_manner};
 ghost use Rattle.tocmark_render.specs.Choice.{has_standard_markers};
-ghost use Rattle.tocmark_render.specs.DocumentOf.{is_delimiter_event, is_sourced_event};
-ghost use Rattle.tocmark_render.specs.Tries.{manners_for};
-ghost use Rattle.tocmark_render.specs.TrialOf.{Expects, IsFront, IsLow, IsReady, TriesIn, WritesChosen, options_in};
+ghost use Rattle.tocmark_render.specs.DocumentOf.{document_view, is_delimiter_event, is_sourced_event};
+ghost use Rattle.tocmark_render.specs.Tries.{if_source, manners_for};
+ghost use Rattle.tocmark_render.specs.TrialOf.{AreRefused, IsFront, IsLow, IsReady, KnowsIn, TriesIn, WritesChosen, WritesIn, asked_of, options_in};
 ghost use Rattle.tocmark_render.specs.Validates.{validates};
 
 use crate::document::Document;
-use crate::manners::{candidates, has_standard_markers};
-use crate::trial::{Trial, write_preferred};
+use crate::manners::{
+    fallback_plans, has_standard_markers, preferred_manner, run_manners, source_manners,
+    with_all_markers,
+};
+use crate::read_back::ReadBack;
+use crate::trial::{Refused, Trial, write_preferred};
 use indexmap::IndexSet;
-use tocmark_event::event::{EventOf, OwnedEvent, ParserOptions, TagOf};
+use tocmark_event::event::{EventOf, ParserOptions, TagOf};
 use tocmark_event::options::{Error, Options};
 use tocmark_event::reader::Reader;
-use tocmark_read_back::expected::expected;
 use tocmark_renderer::job::Manner;
 use tocmark_renderer::renderer::Renderer;
 use tocmark_spelling::buffered::BufferedEvent;
@@ -76,51 +80,146 @@ fn has_delimiters(unit: &[BufferedEvent]) -> bool
 }
 
 /// Tries manners in order, up to the first in which the unit is read back: the renderer has written
-/// it then, behind a mark. Where there is none, and at an `Err`, the renderer has gone back.
+/// it then, behind a mark, and what is known of that is handed on. Where there is none, and at an
+/// `Err`, the renderer has gone back.
 fn try_all<'t, R: Reader>(
     trial: &Trial<'t, '_, R>,
-    expected: &[OwnedEvent],
     document: &Document,
     renderer: &mut Renderer<'t>,
+    refused: &mut Refused,
     manners: &[Manner<'_>],
-) -> Result<bool, Error>
+) -> Result<Option<ReadBack>, Error>
     requires ready { IsReady R.reading trial.now }
-    requires expected { Expects trial.now expected.now }
     requires low { AllByRecursion IsLow (map manner_view manners.now) }
+    requires refused { let q = asked_of R.reading trial.now in
+        AreRefused q (document_view document.now) refused.old }
     requires front { IsFront (site_of renderer.old) }
-    ensures { TriesIn R.reading trial.now document.now renderer.old renderer.new
+    ensures tried { TriesIn R.reading trial.now document.now renderer.old renderer.new
         (map manner_view manners.now) result }
+    ensures known { KnowsIn R.reading trial.now document.now renderer.new result }
+    ensures refused { let q = asked_of R.reading trial.now in
+        OnOk result (AreRefused q (document_view document.now) refused.new) }
 {
-    let mut refused = IndexSet::new(trial.alloc);
     for manner in manners {
-        if document.try_one(trial, expected, renderer, &mut refused, manner)? {
-            return Ok(true);
+        if let Some(known) = document.try_one(trial, renderer, refused, manner)? {
+            return Ok(Some(known));
         }
     }
-    Ok(false)
+    Ok(None)
 }
 
-/// Tries all candidates of a unit, if it has some, as `try_all` does. What the reader must find is
-/// made once for all.
+/// Tries the manners from the source, if some text of the unit is known there, as `try_all` does.
+fn try_source<'t, R: Reader>(
+    trial: &Trial<'t, '_, R>,
+    document: &Document,
+    renderer: &mut Renderer<'t>,
+    refused: &mut Refused,
+    has_source: bool,
+    has_delimiters: bool,
+) -> Result<Option<ReadBack>, Error>
+    requires ready { IsReady R.reading trial.now }
+    requires standard { has_standard_markers (options_in trial.now) ≡ true }
+    requires refused { let q = asked_of R.reading trial.now in
+        AreRefused q (document_view document.now) refused.old }
+    requires front { IsFront (site_of renderer.old) }
+    ensures tried { TriesIn R.reading trial.now document.now renderer.old renderer.new
+        (if_source has_source (options_in trial.now) has_delimiters) result }
+    ensures known { KnowsIn R.reading trial.now document.now renderer.new result }
+    ensures refused { let q = asked_of R.reading trial.now in
+        OnOk result (AreRefused q (document_view document.now) refused.new) }
+{
+    if !has_source {
+        return Ok(None);
+    }
+    if has_delimiters {
+        let manners = source_manners(trial.options);
+        try_all(trial, document, renderer, refused, &manners)
+    } else {
+        let manners = [preferred_manner(trial.options, true)];
+        try_all(trial, document, renderer, refused, &manners)
+    }
+}
+
+/// Tries each fallback with all markers, as `try_all` does. No more than four manners are made at a
+/// time.
+fn try_fallbacks<'t, R: Reader>(
+    trial: &Trial<'t, '_, R>,
+    document: &Document,
+    renderer: &mut Renderer<'t>,
+    refused: &mut Refused,
+) -> Result<Option<ReadBack>, Error>
+    requires ready { IsReady R.reading trial.now }
+    requires refused { let q = asked_of R.reading trial.now in
+        AreRefused q (document_view document.now) refused.old }
+    requires front { IsFront (site_of renderer.old) }
+    ensures tried { TriesIn R.reading trial.now document.now renderer.old renderer.new
+        (flat_map fallback_manners fallbacks) result }
+    ensures known { KnowsIn R.reading trial.now document.now renderer.new result }
+{
+    for plan in fallback_plans() {
+        let manners = with_all_markers(plan);
+        if let Some(known) = try_all(trial, document, renderer, refused, &manners)? {
+            return Ok(Some(known));
+        }
+    }
+    Ok(None)
+}
+
+/// Tries the manners of a unit with delimiters, as `try_all` does: the fallbacks where none of the
+/// others is read back.
+fn try_delimiters<'t, R: Reader>(
+    trial: &Trial<'t, '_, R>,
+    document: &Document,
+    renderer: &mut Renderer<'t>,
+    refused: &mut Refused,
+) -> Result<Option<ReadBack>, Error>
+    requires ready { IsReady R.reading trial.now }
+    requires standard { has_standard_markers (options_in trial.now) ≡ true }
+    requires refused { let q = asked_of R.reading trial.now in
+        AreRefused q (document_view document.now) refused.old }
+    requires front { IsFront (site_of renderer.old) }
+    ensures tried { TriesIn R.reading trial.now document.now renderer.old renderer.new
+        (delimiter_manners (options_in trial.now)) result }
+    ensures known { KnowsIn R.reading trial.now document.now renderer.new result }
+{
+    let manners = run_manners(trial.options);
+    if let Some(known) = try_all(trial, document, renderer, refused, &manners)? {
+        return Ok(Some(known));
+    }
+    try_fallbacks(trial, document, renderer, refused)
+}
+
+/// Tries all candidates of a unit, if it has some, as `try_all` does: first those from the source.
 fn search<'t, R: Reader>(
     trial: &Trial<'t, '_, R>,
     document: &Document,
     renderer: &mut Renderer<'t>,
     has_source: bool,
     has_delimiters: bool,
-) -> Result<bool, Error>
+) -> Result<Option<ReadBack>, Error>
     requires ready { IsReady R.reading trial.now }
     requires standard { has_standard_markers (options_in trial.now) ≡ true }
     requires front { IsFront (site_of renderer.old) }
-    ensures { TriesIn R.reading trial.now document.now renderer.old renderer.new
+    ensures tried { TriesIn R.reading trial.now document.now renderer.old renderer.new
         (manners_for (options_in trial.now) has_source has_delimiters) result }
+    ensures known { KnowsIn R.reading trial.now document.now renderer.new result }
 {
-    let manners = candidates(trial.alloc, trial.options, has_source, has_delimiters)?;
-    if manners.is_empty() {
-        return Ok(false);
+    let mut refused = IndexSet::new(trial.alloc);
+    if let Some(known) = try_source(
+        trial,
+        document,
+        renderer,
+        &mut refused,
+        has_source,
+        has_delimiters,
+    )? {
+        return Ok(Some(known));
     }
-    let expected = expected(trial.alloc, trial.unit)?;
-    try_all(trial, &expected, document, renderer, &manners)
+    if has_delimiters {
+        try_delimiters(trial, document, renderer, &mut refused)
+    } else {
+        Ok(None)
+    }
 }
 
 /// Whether options are accepted with these flags.
@@ -130,7 +229,23 @@ fn accepts(options: &Options<'_>, flags: ParserOptions) -> bool
     options.validate(flags).is_ok()
 }
 
-/// Writes a unit in the first of its candidates that is read back, behind a mark.
+/// Writes the unit of a trial in the preferred spelling, of which nothing is known then.
+fn write_unread<'t, R: Reader>(
+    trial: &Trial<'t, '_, R>,
+    renderer: &mut Renderer<'t>,
+) -> Result<Option<ReadBack>, Error>
+    requires ready { IsReady R.reading trial.now }
+    requires front { IsFront (site_of renderer.old) }
+    ensures written { let m = preferred_manner (options_in trial.now) in
+        WritesIn R.reading trial.now renderer.old renderer.new m result }
+    ensures unknown { IfOk result (λ known. known ≡ None) }
+{
+    write_preferred(trial, renderer)?;
+    Ok(None)
+}
+
+/// Writes a unit in the first of its candidates that is read back, behind a mark, and hands on what
+/// is known of that.
 ///
 /// Where none is, a unit without delimiters is written in the preferred spelling, as one is whose
 /// options aren't accepted; and one with other markers than Markdown's at once. An `Err` is
@@ -141,22 +256,24 @@ pub fn choose<'t, R: Reader>(
     trial: &Trial<'t, '_, R>,
     document: &Document,
     renderer: &mut Renderer<'t>,
-) -> Result<(), Error>
+) -> Result<Option<ReadBack>, Error>
     requires ready { IsReady R.reading trial.now }
     requires front { IsFront (site_of renderer.old) }
-    ensures { WritesChosen R.reading trial.now document.now renderer.old renderer.new result }
+    ensures chosen { let reading = R.reading in
+        WritesChosen reading trial.now document.now renderer.old renderer.new result }
+    ensures known { KnowsIn R.reading trial.now document.now renderer.new result }
 {
     if !has_standard_markers(trial.options) {
-        return write_preferred(trial, renderer);
+        return write_unread(trial, renderer);
     }
     let is_accepted = accepts(trial.options, trial.flags);
     let has_delimiters = has_delimiters(trial.unit);
     let has_source = has_source(trial.unit);
-    if search(trial, document, renderer, has_source, has_delimiters)? {
-        return Ok(());
+    if let Some(known) = search(trial, document, renderer, has_source, has_delimiters)? {
+        return Ok(Some(known));
     }
     if has_delimiters && is_accepted {
         return Err(Error::Unrepresentable);
     }
-    write_preferred(trial, renderer)
+    write_unread(trial, renderer)
 }

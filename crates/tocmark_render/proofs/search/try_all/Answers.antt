@@ -1,12 +1,11 @@
-use Rattle.std.proofs.Common.{◌≡◌, drop, false, map, string_bytes, subst, sym}
-use Rattle.std.specs.List.{AllByRecursion}
+use Rattle.std.proofs.Common.{drop, map, subst, sym}
 use Rattle.std.proofs.lemmas.Result.{err_from_is_err_and}
 use Rattle.tocmark_renderer.specs.JobOf.{manner_view}
 use Rattle.tocmark_renderer.specs.WriterOf.{site_of}
-use Rattle.tocmark_render.specs.DocumentOf.{document_at, document_view}
-use Rattle.tocmark_render.specs.TrialOf.{IsFront, asked_of, reads_back_in}
+use Rattle.tocmark_render.specs.DocumentOf.{document_at}
+use Rattle.tocmark_render.specs.TrialOf.{IsFront, asked_of}
 use Rattle.tocmark_render.proofs.LowManners.{low-at}
-use Rattle.tocmark_render.proofs.Trials.{goes-on-all, lost-all, one-found, one-lost, stopped-there, views-end}
+use Rattle.tocmark_render.proofs.Trials.{goes-on-all, lost-all, none-left, one-found, one-lost, stopped-there, views-end}
 use Rattle.tocmark_render.proofs.search.try_all.Goals as goal
 
 pub try_one-requires-clause-low : goal.try_one-requires-clause-low
@@ -17,34 +16,33 @@ try_one-requires-clause-front g c = subst IsFront (sym c.loop-manner.invariant.0
 
 pub loop-manner-init : goal.loop-manner-init
 loop-manner-init g c =
-    let q = asked_of g.R.Reader.reading c.args.trial.now in
-    let d = document_view c.args.document.now in (
+    let q = asked_of g.R.Reader.reading c.args.trial.now in (
       goes-on-all q (document_at c.args.document.now (site_of c.args.renderer.now)) c.args.renderer.now (map manner_view c.args.manners.now),
-      subst (AllByRecursion (λ t. reads_back_in q d (string_bytes t) ≡ false)) (sym c.new-refused.ensures.empty) tt,
+      c.requires.refused,
     )
 
-pub returns-then-branch : goal.returns-then-branch
-returns-then-branch g c =
+pub returns-in-Some-clause-tried : goal.returns-in-Some-clause-tried
+returns-in-Some-clause-tried g c =
     let q = asked_of g.R.Reader.reading c.args.trial.now in
     one-found manner_view c.args.manners.now c.loop-manner.manner-index _ q (document_at c.args.document.now) (site_of c.args.renderer.now) c.loop-manner.renderer c.try_one.new.renderer
-    c.loop-manner-test.true c.loop-manner.invariant.0 c.in_ok-try_one.field-0 c.if-branch.true c.in_ok-try_one.ensures.tried
+    c.loop-manner-test.true c.loop-manner.invariant.0 c.in_ok-known.field-0 c.in-Some.known c.in-Some.is c.in_ok-known.ensures.tried
 
 pub loop-manner-preserved : goal.loop-manner-preserved
 loop-manner-preserved g c =
     let q = asked_of g.R.Reader.reading c.args.trial.now in (
       one-lost manner_view c.args.manners.now c.loop-manner.manner-index _ q (document_at c.args.document.now) (site_of c.args.renderer.now) c.loop-manner.renderer c.try_one.new.renderer
-          c.loop-manner-test.true c.loop-manner.invariant.0 c.in_ok-try_one.field-0 c.if-branch.false c.in_ok-try_one.ensures.tried,
-      c.in_ok-try_one.ensures.refused,
+          c.loop-manner-test.true c.loop-manner.invariant.0 c.in_ok-known.field-0 (none-left c.in_ok-known.field-0 c.in_default.not-Some) c.in_ok-known.ensures.tried,
+      c.in_ok-known.ensures.refused,
     )
 
-pub returns-in_err-try_one : goal.returns-in_err-try_one
-returns-in_err-try_one g c =
+pub returns-in_err-known-clause-tried : goal.returns-in_err-known-clause-tried
+returns-in_err-known-clause-tried g c =
     let p = err_from_is_err_and c.from_residual.result c.from_residual.ensures.1 in
     let q = asked_of g.R.Reader.reading c.args.trial.now in
-    rw (p.1, p.2) (stopped-there q (site_of c.args.renderer.now) (site_of c.loop-manner.renderer) c.try_one.new.renderer c.in_err-try_one.field-0.0 c.loop-manner.invariant.0.kept c.in_err-try_one.ensures.tried)
+    rw (p.1, p.2) (stopped-there q (site_of c.args.renderer.now) (site_of c.loop-manner.renderer) c.try_one.new.renderer c.in_err-known.field-0.0 c.loop-manner.invariant.0.kept c.in_err-known.ensures.tried)
 
-pub returns : goal.returns
-returns g c =
+pub returns-clause-tried : goal.returns-clause-tried
+returns-clause-tried g c =
     let q = asked_of g.R.Reader.reading c.args.trial.now in
     let xs = c.args.manners.now in
     let i = c.loop-manner.manner-index in

@@ -1,4 +1,5 @@
-use Rattle.std.proofs.Common.{◌∙◌, sym}
+use Rattle.std.proofs.Common.{◌∙◌, ap, sym}
+use Rattle.std.specs.Prelude.{is_some}
 use Rattle.std.proofs.lemmas.Result.{err_from_is_err_and}
 use Rattle.tocmark_renderer.specs.JobOf.{manner_view}
 use Rattle.tocmark_renderer.specs.WriterOf.{site_of}
@@ -14,14 +15,14 @@ returns-in_err-write-clause-tried g c =
     let old = site_of c.args.renderer.now in
     rw (p.1, p.2) (one-stopped q (document_at c.args.self.now old) (manner_view c.args.manner.now) old c.requires.front c.write.new.renderer c.in_err-write.field-0.0 c.in_err-write.ensures)
 
-pub returns-in-Ok-true-clause-tried : goal.returns-in-Ok-true-clause-tried
-returns-in-Ok-true-clause-tried g c =
+pub returns-in-Ok-Some-clause-tried : goal.returns-in-Ok-Some-clause-tried
+returns-in-Ok-Some-clause-tried g c =
     let q = asked_of g.R.Reader.reading c.args.trial.now in
     let old = site_of c.args.renderer.now in
-    one-found q (document_at c.args.self.now old) (manner_view c.args.manner.now) old c.requires.front c.write.new.renderer c.in_ok-write.ensures (sym c.in-Ok-true.ensures.read ∙ c.in-Ok-true.field-0-test)
+    one-found q (document_at c.args.self.now old) (manner_view c.args.manner.now) old c.requires.front c.write.new.renderer c.in_ok-write.ensures (sym c.in-Ok-Some.ensures.read ∙ ap is_some c.in-Ok-Some.field-0-is)
 
-pub returns-in-Ok-false-clause-tried : goal.returns-in-Ok-false-clause-tried
-returns-in-Ok-false-clause-tried g c =
+pub returns-in-Ok-None-clause-tried : goal.returns-in-Ok-None-clause-tried
+returns-in-Ok-None-clause-tried g c =
     let q = asked_of g.R.Reader.reading c.args.trial.now in
     let old = site_of c.args.renderer.now in
-    one-lost q (document_at c.args.self.now old) (manner_view c.args.manner.now) old c.requires.front c.write.new.renderer c.in_ok-write.ensures c.back.new.self c.back.ensures.site (sym c.in-Ok-false.ensures.read ∙ c.in-Ok-false.field-0-test)
+    one-lost q (document_at c.args.self.now old) (manner_view c.args.manner.now) old c.requires.front c.write.new.renderer c.in_ok-write.ensures c.back.new.self c.back.ensures.site (sym c.in-Ok-None.ensures.read ∙ ap is_some c.in-Ok-None.field-0-is)
