@@ -7,3 +7,5 @@ mod manners;
 mod read_back;
 mod search;
 mod trial;
+
+pub use crate::manners::candidates;

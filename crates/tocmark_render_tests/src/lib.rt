@@ -1,9 +1,5 @@
-//! Tests of the comparison with what a reader found, and of the marks of a renderer and of containers.
+//! Tests of the comparison with what a reader found.
 #![tactic(auto)]
 
 #[cfg(test)]
 mod agrees_tests;
-#[cfg(test)]
-mod copy_tests;
-#[cfg(test)]
-mod mark_tests;
