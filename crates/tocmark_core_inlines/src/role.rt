@@ -1,6 +1,6 @@
 //! What the bytes of a leaf's text are.
 
-ghost use Rattle.std.specs.Prelude.{◌≡◌, ◌≤◌, IfOk, OnOk, length, map, replicate, slice_set};
+ghost use Rattle.std.specs.Prelude.{◌≡◌, ◌≤◌, IfOk, IfSome, OnOk, length, map, replicate, slice_set};
 ghost use Rattle.tocmark_core_inlines.specs.Role.{IsSlot, role_at, roles_of, with_mark};
 ghost use Rattle.std.specs.List.{fold};
 ghost use Rattle.tocmark_core_inlines.specs.declared.role.Role.TheVariants.{Plain, Hidden};
@@ -77,25 +77,27 @@ pub struct Mark {
 pub struct Roles {
     pub length: usize,
     pub marks: Vec<Mark>,
+    /// Whether some mark stands behind many at later places: further ones aren't put in order, either.
+    pub scattered: bool,
 }
 
 /// In front of so many marks at most another one is put.
 const FEW: usize = 8;
 
 /// The number of marks behind which one more goes: all but the last ones that stand at later places, if
-/// these are few, or else all.
+/// these are few.
 #[tactic(auto, using(crate::proofs::Marks::slot_last, crate::proofs::Marks::slot_down))]
-fn slot(marks: &[Mark], place: usize) -> usize
-    ensures within { result ≤ length marks.now }
-    ensures goes { IsSlot marks.now place result }
+fn slot(marks: &[Mark], place: usize) -> Option<usize>
+    ensures within { IfSome result (λ k. k ≤ length marks.now) }
+    ensures goes { IfSome result (IsSlot marks.now place) }
 {
     let first = minus(marks.len(), FEW);
     for k in (first..marks.len()).rev() {
         if marks[k].place <= place {
-            return k + 1;
+            return Some(k + 1);
         }
     }
-    if first == 0 { 0 } else { marks.len() }
+    if first == 0 { Some(0) } else { None }
 }
 
 fn zeros(alloc: Global, count: usize) -> Result<Vec<usize>, AllocError>
@@ -122,22 +124,50 @@ impl Roles {
         Roles {
             length,
             marks: Vec::new(alloc),
+            scattered: false,
         }
+    }
+
+    /// Whether a mark at a place goes behind all: it stands at no earlier place than the last one, or
+    /// marks are in no order.
+    fn goes_last(&self, place: usize) -> bool {
+        self.scattered || self.marks.last().is_none_or(|mark| mark.place <= place)
+    }
+
+    /// Gives the byte at a place a role, by a mark in front of those at later places if these are few.
+    #[cold]
+    #[inline(never)]
+    fn put_between(&mut self, place: usize, role: Role) -> Result<(), AllocError>
+        ensures { OnOk result (roles_of self.new ≡ slice_set (roles_of self.old) place role) }
+    {
+        match slot(&self.marks, place) {
+            Some(at) => self.marks.insert(at, Mark { place, role })?,
+            None => {
+                self.scattered = true;
+                self.marks.push(Mark { place, role })?;
+            }
+        }
+        Ok(())
     }
 
     /// Gives the byte at a place a role; nothing where the text is shorter. An `Err` says that memory
     /// ran out.
+    #[inline(always)]
     pub fn put(&mut self, place: usize, role: Role) -> Result<(), AllocError>
         ensures { OnOk result (roles_of self.new ≡ slice_set (roles_of self.old) place role) }
     {
-        let at = slot(&self.marks, place);
-        self.marks.insert(at, Mark { place, role })?;
-        Ok(())
+        if self.goes_last(place) {
+            self.marks.push(Mark { place, role })?;
+            Ok(())
+        } else {
+            self.put_between(place, role)
+        }
     }
 
     /// Hides the byte at a place, and gives one a role, in the order of their places. An `Err` says that
     /// memory ran out.
     #[tactic(auto, using(crate::proofs::Marks::set_again, crate::proofs::Marks::set_apart))]
+    #[inline(always)]
     pub fn put_behind(&mut self, hidden: usize, place: usize, role: Role) -> Result<(), AllocError>
         ensures { OnOk result (roles_of self.new
             ≡ slice_set (slice_set (roles_of self.old) hidden Hidden) place role) }

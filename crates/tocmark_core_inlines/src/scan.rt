@@ -635,13 +635,11 @@ impl Scanner {
             ≡ scan_step bytes.now (ahead_view ahead.now) (entry_of definitions.now)
             (with_place place (scan self.old)) byte) }
     {
-        if !is_mark(byte) {
+        if !is_mark(byte) || place < self.resume {
             return Ok(plus(place, 1));
         }
         self.place = place;
-        if self.resume <= place {
-            self.look(alloc, bytes, ahead, definitions, byte)?;
-        }
+        self.look(alloc, bytes, ahead, definitions, byte)?;
         Ok(plus(self.place, 1))
     }
 

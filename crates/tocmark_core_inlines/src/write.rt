@@ -109,6 +109,7 @@ impl Writer {
     }
 
     #[tactic(auto, unfolding(crate::specs::Write::shown))]
+    #[inline(always)]
     fn show(&mut self, role: Role) -> Result<(), AllocError>
         ensures { OnOk result (writing self.new ≡ shown role (writing self.old)) }
     {
@@ -130,6 +131,7 @@ impl Writer {
     }
 
     #[tactic(auto, unfolding(crate::specs::Write::role_step))]
+    #[inline(always)]
     fn step(&mut self, role: Role) -> Result<(), AllocError>
         ensures { OnOk result (writing self.new ≡ role_step (writing self.old) role) }
     {
@@ -154,6 +156,7 @@ impl Writer {
 
     /// Passes plain bytes up to a mark, and takes the byte that has it.
     #[tactic(auto, unfolding(crate::specs::Write::mark_step))]
+    #[inline(always)]
     fn step_to(&mut self, mark: Mark) -> Result<(), AllocError>
         ensures { OnOk result (writing self.new ≡ mark_step (writing self.old) mark) }
     {
