@@ -380,7 +380,7 @@ pub fn assemble(
 {
     let mut assembly = Assembly {
         emission: Emission {
-            events: Vec::new(alloc),
+            events: Vec::with_capacity(alloc, plus(blocks.len(), pieces.len()))?,
             stack: Vec::new(alloc),
         },
         inlines: no_inlines(alloc, texts),
