@@ -1,8 +1,10 @@
 -- The starts of the nodes that disturb, one event after the other.
-use Rattle.std.proofs.Common.{◌≡◌, ℕ, suc, ◌+◌, ◌<◌, Bool, Option, List, [], ◌∷◌, ◌++◌, refl, sym, ap, ◌∙◌, take, drop, reverse, length, arith, slice_index_or}
+use Rattle.std.proofs.Common.{◌≡◌, ℕ, suc, ◌+◌, ◌<◌, Bool, false, Option, List, [], ◌∷◌, ◌++◌, refl, sym, ap, ◌∙◌, take, drop, reverse, length, arith, slice_index_or}
 use Rattle.std.specs.Prelude.{◌&&◌}
 use Rattle.std.proofs.lemmas.List.{append_assoc, drop-drop}
 use Rattle.tocmark_event.specs.View.{SourcedEvent, TagView, Start, End, Leaf}
+use Rattle.tocmark_spelling.specs.Edges.{edge_before, edge_after}
+use Rattle.tocmark_spelling.specs.Page.{front}
 use Rattle.tocmark_spelling.specs.Plan.{Setting}
 use Rattle.tocmark_spelling.specs.Runs.{start_width, close_width, counts, disturbs_at}
 use Rattle.tocmark_spelling.specs.Scans.{span}
@@ -35,6 +37,18 @@ module _ (es rest : List SourcedEvent) (n : ℕ) (e : SourcedEvent) (at : drop n
       (p ∙ round.before n lt)
       (q ∙ round.starts (n + 1) ∙ ap (character_after runs start_width) next)
       (λ t start. r ∙ round.behind (end + 1) ∙ ap (character_after runs close_width) (beyond t start))
+
+  -- the event at a place by its neighbours
+  pub mark-beside : (s : Setting) (end : ℕ) (m : Bool) → ((t : TagView) → drop n es ≡ Start t ∷ rest → end ≡ n + 1 + span 0 rest)
+      → m ≡ mark_of s false e (edge_before (front (reverse (take n es)))) (edge_after (front (drop (n + 1) es))) (edge_after (front (drop (end + 1) es)))
+      → m ≡ starts_disturber s false (reverse (take n es)) e rest
+  mark-beside s end m reach is =
+      let next : drop (n + 1) es ≡ rest = place-rest es rest n e at in
+      let beyond : (t : TagView) → e ≡ Start t → drop (end + 1) es ≡ behind_body rest = λ t start.
+      let place : end + 1 ≡ n + 1 + suc (span 0 rest) = omega (arith, reach t (at ∙ ap (λ x. x ∷ rest) start)) in
+      ap (λ k. drop k es) place ∙ sym (drop-drop (suc (span 0 rest)) (n + 1) es) ∙ ap (drop (suc (span 0 rest))) next in
+      is ∙ mark-is s false e (reverse (take n es)) rest (edge_before (front (reverse (take n es)))) (edge_after (front (drop (n + 1) es))) (edge_after (front (drop (end + 1) es)))
+      refl (ap (λ x. edge_after (front x)) next) (λ t start. ap (λ x. edge_after (front x)) (beyond t start))
 
   -- one mark more
   pub marks-step : (s : Setting) (runs : Bool) (marks new whole : List Bool) (m : Bool) → new ≡ marks ++ m ∷ [] → m ≡ starts_disturber s runs (reverse (take n es)) e rest

@@ -1,8 +1,11 @@
 -- The runs in a text are those of its parts joined.
-use Rattle.std.proofs.Common.{◌≡◌, ℕ, ◌+◌, ◌≤◌, Bool, true, false, cond, List, [], ◌∷◌, ◌++◌, refl, sym, ap, ◌∙◌, max, chars, arith}
-use Rattle.std.specs.Prelude.{◌==◌}
-use Rattle.std.proofs.lemmas.Bool.{false≢true}
-use Rattle.std.proofs.lemmas.Str.{chars-nil, chars-append}
+use Rattle.std.proofs.Common.{◌≡◌, ◌≢◌, ◌⊎◌, inl, inr, ℕ, zero, suc, ◌+◌, ◌<◌, ◌≤◌, Bool, true, false, cond, List, [], ◌∷◌, ◌++◌, refl, sym, ap, ◌∙◌, max, chars, arith, length, get_or, take, encode_utf8, encode_utf8_all, IsUtf8}
+use Rattle.std.specs.Prelude.{◌==◌, ◌||◌}
+use Rattle.std.specs.List.{list_any}
+use Rattle.std.proofs.lemmas.Bool.{cases_lt, false≢true, ne_eqb, or_parts}
+use Rattle.std.proofs.lemmas.List.{take_more}
+use Rattle.std.proofs.lemmas.Str.{chars-nil, chars-append, encode_ascii, encodes-chars, length-encode, len_utf8_bounds}
+use Rattle.tocmark_escape.proofs.CharacterLemmas.{bytes_past_ascii}
 use Rattle.tocmark_event.specs.View.{LeafView, Text, Code, InlineMath, DisplayMath, Html, InlineHtml, FootnoteReference, SoftBreak, HardBreak, Rule, TaskListMarker}
 use Rattle.tocmark_event.specs.Forest.{empty, leaf, node}
 use Rattle.tocmark_escape.specs.Leaves.{run_length, longest_run}
@@ -10,7 +13,7 @@ use Rattle.tocmark_spelling.specs.Body.{Trees, joined_by, text_of_leaf}
 use Rattle.tocmark_ahead.specs.TokenRuns.{no_runs, one_run, joined_runs, runs_in, leaf_runs, runs_of, IsLeafText}
 use Rattle.tocmark_ahead.specs.declared.token_runs.TokenRuns.{TokenRuns}
 
-abbrev runs : ℕ → ℕ → ℕ → Bool → TokenRuns
+abbrev pub runs : ℕ → ℕ → ℕ → Bool → TokenRuns
 runs f b l w = record { front = f; back = b; longest = l; whole = w }
 
 same : (f f' b b' l l' : ℕ) (w : Bool) → f ≡ f' → b ≡ b' → l ≡ l' → runs f b l w ≡ runs f' b' l' w
@@ -77,6 +80,62 @@ runs-append token [] ys = sym (none-left (runs_in token ys) (sound-in token ys))
 runs-append token (x ∷ xs) ys =
     ap (joined_runs (one_run (x == token))) (runs-append token xs ys)
     ∙ sym (joined-assoc (one_run (x == token)) (runs_in token xs) (runs_in token ys) (sound-in token xs))
+
+-- one element more
+pub runs-more : (token : ℕ) (xs : List ℕ) (i x : ℕ) (old new : TokenRuns) → i < length xs → x ≡ get_or xs i 0 → old ≡ runs_in token (take i xs)
+    → new ≡ joined_runs old (one_run (x == token)) → new ≡ runs_in token (take (i + 1) xs)
+runs-more token xs i x old new lt at was is =
+    let more : take i xs ++ x ∷ [] ≡ take (i + 1) xs = ap (λ y. take i xs ++ y ∷ []) at ∙ sym (take_more xs i 0 lt) in
+    is ∙ ap (λ r. joined_runs r (one_run (x == token))) was
+    ∙ ap (joined_runs (runs_in token (take i xs))) (sym (none-right (one_run (x == token)) (sound-one (x == token))))
+    ∙ sym (runs-append token (take i xs) (x ∷ [])) ∙ ap (runs_in token) more
+
+-- where no token is
+
+none-more : (w : Bool) → joined_runs (one_run false) (runs 0 0 0 w) ≡ runs 0 0 0 false
+none-more true = refl
+none-more false = refl
+
+not-zero : (n : ℕ) → 0 < n → (n == 0) ≡ false
+not-zero n lt = let differ : n ≢ 0 = omega arith in ne_eqb n 0 differ
+
+pub without : (token : ℕ) (xs : List ℕ) → list_any (λ x. x == token) xs ≡ false → runs 0 0 0 (length xs == 0) ≡ runs_in token xs
+without token [] h = refl
+without token (x ∷ xs) h =
+    let parts = or_parts (x == token) (list_any (λ x. x == token) xs) h in
+    ap (runs 0 0 0) (not-zero (suc (length xs)) (omega arith)) ∙ sym (none-more (length xs == 0))
+    ∙ ap (joined_runs (one_run false)) (without token xs parts.1)
+    ∙ ap (λ b. joined_runs (one_run b) (runs_in token xs)) (sym parts.0)
+
+-- a token of ASCII among the bytes of a text
+
+none-high : (token : ℕ) → token < 128 → (xs : List ℕ) → ((k : ℕ) → k < length xs → 128 ≤ get_or xs k 0) → list_any (λ x. x == token) xs ≡ false
+none-high token low [] h = refl
+none-high token low (x ∷ xs) h =
+    let big : 128 ≤ x = h 0 (omega arith) in
+    let differ : x ≢ token = omega arith in
+    let tail : (k : ℕ) → k < length xs → 128 ≤ get_or xs k 0 = λ k l. h (suc k) (omega arith) in
+    ap (λ b. b || list_any (λ x. x == token) xs) (ne_eqb x token differ) ∙ none-high token low xs tail
+
+encoded : (token c : ℕ) → token < 128 → ((c < 128) ⊎ (128 ≤ c)) → runs_in token (encode_utf8 c) ≡ one_run (c == token)
+encoded token c low (inl small) = ap (runs_in token) (encode_ascii c small) ∙ none-right (one_run (c == token)) (sound-one (c == token))
+encoded token c low (inr high) =
+    let differ : c ≢ token = omega arith in
+    let some : 0 < length (encode_utf8 c) = omega (arith, length-encode c, (len_utf8_bounds c).0) in
+    sym (without token (encode_utf8 c) (none-high token low (encode_utf8 c) (bytes_past_ascii c high)))
+    ∙ ap (runs 0 0 0) (not-zero (length (encode_utf8 c)) some)
+    ∙ ap one_run (sym (ne_eqb c token differ))
+
+all-encoded : (token : ℕ) (cs : List ℕ) → token < 128 → runs_in token (encode_utf8_all cs) ≡ runs_in token cs
+all-encoded token [] low = refl
+all-encoded token (c ∷ cs) low =
+    runs-append token (encode_utf8 c) (encode_utf8_all cs)
+    ∙ ap (λ x. joined_runs x (runs_in token (encode_utf8_all cs))) (encoded token c low (cases_lt c 128))
+    ∙ ap (joined_runs (one_run (c == token))) (all-encoded token cs low)
+
+-- the runs among the bytes of a text are those among its characters
+pub by-bytes : (token : ℕ) (bs : List ℕ) → token < 128 → IsUtf8 bs → runs_in token bs ≡ runs_in token (chars bs)
+by-bytes token bs low u = ap (runs_in token) (sym (encodes-chars bs u)) ∙ all-encoded token (chars bs) low
 
 -- the longest run
 

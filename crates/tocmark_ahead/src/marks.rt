@@ -1,11 +1,13 @@
 //! What the spelling of a container looks ahead for.
 
-ghost use Rattle.std.specs.Prelude.{◌≡◌, ℕ, ◌+◌, map, slice_index_or, not, ◌&&◌, ◌||◌, Option, None, string_bytes, if◌then◌else◌, Bool, List, [], Some, IfOk, length};
+ghost use Rattle.std.specs.Prelude.{◌≡◌, ℕ, ◌+◌, ◌≤◌, map, slice_index_or, not, ◌&&◌, ◌||◌, Option, None, string_bytes, if◌then◌else◌, Bool, List, [], Some, IfOk, length, false, take, drop, reverse};
 ghost use Rattle.tocmark_ahead.specs.Ahead.{comes_before, disturbers, HoldMarks, AreDisturbed};
 ghost use Rattle.tocmark_event.specs.Options.{OptionsView};
 ghost use Rattle.tocmark_event.specs.View.{SourcedEvent, tag_view};
 ghost use Rattle.tocmark_event.specs.declared.event.flags.ParserOptions.{ParserOptions};
 ghost use Rattle.tocmark_spelling.specs.Buffered.{buffered_view};
+ghost use Rattle.tocmark_spelling.specs.Edges.{edge_before, edge_after};
+ghost use Rattle.tocmark_spelling.specs.Page.{front};
 ghost use Rattle.tocmark_spelling.specs.PlanOf.{setting_of};
 ghost use Rattle.tocmark_spelling.specs.Runs.{counts, disturbs_at};
 ghost use Rattle.tocmark_ahead.specs.Sides.{closes_at, counted_if, mark_of, no_side, AreRound};
@@ -14,7 +16,7 @@ ghost use Rattle.tocmark_spelling.specs.Scans.{AreEnds};
 
 use crate::boundary::is_boundary;
 use crate::ends::{body_end, end_at};
-use crate::sides::{Counted, Side, sides_ahead, sides_before};
+use crate::sides::{Counted, Side, edge, sides_ahead, sides_before};
 use std::alloc::{AllocError, Global};
 use tocmark_event::event::{EventOf, TagOf};
 use tocmark_event::reader::Reader;
@@ -156,7 +158,7 @@ fn disturbers<R: Reader>(
         ≡ disturbers (setting_of o flags (R.reading reader.now) label) runs []
         (map buffered_view events.now)) }
 {
-    let mut marks = Vec::new(alloc);
+    let mut marks = Vec::with_capacity(alloc, events.len())?;
     for event in events {
         let i = marks.len();
         let left = character_at(&round.before, i);
@@ -166,6 +168,123 @@ fn disturbers<R: Reader>(
         marks.push(mark)?;
     }
     Ok(marks)
+}
+
+/// The last character of the event before a place, as its neighbour there sees it.
+fn edge_before(events: &[BufferedEvent], place: usize) -> Option<char>
+    requires { place ≤ length events.now }
+    ensures { result
+        ≡ edge_before (front (reverse (take place (map buffered_view events.now)))) }
+{
+    if place == 0 {
+        None
+    } else {
+        edge(&events[place - 1], false)
+    }
+}
+
+/// The first character of the event at a place, as its neighbour before it sees it.
+fn edge_at(events: &[BufferedEvent], place: usize) -> Option<char>
+    ensures { result ≡ edge_after (front (drop place (map buffered_view events.now))) }
+{
+    if place < events.len() {
+        edge(&events[place], true)
+    } else {
+        None
+    }
+}
+
+fn edge_behind(events: &[BufferedEvent], place: usize) -> Option<char>
+    ensures { result ≡ edge_after (front (drop (place + 1) (map buffered_view events.now))) }
+{
+    if place < events.len() {
+        edge_at(events, place + 1)
+    } else {
+        None
+    }
+}
+
+/// Whether the event at a place starts a node that disturbs by its neighbours alone, given where its
+/// body ends. Neighbours are looked at where emphasis starts only. An `Err` says that memory ran out.
+fn mark_beside<R: Reader>(
+    alloc: Global,
+    reader: &R,
+    events: &[BufferedEvent],
+    event: &BufferedEvent,
+    place: usize,
+    end: usize,
+) -> Result<bool, AllocError>
+    requires { place ≤ length events.now }
+    ensures { (o : OptionsView) (flags : ParserOptions) (label : Option (List ℕ))
+        → IfOk result (λ mark.
+        mark ≡ mark_of (setting_of o flags (R.reading reader.now) label) false
+        (buffered_view event.now)
+        (edge_before (front (reverse (take place (map buffered_view events.now)))))
+        (edge_after (front (drop (place + 1) (map buffered_view events.now))))
+        (edge_after (front (drop (end + 1) (map buffered_view events.now))))) }
+{
+    match &event.event {
+        EventOf::Start(tag) => {
+            if counts(tag, false) {
+                let before = edge_before(events, place);
+                let first = edge_behind(events, place);
+                let after = edge_behind(events, end);
+                disturbs_at(alloc, reader, before, first, after)
+            } else {
+                Ok(false)
+            }
+        }
+        _ => Ok(false),
+    }
+}
+
+/// The same marks as `disturbers` finds, by neighbours alone. An `Err` says that memory ran out.
+fn disturbers_beside<R: Reader>(
+    alloc: Global,
+    reader: &R,
+    events: &[BufferedEvent],
+    ends: &[Option<usize>],
+) -> Result<Vec<bool>, AllocError>
+    requires ends { AreEnds (map buffered_view events.now) ends.now }
+    ensures len { IfOk result (λ marks. length marks.items ≡ length events.now) }
+    ensures marks { (o : OptionsView) (flags : ParserOptions) (label : Option (List ℕ))
+        → IfOk result (λ marks.
+        marks.items
+        ≡ disturbers (setting_of o flags (R.reading reader.now) label) false []
+        (map buffered_view events.now)) }
+{
+    let mut found = Vec::with_capacity(alloc, events.len())?;
+    for event in events {
+        let i = found.len();
+        let mark = mark_beside(alloc, reader, events, event, i, body_end(ends, i))?;
+        found.push(mark)?;
+    }
+    Ok(found)
+}
+
+/// For each event whether it starts a node that disturbs, by runs or by neighbours alone. Columns of
+/// runs are made for the former only. An `Err` says that memory ran out.
+fn marks_of<R: Reader>(
+    alloc: Global,
+    reader: &R,
+    runs: bool,
+    events: &[BufferedEvent],
+    ends: &[Option<usize>],
+) -> Result<Vec<bool>, AllocError>
+    requires ends { AreEnds (map buffered_view events.now) ends.now }
+    ensures len { IfOk result (λ marks. length marks.items ≡ length events.now) }
+    ensures marks { (o : OptionsView) (flags : ParserOptions) (label : Option (List ℕ))
+        → IfOk result (λ marks.
+        marks.items
+        ≡ disturbers (setting_of o flags (R.reading reader.now) label) runs []
+        (map buffered_view events.now)) }
+{
+    if runs {
+        let round = sides_round(alloc, runs, events)?;
+        disturbers(alloc, reader, runs, events, ends, &round)
+    } else {
+        disturbers_beside(alloc, reader, events, ends)
+    }
 }
 
 /// Whether there is a place and it comes before an end; any does where there is no end.
@@ -235,7 +354,6 @@ pub fn preferences<R: Reader>(
         AreDisturbed (setting_of o flags (R.reading reader.now) label) runs
         (map buffered_view events.now) found.items) }
 {
-    let round = sides_round(alloc, runs, events)?;
-    let marks = disturbers(alloc, reader, runs, events, ends, &round)?;
+    let marks = marks_of(alloc, reader, runs, events, ends)?;
     marks_within(alloc, &marks, ends)
 }

@@ -61,7 +61,7 @@ fn inline_edge(inline: bool) -> Option<char>
 }
 
 /// The first or last character of an event, as its neighbours see it.
-fn edge(event: &BufferedEvent, first: bool) -> Option<char>
+pub(crate) fn edge(event: &BufferedEvent, first: bool) -> Option<char>
     ensures { result ≡ event_edge (picked first) (unsourced (buffered_view event.now)) }
 {
     match &event.event {
@@ -81,18 +81,6 @@ fn marker_only(character: Option<char>) -> Option<char>
     match character {
         Some('*') => character,
         Some('_') => character,
-        _ => None,
-    }
-}
-
-/// The marker with which a text begins or ends.
-fn literal(event: &BufferedEvent, first: bool) -> Option<char>
-    ensures { result
-        ≡ marker_only
-        (edge (picked first) (text_only (Some (unsourced (buffered_view event.now))))) }
-{
-    match &event.event {
-        EventOf::Text(text) => marker_only(picked(text.as_str(), first)),
         _ => None,
     }
 }
@@ -146,6 +134,33 @@ fn width_of(event: &BufferedEvent, counted: Counted) -> usize
     }
 }
 
+/// The side that an event is on its own, where it is no part of a run. A text is looked at once for
+/// both of its characters.
+fn lone_side(event: &BufferedEvent, first: bool) -> Side
+    ensures character { result.character
+        ≡ event_edge (picked first) (unsourced (buffered_view event.now)) }
+    ensures literal { result.literal
+        ≡ marker_only
+        (edge (picked first) (text_only (Some (unsourced (buffered_view event.now))))) }
+    ensures width { result.width ≡ 0 }
+{
+    match &event.event {
+        EventOf::Text(text) => {
+            let character = picked(text.as_str(), first);
+            Side {
+                character,
+                literal: marker_only(character),
+                width: 0,
+            }
+        }
+        _ => Side {
+            character: edge(event, first),
+            literal: None,
+            width: 0,
+        },
+    }
+}
+
 /// The side with one event more in front.
 fn side_with(event: &BufferedEvent, side: Side, counted: Counted, first: bool) -> Side
     requires { side.width ≤ 18446744073709551613 }
@@ -153,11 +168,7 @@ fn side_with(event: &BufferedEvent, side: Side, counted: Counted, first: bool) -
 {
     let width = width_of(event, counted);
     if width == 0 {
-        Side {
-            character: edge(event, first),
-            literal: literal(event, first),
-            width: 0,
-        }
+        lone_side(event, first)
     } else {
         Side {
             character: side.character,
@@ -211,7 +222,7 @@ pub fn sides_before(
     ensures { IfOk result (λ sides.
         AreBefore (width_of counted) (map buffered_view events.now) sides.items) }
 {
-    let mut sides = Vec::new(alloc);
+    let mut sides = Vec::with_capacity(alloc, events.len())?;
     let mut side = no_side();
     for event in events {
         sides.push(side)?;

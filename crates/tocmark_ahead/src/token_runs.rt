@@ -62,7 +62,25 @@ impl TokenRuns {
     }
 }
 
-fn text_runs(text: &str, token: char) -> Result<TokenRuns, AllocError>
+/// The runs of a byte among bytes. Where it isn't one of them, as in most texts, that is seen without
+/// a look at each.
+fn byte_runs(bytes: &[u8], byte: u8) -> Result<TokenRuns, AllocError>
+    ensures { IfOk result (λ runs. runs ≡ runs_in byte bytes.now) }
+{
+    if !bytes.contains(&byte) {
+        return Ok(TokenRuns {
+            whole: bytes.is_empty(),
+            ..no_runs()
+        });
+    }
+    let mut runs = no_runs();
+    for other in bytes {
+        runs = runs.joined(one_run(*other == byte))?;
+    }
+    Ok(runs)
+}
+
+fn char_runs(text: &str, token: char) -> Result<TokenRuns, AllocError>
     ensures { IfOk result (λ runs. runs ≡ runs_in token (chars text.now)) }
 {
     let mut runs = no_runs();
@@ -70,6 +88,18 @@ fn text_runs(text: &str, token: char) -> Result<TokenRuns, AllocError>
         runs = runs.joined(one_run(c == token))?;
     }
     Ok(runs)
+}
+
+/// The runs of a token in a text. One of ASCII is found by its byte, which stands in no other
+/// character.
+fn text_runs(text: &str, token: char) -> Result<TokenRuns, AllocError>
+    ensures { IfOk result (λ runs. runs ≡ runs_in token (chars text.now)) }
+{
+    if token.is_ascii() {
+        byte_runs(text.as_bytes(), token as u8)
+    } else {
+        char_runs(text, token)
+    }
 }
 
 /// The runs in an event's text; none where it isn't a text.

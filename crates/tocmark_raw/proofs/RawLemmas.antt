@@ -3,7 +3,7 @@ use Rattle.std.proofs.Common.{◌≡◌, ℕ, zero, suc, ◌+◌, ◌<◌, ◌�
 use Rattle.std.specs.Prelude.{not, ◌||◌, ◌&&◌, ◌==◌}
 use Rattle.std.specs.List.{list_any}
 use Rattle.std.proofs.Math.ListN.{set}
-use Rattle.std.proofs.lemmas.Bool.{cases_lt, false≢true, eqb-true, eqb-false}
+use Rattle.std.proofs.lemmas.Bool.{cases_lt, false≢true, eqb-true, eqb-false, not_from_false}
 use Rattle.std.proofs.lemmas.List.{drop_all}
 use Rattle.tocmark_escape.specs.Characters.{backtick}
 use Rattle.tocmark_event.specs.Options.{OptionsView}
@@ -15,7 +15,7 @@ use Rattle.tocmark_spelling.specs.Machine.{kids_of}
 use Rattle.tocmark_spelling.specs.Opening.{fence_token}
 use Rattle.tocmark_raw.specs.Html.{no_html, AreHtml, html_of_kids}
 use Rattle.tocmark_raw.specs.Kinds.{is_fenced, is_html_block, opens}
-use Rattle.tocmark_raw.specs.Raw.{no_raw, raw_of, body_run, AreFenceRuns, IsFenceRun, IsHtmlEnd, IsRawTag, IsRaw, AreRaw}
+use Rattle.tocmark_raw.specs.Raw.{no_raw, raw_of, body_run, has_other_fence, AreFenceRuns, AreOtherRuns, IsFenceRun, IsHtmlEnd, IsRawTag, IsRaw, AreRaw}
 use Rattle.tocmark_raw.specs.declared.html_facts.HtmlFacts.{HtmlFacts}
 use Rattle.tocmark_raw.specs.declared.raw_facts.RawFacts.{RawFacts}
 
@@ -112,12 +112,13 @@ token-of : (b : Bool) (token d : ℕ) → token ≡ cond b 126 d → (token ≡ 
 token-of true token d h other = h
 token-of false token d h other = absurd (other h)
 
-run-chosen : (c : Bool) (rest : List SourcedEvent) (token d p q : ℕ) → p ≡ body_run d rest → q ≡ body_run 126 rest
+run-chosen : (c : Bool) (rest : List SourcedEvent) (token d p q : ℕ) → p ≡ body_run d rest → (c ≡ false → q ≡ body_run 126 rest)
     → (c ≡ true → token ≡ d) → (c ≡ false → token ≡ 126) → cond c p q ≡ body_run token rest
 run-chosen true rest token d p q hp hq y n = hp ∙ ap (λ k. body_run k rest) (sym (y refl))
-run-chosen false rest token d p q hp hq y n = hq ∙ ap (λ k. body_run k rest) (sym (n refl))
+run-chosen false rest token d p q hp hq y n = hq refl ∙ ap (λ k. body_run k rest) (sym (n refl))
 
-fence-chosen : (o : OptionsView) (info : List ℕ) (rest : List SourcedEvent) (p q : ℕ) → p ≡ body_run o.code_block_token rest → q ≡ body_run 126 rest
+fence-chosen : (o : OptionsView) (info : List ℕ) (rest : List SourcedEvent) (p q : ℕ) → p ≡ body_run o.code_block_token rest
+    → ((fence_token o info == o.code_block_token) ≡ false → q ≡ body_run 126 rest)
     → cond (fence_token o info == o.code_block_token) p q ≡ body_run (fence_token o info) rest
 fence-chosen o info rest p q hp hq =
     let token = fence_token o info in
@@ -134,6 +135,16 @@ drop-rest (x ∷ es) (suc i) e rest q = let more : suc i + 1 ≡ suc (i + 1) = o
 pub all-runs : (token : ℕ) (es : List SourcedEvent) (runs : List TokenRuns) → AreRuns token es runs → AreFenceRuns token es runs
 all-runs token es runs a = record { at = λ i info rest q. a.at i ∙ ap (body_run token) (drop-rest es i (Start (CodeBlock (Fenced info))) rest q) }
 
+pub other-runs : (o : OptionsView) (es : List SourcedEvent) (runs : List TokenRuns) → AreRuns 126 es runs → AreOtherRuns o es runs
+other-runs o es runs a = record { at = λ i info rest q other. a.at i ∙ ap (body_run 126) (drop-rest es i (Start (CodeBlock (Fenced info))) rest q) }
+
+pub no-other : (o : OptionsView) (es : List SourcedEvent) (runs : List TokenRuns) → list_any (opens (has_other_fence o)) es ≡ false → AreOtherRuns o es runs
+no-other o es runs h = record {
+  at = λ i info rest q other.
+      absurd (false≢true (sym (none-at (opens (has_other_fence o)) es i (Start (CodeBlock (Fenced info))) rest h q)
+      ∙ not_from_false (fence_token o info == o.code_block_token) other));
+}
+
 -- what is gathered at a place from the columns
 abbrev pub IsGathered : OptionsView → List SourcedEvent → List TokenRuns → List TokenRuns → List HtmlFacts → ℕ → RawFacts → Type 0
 IsGathered o es preferred tildes html j x =
@@ -145,7 +156,7 @@ html-end kids h x b c e = record { blank = b ∙ ap (λ (y : HtmlFacts). y.blank
 
 -- what is gathered at each place is what is asked
 pub all-raw : (o : OptionsView) (es : List SourcedEvent) (preferred tildes : List TokenRuns) (html : List HtmlFacts) (facts : List RawFacts)
-    → AreFenceRuns o.code_block_token es preferred → AreFenceRuns 126 es tildes → AreHtml es html
+    → AreFenceRuns o.code_block_token es preferred → AreOtherRuns o es tildes → AreHtml es html
     → ((j : ℕ) → IsGathered o es preferred tildes html j (get_or facts j no_raw)) → AreRaw o es facts
 all-raw o es preferred tildes html facts p q h g = record {
   at = λ i e rest at.

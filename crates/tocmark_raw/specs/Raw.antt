@@ -1,5 +1,5 @@
 -- What the opening of a code or HTML block asks of the texts in it.
-use Rattle.std.specs.Prelude.{◌≡◌, ℕ, ◌==◌, false, if◌then◌else◌, List, ◌∷◌, chars, drop, slice_index_or}
+use Rattle.std.specs.Prelude.{◌≡◌, ℕ, ◌==◌, Bool, false, not, if◌then◌else◌, List, ◌∷◌, chars, drop, slice_index_or}
 use Rattle.tocmark_ahead.specs.TokenRuns.{no_runs}
 use Rattle.tocmark_ahead.specs.declared.token_runs.TokenRuns.{TokenRuns}
 use Rattle.tocmark_escape.specs.Leaves.{longest_run}
@@ -49,6 +49,16 @@ body_run token rest = longest_run token (chars (joined_by text_of_leaf (kids_of 
 pub record AreFenceRuns (token : ℕ) (es : List SourcedEvent) (runs : List TokenRuns) : Type 0 where
   pub at : (i : ℕ) (info : List ℕ) (rest : List SourcedEvent) → drop i es ≡ Start (CodeBlock (Fenced info)) ∷ rest
       → (slice_index_or runs i no_runs).longest ≡ body_run token rest
+
+-- whether this is the tag of code whose fence isn't made of the preferred token
+abbrev pub has_other_fence : OptionsView → TagView → Bool
+has_other_fence o (CodeBlock (Fenced info)) = not (fence_token o info == o.code_block_token)
+has_other_fence o t = false
+
+-- for each Start of such code the longest run of `~` in it
+pub record AreOtherRuns (o : OptionsView) (es : List SourcedEvent) (runs : List TokenRuns) : Type 0 where
+  pub at : (i : ℕ) (info : List ℕ) (rest : List SourcedEvent) → drop i es ≡ Start (CodeBlock (Fenced info)) ∷ rest
+      → (fence_token o info == o.code_block_token) ≡ false → (slice_index_or runs i no_runs).longest ≡ body_run 126 rest
 
 -- the facts of fenced code with such a longest run
 abbrev pub fence_raw : ℕ → RawFacts

@@ -7,7 +7,7 @@ ghost use Rattle.tocmark_event.specs.View.{code_view, tag_view, CodeBlock};
 ghost use Rattle.tocmark_spelling.specs.Buffered.{buffered_view};
 ghost use Rattle.tocmark_raw.specs.Html.{AreHtml};
 ghost use Rattle.tocmark_raw.specs.Kinds.{is_fenced, opens};
-ghost use Rattle.tocmark_raw.specs.Raw.{no_raw, raw_of, raw_of_tag, AreFenceRuns, AreRaw};
+ghost use Rattle.tocmark_raw.specs.Raw.{no_raw, raw_of, raw_of_tag, has_other_fence, AreFenceRuns, AreOtherRuns, AreRaw};
 
 use crate::html_facts::{HtmlFacts, html_at, html_facts};
 use crate::kinds::kinds_in;
@@ -115,7 +115,8 @@ fn gathered(
 ) -> Result<Vec<RawFacts>, AllocError>
     requires preferred { AreFenceRuns (options_view options.now).code_block_token
         (map buffered_view events.now) preferred.now }
-    requires tildes { AreFenceRuns 126 (map buffered_view events.now) tildes.now }
+    requires tildes { AreOtherRuns (options_view options.now)
+        (map buffered_view events.now) tildes.now }
     requires html { AreHtml (map buffered_view events.now) html.now }
     ensures { IfOk result (λ facts.
         AreRaw (options_view options.now) (map buffered_view events.now) facts.items) }
@@ -148,6 +149,58 @@ fn fence_runs(
     }
 }
 
+/// Whether it is the tag of code whose fence isn't made of the preferred token.
+fn has_other_fence(options: &Options<'_>, tag: &TagOf<String>) -> bool
+    ensures { result
+        ≡ has_other_fence (options_view options.now) (tag_view string_bytes tag.now) }
+{
+    match tag {
+        TagOf::CodeBlock(CodeBlockKindOf::Fenced(info)) => {
+            fence_token(options, info.as_str()) != options.code_block_token
+        }
+        _ => false,
+    }
+}
+
+fn opens_other_fence(options: &Options<'_>, event: &BufferedEvent) -> bool
+    ensures { result
+        ≡ opens (has_other_fence (options_view options.now)) (buffered_view event.now) }
+{
+    match &event.event {
+        EventOf::Start(tag) => has_other_fence(options, tag),
+        _ => false,
+    }
+}
+
+fn has_other_fences(options: &Options<'_>, events: &[BufferedEvent]) -> bool
+    ensures { result ≡ list_any (opens (has_other_fence (options_view options.now)))
+        (map buffered_view events.now) }
+{
+    for event in events {
+        if opens_other_fence(options, event) {
+            return true;
+        }
+    }
+    false
+}
+
+/// For each event that starts code whose fence isn't made of the preferred token the runs of `~` in
+/// it, if there is such an event: most units have none, and their texts aren't looked at once more.
+fn other_runs(
+    alloc: Global,
+    options: &Options<'_>,
+    events: &[BufferedEvent],
+) -> Result<Vec<TokenRuns>, AllocError>
+    ensures { IfOk result (λ runs. AreOtherRuns (options_view options.now)
+        (map buffered_view events.now) runs.items) }
+{
+    if has_other_fences(options, events) {
+        token_runs(alloc, events, '~')
+    } else {
+        Ok(Vec::new(alloc))
+    }
+}
+
 /// For each event that starts a code or HTML block what its opening asks of the texts in it; an
 /// empty list for events without such a block, which are looked at once. It takes time in the
 /// events and their texts, however deep they stand.
@@ -166,7 +219,7 @@ pub fn raw_facts(
         return Ok(Vec::new(alloc));
     }
     let preferred = fence_runs(alloc, events, kinds.fenced, options.code_block_token)?;
-    let tildes = fence_runs(alloc, events, kinds.fenced, '~')?;
+    let tildes = other_runs(alloc, options, events)?;
     let html = html_facts(alloc, events, kinds.html)?;
     gathered(alloc, options, events, &preferred, &tildes, &html)
 }

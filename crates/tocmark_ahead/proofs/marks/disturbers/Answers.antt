@@ -13,8 +13,8 @@ use Rattle.tocmark_ahead.proofs.marks.disturbers.Goals as goal
 pub loop-event-init : goal.loop-event-init
 loop-event-init g c =
     record {
-      len = ap length c.new-marks.ensures.items;
-      marks = λ o flags label. ap (λ x. x ++ disturbers (setting_of o flags (g.R.Reader.reading c.args.reader.now) label) c.args.runs [] (map buffered_view c.args.events.now)) c.new-marks.ensures.items;
+      len = ap length c.in_ok-marks.ensures.items;
+      marks = λ o flags label. ap (λ x. x ++ disturbers (setting_of o flags (g.R.Reader.reading c.args.reader.now) label) c.args.runs [] (map buffered_view c.args.events.now)) c.in_ok-marks.ensures.items;
     }
 
 pub loop-event-preserved : goal.loop-event-preserved

@@ -11,7 +11,7 @@ use Rattle.tocmark_ahead.proofs.sides.sides_before.Goals as goal
 pub loop-event-init : goal.loop-event-init
 loop-event-init c =
     record {
-      len = ap length c.new-sides.ensures.items;
+      len = ap length c.in_ok-sides.ensures.items;
       side = c.no_side-side.ensures;
       sides = λ j lt. absurd (omega arith);
     }

@@ -1,0 +1,14 @@
+use Rattle.std.proofs.Common.{◌≡◌, length, map, ℕ, List, [], Option, ◌++◌, false, take, drop, reverse}
+use Rattle.tocmark_event.specs.Options.{OptionsView}
+use Rattle.tocmark_event.specs.declared.event.flags.ParserOptions.{ParserOptions}
+use Rattle.tocmark_ahead.specs.Ahead.{disturbers}
+use Rattle.tocmark_spelling.specs.Buffered.{buffered_view}
+use Rattle.tocmark_spelling.specs.PlanOf.{setting_of}
+use Rattle.tocmark_ahead.proofs.marks.disturbers_beside.Given as goal
+
+abbrev pub invariant-loop-event : goal.invariant-loop-event
+invariant-loop-event g l =
+    record {
+      len : length l.found.items ≡ l.event-index;
+      marks : (o : OptionsView) (flags : ParserOptions) (label : Option (List ℕ)) → l.found.items ++ disturbers (setting_of o flags (g.R.Reader.reading l.reader) label) false (reverse (take l.event-index (map buffered_view l.events))) (drop l.event-index (map buffered_view l.events)) ≡ disturbers (setting_of o flags (g.R.Reader.reading l.reader) label) false [] (map buffered_view l.events);
+    }
