@@ -336,6 +336,29 @@ fn last_of(character: char, text: &str) -> char
     }
 }
 
+/// Replaces what a `String` holds by a stretch of text as `escape_text` gives it, in the room that it has.
+/// An `Err` says that memory ran out.
+pub fn escape_into(to: &mut String, text: &str, place: &EscapePlace<'_>) -> Result<(), AllocError>
+    ensures { OnOk result (string_bytes to.new ≡ escaped (place_of place.now) text.now) }
+{
+    to.clear();
+    to.reserve(text.len())?;
+    let mut before = None;
+    let mut only_digits = true;
+    let mut rest = text.chars();
+    while let Some(character) = rest.next() {
+        let after = rest.as_str();
+        let spot = spot_from(before, only_digits, character, after);
+        push_character(to, place, spot)?;
+        only_digits = is_digits(only_digits, character);
+        let (run, tail) = cut_bare(place, only_digits, after);
+        push_run(to, run)?;
+        before = Some(last_of(character, run));
+        rest = tail.chars();
+    }
+    Ok(())
+}
+
 /// A stretch of text as it is written at its place, so that it is read back as that text.
 ///
 /// Line endings and ampersands become references, and so do a blank at the front and, where the place
@@ -344,19 +367,7 @@ fn last_of(character: char, text: &str) -> char
 pub fn escape_text(alloc: Global, text: &str, place: &EscapePlace<'_>) -> Result<String, AllocError>
     ensures { IfOk result (λ s. string_bytes s ≡ escaped (place_of place.now) text.now) }
 {
-    let mut escaped = String::with_capacity(alloc, text.len())?;
-    let mut before = None;
-    let mut only_digits = true;
-    let mut rest = text.chars();
-    while let Some(character) = rest.next() {
-        let after = rest.as_str();
-        let spot = spot_from(before, only_digits, character, after);
-        push_character(&mut escaped, place, spot)?;
-        only_digits = is_digits(only_digits, character);
-        let (run, tail) = cut_bare(place, only_digits, after);
-        push_run(&mut escaped, run)?;
-        before = Some(last_of(character, run));
-        rest = tail.chars();
-    }
+    let mut escaped = String::new(alloc);
+    escape_into(&mut escaped, text, place)?;
     Ok(escaped)
 }

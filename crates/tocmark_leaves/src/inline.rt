@@ -3,6 +3,7 @@
 
 ghost use Rattle.std.specs.Prelude.{◌≡◌, ◌+◌, string_bytes, chars, length, IfOk, OnOk};
 ghost use Rattle.tocmark_event.specs.View.{event_view};
+ghost use Rattle.tocmark_escape.specs.Escape.{escaped, place_of};
 ghost use Rattle.tocmark_escape.specs.Leaves.{code_span, inline_math, display_math, task_marker, footnote_reference};
 ghost use Rattle.tocmark_spelling.specs.Kinds.{is_table};
 ghost use Rattle.tocmark_spelling.specs.Page.{with_last, written};
@@ -12,6 +13,7 @@ ghost use Rattle.tocmark_renderer.specs.WriterOf.{levels_of, page_of, Stands};
 ghost use Rattle.tocmark_leaves.specs.Led.{code_led, spelled_on, StandsAt};
 
 use std::alloc::{AllocError, Global};
+use tocmark_escape::escape::EscapePlace;
 use tocmark_escape::text_modifications::code_span;
 use tocmark_event::event::OwnedEvent;
 use tocmark_pieces::notes::{display_math, footnote_reference, inline_math, task_marker};
@@ -25,6 +27,23 @@ pub fn write_inline(renderer: &mut Renderer<'_>, text: &str) -> Result<(), Alloc
     ensures mark { renderer.new.at_mark ≡ renderer.old.at_mark }
 {
     renderer.write(text)?;
+    renderer.set_last(Last::Inline);
+    Ok(())
+}
+
+/// Writes inline content as the escape of a text at a place, which stands behind its gap. An `Err` says that memory
+/// ran out.
+pub fn write_escaped_inline(
+    renderer: &mut Renderer<'_>,
+    text: &str,
+    place: &EscapePlace<'_>,
+) -> Result<(), AllocError>
+    ensures stands { OnOk result (Stands renderer.new (levels_of renderer.old)
+        (with_last Inline (written (levels_of renderer.old)
+        (escaped (place_of place.now) text.now) (page_of renderer.old)))) }
+    ensures mark { renderer.new.at_mark ≡ renderer.old.at_mark }
+{
+    renderer.write_escaped(text, place)?;
     renderer.set_last(Last::Inline);
     Ok(())
 }

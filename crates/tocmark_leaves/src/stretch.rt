@@ -16,10 +16,10 @@ ghost use Rattle.tocmark_renderer.specs.JobOf.{options_in, text_in};
 ghost use Rattle.tocmark_renderer.specs.WriterOf.{levels_of, page_of, held_view, longer, begun, held_after, unheld, Stands};
 ghost use Rattle.tocmark_leaves.specs.Led.{held_or_shown, StandsAt};
 
-use crate::inline::{character_count, widen_cell, write_inline};
+use crate::inline::{character_count, widen_cell, write_escaped_inline, write_inline};
 use crate::leaf::Beside;
 use std::alloc::{AllocError, Global};
-use tocmark_escape::escape::{EscapePlace, escape_text};
+use tocmark_escape::escape::EscapePlace;
 use tocmark_event::event::{EventOf, OwnedEvent, TagEnd, TagOf};
 use tocmark_renderer::job::{Job, Manner};
 use tocmark_renderer::parts::Held;
@@ -102,8 +102,7 @@ fn write_stretch(
                 held.after_close,
                 next,
             );
-            let escaped = escape_text(job.alloc, held.text.as_str(), &place)?;
-            write_inline(renderer, escaped.as_str())
+            write_escaped_inline(renderer, held.text.as_str(), &place)
         }
     }
 }

@@ -3,3 +3,4 @@ pub mod Carries
 pub mod Laid
 pub mod Gaps
 pub mod Starts
+pub mod Escapes

@@ -1,12 +1,14 @@
 //! Texts laid on lines. A line's prefix is written with the line's first byte, a line feed too.
 
 ghost use Rattle.std.specs.Prelude.{◌≡◌, [], OnOk};
+ghost use Rattle.tocmark_escape.specs.Escape.{escaped, place_of};
 ghost use Rattle.tocmark_renderer.specs.Changes.{on_sheet, with_more};
 ghost use Rattle.tocmark_renderer.specs.WriterOf.{HasNoFeed, levels_of, page_of, prefix_if, sheet_of, site_of, Stands};
-ghost use Rattle.tocmark_spelling.specs.Page.{filled_to, laid, laid_on, lead, put_byte, written};
+ghost use Rattle.tocmark_spelling.specs.Page.{filled_to, laid, laid_on, lead, prefix_of, put_byte, written};
 
 use crate::renderer::Renderer;
 use std::alloc::AllocError;
+use tocmark_escape::escape::EscapePlace;
 
 impl<'a> Renderer<'a> {
     /// The prefix, if it is asked for, where a line begins.
@@ -83,6 +85,34 @@ impl<'a> Renderer<'a> {
         ensures mark { self.new.at_mark ≡ self.old.at_mark }
     {
         self.lay(text, false)
+    }
+
+    /// A text's escape, which has no line feed, behind the prefix.
+    fn lay_escaped(&mut self, text: &str, place: &EscapePlace<'_>) -> Result<(), AllocError>
+        ensures site { OnOk result (site_of self.new
+            ≡ on_sheet
+            (laid (prefix_of (levels_of self.old)) (escaped (place_of place.now) text.now))
+            (site_of self.old)) }
+        ensures mark { self.new.at_mark ≡ self.old.at_mark }
+    {
+        if text.is_empty() {
+            return Ok(());
+        }
+        self.begin_line()?;
+        self.put_escaped(text, place)?;
+        self.set_newlines(0);
+        Ok(())
+    }
+
+    /// Writes a text's escape inside the open containers. An `Err` says that memory ran out.
+    pub fn write_escaped(&mut self, text: &str, place: &EscapePlace<'_>) -> Result<(), AllocError>
+        ensures written { OnOk result
+            (Stands self.new (levels_of self.old)
+            (written (levels_of self.old) (escaped (place_of place.now) text.now)
+            (page_of self.old))) }
+        ensures mark { self.new.at_mark ≡ self.old.at_mark }
+    {
+        self.lay_escaped(text, place)
     }
 
     /// Writes line feeds until so many stand. Room for all of them is made before the first is written; an `Err` says

@@ -4,6 +4,7 @@ ghost use Rattle.std.specs.Prelude.{◌≡◌, ℕ, ◌==◌, ◌∷◌, [], Som
 ghost use Rattle.std.specs.Str.{IsCharBoundary};
 ghost use Rattle.std.specs.Option.{option_map};
 ghost use Rattle.tocmark_event.specs.View.{tag_view};
+ghost use Rattle.tocmark_escape.specs.Escape.{escaped, place_of};
 ghost use Rattle.tocmark_containers.specs.FrameOf.{content_view, level_of};
 ghost use Rattle.tocmark_containers.specs.Nesting.{entered, head_of, is_counted, renumbered};
 ghost use Rattle.tocmark_containers.specs.Outside.{outside_of};
@@ -25,6 +26,7 @@ use tocmark_containers::containers::Containers;
 use tocmark_containers::content::Content;
 use tocmark_containers::frame::Frame;
 use tocmark_containers::outside::Outside;
+use tocmark_escape::escape::{EscapePlace, escape_into};
 use tocmark_event::event::TagOf;
 use tocmark_marker_runs::marker_runs::MarkerRuns;
 use tocmark_spelling::trail::{Carried, Trail, copied_text};
@@ -63,6 +65,8 @@ pub struct Renderer<'a> {
     old_held: Option<Option<Held>>,
     /// The runs of markers in the text, as far as it was read for them.
     runs: MarkerRuns,
+    /// The last stretch that was escaped, kept for its room.
+    spare: String,
 }
 
 impl<'a> Model for Renderer<'a> {
@@ -96,6 +100,7 @@ impl<'a> Renderer<'a> {
             old_quote_line: None,
             old_held: None,
             runs: MarkerRuns::new(alloc),
+            spare: String::new(alloc),
         }
     }
 
@@ -293,6 +298,17 @@ impl<'a> Renderer<'a> {
         ensures mark { self.new.at_mark ≡ self.old.at_mark }
     {
         self.text.push_str(text)?;
+        Ok(())
+    }
+
+    /// Adds a text's escape to the text. An `Err` says that memory ran out.
+    pub fn put_escaped(&mut self, text: &str, place: &EscapePlace<'_>) -> Result<(), AllocError>
+        ensures site { OnOk result (site_of self.new
+            ≡ on_sheet (with_more (escaped (place_of place.now) text.now)) (site_of self.old)) }
+        ensures mark { self.new.at_mark ≡ self.old.at_mark }
+    {
+        escape_into(&mut self.spare, text, place)?;
+        self.text.push_str(self.spare.as_str())?;
         Ok(())
     }
 
