@@ -117,6 +117,22 @@ fn push_lines(text: &mut String, keys: &[Key<'_>]) -> Result<(), AllocError>
     Ok(())
 }
 
+/// The definitions of references, each once, one a line. A single one has no other to be told from.
+fn push_distinct(
+    text: &mut String,
+    alloc: Global,
+    references: &[Reference],
+) -> Result<(), AllocError>
+    ensures { OnOk result (string_bytes text.new
+        ≡ string_bytes text.old ++ lines_of (distinct (map reference_view references.now))) }
+{
+    if let [only] = references {
+        return push_line(text, true, &key_of(only));
+    }
+    let keys = distinct(alloc, references)?;
+    push_lines(text, keys.as_slice())
+}
+
 /// Line feeds, so that two stand where so many do already.
 fn push_feeds(text: &mut String, feeds: usize) -> Result<(), AllocError>
     ensures { OnOk result (string_bytes text.new
@@ -148,7 +164,6 @@ pub fn definitions_text(
         return Ok(text);
     }
     push_feeds(&mut text, feeds)?;
-    let keys = distinct(alloc, references)?;
-    push_lines(&mut text, keys.as_slice())?;
+    push_distinct(&mut text, alloc, references)?;
     Ok(text)
 }

@@ -21,7 +21,7 @@ ghost use Rattle.tocmark_labels.specs.Units.{label_for, trees_of};
 
 use crate::read_back::{ReadBack, behind_definitions, find};
 use crate::search::choose;
-use crate::trial::{Refused, Trial, write};
+use crate::trial::{Refused, Trial, likely_len, write};
 use std::alloc::{AllocError, Global};
 use std::mem;
 use tocmark_event::event::{Event, EventOf, OwnedEvent, ParserOptions};
@@ -94,7 +94,7 @@ fn lent_label(label: &Option<String>) -> Option<&str>
 fn has_bracket(text: &str) -> bool
     ensures { result ≡ list_any (λ b. b == 91) text.now }
 {
-    text.as_bytes().iter().any(|byte| *byte == b'[')
+    text.as_bytes().contains(&b'[')
 }
 
 /// Adds the labels that a reader finds defined in a unit's definitions. An `Err` says that memory ran
@@ -516,6 +516,27 @@ impl Document {
         Ok(())
     }
 
+    /// Writes the unit of a trial as `write_chosen` does, with room for its text from the start.
+    fn write_with_room<'t, R: Reader>(
+        &mut self,
+        trial: &Trial<'t, '_, R>,
+        renderer: &mut Renderer<'t>,
+    ) -> Result<(), Error>
+        requires ready { IsReady R.reading trial.now }
+        requires front { IsFront (site_of renderer.old) }
+        ensures chosen { let reading = R.reading in
+            WritesChosen reading trial.now self.old renderer.old renderer.new result }
+        ensures noted { let s = (asked_of R.reading trial.now).setting in
+            OnOk result (document_view self.new
+            ≡ noted s (document_view self.old) (page_of renderer.new)) }
+        ensures room { OnOk result (HasRoom self.new (page_of renderer.new)) }
+        ensures stays { OnErr result (document_view self.new ≡ document_view self.old) }
+        ensures flags { document_flags self.new ≡ document_flags self.old }
+    {
+        renderer.reserve_lines(likely_len(trial.unit))?;
+        self.write_chosen(trial, renderer)
+    }
+
     /// Writes the unit of a trial, by one renderer for all candidates. An `Err` is as in `block`.
     fn write_unit<R: Reader>(&mut self, trial: &Trial<'_, '_, R>) -> Result<String, Error>
         requires ready { IsReady R.reading trial.now }
@@ -526,7 +547,7 @@ impl Document {
         ensures flags { document_flags self.new ≡ document_flags self.old }
     {
         let mut renderer = self.begin(trial.alloc);
-        match self.write_chosen(trial, &mut renderer) {
+        match self.write_with_room(trial, &mut renderer) {
             Ok(()) => Ok(self.pass(renderer)),
             Err(error) => {
                 self.take_back(renderer);

@@ -266,13 +266,12 @@ pub fn choose<'t, R: Reader>(
     if !has_standard_markers(trial.options) {
         return write_unread(trial, renderer);
     }
-    let is_accepted = accepts(trial.options, trial.flags);
     let has_delimiters = has_delimiters(trial.unit);
     let has_source = has_source(trial.unit);
     if let Some(known) = search(trial, document, renderer, has_source, has_delimiters)? {
         return Ok(Some(known));
     }
-    if has_delimiters && is_accepted {
+    if has_delimiters && accepts(trial.options, trial.flags) {
         return Err(Error::Unrepresentable);
     }
     write_unread(trial, renderer)

@@ -5,10 +5,11 @@ use Rattle.tocmark_spelling.specs.Page.{Site}
 use Rattle.tocmark_render.specs.Candidates.{preferred_manner}
 use Rattle.tocmark_render.specs.DocumentOf.{document_at}
 use Rattle.tocmark_render.specs.TrialOf.{ComesOrBack, Writes, asked_of, spelled_at}
+use Rattle.tocmark_render.specs.Validates.{validates}
 use Rattle.tocmark_render.proofs.Trials.{choice-unsearched, left-stopped, none-left, left-unrepresentable, stands-again, writes-lost, written-found}
 use Rattle.tocmark_render.proofs.TrialUnits.{preferred-written, trial-delimiters, trial-source}
 use Rattle.tocmark_render.proofs.search.choose.Goals as goal
-use Rattle.tocmark_render.proofs.search.choose.Goals.{else-has_delimiters-via-then-has_delimiters+else-is_accepted, else-has_delimiters-via-else-has_delimiters}
+use Rattle.tocmark_render.proofs.search.choose.Goals.{else-has_delimiters-via-then-has_delimiters+else-accepts, else-has_delimiters-via-else-has_delimiters}
 
 pub returns-then-not-has_standard_markers-clause-chosen : goal.returns-then-not-has_standard_markers-clause-chosen
 returns-then-not-has_standard_markers-clause-chosen g c =
@@ -26,10 +27,11 @@ returns-in_err-known-clause-chosen g c =
     let t = c.args.trial.now in
     let reading = g.R.Reader.reading in
     let q = asked_of reading t in
+    let acc = validates q.setting.options q.setting.flags in
     let old = site_of c.args.renderer.now in
     let d = document_at c.args.document.now old in
     rw (p.1, p.2)
-    (left-stopped q d q.setting.options c.has_source-has_source.result c.has_delimiters-has_delimiters.result c.accepts-is_accepted.result refl (trial-source reading t c.requires.ready c.has_source-has_source.result c.has_source-has_source.ensures) (trial-delimiters reading t c.requires.ready c.has_delimiters-has_delimiters.result c.has_delimiters-has_delimiters.ensures) c.accepts-is_accepted.ensures
+    (left-stopped q d q.setting.options c.has_source-has_source.result c.has_delimiters-has_delimiters.result acc refl (trial-source reading t c.requires.ready c.has_source-has_source.result c.has_source-has_source.ensures) (trial-delimiters reading t c.requires.ready c.has_delimiters-has_delimiters.result c.has_delimiters-has_delimiters.ensures) refl
     old c.search.new.renderer c.in_err-known.field-0.0 c.in_err-known.ensures.tried)
 
 pub returns-in-Some-clause-chosen : goal.returns-in-Some-clause-chosen
@@ -37,37 +39,40 @@ returns-in-Some-clause-chosen g c =
     let t = c.args.trial.now in
     let reading = g.R.Reader.reading in
     let q = asked_of reading t in
+    let acc = validates q.setting.options q.setting.flags in
     let old = site_of c.args.renderer.now in
     let d = document_at c.args.document.now old in
-    written-found q d q.setting.options c.has_source-has_source.result c.has_delimiters-has_delimiters.result c.accepts-is_accepted.result refl (trial-source reading t c.requires.ready c.has_source-has_source.result c.has_source-has_source.ensures) (trial-delimiters reading t c.requires.ready c.has_delimiters-has_delimiters.result c.has_delimiters-has_delimiters.ensures) c.accepts-is_accepted.ensures
+    written-found q d q.setting.options c.has_source-has_source.result c.has_delimiters-has_delimiters.result acc refl (trial-source reading t c.requires.ready c.has_source-has_source.result c.has_source-has_source.ensures) (trial-delimiters reading t c.requires.ready c.has_delimiters-has_delimiters.result c.has_delimiters-has_delimiters.ensures) refl
     old c.search.new.renderer c.in_ok-known.field-0 c.in-Some.known (sym c.has_standard_markers.ensures ∙ c.if-not-has_standard_markers.false) c.in_ok-known.ensures.tried c.in-Some.is
 
-pub returns-then-is_accepted-clause-chosen : goal.returns-then-is_accepted-clause-chosen
-returns-then-is_accepted-clause-chosen g c =
+pub returns-then-accepts-clause-chosen : goal.returns-then-accepts-clause-chosen
+returns-then-accepts-clause-chosen g c =
     let t = c.args.trial.now in
     let reading = g.R.Reader.reading in
     let q = asked_of reading t in
+    let acc = validates q.setting.options q.setting.flags in
     let old = site_of c.args.renderer.now in
     let d = document_at c.args.document.now old in
-    left-unrepresentable q d q.setting.options c.has_source-has_source.result c.has_delimiters-has_delimiters.result c.accepts-is_accepted.result refl (trial-source reading t c.requires.ready c.has_source-has_source.result c.has_source-has_source.ensures) (trial-delimiters reading t c.requires.ready c.has_delimiters-has_delimiters.result c.has_delimiters-has_delimiters.ensures) c.accepts-is_accepted.ensures
-    old c.search.new.renderer c.in_ok-known.field-0 (sym c.has_standard_markers.ensures ∙ c.if-not-has_standard_markers.false) c.in_ok-known.ensures.tried (none-left c.in_ok-known.field-0 c.in_default.not-Some) c.if-has_delimiters.true c.if-is_accepted.true
+    left-unrepresentable q d q.setting.options c.has_source-has_source.result c.has_delimiters-has_delimiters.result acc refl (trial-source reading t c.requires.ready c.has_source-has_source.result c.has_source-has_source.ensures) (trial-delimiters reading t c.requires.ready c.has_delimiters-has_delimiters.result c.has_delimiters-has_delimiters.ensures) refl
+    old c.search.new.renderer c.in_ok-known.field-0 (sym c.has_standard_markers.ensures ∙ c.if-not-has_standard_markers.false) c.in_ok-known.ensures.tried (none-left c.in_ok-known.field-0 c.in_default.not-Some) c.if-has_delimiters.true (sym c.accepts.ensures ∙ c.if-accepts.true)
 
 pub returns-clause-chosen : goal.returns-clause-chosen
 returns-clause-chosen g c =
     let t = c.args.trial.now in
     let reading = g.R.Reader.reading in
     let q = asked_of reading t in
+    let acc = validates q.setting.options q.setting.flags in
     let old = site_of c.args.renderer.now in
     let d = document_at c.args.document.now old in
     let w = c.write_unread-2 in
-    let undelimited : (c.has_delimiters-has_delimiters.result && c.accepts-is_accepted.result) ≡ false = elim c.else-has_delimiters.branch [
-      | else-has_delimiters-via-then-has_delimiters+else-is_accepted w ↦ (λ j. w.if-has_delimiters.true j && w.if-is_accepted.false j)
-      | else-has_delimiters-via-else-has_delimiters w ↦ ap (λ b. b && c.accepts-is_accepted.result) w.if-has_delimiters.false
+    let undelimited : (c.has_delimiters-has_delimiters.result && acc) ≡ false = elim c.else-has_delimiters.branch [
+      | else-has_delimiters-via-then-has_delimiters+else-accepts w ↦ (λ j. w.if-has_delimiters.true j && (sym w.accepts.ensures ∙ w.if-accepts.false) j)
+      | else-has_delimiters-via-else-has_delimiters w ↦ ap (λ b. b && acc) w.if-has_delimiters.false
     ] in
-    let again = stands-again q d q.setting.options c.has_source-has_source.result c.has_delimiters-has_delimiters.result c.accepts-is_accepted.result refl (trial-source reading t c.requires.ready c.has_source-has_source.result c.has_source-has_source.ensures) (trial-delimiters reading t c.requires.ready c.has_delimiters-has_delimiters.result c.has_delimiters-has_delimiters.ensures) c.accepts-is_accepted.ensures
+    let again = stands-again q d q.setting.options c.has_source-has_source.result c.has_delimiters-has_delimiters.result acc refl (trial-source reading t c.requires.ready c.has_source-has_source.result c.has_source-has_source.ensures) (trial-delimiters reading t c.requires.ready c.has_delimiters-has_delimiters.result c.has_delimiters-has_delimiters.ensures) refl
     old c.search.new.renderer c.in_ok-known.field-0 (sym c.has_standard_markers.ensures ∙ c.if-not-has_standard_markers.false) c.in_ok-known.ensures.tried (none-left c.in_ok-known.field-0 c.in_default.not-Some) in
     let P : Site → Type 0 = λ x. ComesOrBack w.result x w.new.renderer (spelled_at q x (preferred_manner q.setting.options)) in
-    writes-lost q d q.setting.options c.has_source-has_source.result c.has_delimiters-has_delimiters.result c.accepts-is_accepted.result refl (trial-source reading t c.requires.ready c.has_source-has_source.result c.has_source-has_source.ensures) (trial-delimiters reading t c.requires.ready c.has_delimiters-has_delimiters.result c.has_delimiters-has_delimiters.ensures) c.accepts-is_accepted.ensures
+    writes-lost q d q.setting.options c.has_source-has_source.result c.has_delimiters-has_delimiters.result acc refl (trial-source reading t c.requires.ready c.has_source-has_source.result c.has_source-has_source.ensures) (trial-delimiters reading t c.requires.ready c.has_delimiters-has_delimiters.result c.has_delimiters-has_delimiters.ensures) refl
     old c.search.new.renderer c.in_ok-known.field-0 (sym c.has_standard_markers.ensures ∙ c.if-not-has_standard_markers.false) c.in_ok-known.ensures.tried (none-left c.in_ok-known.field-0 c.in_default.not-Some)
     w.new.renderer w.result undelimited
     (preferred-written q d old w.new.renderer w.result c.requires.front (subst P again w.ensures.written))

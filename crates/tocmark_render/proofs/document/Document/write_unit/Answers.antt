@@ -13,7 +13,7 @@ returns-in-Ok-clause-chosen g c =
     let begun = c.begin-renderer in
     let here = site_of begun.result in
     let d = document_at begun.new.self here in
-    let p = page_of c.write_chosen.new.renderer in
+    let p = page_of c.write_with_room.new.renderer in
     let left = sym (passed-noted s (document_view begun.new.self) here p) ∙ ap (λ x. passed x p) (sym c.in-Ok.ensures.noted) ∙ sym c.pass.ensures.view in
     ap (λ x. choice s x q.unit q.next) (sym begun.ensures.view)
     ∙ c.in-Ok.ensures.chosen.written
