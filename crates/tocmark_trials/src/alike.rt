@@ -1,11 +1,14 @@
-//! Whether a renderer has written what another one left.
+//! Whether two renderers stand alike.
 
 ghost use Rattle.std.specs.Prelude.{◌≡◌};
 
 use std::alloc::AllocError;
-use tocmark_renderer::parts::{Parts, Reference};
+use tocmark_renderer::parts::{Held, Reference};
 use tocmark_renderer::renderer::Renderer;
 use tocmark_spelling::trail::Carried;
+
+/// Round how many places runs of markers are compared.
+const PLACES: usize = 32;
 
 fn is_same_reference(left: &Reference, right: &Reference) -> bool {
     left.label == right.label && left.destination == right.destination && left.title == right.title
@@ -31,29 +34,95 @@ fn is_same_carried(left: Carried, right: Carried) -> bool {
         && left.open_html == right.open_html
 }
 
-/// What a renderer has written otherwise than another one that left these parts, if anything. It has no
-/// quote line behind that.
-pub fn difference(
-    renderer: &mut Renderer<'_>,
-    parts: &Parts,
-) -> Result<Option<&'static str>, AllocError>
-    ensures mark { renderer.new.at_mark ≡ renderer.old.at_mark }
+fn is_same_held(left: &Option<Held>, right: &Option<Held>) -> bool {
+    match (left, right) {
+        (Some(left), Some(right)) => {
+            left.text == right.text
+                && left.source == right.source
+                && left.after_close == right.after_close
+        }
+        (None, None) => true,
+        _ => false,
+    }
+}
+
+/// Whether the open containers are as many, and put the same before each line.
+fn are_same_containers(left: &Renderer<'_>, right: &Renderer<'_>) -> bool {
+    left.depth() == right.depth() && left.prefix() == right.prefix()
+}
+
+/// Whether the runs of a marker round a place of the text are as long.
+fn is_same_run(
+    left: &mut Renderer<'_>,
+    right: &mut Renderer<'_>,
+    place: usize,
+    marker: u8,
+) -> Result<bool, AllocError>
+    ensures mark { left.new.at_mark ≡ left.old.at_mark }
 {
-    if renderer.text() != parts.text.as_str() {
+    let run = left.run_around(place, marker)?;
+    Ok(run == right.run_around(place, marker)?)
+}
+
+/// Whether the last runs of markers are as long, and those round the places from one on.
+fn are_same_runs(
+    left: &mut Renderer<'_>,
+    right: &mut Renderer<'_>,
+    start: usize,
+) -> Result<bool, AllocError>
+    ensures mark { left.new.at_mark ≡ left.old.at_mark }
+{
+    for place in start..start.saturating_add(PLACES) {
+        if !is_same_run(left, right, place, b'*')? || !is_same_run(left, right, place, b'_')? {
+            return Ok(false);
+        }
+    }
+    let last = left.last_run()?;
+    Ok(last == right.last_run()?)
+}
+
+/// What stands in one renderer otherwise than in another one, if anything. Runs of markers are compared
+/// round the places from `start` on.
+pub fn difference(
+    left: &mut Renderer<'_>,
+    right: &mut Renderer<'_>,
+    start: usize,
+) -> Result<Option<&'static str>, AllocError>
+    ensures mark { left.new.at_mark ≡ left.old.at_mark }
+{
+    if left.text() != right.text() {
         return Ok(Some("the text"));
     }
-    if renderer.newlines() != parts.newlines {
+    if left.newlines() != right.newlines() {
         return Ok(Some("the line feeds"));
     }
-    if !are_same_references(renderer.references(), &parts.references) {
+    if !are_same_references(left.references(), right.references()) {
         return Ok(Some("the definitions"));
     }
-    if !is_same_carried(renderer.carried(), parts.trail.carried) {
+    if !is_same_carried(left.carried(), right.carried()) {
         return Ok(Some("what is carried along"));
     }
-    let line = renderer.take_quote_line()?;
-    if line != parts.trail.quote_line {
+    if !are_same_containers(left, right) {
+        return Ok(Some("the open containers"));
+    }
+    if !are_same_runs(left, right, start)? {
+        return Ok(Some("the runs of markers"));
+    }
+    Ok(None)
+}
+
+/// What a renderer would take next otherwise than another one, if anything. Both take it.
+pub fn difference_in_taken(
+    left: &mut Renderer<'_>,
+    right: &mut Renderer<'_>,
+) -> Result<Option<&'static str>, AllocError>
+    ensures mark { left.new.at_mark ≡ left.old.at_mark }
+{
+    if left.take_quote_line()? != right.take_quote_line()? {
         return Ok(Some("the quote line"));
+    }
+    if !is_same_held(&left.take_held()?, &right.take_held()?) {
+        return Ok(Some("the stretch of texts"));
     }
     Ok(None)
 }

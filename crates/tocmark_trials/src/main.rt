@@ -1,15 +1,21 @@
-//! Each row is written in each manner by one renderer that goes back, and by one of its own.
+//! Each row is written in each manner by one renderer that goes back, and by renderers of their own.
 //!
-//! Standard input has rows, which are the scripts of `tocmark_script` and `tocmark_script_delimiters`, one
-//! behind the other. Each one's events are cut into units. For a unit there is
+//! Standard input has rows, which are the scripts of `tocmark_script`, `tocmark_script_delimiters` and
+//! `tocmark_script_faults`, one behind the other. Each one's events are cut into units. For a unit there is
 //! one renderer, which writes it in each manner in which units are tried, in order, and in the first one
-//! again, each time behind a mark, and goes back. What it has written is compared with what a renderer of
-//! its own writes in that manner alone: the text, the line feeds at its end, the definitions that it needs
-//! and what is left to the next unit. A line is written for each writing that differs, and a last one with
-//! what was counted.
+//! again, each time behind a mark, and goes back. The mark stands before the unit, and then, for another
+//! renderer, behind its first event: there the container that this event opens is open, and some text, a
+//! definition, a quote line and a stretch of texts are there to come back to.
+//!
+//! Before and behind each writing that renderer is compared with one of its own that wrote the same and has
+//! never gone back: the text, the line feeds at its end, the definitions that it needs, what is carried
+//! along, the open containers and the runs of markers, and behind it also the quote line and the stretch.
+//! A line is written for each comparison in which something differs, and at the end what was counted. A row
+//! that memory can't hold is passed over, and counted.
 #![tactic(auto)]
 
 mod alike;
+mod midst;
 mod report;
 mod rows;
 mod trials;
@@ -21,7 +27,7 @@ use std::alloc::Global;
 use std::io::{self, Read, Write};
 use std::process::ExitCode;
 
-/// Tries all rows, and writes the report. False where a row can't be read or memory ran out.
+/// Tries all rows, and writes the report. False where a row can't be read.
 fn run<R: Read, W: Write>(alloc: Global, input: &mut R, output: &mut W) -> io::Result<bool> {
     let mut text = String::new(alloc);
     input.read_to_string(&mut text)?;

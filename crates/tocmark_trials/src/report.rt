@@ -1,12 +1,26 @@
 //! What is counted, and what differs.
 
+use crate::unit::Outcome;
 use std::alloc::{AllocError, Global};
 use std::io::{self, Write};
 
-/// What is counted, and a line for each writing that differs.
+/// Which trial of a unit it is.
+#[derive(Clone, Copy)]
+pub struct Place {
+    /// How many of the unit's events stand before the mark.
+    pub first: usize,
+    /// The number of the manner, counted from 1.
+    pub manner: usize,
+}
+
+/// What is counted, and a line for each writing before or behind which something differs.
 #[derive(Drop)]
 pub struct Report {
     rows: usize,
+    /// The rows without a unit.
+    empty: usize,
+    /// The rows whose events memory can't hold.
+    lost: usize,
     units: usize,
     /// The units of the row whose units are tried.
     units_of_row: usize,
@@ -14,7 +28,9 @@ pub struct Report {
     writings: usize,
     /// How many of these were refused, where a node stands where it may not.
     refused: usize,
-    /// How many of these weren't.
+    /// How many of these texts memory can't hold.
+    too_long: usize,
+    /// How many of these gave a text.
     texts: usize,
     different: usize,
     lines: String,
@@ -25,10 +41,13 @@ impl Report {
     pub fn new(alloc: Global) -> Report {
         Report {
             rows: 0,
+            empty: 0,
+            lost: 0,
             units: 0,
             units_of_row: 0,
             writings: 0,
             refused: 0,
+            too_long: 0,
             texts: 0,
             different: 0,
             lines: String::new(alloc),
@@ -41,40 +60,64 @@ impl Report {
         self.units_of_row = 0;
     }
 
+    /// A row ends, of which memory could hold all events, or not.
+    pub fn end_row(&mut self, is_held: bool) {
+        if !is_held {
+            self.lost = self.lost.saturating_add(1);
+        } else if self.units_of_row == 0 {
+            self.empty = self.empty.saturating_add(1);
+        }
+    }
+
     /// A unit begins.
     pub fn begin_unit(&mut self) {
         self.units = self.units.saturating_add(1);
         self.units_of_row = self.units_of_row.saturating_add(1);
     }
 
-    /// The unit was written in a manner, or refused.
-    pub fn note(&mut self, is_written: bool) {
+    /// The unit was written in a manner, and this was the outcome.
+    pub fn note(&mut self, outcome: Outcome) {
         self.writings = self.writings.saturating_add(1);
-        if is_written {
-            self.texts = self.texts.saturating_add(1);
-        } else {
-            self.refused = self.refused.saturating_add(1);
+        match outcome {
+            Outcome::Written => self.texts = self.texts.saturating_add(1),
+            Outcome::Refused => self.refused = self.refused.saturating_add(1),
+            Outcome::OutOfMemory => self.too_long = self.too_long.saturating_add(1),
         }
     }
 
-    /// The unit was written otherwise in the manner with this number, counted from 1.
-    pub fn note_difference(&mut self, manner: usize, what: &str) -> Result<(), AllocError> {
+    /// What differs in a trial, if anything, before or behind its writing.
+    pub fn note_difference(
+        &mut self,
+        place: Place,
+        side: &str,
+        different: Option<&'static str>,
+    ) -> Result<(), AllocError> {
+        let Some(what) = different else {
+            return Ok(());
+        };
         self.different = self.different.saturating_add(1);
         let (row, unit) = (self.rows, self.units_of_row);
+        let Place { first, manner } = place;
         writeln!(
             self.lines,
-            "row {row}, unit {unit}, manner {manner}: different in {what}"
+            "row {row}, unit {unit}, mark at {first}, manner {manner}: different {side} in {what}"
         )
     }
 
     /// Writes the lines, and what was counted.
     pub fn write<W: Write>(&self, output: &mut W) -> io::Result<()> {
-        let (rows, units, writings) = (self.rows, self.units, self.writings);
-        let (refused, texts, different) = (self.refused, self.texts, self.different);
+        let (rows, empty, lost) = (self.rows, self.empty, self.lost);
+        let (units, writings, different) = (self.units, self.writings, self.different);
+        let (refused, too_long, texts) = (self.refused, self.too_long, self.texts);
         output.write_all(self.lines.as_bytes())?;
         writeln!(
             output,
-            "{rows} rows with {units} units, {writings} writings: {refused} refused, {texts} texts, {different} differ"
-        )
+            "{rows} rows: {empty} without a unit, {lost} that memory can't hold"
+        )?;
+        writeln!(
+            output,
+            "{units} units, {writings} writings: {refused} refused, {too_long} that memory can't hold, {texts} texts"
+        )?;
+        writeln!(output, "{different} differ")
     }
 }

@@ -5,7 +5,7 @@ use crate::trials::{Front, try_all};
 use crate::unit::Unit;
 use std::alloc::{AllocError, Global};
 use std::mem;
-use tocmark_event::event::{Event, OwnedEvent, ParserOptions};
+use tocmark_event::event::{Event, ParserOptions};
 use tocmark_event::options::{Error, Options};
 use tocmark_labels::pending::Pending;
 use tocmark_script_lines::gathering::Gathering;
@@ -22,101 +22,102 @@ fn spelling<'s>(source: &'s Option<String>, range: Option<(usize, usize)>) -> Op
     }
 }
 
-/// Tries a unit, and goes on to the front of the next one.
-fn try_unit<'u>(
-    alloc: Global,
-    options: &'u Options<'_>,
-    flags: ParserOptions,
-    events: &'u [BufferedEvent],
-    next: Option<&'u OwnedEvent>,
-    front: &mut Front,
-    report: &mut Report,
-) -> Result<(), AllocError> {
-    let unit = Unit {
-        alloc,
-        options,
-        flags,
-        events,
-        next,
-    };
-    try_all(&unit, front, report)
-}
-
-/// What is made of a row's events.
+/// The events of a row, up to an End that isn't the innermost open container's.
 #[derive(Drop)]
 struct Row<'r> {
     alloc: Global,
     options: Options<'r>,
     flags: ParserOptions,
-    /// The events since the last unit.
-    pending: Pending,
-    front: Front,
+    events: Pending,
+    /// Behind how many events the units end, in order.
+    ends: Vec<usize>,
 }
 
 impl Row<'_> {
-    /// Whether what is pending is a unit.
-    fn is_due(&self) -> bool {
-        self.pending.is_whole() && !self.pending.is_empty()
-    }
-
-    /// Tries what is pending as one unit.
-    fn flush(&mut self, next: Option<&OwnedEvent>, report: &mut Report) -> Result<(), AllocError> {
-        try_unit(
-            self.alloc,
-            &self.options,
-            self.flags,
-            self.pending.events(),
-            next,
-            &mut self.front,
-            report,
-        )?;
-        self.pending.clear();
-        Ok(())
-    }
-
-    fn flush_before(&mut self, event: &Event<'_>, report: &mut Report) -> Result<(), AllocError> {
-        if !self.is_due() {
-            return Ok(());
+    /// Notes that a unit ends here, if no container is open.
+    fn note_end(&mut self) -> Result<bool, AllocError> {
+        if self.events.is_whole() {
+            self.ends.push(self.events.events().len())?;
         }
-        let next = event.copied(self.alloc)?;
-        self.flush(Some(&next), report)
-    }
-
-    fn flush_last(&mut self, report: &mut Report) -> Result<(), AllocError> {
-        if self.is_due() {
-            self.flush(None, report)
-        } else {
-            Ok(())
-        }
+        Ok(true)
     }
 
     /// Takes the next event. False for an End that isn't the innermost open container's.
     fn take(&mut self, event: &Event<'_>, source: Option<&str>) -> Result<bool, AllocError> {
-        match self.pending.join(self.alloc, event, source) {
-            Ok(()) => Ok(true),
+        match self.events.join(self.alloc, event, source) {
+            Ok(()) => self.note_end(),
             Err(Error::OutOfMemory) => Err(AllocError),
             Err(_error) => Ok(false),
         }
     }
+
+    fn take_all(&mut self, script: &Script<'_>) -> Result<(), AllocError> {
+        for (event, range) in &script.events {
+            if !self.take(event, spelling(&script.source, *range))? {
+                return Ok(());
+            }
+        }
+        Ok(())
+    }
+
+    /// Tries its units.
+    fn try_units(&self, report: &mut Report) -> Result<(), AllocError> {
+        let row = row_of(self.alloc, &self.options, self.flags, self.events.events());
+        let mut front = Front::new();
+        try_units(&row, &self.ends, &mut front, report)
+    }
+
+    /// Takes the events of a script, and tries its units.
+    fn run(&mut self, script: &Script<'_>, report: &mut Report) -> Result<(), AllocError> {
+        self.take_all(script)?;
+        self.try_units(report)
+    }
 }
 
-/// Tries the units of a row, up to an End that isn't the innermost open container's.
-fn try_row(alloc: Global, script: &Script<'_>, report: &mut Report) -> Result<(), AllocError> {
+/// The events of a row, as one unit.
+fn row_of<'u, 'o>(
+    alloc: Global,
+    options: &'u Options<'o>,
+    flags: ParserOptions,
+    events: &'u [BufferedEvent],
+) -> Unit<'u, 'o> {
+    Unit {
+        alloc,
+        options,
+        flags,
+        events,
+        next: None,
+    }
+}
+
+/// Tries the units of a row, which end behind so many events.
+fn try_units(
+    row: &Unit<'_, '_>,
+    ends: &[usize],
+    front: &mut Front,
+    report: &mut Report,
+) -> Result<(), AllocError> {
+    let mut start = 0usize;
+    for end in ends {
+        try_all(&row.front(*end).rest(start), front, report)?;
+        start = *end;
+    }
+    Ok(())
+}
+
+/// Tries the units of a script.
+fn try_script(alloc: Global, script: &Script<'_>, report: &mut Report) -> Result<(), LineFault> {
     let mut row = Row {
         alloc,
         options: script.options(),
         flags: script.flags,
-        pending: Pending::new(alloc),
-        front: Front::new(),
+        events: Pending::new(alloc),
+        ends: Vec::new(alloc),
     };
-    report.begin_row();
-    for (event, range) in &script.events {
-        row.flush_before(event, report)?;
-        if !row.take(event, spelling(&script.source, *range))? {
-            return Ok(());
-        }
+    match row.run(script, report) {
+        Ok(()) => Ok(()),
+        Err(error) => Err(LineFault::from(error)),
     }
-    row.flush_last(report)
 }
 
 /// Takes a line of a row.
@@ -133,25 +134,79 @@ fn take_line(
     }
 }
 
-/// Takes the end of a row.
+/// Takes the end of a row, and tries its units.
 fn end_row(alloc: Global, row: Gathering<'static>, report: &mut Report) -> Result<(), LineFault> {
     match row.end() {
-        Ok(script) => Ok(try_row(alloc, &script, report)?),
+        Ok(script) => try_script(alloc, &script, report),
         Err(fault) => Err(fault),
     }
 }
 
-/// Tries the rows of a text, each of which ends with a line `%`. An `Err` says what is wrong with a line,
-/// or that memory ran out.
-pub fn try_rows(alloc: Global, text: &str, report: &mut Report) -> Result<(), LineFault> {
-    let mut row = Gathering::new(alloc);
-    for (number, line) in text.split('\n').enumerate() {
-        if line == "%" {
-            let whole = mem::replace(&mut row, Gathering::new(alloc));
-            end_row(alloc, whole, report)?;
-        } else {
-            take_line(alloc, &mut row, number, line)?;
-        }
+/// Whether memory could hold what was taken. An `Err` says what else is wrong with a line.
+fn fits(taken: Result<(), LineFault>) -> Result<bool, LineFault> {
+    match taken {
+        Ok(()) => Ok(true),
+        Err(LineFault::OutOfMemory) => Ok(false),
+        Err(fault) => Err(fault),
     }
-    Ok(())
+}
+
+/// Rows of which one is being read.
+#[derive(Drop)]
+struct Rows {
+    alloc: Global,
+    row: Gathering<'static>,
+    /// Whether memory could hold what was read of it.
+    fits: bool,
+}
+
+impl Rows {
+    /// Takes a line, which is passed over in a row that memory can't hold.
+    fn take(&mut self, number: usize, line: &str) -> Result<(), LineFault> {
+        if self.fits {
+            self.fits = fits(take_line(self.alloc, &mut self.row, number, line))?;
+        }
+        Ok(())
+    }
+
+    /// Tries the row that was read; the next one begins.
+    fn run(&mut self, report: &mut Report) -> Result<(), LineFault> {
+        let row = mem::replace(&mut self.row, Gathering::new(self.alloc));
+        end_row(self.alloc, row, report)
+    }
+
+    /// Takes the end of a row.
+    fn end(&mut self, report: &mut Report) -> Result<(), LineFault> {
+        report.begin_row();
+        if self.fits {
+            self.fits = fits(self.run(report))?;
+        } else {
+            self.row = Gathering::new(self.alloc);
+        }
+        report.end_row(self.fits);
+        self.fits = true;
+        Ok(())
+    }
+
+    fn take_all(&mut self, text: &str, report: &mut Report) -> Result<(), LineFault> {
+        for (number, line) in text.split('\n').enumerate() {
+            if line == "%" {
+                self.end(report)?;
+            } else {
+                self.take(number, line)?;
+            }
+        }
+        Ok(())
+    }
+}
+
+/// Tries the rows of a text, each of which ends with a line `%`. One that memory can't hold is passed over.
+/// An `Err` says what is wrong with a line.
+pub fn try_rows(alloc: Global, text: &str, report: &mut Report) -> Result<(), LineFault> {
+    let mut rows = Rows {
+        alloc,
+        row: Gathering::new(alloc),
+        fits: true,
+    };
+    rows.take_all(text, report)
 }

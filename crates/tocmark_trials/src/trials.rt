@@ -1,9 +1,13 @@
 //! The trials of a unit.
 
-use crate::alike::difference;
-use crate::report::Report;
-use crate::unit::{Unit, write};
+ghost use Rattle.std.specs.Prelude.{◌≡◌};
+
+use crate::alike::{difference, difference_in_taken};
+use crate::midst::enter;
+use crate::report::{Place, Report};
+use crate::unit::{Outcome, Unit, write};
 use std::alloc::{AllocError, Global};
+use tocmark_event::event::OwnedEvent;
 use tocmark_event::options::Options;
 use tocmark_render::candidates;
 use tocmark_renderer::job::Manner;
@@ -34,54 +38,118 @@ impl Front {
         let trail = self.trail.copied(alloc)?;
         Ok(Renderer::resume(alloc, self.newlines, trail))
     }
+
+    /// Goes on to where a unit ended.
+    fn pass(&mut self, left: Parts) {
+        self.newlines = left.newlines;
+        self.trail = left.trail;
+    }
 }
 
-/// Writes the unit in one manner by a renderer of its own. Says whether it is written, and what that left.
-fn written_alone(
-    unit: &Unit<'_, '_>,
-    front: &Front,
-    manner: &Manner<'_>,
-) -> Result<(bool, Parts), AllocError> {
-    let mut renderer = front.renderer(unit.alloc)?;
-    let is_written = write(unit, &mut renderer, manner)?;
-    Ok((is_written, renderer.into_parts()))
+/// What stays the same while a unit is tried.
+#[derive(Clone, Copy)]
+struct Trial<'t, 'u, 'o> {
+    unit: &'t Unit<'u, 'o>,
+    front: &'t Front,
+    /// Its first event, if the mark stands behind it.
+    entered: Option<&'u OwnedEvent>,
 }
 
-/// Writes the unit in one manner behind a mark, and goes back. Says whether it is written, and what of that
-/// another renderer left otherwise.
-fn tried<'u>(
-    unit: &Unit<'u, '_>,
+/// A renderer that stands where the mark is set.
+fn begun<'u>(trial: Trial<'_, 'u, '_>) -> Result<Renderer<'u>, AllocError> {
+    let mut renderer = trial.front.renderer(trial.unit.alloc)?;
+    if let Some(event) = trial.entered {
+        enter(&mut renderer, trial.unit.alloc, event)?;
+    }
+    Ok(renderer)
+}
+
+/// What differs between two renderers, of which both wrote the same, if anything.
+fn difference_after(
+    renderer: &mut Renderer<'_>,
+    alone: &mut Renderer<'_>,
+    is_alike: bool,
+    start: usize,
+) -> Result<Option<&'static str>, AllocError>
+    ensures mark { renderer.new.at_mark ≡ renderer.old.at_mark }
+{
+    if !is_alike {
+        return Ok(Some("whether it is written"));
+    }
+    match difference(renderer, alone, start)? {
+        Some(what) => Ok(Some(what)),
+        None => difference_in_taken(renderer, alone),
+    }
+}
+
+/// Writes events in one manner behind a mark, and goes back; `alone` writes them, too. Both stand where the
+/// mark is set.
+fn try_beside<'u>(
+    rest: &Unit<'u, '_>,
     renderer: &mut Renderer<'u>,
+    alone: &mut Renderer<'u>,
+    place: Place,
     manner: &Manner<'_>,
-    left: &Parts,
-) -> Result<(bool, Option<&'static str>), AllocError> {
+    report: &mut Report,
+) -> Result<(), AllocError> {
+    let start = alone.text().len();
+    let before = difference(renderer, alone, start)?;
+    report.note_difference(place, "before it", before)?;
     renderer.mark();
-    let is_written = write(unit, renderer, manner)?;
-    let different = difference(renderer, left)?;
+    let outcome = write(rest, renderer, manner);
+    let is_alike = write(rest, alone, manner) == outcome;
+    let behind = difference_after(renderer, alone, is_alike, start)?;
     renderer.back();
-    Ok((is_written, different))
+    report.note(outcome);
+    report.note_difference(place, "behind it", behind)
 }
 
-/// Writes the unit in the manner with this number, counted from 1, by a renderer that goes back and by one
-/// of its own.
+/// Tries the events behind the mark in one manner, beside a renderer of its own.
 fn try_one<'u>(
-    unit: &Unit<'u, '_>,
-    front: &Front,
+    trial: Trial<'_, 'u, '_>,
     renderer: &mut Renderer<'u>,
     number: usize,
     manner: &Manner<'_>,
     report: &mut Report,
 ) -> Result<(), AllocError> {
-    let (is_alone, left) = written_alone(unit, front, manner)?;
-    let (is_written, different) = tried(unit, renderer, manner, &left)?;
-    report.note(is_written);
-    if is_written != is_alone {
-        return report.note_difference(number, "whether it is refused");
+    let mut alone = begun(trial)?;
+    let first = usize::from(trial.entered.is_some());
+    let rest = trial.unit.rest(first);
+    let place = Place {
+        first,
+        manner: number,
+    };
+    try_beside(&rest, renderer, &mut alone, place, manner, report)
+}
+
+/// Tries the events behind the mark in each of these manners, by one renderer.
+fn try_each<'u>(
+    trial: Trial<'_, 'u, '_>,
+    renderer: &mut Renderer<'u>,
+    manners: &[Manner<'_>],
+    report: &mut Report,
+) -> Result<(), AllocError> {
+    for (place, manner) in manners.iter().enumerate() {
+        try_one(trial, renderer, place + 1, manner, report)?;
     }
-    match different {
-        Some(what) => report.note_difference(number, what),
-        None => Ok(()),
-    }
+    Ok(())
+}
+
+/// Tries the unit in each of these manners, with the mark before it or behind this first event.
+fn try_behind<'u>(
+    unit: &Unit<'u, '_>,
+    front: &Front,
+    entered: Option<&'u OwnedEvent>,
+    manners: &[Manner<'_>],
+    report: &mut Report,
+) -> Result<(), AllocError> {
+    let trial = Trial {
+        unit,
+        front,
+        entered,
+    };
+    let mut renderer = begun(trial)?;
+    try_each(trial, &mut renderer, manners, report)
 }
 
 /// The manners in which units are tried, and the first one again.
@@ -94,26 +162,26 @@ fn manners<'a>(alloc: Global, options: &Options<'a>) -> Result<Vec<Manner<'a>>, 
     Ok(manners)
 }
 
-/// Goes on to the front of the next unit, if this one is written in the manner.
-fn pass(unit: &Unit<'_, '_>, front: &mut Front, manner: &Manner<'_>) -> Result<(), AllocError> {
-    let (is_written, left) = written_alone(unit, front, manner)?;
-    if is_written {
-        front.newlines = left.newlines;
-        front.trail = left.trail;
-    }
-    Ok(())
-}
-
-/// Tries the unit in each of these manners, by one renderer.
-fn try_each<'u>(
-    unit: &Unit<'u, '_>,
+/// Tries the unit in these manners, with the mark before it, and behind its first event if it has more.
+fn try_in(
+    unit: &Unit<'_, '_>,
     front: &Front,
-    renderer: &mut Renderer<'u>,
     manners: &[Manner<'_>],
     report: &mut Report,
 ) -> Result<(), AllocError> {
-    for (place, manner) in manners.iter().enumerate() {
-        try_one(unit, front, renderer, place + 1, manner, report)?;
+    report.begin_unit();
+    try_behind(unit, front, None, manners, report)?;
+    match unit.events {
+        [first, _, ..] => try_behind(unit, front, Some(&first.event), manners, report),
+        _ => Ok(()),
+    }
+}
+
+/// Goes on to the front of the next unit, if this one is written in the manner.
+fn pass(unit: &Unit<'_, '_>, front: &mut Front, manner: &Manner<'_>) -> Result<(), AllocError> {
+    let mut renderer = front.renderer(unit.alloc)?;
+    if write(unit, &mut renderer, manner) == Outcome::Written {
+        front.pass(renderer.into_parts());
     }
     Ok(())
 }
@@ -125,9 +193,7 @@ pub fn try_all(
     report: &mut Report,
 ) -> Result<(), AllocError> {
     let manners = manners(unit.alloc, unit.options)?;
-    let mut renderer = front.renderer(unit.alloc)?;
-    report.begin_unit();
-    try_each(unit, front, &mut renderer, &manners, report)?;
+    try_in(unit, front, &manners, report)?;
     match manners.first() {
         Some(first) => pass(unit, front, first),
         None => Ok(()),

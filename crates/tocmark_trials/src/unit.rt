@@ -1,9 +1,9 @@
-//! A unit of a row, and how it is written in one manner.
+//! A unit of a row or a part of one, and how it is written in one manner.
 
 ghost use Rattle.std.specs.Prelude.{◌≡◌, true};
 ghost use Rattle.tocmark_emphasis.specs.Low.{AsksLow};
 
-use std::alloc::{AllocError, Global};
+use std::alloc::Global;
 use tocmark_core_reader::CoreReader;
 use tocmark_event::event::{OwnedEvent, ParserOptions};
 use tocmark_event::options::{Error, Options};
@@ -17,7 +17,7 @@ use tocmark_unit::findings::findings_of;
 /// The label that is reserved for lists.
 const LABEL: &str = "cmark-loose-0";
 
-/// A unit of a row, and what it is written with.
+/// A unit of a row or a part of one, and what it is written with.
 #[derive(Clone, Copy)]
 pub struct Unit<'u, 'o> {
     pub alloc: Global,
@@ -26,6 +26,36 @@ pub struct Unit<'u, 'o> {
     pub events: &'u [BufferedEvent],
     /// The event after it, if there is one.
     pub next: Option<&'u OwnedEvent>,
+}
+
+impl<'u, 'o> Unit<'u, 'o> {
+    /// So many events at its front, or all where it hasn't so many.
+    pub fn front(&self, count: usize) -> Unit<'u, 'o> {
+        match self.events.get(count) {
+            Some(next) => Unit {
+                events: &self.events[..count],
+                next: Some(&next.event),
+                ..*self
+            },
+            None => *self,
+        }
+    }
+
+    /// The events behind these.
+    pub fn rest(&self, count: usize) -> Unit<'u, 'o> {
+        let events = self.events.get(count..).unwrap_or(&[]);
+        Unit { events, ..*self }
+    }
+}
+
+/// How a writing ended.
+#[derive(Clone, Copy, PartialEq, Eq)]
+pub enum Outcome {
+    Written,
+    /// A node stands where it may not, or the manner asks for a marker past ASCII.
+    Refused,
+    /// Memory can't hold the text.
+    OutOfMemory,
 }
 
 /// Whether the markers that are asked for are ASCII, the strong one in its first byte.
@@ -39,13 +69,11 @@ fn asks_low(delimiters: Delimiters<'_>) -> bool
     delimiters.emphasis.is_ascii() && is_strong_low
 }
 
-/// Whether a unit is written, or refused where a node stands where it may not. An `Err` says that memory ran
-/// out.
-fn is_written(written: Result<(), Error>) -> Result<bool, AllocError> {
+fn outcome_of(written: Result<(), Error>) -> Outcome {
     match written {
-        Ok(()) => Ok(true),
-        Err(Error::UnexpectedEvent) => Ok(false),
-        Err(_error) => Err(AllocError),
+        Ok(()) => Outcome::Written,
+        Err(Error::UnexpectedEvent) => Outcome::Refused,
+        Err(_error) => Outcome::OutOfMemory,
     }
 }
 
@@ -54,7 +82,7 @@ fn write_low<'u>(
     unit: &Unit<'u, '_>,
     renderer: &mut Renderer<'u>,
     manner: &Manner<'_>,
-) -> Result<bool, AllocError>
+) -> Result<(), Error>
     requires low { AsksLow manner.now.delimiters }
     ensures mark { renderer.new.at_mark ≡ renderer.old.at_mark }
 {
@@ -67,21 +95,16 @@ fn write_low<'u>(
         flags,
         label: Some(LABEL),
     };
-    is_written(write_unit(renderer, job, &CoreReader, events, &found, next, *manner))
+    write_unit(renderer, job, &CoreReader, events, &found, next, *manner)
 }
 
-/// Writes the unit in one manner. False where it is refused, since a node stands where it may not, or
-/// since the manner asks for a marker past ASCII. An `Err` says that memory ran out.
-pub fn write<'u>(
-    unit: &Unit<'u, '_>,
-    renderer: &mut Renderer<'u>,
-    manner: &Manner<'_>,
-) -> Result<bool, AllocError>
+/// Writes the unit in one manner. Where that is refused some of it may be written.
+pub fn write<'u>(unit: &Unit<'u, '_>, renderer: &mut Renderer<'u>, manner: &Manner<'_>) -> Outcome
     ensures mark { renderer.new.at_mark ≡ renderer.old.at_mark }
 {
     if asks_low(manner.delimiters) {
-        write_low(unit, renderer, manner)
+        outcome_of(write_low(unit, renderer, manner))
     } else {
-        Ok(false)
+        Outcome::Refused
     }
 }
