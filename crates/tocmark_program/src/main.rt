@@ -182,6 +182,3 @@ fn main(rt: HostRuntime) -> ExitCode {
     };
     ExitCode::from(run(rt.alloc(), &words, &mut input, &mut output, &mut faults))
 }
-
-#[cfg(test)]
-mod tests;
