@@ -6,6 +6,7 @@ use Rattle.std.proofs.lemmas.List.{drop-map, take-map, length-map, map-append}
 use Rattle.std.proofs.lemmas.List.Folds.{length-prefix_len}
 use Rattle.std.specs.Char.{is_ascii_digit}
 use Rattle.std.specs.List.{prefix_len, list_any}
+use Rattle.std.specs.Option.{option_map_or}
 use Rattle.tocmark_core_scan.specs.Basic.{plus, piece, byte_at}
 use Rattle.tocmark_core_scan.proofs.PlainTests.{both_false}
 use Rattle.tocmark_core_blocks.specs.Cells.{cell, cells_at, bytes_of, places_of, filled, cells_of, cell_byte, cell_place, run_of, count_of, part, trailing}
@@ -39,6 +40,23 @@ cells_more cells at (b ∷ bs) h =
 -- bytes without a tab are the columns
 pub plain_cells : (at : ℕ) (bytes : List ℕ) → list_any (λ b. b == 9) bytes ≡ false → cells_of [] at bytes ≡ cells_at at [] bytes
 plain_cells at bytes h = cells_more [] at bytes h
+
+-- an empty range has no columns
+pub no_cells : (text : List ℕ) (start end : ℕ) → end ≤ start → cells_of [] start (piece text start end) ≡ []
+no_cells text start end h = by_test (nat_le start end && nat_le end (length text))
+  where
+    none : end - start ≡ 0
+    none = omega arith
+
+    by_test : (k : Bool) → cells_of [] start (if k then take (end - start) (drop start text) else []) ≡ []
+    by_test true = rw none refl
+    by_test false = refl
+
+-- the place of a column in the columns of a line with tabs
+pub tabbed_place : (cells : List Cell) (column counted : ℕ) → option_map_or (λ (c : Cell). c.at) (slice_get cells column) counted ≡ unwrap_or (slice_get (places_of cells) column) counted
+tabbed_place [] column counted = refl
+tabbed_place (c ∷ cs) zero counted = refl
+tabbed_place (c ∷ cs) (suc i) counted = tabbed_place cs i counted
 
 pub place_kept : (at : ℕ) (places bytes : List ℕ) (column end : ℕ) → at < 2 ^ 64 → cell_place (cells_at at places bytes) column end ≡ (if nat_lt column (length bytes) then unwrap_or (slice_get places column) (plus at column) else end)
 place_kept at places [] column end h = let none : nat_lt column 0 ≡ false = grind (arith, nat_tests) in rw none refl

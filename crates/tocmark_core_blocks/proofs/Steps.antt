@@ -1,7 +1,17 @@
 -- How recursions over lists go on from a place.
-use Rattle.std.proofs.Common.{◌≡◌, ℕ, zero, suc, ◌+◌, ◌-◌, ◌<◌, ◌==◌, false, List, length, drop, map, ap, refl, Bool, arith}
+use Rattle.std.proofs.Common.{◌≡◌, ℕ, zero, suc, ◌+◌, ◌-◌, ◌<◌, ◌==◌, false, List, length, drop, map, ap, refl, ◌∙◌, Bool, arith}
 use native.Mathlib.Numerals.{unary_clauses}
-use Rattle.tocmark_core_blocks.specs.Pages.{times}
+use Rattle.tocmark_core_scan.specs.Repeat.{repeated}
+use Rattle.tocmark_core_blocks.specs.declared.cell.Cell.{Cell}
+use Rattle.tocmark_core_blocks.specs.declared.mark.Tail.{Tail}
+use Rattle.tocmark_core_blocks.specs.declared.block.Place.{Place}
+use Rattle.tocmark_core_blocks.specs.declared.line.Line.{Line}
+use Rattle.tocmark_core_blocks.specs.Cells.{is_blank_at}
+use Rattle.tocmark_core_blocks.specs.Containers.{container_at}
+use Rattle.tocmark_core_blocks.specs.Leaves.{leaf_at}
+use Rattle.tocmark_core_blocks.specs.Blocks.{container_once, started, started_at, leaf_started}
+use Rattle.tocmark_core_blocks.specs.Marks.{tail_of}
+use Rattle.tocmark_core_blocks.specs.Pages.{State, closed_to, times}
 use Rattle.std.specs.Bool.{IsTrue, one_answer}
 use Rattle.std.specs.Char.{to_ascii_lowercase}
 use Rattle.std.proofs.lemmas.Slice.Eq.{bytes_eq-Decides}
@@ -36,3 +46,14 @@ pub times_more : {S : Type 0} (step : S → S) (n : ℕ) (s : S) → 0 < n → t
 unfolding times
 times_more step zero s h = absurd (omega arith)
 times_more step (suc n) s h = simp unary_clauses refl
+
+-- a blank line begins nothing
+
+blank_opens : (text : List ℕ) (cells : List Cell) (line : Line) (tail : Tail) (place : Place) (s : State) (n : ℕ) → is_blank_at cells place.cursor ≡ true → repeated (container_once text cells line tail) n place s ≡ (s, place)
+unfolding repeated container_once container_at
+blank_opens text cells line tail place s zero h = refl
+blank_opens text cells line tail place s (suc n) h = rw h refl
+
+pub blank_started : (text : List ℕ) (cells : List Cell) (line : Line) (place : Place) (s : State) → is_blank_at cells place.cursor ≡ true → leaf_started text cells line place s ≡ closed_to text place.depth s
+unfolding leaf_started leaf_at started
+blank_started text cells line place s h = ap (started_at text cells line (tail_of cells)) (blank_opens text cells line (tail_of cells) place s (length cells) h) ∙ rw h refl

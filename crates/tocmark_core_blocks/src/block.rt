@@ -5,7 +5,7 @@ ghost use Rattle.std.specs.List.{fold};
 ghost use Rattle.tocmark_core_blocks.specs.Pages.{page};
 ghost use Rattle.tocmark_core_blocks.specs.Blocks.{info_of, goes_directly, quote_opened, is_in_list, list_started, item_opened, container_once, containers_opened, code_taken, html_ended, text_taken, text_started, indented_started, heading_started, fence_started, html_started, rule_started, has_text, underlined, underline_taken, started, leaf_started, turn_of, leaf_ended, touched, cells_taken, line_taken, page_of, blocks_view, blocks_of};
 
-use crate::cell::{Cells, Cursor, cell_place, ink_from, moved, trimmed};
+use crate::cell::{Cells, Cursor, cell_place, ink_from, is_blank_at, moved, trimmed};
 use crate::code::{code_piece, heading_piece, keeps_line, text_piece};
 use crate::container::{
     Container, ContainerStart, ItemStart, after_quote, container_at, matched, touch,
@@ -21,7 +21,7 @@ use tocmark_core_scan::basic::{minus, piece, plus, set};
 use tocmark_event::event::HeadingLevel;
 
 /// What a text is made of, but for the inlines of paragraphs and headings.
-#[derive(Debug, Drop)]
+#[derive(Drop)]
 pub struct Blocks {
     pub blocks: Vec<Block>,
     pub pieces: Vec<Piece>,
@@ -29,7 +29,7 @@ pub struct Blocks {
 }
 
 /// A cursor of a line, and how many of the open containers go on there.
-#[derive(Clone, Copy, Debug)]
+#[derive(Clone, Copy)]
 pub struct Place {
     pub cursor: Cursor,
     pub depth: usize,
@@ -421,9 +421,8 @@ impl Page {
         }
     }
 
-    /// Takes the rest of a line in which the open leaf doesn't go on by itself.
     #[tactic(auto, unfolding(crate::specs::Blocks::leaf_started))]
-    fn start_line(
+    fn start_inked(
         &mut self,
         alloc: Global,
         row: &Row<'_, '_>,
@@ -443,6 +442,24 @@ impl Page {
         );
         let leaf = leaf_at(row.cells, rest, tail, place.cursor, in_paragraph, directly);
         self.start(alloc, row, tail, place, leaf)
+    }
+
+    /// Takes the rest of a line in which the open leaf doesn't go on by itself.
+    #[tactic(auto, using(crate::proofs::Steps::blank_started))]
+    fn start_line(
+        &mut self,
+        alloc: Global,
+        row: &Row<'_, '_>,
+        first: Place,
+    ) -> Result<(), AllocError>
+        ensures { OnOk result (page self.new
+            ≡ leaf_started row.now.text.now row.now.cells.now row.now.line first (page self.old)) }
+    {
+        if is_blank_at(row.cells, first.cursor) {
+            self.close_to(alloc, row.text, first.depth)
+        } else {
+            self.start_inked(alloc, row, first)
+        }
     }
 
     #[tactic(auto, unfolding(crate::specs::Blocks::turn_of))]

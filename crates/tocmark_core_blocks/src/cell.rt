@@ -12,24 +12,23 @@ use tocmark_core_scan::basic::{byte_at, minus, piece, plus, rest};
 
 /// A column of a line: its byte and the place of that. A tab is one to four columns of spaces, up to
 /// the next column that is a multiple of four.
-#[derive(Clone, Copy, Debug, PartialEq, Eq)]
+#[derive(Clone, Copy, PartialEq, Eq)]
 pub struct Cell {
     pub byte: u8,
     pub at: usize,
 }
 
-/// The columns of a line: their bytes and, if the line has tabs, their places. Without tabs its bytes
-/// stand one behind the other from `start` on. A line is written over the one before.
-#[derive(Debug, Drop)]
+/// The columns of a line: their bytes and, if the line has tabs, the columns with their places. Without
+/// tabs its bytes stand one behind the other from `start` on. A line is written over the one before.
+#[derive(Drop)]
 pub struct Cells {
     bytes: Vec<u8>,
-    places: Vec<usize>,
     start: usize,
     tabbed: Vec<Cell>,
 }
 
 /// A column of a line, and the first one from there on that is no space.
-#[derive(Clone, Copy, Debug)]
+#[derive(Clone, Copy)]
 pub struct Cursor {
     pub column: usize,
     pub ink: usize,
@@ -71,16 +70,14 @@ fn fill_all(cells: &mut Vec<Cell>, bytes: &[u8], start: usize) -> Result<(), All
     Ok(())
 }
 
-/// Writes the bytes and the places of columns over others.
-fn part(bytes: &mut Vec<u8>, places: &mut Vec<usize>, cells: &[Cell]) -> Result<(), AllocError>
-    ensures { OnOk result ((bytes.new.items ≡ bytes_of cells.now)
-        × (places.new.items ≡ places_of cells.now)) }
+/// Writes the bytes of columns over others.
+fn write_bytes(bytes: &mut Vec<u8>, cells: &[Cell]) -> Result<(), AllocError>
+    ensures { OnOk result (bytes.new.items ≡ bytes_of cells.now) }
 {
     bytes.clear();
-    places.clear();
+    bytes.reserve(cells.len())?;
     for cell in cells {
         bytes.push(cell.byte)?;
-        places.push(cell.at)?;
     }
     Ok(())
 }
@@ -88,7 +85,7 @@ fn part(bytes: &mut Vec<u8>, places: &mut Vec<usize>, cells: &[Cell]) -> Result<
 impl Model for Cells {
     ghost Value = { List Cell };
 
-    ghost view = { λ c. cells_at c.start c.places.items c.bytes.items };
+    ghost view = { λ c. cells_at c.start (places_of c.tabbed.items) c.bytes.items };
 }
 
 impl Cells {
@@ -98,7 +95,6 @@ impl Cells {
     {
         Cells {
             bytes: Vec::new(alloc),
-            places: Vec::new(alloc),
             start: 0,
             tabbed: Vec::new(alloc),
         }
@@ -109,30 +105,48 @@ impl Cells {
         ensures { OnOk result (self.new ≡ cells_of [] start bytes.now) }
     {
         fill_all(&mut self.tabbed, bytes, start)?;
-        part(&mut self.bytes, &mut self.places, &self.tabbed)
+        write_bytes(&mut self.bytes, &self.tabbed)
     }
 
     fn read_plain(&mut self, bytes: &[u8], start: usize) -> Result<(), AllocError>
         ensures { OnOk result (self.new ≡ cells_at start [] bytes.now) }
     {
         self.bytes.clear();
+        self.tabbed.clear();
         self.bytes.extend_from_slice(bytes)?;
-        self.places.clear();
         self.start = start;
         Ok(())
     }
 
-    /// Reads a line without its line ending. An `Err` says that memory ran out.
+    fn clear(&mut self)
+        ensures { self.new ≡ [] }
+    {
+        self.bytes.clear();
+        self.tabbed.clear();
+    }
+
     #[tactic(auto, using(crate::proofs::Columns::plain_cells))]
+    fn read_inked(&mut self, bytes: &[u8], start: usize) -> Result<(), AllocError>
+        ensures { OnOk result (self.new ≡ cells_of [] start bytes.now) }
+    {
+        if bytes.contains(&b'\t') {
+            self.read_tabbed(bytes, start)
+        } else {
+            self.read_plain(bytes, start)
+        }
+    }
+
+    /// Reads a line without its line ending. An `Err` says that memory ran out.
+    #[tactic(auto, using(crate::proofs::Columns::no_cells))]
     pub fn read(&mut self, text: &[u8], line: Line) -> Result<(), AllocError>
         ensures { OnOk result (self.new
             ≡ cells_of [] line.start (piece text.now line.start line.end)) }
     {
-        let bytes = piece(text, line.start, line.end);
-        if bytes.contains(&b'\t') {
-            self.read_tabbed(bytes, line.start)
+        if line.end <= line.start {
+            self.clear();
+            Ok(())
         } else {
-            self.read_plain(bytes, line.start)
+            self.read_inked(piece(text, line.start, line.end), line.start)
         }
     }
 
@@ -156,23 +170,24 @@ impl Cells {
     fn place(&self, column: usize, end: usize) -> usize
         ensures { result ≡ cell_place self.now column end }
     {
-        place_of(&self.bytes, &self.places, self.start, column, end)
+        place_of(&self.bytes, &self.tabbed, self.start, column, end)
     }
 }
 
-fn known_place(places: &[usize], start: usize, column: usize) -> usize
-    ensures { result ≡ unwrap_or (slice_get places.now column) (plus start column) }
+#[tactic(auto, using(crate::proofs::Columns::tabbed_place))]
+fn known_place(tabbed: &[Cell], start: usize, column: usize) -> usize
+    ensures { result ≡ unwrap_or (slice_get (places_of tabbed.now) column) (plus start column) }
 {
     let counted = plus(start, column);
-    places.get(column).copied().unwrap_or(counted)
+    tabbed.get(column).map_or(counted, |cell| cell.at)
 }
 
 #[tactic(auto, using(crate::proofs::Columns::place_kept))]
-fn place_of(bytes: &[u8], places: &[usize], start: usize, column: usize, end: usize) -> usize
-    ensures { result ≡ cell_place (cells_at start places.now bytes.now) column end }
+fn place_of(bytes: &[u8], tabbed: &[Cell], start: usize, column: usize, end: usize) -> usize
+    ensures { result ≡ cell_place (cells_at start (places_of tabbed.now) bytes.now) column end }
 {
     if column < bytes.len() {
-        known_place(places, start, column)
+        known_place(tabbed, start, column)
     } else {
         end
     }

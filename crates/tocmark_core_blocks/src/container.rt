@@ -10,7 +10,7 @@ use crate::mark::{Marker, Tail, is_rule, marker_at};
 use tocmark_core_scan::basic::{minus, plus, set};
 
 /// What other blocks stand in.
-#[derive(Clone, Copy, Debug)]
+#[derive(Clone, Copy)]
 pub enum Container {
     Quote,
     /// A list with the last byte of its markers.
@@ -21,7 +21,7 @@ pub enum Container {
 
 /// A container that is open: its block, the end and the number of its last line so far, and whether a
 /// block stands in it.
-#[derive(Clone, Copy, Debug)]
+#[derive(Clone, Copy)]
 pub struct Opened {
     pub container: Container,
     pub block: usize,
@@ -32,7 +32,7 @@ pub struct Opened {
 
 /// A list item that a line begins: the last byte of its marker, its number if it has one, the columns
 /// that its lines are indented by, and the column of its text.
-#[derive(Clone, Copy, Debug)]
+#[derive(Clone, Copy)]
 pub struct ItemStart {
     pub sort: u8,
     pub number: Option<u64>,
@@ -41,7 +41,7 @@ pub struct ItemStart {
 }
 
 /// A container that a line begins.
-#[derive(Clone, Copy, Debug)]
+#[derive(Clone, Copy)]
 pub enum ContainerStart {
     Quote,
     Item(ItemStart),

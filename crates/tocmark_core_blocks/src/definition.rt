@@ -11,7 +11,7 @@ use tocmark_core_scan::word::{Definition, definition_at};
 
 /// A line of a leaf: columns of spaces that are left of a partly used tab just before it, its first
 /// byte, the place of its line ending, and the place behind that.
-#[derive(Clone, Copy, Debug, PartialEq, Eq)]
+#[derive(Clone, Copy, PartialEq, Eq)]
 pub struct Piece {
     pub spaces: usize,
     pub start: usize,
@@ -21,7 +21,7 @@ pub struct Piece {
 
 /// A link reference definition as it is written: escapes and references are not resolved, and line
 /// endings are line feeds. The title is empty where there is none.
-#[derive(Debug, Drop)]
+#[derive(Drop)]
 pub struct LinkDefinition {
     pub label: Vec<u8>,
     pub destination: Vec<u8>,

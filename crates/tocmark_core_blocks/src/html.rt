@@ -9,7 +9,7 @@ use tocmark_core_scan::class::{Class, run_end};
 use tocmark_core_scan::html::{closing_tag, open_tag};
 
 /// The seven kinds of HTML blocks.
-#[derive(Clone, Copy, Debug, PartialEq, Eq)]
+#[derive(Clone, Copy, PartialEq, Eq)]
 pub enum HtmlKind {
     /// `<script`, `<pre`, `<style` or `<textarea`, up to such a closing tag
     Raw,

@@ -12,7 +12,7 @@ use tocmark_core_scan::basic::plus;
 use tocmark_event::event::HeadingLevel;
 
 /// The leaf block that is open.
-#[derive(Clone, Copy, Debug)]
+#[derive(Clone, Copy)]
 pub enum Leaf {
     Nothing,
     Paragraph,
@@ -22,7 +22,7 @@ pub enum Leaf {
 }
 
 /// What the open leaf does with a line: it is its last one, it takes it from a column on, or neither.
-#[derive(Clone, Copy, Debug)]
+#[derive(Clone, Copy)]
 pub enum Turn {
     Closes,
     Takes(usize),
@@ -30,7 +30,7 @@ pub enum Turn {
 }
 
 /// What the rest of a line is: the leaf block that it begins, a setext heading's underline, or text.
-#[derive(Clone, Copy, Debug)]
+#[derive(Clone, Copy)]
 pub enum LeafStart {
     Blank,
     Text,

@@ -8,7 +8,7 @@ use tocmark_core_scan::basic::{byte_at, minus, plus};
 
 /// A line: its number from 1 on, its first byte, the place of its line ending, and the place behind
 /// that.
-#[derive(Clone, Copy, Debug, PartialEq, Eq)]
+#[derive(Clone, Copy, PartialEq, Eq)]
 pub struct Line {
     pub number: usize,
     pub start: usize,

@@ -11,7 +11,7 @@ use tocmark_core_scan::basic::{minus, piece, plus, rest};
 use tocmark_event::event::HeadingLevel;
 
 /// A heading on one line, with the columns of its text.
-#[derive(Clone, Copy, Debug)]
+#[derive(Clone, Copy)]
 pub struct Heading {
     pub level: HeadingLevel,
     pub from: usize,
@@ -19,7 +19,7 @@ pub struct Heading {
 }
 
 /// The fence that opens a code block: its byte, how often it stands there, and the spaces before it.
-#[derive(Clone, Copy, Debug)]
+#[derive(Clone, Copy)]
 pub struct Fence {
     pub byte: u8,
     pub count: usize,
@@ -28,14 +28,14 @@ pub struct Fence {
 
 /// The last byte of a line that is no space, and the first of the columns at its end in which nothing
 /// but that byte and spaces stand.
-#[derive(Clone, Copy, Debug)]
+#[derive(Clone, Copy)]
 pub struct Tail {
     pub byte: u8,
     pub from: usize,
 }
 
 /// The marker of a list item: its last byte, its number if it has one, and its length.
-#[derive(Clone, Copy, Debug)]
+#[derive(Clone, Copy)]
 pub struct Marker {
     pub sort: u8,
     pub number: Option<u64>,

@@ -31,7 +31,7 @@ pub enum BlockKind {
 /// `first` to before `last`; a paragraph that has none holds definitions alone. `loose` says of a list
 /// that its paragraphs aren't unwrapped; `list` is the list of an item, and of a block that stands
 /// directly in an item.
-#[derive(Clone, Copy, Debug)]
+#[derive(Clone, Copy)]
 pub struct Block {
     pub depth: usize,
     pub kind: BlockKind,
@@ -45,7 +45,7 @@ pub struct Block {
 
 /// The blocks so far. The open leaf, if there is one, is the last block: its last line ends at `end` and
 /// has the number `line`, and of the pieces the first `kept` ones stay if it is closed now.
-#[derive(Debug, Drop)]
+#[derive(Drop)]
 pub struct Page {
     pub blocks: Vec<Block>,
     pub pieces: Vec<Piece>,

@@ -12,7 +12,7 @@ use tocmark_core_scan::reference::unescaped;
 use tocmark_core_scan::word::Definition;
 
 /// What a label is defined as, in the texts of the document's inlines.
-#[derive(Clone, Copy, Debug)]
+#[derive(Clone, Copy)]
 pub struct Entry {
     pub destination: Stretch,
     pub title: Stretch,

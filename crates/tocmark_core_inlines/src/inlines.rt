@@ -16,7 +16,7 @@ use tocmark_core_scan::content::Content;
 /// The nodes of leaves in the order of the document, with ranges in bytes of its source; the targets of
 /// their links and images; the texts that stand nowhere in the source; and the labels that were looked
 /// up in vain, in order and with repetitions.
-#[derive(Debug, Drop)]
+#[derive(Drop)]
 pub struct Inlines {
     pub nodes: Vec<Node>,
     pub targets: Vec<Target>,

@@ -9,7 +9,7 @@ use tocmark_core_scan::word::{Word, destination, label, label_from, title};
 use tocmark_event::event::LinkType;
 
 /// A bracket that may begin the text of a link or an image.
-#[derive(Clone, Copy, Debug)]
+#[derive(Clone, Copy)]
 pub struct Bracket {
     /// The place of its first byte.
     pub start: usize,
@@ -24,7 +24,7 @@ pub struct Bracket {
 }
 
 /// A destination and a title in parentheses; the title is empty where there is none.
-#[derive(Clone, Copy, Debug)]
+#[derive(Clone, Copy)]
 pub struct InlineTarget {
     pub destination: Word,
     pub title: Word,
@@ -32,7 +32,7 @@ pub struct InlineTarget {
 }
 
 /// A label that is to be looked up, and the place where a link by it ends.
-#[derive(Clone, Copy, Debug)]
+#[derive(Clone, Copy)]
 pub struct Asked {
     pub link_type: LinkType,
     pub label: Word,

@@ -10,7 +10,7 @@ use tocmark_core_scan::basic::{minus, set};
 use tocmark_event::event::LinkType;
 
 /// A stretch of the texts that a document's inlines have beside its source.
-#[derive(Clone, Copy, Debug)]
+#[derive(Clone, Copy)]
 pub struct Stretch {
     pub start: usize,
     pub end: usize,
@@ -18,7 +18,7 @@ pub struct Stretch {
 
 /// What a link or an image leads to: its destination and title without escapes, and the label by
 /// which it was looked up, as it is written.
-#[derive(Clone, Copy, Debug)]
+#[derive(Clone, Copy)]
 pub struct Target {
     pub link_type: LinkType,
     pub destination: Stretch,
@@ -27,7 +27,7 @@ pub struct Target {
 }
 
 /// A container among inlines. A link or an image has a number: the place of its target.
-#[derive(Clone, Copy, Debug)]
+#[derive(Clone, Copy)]
 pub enum Span {
     Emphasis,
     Strong,
@@ -36,7 +36,7 @@ pub enum Span {
 }
 
 /// An inline without children, other than a text.
-#[derive(Clone, Copy, Debug)]
+#[derive(Clone, Copy)]
 pub enum Leaf {
     /// The character of a reference.
     Character(char),
@@ -49,7 +49,7 @@ pub enum Leaf {
 }
 
 /// What a byte of a leaf's text is.
-#[derive(Clone, Copy, Debug)]
+#[derive(Clone, Copy)]
 pub enum Role {
     /// A byte of a text.
     Plain,
@@ -66,7 +66,7 @@ pub enum Role {
 }
 
 /// A byte of a leaf's text that isn't plain, or no longer what it was before.
-#[derive(Clone, Copy, Debug)]
+#[derive(Clone, Copy)]
 pub struct Mark {
     pub place: usize,
     pub role: Role,

@@ -8,7 +8,7 @@ use tocmark_core_scan::class::{Class, run_end};
 use tocmark_core_scan::side::{Side, side_at, side_before};
 
 /// A run of delimiters: its place and length now, and what it was.
-#[derive(Clone, Copy, Debug)]
+#[derive(Clone, Copy)]
 pub struct Run {
     pub place: usize,
     pub count: usize,

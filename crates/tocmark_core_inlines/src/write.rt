@@ -12,7 +12,7 @@ use tocmark_core_scan::basic::{minus, plus};
 use tocmark_core_scan::content::Content;
 
 /// What stands at a node.
-#[derive(Clone, Copy, Debug)]
+#[derive(Clone, Copy)]
 pub enum Item {
     /// The bytes of the node's range.
     Text,
@@ -22,7 +22,7 @@ pub enum Item {
 }
 
 /// An inline, from its first byte to before its end.
-#[derive(Clone, Copy, Debug)]
+#[derive(Clone, Copy)]
 pub struct Node {
     pub depth: usize,
     pub item: Item,

@@ -11,7 +11,7 @@ use std::alloc::{AllocError, Global};
 use tocmark_event::event::{CowStr, Event, Tag, TagEnd};
 
 /// What stands at a node.
-#[derive(Debug, Drop)]
+#[derive(Drop)]
 pub enum Item {
     /// A container; what lies in it are the nodes behind it that are deeper.
     Container(Tag<'static>),
@@ -29,7 +29,7 @@ pub enum Item {
 
 /// A part of a text, in bytes: `end` is the place behind the last one. Nodes stand in the order of
 /// their Starts; a node lies in the nearest container before it whose depth is less.
-#[derive(Debug, Drop)]
+#[derive(Drop)]
 pub struct Node {
     pub depth: usize,
     pub item: Item,
@@ -38,7 +38,7 @@ pub struct Node {
 }
 
 /// A container whose End is still to come.
-#[derive(Clone, Copy, Debug)]
+#[derive(Clone, Copy)]
 pub struct Open {
     pub end: TagEnd,
     pub range: (usize, usize),

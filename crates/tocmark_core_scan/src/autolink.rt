@@ -7,7 +7,7 @@ use crate::basic::{byte_at, minus, piece, plus};
 use crate::class::{Class, run_end};
 
 /// What is known of the front of a domain.
-#[derive(Clone, Copy, Debug)]
+#[derive(Clone, Copy)]
 pub struct Domain {
     /// The bytes of its last label so far.
     pub length: usize,

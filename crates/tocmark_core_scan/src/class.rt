@@ -6,7 +6,7 @@ ghost use Rattle.tocmark_core_scan.specs.Class.{is_in, is_unquoted, is_bracket, 
 use crate::basic::{plus, rest};
 
 /// A set of bytes.
-#[derive(Clone, Copy, Debug)]
+#[derive(Clone, Copy)]
 pub enum Class {
     /// A space, a tab or a line feed.
     White,

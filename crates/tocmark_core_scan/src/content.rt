@@ -10,7 +10,7 @@ use std::alloc::{AllocError, Global};
 
 /// A line of a paragraph or a heading: where its text begins and ends in the source, and the place
 /// behind its line ending.
-#[derive(Clone, Copy, Debug)]
+#[derive(Clone, Copy)]
 pub struct Line {
     pub start: usize,
     pub end: usize,
@@ -18,7 +18,7 @@ pub struct Line {
 }
 
 /// Bytes, and for each of them the range of the source that it stands for.
-#[derive(Debug, Drop)]
+#[derive(Drop)]
 pub struct Pasted {
     pub bytes: Vec<u8>,
     pub places: Vec<(usize, usize)>,
@@ -26,7 +26,7 @@ pub struct Pasted {
 
 /// A text whose lines are joined by line feeds, and for each of its bytes the range of the source that
 /// it stands for.
-#[derive(Debug, Drop)]
+#[derive(Drop)]
 pub enum Content<'a> {
     /// Bytes that stand so in the source, from a place on.
     Whole(&'a [u8], usize),

@@ -9,7 +9,7 @@ use crate::class::{Class, is_in, run_end};
 
 /// For each kind of raw HTML that ends by a word of its own, the place behind the first byte of the
 /// last such word of a text; 0 where there is none. So a search that would find nothing isn't begun.
-#[derive(Clone, Copy, Debug)]
+#[derive(Clone, Copy)]
 pub struct LastEnds {
     /// `-->`
     pub comment: usize,

@@ -8,7 +8,7 @@ use crate::class::{Class, run_end};
 use std::alloc::{AllocError, Global};
 
 /// A character, and the place behind its reference.
-#[derive(Clone, Copy, Debug)]
+#[derive(Clone, Copy)]
 pub struct Reference {
     pub character: char,
     pub next: usize,

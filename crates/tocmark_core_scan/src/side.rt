@@ -7,7 +7,7 @@ use crate::basic::{byte_at, character_of, minus, plus};
 use unicode::properties::{GeneralCategory, GeneralCategoryGroup};
 
 /// The kind of a character beside a run of delimiters.
-#[derive(Clone, Copy, Debug)]
+#[derive(Clone, Copy)]
 pub enum Side {
     /// White space: category Zs, a tab, a line feed, a form feed or a carriage return; both ends of a text.
     Space,

@@ -7,7 +7,7 @@ use crate::basic::{byte_at, minus, piece, plus, rest};
 use crate::class::{Class, is_in, run_end};
 
 /// What stands round a word.
-#[derive(Clone, Copy, Debug)]
+#[derive(Clone, Copy)]
 pub enum Enclosure {
     /// `<` and `>`
     Angled,
@@ -22,7 +22,7 @@ pub enum Enclosure {
 }
 
 /// A word of a text: its bytes without what stands round it, and the place behind all of it.
-#[derive(Clone, Copy, Debug)]
+#[derive(Clone, Copy)]
 pub struct Word {
     pub start: usize,
     pub end: usize,
@@ -31,7 +31,7 @@ pub struct Word {
 
 /// A link reference definition: the title is empty where there is none; `next` is the place behind
 /// its last line ending.
-#[derive(Clone, Copy, Debug)]
+#[derive(Clone, Copy)]
 pub struct Definition {
     pub label: Word,
     pub destination: Word,

@@ -1,7 +1,0 @@
-use Rattle.std.proofs.Common.{◌≡◌, take}
-use Rattle.tocmark_core_blocks.specs.Cells.{bytes_of, places_of}
-use Rattle.tocmark_core_blocks.proofs.cell.part.Given as goal
-
-abbrev pub invariant-loop-cell : goal.invariant-loop-cell
-invariant-loop-cell l =
-    (l.bytes.items ≡ bytes_of (take l.cell-index l.cells)) × (l.places.items ≡ places_of (take l.cell-index l.cells))
