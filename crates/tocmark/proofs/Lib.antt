@@ -1,5 +1,3 @@
-pub mod Walks
-pub mod Runs
 pub mod Handed
 pub mod Trees
 pub mod Reading

@@ -3,12 +3,12 @@ use Rattle.std.proofs.Common.{◌≡◌, ℕ, List, [], ◌∷◌, ◌++◌, if�
 use Rattle.std.specs.Prelude.{◌||◌, ◌<◌, length, nat_lt}
 use Rattle.std.specs.List.{concat}
 use Rattle.tocmark_event.specs.Forest.{empty, leaf, node, flat}
-use Rattle.tocmark_event.specs.Options.{OptionsView}
+use Rattle.tocmark_options.specs.Options.{OptionsView}
 use Rattle.tocmark_event.specs.Reading.{ReadingView}
 use Rattle.tocmark_event.specs.View.{Paragraph, LeafView, Text, Code, End}
 use Rattle.tocmark_event.specs.declared.event.TagEnd.TheVariants as end
 use Rattle.tocmark_event.specs.declared.event.flags.ParserOptions.{ParserOptions}
-use Rattle.tocmark_event.specs.declared.options.Error.{Error}
+use Rattle.tocmark_options.specs.declared.options.Error.{Error}
 use Rattle.tocmark_spelling.specs.Body.{Trees}
 use Rattle.tocmark_spelling.specs.Closing.{closing}
 use Rattle.tocmark_escape.specs.Escape.{Place, escaped}
@@ -32,8 +32,8 @@ use Rattle.tocmark_render.specs.Chosen.{chosen}
 use Rattle.tocmark_render.proofs.Chosen.{chosen-unlabelled}
 use Rattle.tocmark_render.proofs.PlainUnits.{choice-unasked}
 use Rattle.tocmark.specs.Paragraphs.{ReadsAs, ReadsAsSpan, paragraph_with, paragraph_of}
-use Rattle.tocmark.specs.StateView.{keeping, rendering}
-use Rattle.tocmark.specs.Walk.{Walk, Done, done, finished_of, handed_text, nothing_yet, script, joins, flushed, flushed_before, advance, step, ended}
+use Rattle.tocmark_state.specs.StateView.{keeping, rendering}
+use Rattle.tocmark_state.specs.Walk.{Walk, Done, done, finished_of, handed_text, nothing_yet, script, joins, flushed, flushed_before, advance, step, ended}
 
 -- a text that is handed
 handed : (text : List ℕ) → concat (handed_text text) ≡ text

@@ -3,12 +3,12 @@ use Rattle.std.proofs.Common.{◌≡◌, ℕ, ◌+◌, ◌<◌, true, false, ◌
 use Rattle.std.specs.Char.{char_set_contains}
 use Rattle.std.specs.List.{AllByRecursion, list_all}
 use Rattle.tocmark_event.specs.Forest.{empty, leaf, node, flat, flat_onto}
-use Rattle.tocmark_event.specs.Options.{OptionsView}
+use Rattle.tocmark_options.specs.Options.{OptionsView}
 use Rattle.tocmark_event.specs.Reading.{ReadingView}
 use Rattle.tocmark_event.specs.View.{Start, End, Leaf, SoftBreak, Paragraph, SourcedEvent}
 use Rattle.tocmark_event.specs.declared.event.TagEnd.TheVariants as end
 use Rattle.tocmark_event.specs.declared.event.flags.ParserOptions.{ParserOptions}
-use Rattle.tocmark_event.specs.declared.options.Error.{Error}
+use Rattle.tocmark_options.specs.declared.options.Error.{Error}
 use Rattle.tocmark_core_reader.specs.PlainTexts.{line_events, lines_paragraph}
 use Rattle.tocmark_spelling.specs.Body.{Trees, some_leaf}
 use Rattle.tocmark_spelling.specs.Closing.{closing}
@@ -31,10 +31,10 @@ use Rattle.tocmark_render.proofs.Chosen.{chosen-unlabelled}
 use Rattle.tocmark_render.proofs.PlainUnits.{choice-unasked}
 use Rattle.tocmark_core_scan.proofs.PlainTests.{all_from}
 use Rattle.tocmark.specs.PlainLines.{is_line, paragraph_of_lines, IsReadBack, HandsLines}
-use Rattle.tocmark.specs.Ranges.{Pair, unranged}
-use Rattle.tocmark.specs.StateView.{keeping, rendering}
-use Rattle.tocmark.specs.Walk.{Walk, Done, done, Kept, Rendering, Standing, finished_of, nothing_yet, beginning, go_on, script, stay, walk, joins, flushed_before, advance, step, ended}
-use Rattle.tocmark.specs.Writes.{Makes}
+use Rattle.tocmark_state.specs.Ranges.{Pair, unranged}
+use Rattle.tocmark_state.specs.StateView.{keeping, rendering}
+use Rattle.tocmark_state.specs.Walk.{Walk, Done, done, Kept, Rendering, Standing, finished_of, nothing_yet, beginning, go_on, script, stay, walk, joins, flushed_before, advance, step, ended}
+use Rattle.tocmark_state.specs.Writes.{Makes}
 use Rattle.tocmark.proofs.PlainParagraph.{Escapes, IsLineText, line_from, lines_stand, lines_are_read_back}
 use Rattle.tocmark.proofs.Paragraphs.{neither_in}
 use Rattle.tocmark.proofs.PlainSpelling.{line_trees, in_paragraph, page_of, within, site_of, around, lines_text, lines_spelled, written_some}

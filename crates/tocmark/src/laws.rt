@@ -5,25 +5,25 @@ ghost use Rattle.std.specs.Char.{char_set_contains};
 ghost use Rattle.std.specs.List.{AllByRecursion, list_all};
 ghost use Rattle.tocmark_core_reader.specs.PlainTexts.{lines_paragraph};
 ghost use Rattle.tocmark_event.specs.Forest.{IsBalanced, IsReading};
-ghost use Rattle.tocmark_event.specs.Options.{OptionsView};
+ghost use Rattle.tocmark_options.specs.Options.{OptionsView};
 ghost use Rattle.tocmark_event.specs.View.{Code};
 ghost use Rattle.tocmark_event.specs.Reading.{ReadingView};
 ghost use Rattle.tocmark_event.specs.declared.event.flags.ParserOptions.{ParserOptions};
-ghost use Rattle.tocmark_event.specs.declared.options.Error.{Error};
-ghost use Rattle.tocmark.specs.declared.state.Progress.{Progress};
+ghost use Rattle.tocmark_options.specs.declared.options.Error.{Error};
+ghost use Rattle.tocmark_state.specs.declared.state.Progress.{Progress};
 ghost use Rattle.tocmark.specs.Calls.{AreCalls, all_pairs};
 ghost use Rattle.tocmark.specs.Causes.{IsRefusedAtPair, IsRefusedIn};
 ghost use Rattle.tocmark.specs.Paragraphs.{AppendsTo, Keeps, ReadsAs, ReadsAsSpan, paragraph_of, paragraph_with};
 ghost use Rattle.tocmark.specs.PlainLines.{is_line, paragraph_of_lines, IsReadBack, IsPlaced, IsPlainOf, PlacedLine, escaped_text, texts};
-ghost use Rattle.tocmark.specs.Ranges.{Pair};
+ghost use Rattle.tocmark_state.specs.Ranges.{Pair};
 ghost use Rattle.tocmark.specs.TextBlocks.{BlocksAreEscapes};
 ghost use Rattle.tocmark.specs.Trees.{Trees, ranged, then_ranged, walk_trees};
-ghost use Rattle.tocmark.specs.StateView.{rendering};
-ghost use Rattle.tocmark.specs.Walk.{Kept, Rendering, Standing, beginning, done, go_on, nothing_yet, script, walk};
-ghost use Rattle.tocmark.specs.Writes.{Makes};
+ghost use Rattle.tocmark_state.specs.StateView.{rendering};
+ghost use Rattle.tocmark_state.specs.Walk.{Kept, Rendering, Standing, beginning, done, go_on, nothing_yet, script, walk};
+ghost use Rattle.tocmark_state.specs.Writes.{Makes};
 
-use crate::taker::Taker;
 use tocmark_escape::laws::{code_spans_read_back, escapes_read_back};
+use tocmark_state::taker::Taker;
 
 /// What later events add depends on where the earlier ones stand alone, whatever a unit comes to.
 pub fn cuts_are_free()

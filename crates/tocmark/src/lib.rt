@@ -18,8 +18,6 @@
 #![tactic(auto)]
 
 mod laws;
-mod state;
-mod taker;
 mod token_count;
 
 ghost use Rattle.std.specs.Prelude.{◌≡◌, ◌∷◌, List, [], Option, ℕ, IfOk, IsOk, IsTrue};
@@ -27,24 +25,24 @@ ghost use Rattle.std.specs.Borrow.{Bor};
 ghost use Rattle.std.specs.Iterator.{IsFinite, DrainsIf};
 ghost use Rattle.std.specs.List.{list_all};
 ghost use Rattle.tocmark_event.specs.Text.{ParserEvent};
-ghost use Rattle.tocmark_event.specs.Options.{default_options, options_view};
+ghost use Rattle.tocmark_options.specs.Options.{default_options, options_view};
 ghost use Rattle.tocmark.specs.PlainLines.{HandsLines, is_line, paragraph_of_lines};
-ghost use Rattle.tocmark.specs.Ranges.{Range};
+ghost use Rattle.tocmark_state.specs.Ranges.{Range};
 ghost use Rattle.tocmark.specs.TextBlocks.{MakesBlocks};
-ghost use Rattle.tocmark.specs.Walk.{done, nothing_yet, script, walk};
-ghost use Rattle.tocmark.specs.Writes.{Makes, TakesAll};
-ghost use Rattle.tocmark.specs.StateView.{IsFinished, pairs, ranged_pairs, rendering};
+ghost use Rattle.tocmark_state.specs.Walk.{done, nothing_yet, script, walk};
+ghost use Rattle.tocmark_state.specs.Writes.{Makes, TakesAll};
+ghost use Rattle.tocmark_state.specs.StateView.{IsFinished, pairs, ranged_pairs, rendering};
 
-pub use state::{Progress, State};
 use std::alloc::Global;
-pub use taker::Taker;
 pub use tocmark_core_reader as core_reader;
 use tocmark_event::event::{Event, ParserOptions};
-pub use tocmark_event::options::{
-    DEFAULT_CODE_BLOCK_TOKEN_COUNT, Error, Options, OptionsError, SUPPORTED_PARSER_OPTIONS,
-};
 use tocmark_event::reader::Reader;
 pub use tocmark_event::{event, reader};
+pub use tocmark_options::options::{
+    DEFAULT_CODE_BLOCK_TOKEN_COUNT, Error, Options, OptionsError, SUPPORTED_PARSER_OPTIONS,
+};
+pub use tocmark_state::state::{Progress, State};
+pub use tocmark_state::taker::Taker;
 pub use token_count::calculate_code_block_token_count;
 
 /// Writes events with the default options: `cmark_with_options` with `Options::default()`.

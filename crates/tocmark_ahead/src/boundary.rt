@@ -2,7 +2,7 @@
 
 ghost use Rattle.std.specs.Prelude.{◌≡◌, ◌&&◌, ◌||◌, ◌<◌, not, ℕ, List, Some, None, Option, IfOk, map, encode_utf8, codes, ◌++◌, string_bytes};
 ghost use Rattle.std.specs.List.{list_any};
-ghost use Rattle.tocmark_event.specs.Options.{OptionsView};
+ghost use Rattle.tocmark_options.specs.Options.{OptionsView};
 ghost use Rattle.tocmark_event.specs.Reading.{reading_view};
 ghost use Rattle.tocmark_event.specs.declared.event.flags.ParserOptions.{ParserOptions};
 ghost use Rattle.tocmark_event.specs.Text.{text_of};

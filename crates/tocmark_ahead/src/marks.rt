@@ -2,7 +2,7 @@
 
 ghost use Rattle.std.specs.Prelude.{◌≡◌, ℕ, ◌+◌, ◌≤◌, map, slice_index_or, not, ◌&&◌, ◌||◌, Option, None, string_bytes, if◌then◌else◌, Bool, List, [], Some, IfOk, length, false, take, drop, reverse};
 ghost use Rattle.tocmark_ahead.specs.Ahead.{comes_before, disturbers, HoldMarks, AreDisturbed};
-ghost use Rattle.tocmark_event.specs.Options.{OptionsView};
+ghost use Rattle.tocmark_options.specs.Options.{OptionsView};
 ghost use Rattle.tocmark_event.specs.View.{SourcedEvent, tag_view};
 ghost use Rattle.tocmark_event.specs.declared.event.flags.ParserOptions.{ParserOptions};
 ghost use Rattle.tocmark_spelling.specs.Buffered.{buffered_view};

@@ -1,7 +1,7 @@
 //! The ends of paragraphs, headings, quotes and footnotes' definitions.
 
 ghost use Rattle.std.specs.Prelude.{◌≡◌, ℕ, List, [], None, true, max, OnOk};
-ghost use Rattle.tocmark_event.specs.Options.{options_view};
+ghost use Rattle.tocmark_options.specs.Options.{options_view};
 ghost use Rattle.tocmark_event.specs.View.{Paragraph, Heading, BlockQuote, FootnoteDefinition};
 ghost use Rattle.tocmark_spelling.specs.Closing.{underline, underline_of, close_block, close_plain, close_heading};
 ghost use Rattle.tocmark_spelling.specs.Closing.{with_pending_quote, close_quote, closing_of};
@@ -15,7 +15,7 @@ use std::alloc::{AllocError, Global};
 use tocmark_containers::content::Content;
 use tocmark_containers::frame::Frame;
 use tocmark_event::event::{BlockQuoteKind, HeadingLevel, TagEnd, TagOf};
-use tocmark_event::options::Options;
+use tocmark_options::options::Options;
 use tocmark_pieces::headings::attributes_text;
 use tocmark_renderer::renderer::Renderer;
 use tocmark_spelling::trail::Last;

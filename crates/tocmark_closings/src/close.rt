@@ -1,7 +1,7 @@
 //! What ends a container, by its tag.
 
 ghost use Rattle.std.specs.Prelude.{◌≡◌, true};
-ghost use Rattle.tocmark_event.specs.Options.{options_view};
+ghost use Rattle.tocmark_options.specs.Options.{options_view};
 ghost use Rattle.tocmark_spelling.specs.Closing.{closing_of};
 ghost use Rattle.tocmark_containers.specs.FrameOf.{level_of};
 ghost use Rattle.tocmark_closings.specs.Leads.{Closes, is_closed};
@@ -15,7 +15,7 @@ use crate::tables::{close_cell, close_head, close_row, close_table};
 use std::alloc::{AllocError, Global};
 use tocmark_containers::frame::Frame;
 use tocmark_event::event::TagOf;
-use tocmark_event::options::Options;
+use tocmark_options::options::Options;
 use tocmark_renderer::renderer::Renderer;
 
 /// The end of a container that is neither a link nor an image, in the containers outside.

@@ -1,7 +1,7 @@
 //! The ends of code blocks and HTML blocks.
 
 ghost use Rattle.std.specs.Prelude.{◌≡◌, ◌==◌};
-ghost use Rattle.tocmark_event.specs.Options.{options_view};
+ghost use Rattle.tocmark_options.specs.Options.{options_view};
 ghost use Rattle.tocmark_event.specs.View.{CodeBlock, CodeView};
 ghost use Rattle.tocmark_spelling.specs.Closing.{fence_closing, with_raw_end, close_code};
 ghost use Rattle.tocmark_spelling.specs.Closing.{html_last, html_left, close_html};
@@ -13,7 +13,7 @@ use crate::trail::{set_open_html, set_raw_end};
 use std::alloc::AllocError;
 use tocmark_containers::content::Content;
 use tocmark_event::event::TagEnd;
-use tocmark_event::options::Options;
+use tocmark_options::options::Options;
 use tocmark_pieces::fences;
 use tocmark_renderer::renderer::Renderer;
 use tocmark_spelling::trail::Last;

@@ -1,7 +1,7 @@
 //! The ends of lists and their items.
 
 ghost use Rattle.std.specs.Prelude.{◌≡◌};
-ghost use Rattle.tocmark_event.specs.Options.{options_view};
+ghost use Rattle.tocmark_options.specs.Options.{options_view};
 ghost use Rattle.tocmark_event.specs.View.{ListOf};
 ghost use Rattle.tocmark_spelling.specs.Closing.{with_last_list, list_left, close_list, close_item};
 ghost use Rattle.tocmark_containers.specs.FrameOf.{content_view};
@@ -10,7 +10,7 @@ ghost use Rattle.tocmark_closings.specs.Leads.{Leads, OnPage, with_quote_in_item
 use crate::trail::{owe_at_least, set_last_list};
 use tocmark_containers::content::Content;
 use tocmark_event::event::TagEnd;
-use tocmark_event::options::Options;
+use tocmark_options::options::Options;
 use tocmark_pieces::lists::{item_tail, list_tail};
 use tocmark_renderer::renderer::Renderer;
 use tocmark_spelling::list_choice::ListChoice;

@@ -2,7 +2,7 @@
 
 ghost use Rattle.std.specs.Prelude.{◌≡◌, max, string_bytes, OnOk};
 ghost use Rattle.std.specs.Option.{option_map};
-ghost use Rattle.tocmark_event.specs.Options.{options_view};
+ghost use Rattle.tocmark_options.specs.Options.{options_view};
 ghost use Rattle.tocmark_event.specs.View.{DefinitionList, DefinitionListTitle};
 ghost use Rattle.tocmark_spelling.specs.Closing.{close_block, with_quote_end, with_line_end};
 ghost use Rattle.tocmark_spelling.specs.Closing.{close_definition, close_metadata};
@@ -12,7 +12,7 @@ ghost use Rattle.tocmark_closings.specs.Leads.{Closes, Leads, OnPage};
 use crate::blocks::end_block;
 use std::alloc::AllocError;
 use tocmark_event::event::{MetadataBlockKind, TagEnd};
-use tocmark_event::options::Options;
+use tocmark_options::options::Options;
 use tocmark_pieces::notes::metadata_fence;
 use tocmark_renderer::renderer::Renderer;
 use tocmark_spelling::trail::Last;

@@ -1,7 +1,7 @@
 //! The ends of tables and their parts.
 
 ghost use Rattle.std.specs.Prelude.{◌≡◌, ◌++◌, codes, max, string_bytes, IfOk, List};
-ghost use Rattle.tocmark_event.specs.Options.{options_view};
+ghost use Rattle.tocmark_options.specs.Options.{options_view};
 ghost use Rattle.tocmark_event.specs.View.{Table, tag_view};
 ghost use Rattle.tocmark_spelling.specs.Closing.{alignments_of, headers_of, alignment_row};
 ghost use Rattle.tocmark_spelling.specs.Closing.{close_block, close_head, close_row, close_cell};
@@ -15,7 +15,7 @@ use std::alloc::{AllocError, Global};
 use tocmark_containers::content::Content;
 use tocmark_containers::frame::Frame;
 use tocmark_event::event::{Alignment, TagEnd, TagOf};
-use tocmark_event::options::Options;
+use tocmark_options::options::Options;
 use tocmark_pieces::tables;
 use tocmark_renderer::renderer::Renderer;
 use tocmark_spelling::trail::Last;

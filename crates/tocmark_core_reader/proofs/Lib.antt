@@ -1,4 +1,3 @@
-pub mod Behind
 pub mod EmitLaws
 pub mod Finding
 pub mod PlainEvents
@@ -9,4 +8,3 @@ pub mod PlainTests
 pub mod PlainDecided
 pub mod PlainRanges
 pub mod PlainSearch
-pub mod Zeros

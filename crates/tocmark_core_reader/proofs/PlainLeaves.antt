@@ -25,8 +25,8 @@ use Rattle.tocmark_core_inlines.specs.Inlines as inlines
 use Rattle.tocmark_core_inlines.proofs.PlainPasses.{AreRead}
 use Rattle.tocmark_core_inlines.proofs.PlainLeaf.{known, parts_inlines}
 use Rattle.tocmark_core_inlines.proofs.PlainNodes.{nodes_of}
-use Rattle.tocmark_core_reader.specs.Emitted.{NodeView, Container, Writing, step, closed, emitted}
-use Rattle.tocmark_core_reader.specs.Pages.{State, start_state, pieces_of, assembled, is_unwrapped, block_taken, paragraph_taken, wrapped, with_block, leaf_inlines, with_inlines, content_line, block_tag}
+use Rattle.tocmark_core_pages.specs.Emitted.{NodeView, Container, Writing, step, closed, emitted}
+use Rattle.tocmark_core_pages.specs.Pages.{State, start_state, pieces_of, assembled, is_unwrapped, block_taken, paragraph_taken, wrapped, with_block, leaf_inlines, with_inlines, content_line, block_tag}
 use Rattle.tocmark_core_reader.specs.Reading.{core_reading, found_in, FoundView, collected, first_entry}
 use Rattle.tocmark_core_reader.proofs.PlainEvents.{Marked, viewed, at, events_of, emit_parts}
 use Rattle.tocmark_core_reader.proofs.PlainSources.{IsClean, AreClean, snapped_clean, all_implied}

@@ -5,9 +5,9 @@ use Rattle.tocmark_core_scan.specs.PlainParts.{Part, Bare, Escaped, Referred, Fe
 use Rattle.tocmark_core_scan.proofs.PlainPieces.{feed_joined}
 use Rattle.tocmark_core_inlines.specs.declared.write.Node.{Node}
 use Rattle.tocmark_core_inlines.proofs.PlainNodes.{nodes_of, text_until, begun}
-use Rattle.tocmark_core_reader.specs.Inlines.{inline_node}
+use Rattle.tocmark_core_pages.specs.Inlines.{inline_node}
 use Rattle.tocmark_core_reader.specs.PlainTexts.{text_parts, is_plain_text, AreKept}
-use Rattle.tocmark_core_reader.specs.Range.{snapped}
+use Rattle.tocmark_core_pages.specs.Range.{snapped}
 use Rattle.tocmark_core_reader.specs.Reading.{found_in, FoundView}
 use Rattle.tocmark_core_reader.proofs.PlainEvents.{viewed}
 use Rattle.tocmark_core_reader.proofs.PlainLeaves.{found_parts, found_text}

@@ -7,8 +7,8 @@ use Rattle.tocmark_core_blocks.specs.Blocks.{blocks_of}
 use Rattle.tocmark_core_blocks.specs.Definitions.{DefinitionView}
 use Rattle.tocmark_core_inlines.specs.Definitions as defs
 use Rattle.tocmark_core_inlines.specs.declared.definitions.Entry.{Entry}
-use Rattle.tocmark_core_reader.specs.Emitted.{NodeView, emitted}
-use Rattle.tocmark_core_reader.specs.Pages.{assembled}
+use Rattle.tocmark_core_pages.specs.Emitted.{NodeView, emitted}
+use Rattle.tocmark_core_pages.specs.Pages.{assembled}
 
 -- one more definition
 unfoldable pub define_step : defs.State → DefinitionView → defs.State

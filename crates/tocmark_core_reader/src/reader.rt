@@ -6,10 +6,10 @@ ghost use Rattle.tocmark_core_inlines.specs.Definitions.{collected_view, entry_o
 ghost use Rattle.tocmark_core_reader.specs.Reading.{define_step, collected, first_entry, core_reading};
 ghost use Rattle.tocmark_event.specs.Reading.{reading_view};
 
-use crate::page::assemble;
 use std::alloc::{AllocError, Global};
 use tocmark_core_blocks::{LinkDefinition, read_blocks};
 use tocmark_core_inlines::definitions::{Collected, Definitions, Entry, distinct_labels};
+use tocmark_core_pages::page::assemble;
 use tocmark_core_scan::label::first_places;
 use tocmark_event::event::ParserOptions;
 use tocmark_event::reader::{Reader, Reading};
@@ -92,7 +92,7 @@ impl Reader for CoreReader {
     ghost use Rattle.tocmark_event.specs.View.{event_view};
     ghost use Rattle.tocmark_core_scan.specs.PlainParts.{Part, meant, spelled};
     ghost use Rattle.tocmark_core_reader.specs.PlainTexts.{IsReadAs, is_plain_text, lines_paragraph, text_parts};
-    ghost use Rattle.tocmark_core_reader.specs.Range.{HasGoodRanges};
+    ghost use Rattle.tocmark_core_pages.specs.Range.{HasGoodRanges};
     ghost use Rattle.tocmark_core_reader.specs.Reading.{core_reading};
 
     ghost reading = { λ _ text _. core_reading text };

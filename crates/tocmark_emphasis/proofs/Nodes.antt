@@ -6,7 +6,7 @@ use Rattle.std.proofs.lemmas.Bool.{eqb-true, false≢true}
 use Rattle.std.proofs.Math.Seq.{take-add}
 use Rattle.tocmark_event.specs.Forest.{empty, leaf, node, flat_onto}
 use Rattle.tocmark_event.specs.View.{EventView, TagView, Emphasis, Strong, SourcedEvent, Start, End, Leaf, unsourced, end_of}
-use Rattle.tocmark_event.specs.Options.{OptionsView}
+use Rattle.tocmark_options.specs.Options.{OptionsView}
 use Rattle.tocmark_event.specs.declared.event.flags.ParserOptions.{ParserOptions}
 use Rattle.tocmark_spelling.specs.Body.{Trees}
 use Rattle.tocmark_spelling.specs.Buffered.{sourced, event_of, buffered_view}

@@ -1,7 +1,7 @@
 -- Each step of the machine keeps the markers of the open containers ASCII.
 use Rattle.std.proofs.Common.{◌≡◌, ◌<◌, ℕ, Bool, true, false, if◌then◌else◌, Option, Some, None, IfSome, List, [], ◌∷◌, refl, sym, ◌∙◌, subst, arith, slice_index}
 use Rattle.std.proofs.lemmas.Bool.{false≢true}
-use Rattle.tocmark_event.specs.Options.{OptionsView}
+use Rattle.tocmark_options.specs.Options.{OptionsView}
 use Rattle.tocmark_event.specs.View.{TagView, Emphasis, Strong, Item, Heading, TableCell, TableHead, Link, Image, CodeBlock, Indented, Fenced, Superscript, Subscript, HtmlBlock, ListOf, LeafView, Text, Code, SourcedLeaf, SourcedEvent, EventView, Start, End, Leaf}
 use Rattle.tocmark_event.specs.declared.event.LinkType.{LinkType}
 use Rattle.tocmark_event.specs.declared.event.LinkType.TheVariants as link

@@ -1,6 +1,6 @@
 -- What the columns over a unit's events say.
 use Rattle.std.specs.Prelude.{ℕ, Bool, true, false, List, Option}
-use Rattle.tocmark_event.specs.Options.{OptionsView}
+use Rattle.tocmark_options.specs.Options.{OptionsView}
 use Rattle.tocmark_event.specs.View.{SourcedEvent}
 use Rattle.tocmark_event.specs.declared.event.flags.ParserOptions.{ParserOptions}
 use Rattle.tocmark_spelling.specs.PlanOf.{setting_of}

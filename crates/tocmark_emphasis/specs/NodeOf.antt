@@ -1,6 +1,6 @@
 -- A node of emphasis or strong emphasis among a unit's events.
 use Rattle.std.specs.Prelude.{◌≡◌, ℕ, true, Bool, Option, List, ◌∷◌, drop, take, reverse}
-use Rattle.tocmark_event.specs.Options.{OptionsView}
+use Rattle.tocmark_options.specs.Options.{OptionsView}
 use Rattle.tocmark_event.specs.View.{TagView, EventView, SourcedEvent, Start}
 use Rattle.tocmark_event.specs.declared.event.flags.ParserOptions.{ParserOptions}
 use Rattle.tocmark_spelling.specs.Kinds.{is_emphasis_or_strong}

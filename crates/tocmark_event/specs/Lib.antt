@@ -5,7 +5,3 @@ pub mod Merged
 pub mod Forest
 pub mod Reading
 pub mod Flags
-pub mod ErrorText
-pub mod Options
-pub mod Validation
-pub mod Special

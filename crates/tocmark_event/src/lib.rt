@@ -1,6 +1,5 @@
-//! Markdown events, the interface of what reads them, and the options of what writes them.
+//! Markdown events, and the interface of what reads them.
 #![tactic(auto)]
 
 pub mod event;
-pub mod options;
 pub mod reader;

@@ -1,15 +1,15 @@
 -- What a text comes to with each heading one level down.
 use Rattle.std.specs.Prelude.{◌≡◌, List, ℕ, [], map, Ok}
 use Rattle.std.specs.List.{concat}
-use Rattle.tocmark_event.specs.Options.{default_options}
+use Rattle.tocmark_options.specs.Options.{default_options}
 use Rattle.tocmark_event.specs.View.{EventView, Start, End, Heading}
 use Rattle.tocmark_event.specs.declared.event.HeadingLevel.{HeadingLevel}
 use Rattle.tocmark_event.specs.declared.event.HeadingLevel.TheVariants.{H1, H2, H3, H4, H5, H6}
 use Rattle.tocmark_event.specs.declared.event.TagEnd.TheVariants as end
 use Rattle.tocmark_core_reader.specs.Reading.{core_reading}
-use Rattle.tocmark.specs.Ranges.{unranged}
-use Rattle.tocmark.specs.StateView.{rendering}
-use Rattle.tocmark.specs.Walk.{Walk, Done, done, nothing_yet, script}
+use Rattle.tocmark_state.specs.Ranges.{unranged}
+use Rattle.tocmark_state.specs.StateView.{rendering}
+use Rattle.tocmark_state.specs.Walk.{Walk, Done, done, nothing_yet, script}
 
 -- the level below; there is none below the sixth
 abbrev pub below : HeadingLevel → HeadingLevel

@@ -1,6 +1,6 @@
 -- The rows are written as they say: each is computed.
 use Rattle.std.specs.Prelude.{refl}
-use Rattle.tocmark_event.specs.Validation.{flags_fault, lists_fault, emphasis_fault, tokens_fault, scripts_fault, size_fault, validation}
+use Rattle.tocmark_options.specs.Validation.{flags_fault, lists_fault, emphasis_fault, tokens_fault, scripts_fault, size_fault, validation}
 use Rattle.std.specs.Str.{chars, trim_start}
 use Rattle.std.specs.Fmt.{digits}
 use Rattle.ucd_table.specs.Rows.{value_in}

@@ -1,9 +1,9 @@
 -- Quotes, lists, code and HTML, as they are written.
 use Rattle.std.specs.Prelude.{[], ◌∷◌, List, codes, true, Some, None}
 use Rattle.tocmark_event.specs.Forest.{empty, node}
-use Rattle.tocmark_event.specs.Options.{default_options}
+use Rattle.tocmark_options.specs.Options.{default_options}
 use Rattle.tocmark_event.specs.View.{Indented, Fenced, Paragraph, BlockQuote, CodeBlock, HtmlBlock, ListOf, Item, Html, Rule}
-use Rattle.tocmark_event.specs.declared.options.Error.TheVariants.{UnexpectedEvent}
+use Rattle.tocmark_options.specs.declared.options.Error.TheVariants.{UnexpectedEvent}
 use Rattle.tocmark_examples.specs.Script.{wrote, text, one, setting, Row}
 
 -- a quote begins with a line of its own

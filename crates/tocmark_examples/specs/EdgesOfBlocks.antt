@@ -1,9 +1,9 @@
 -- Other blocks at the edges of the rules, as they are written.
 use Rattle.std.specs.Prelude.{[], ◌∷◌, List, codes, false, Some, None}
 use Rattle.tocmark_event.specs.Forest.{empty, node}
-use Rattle.tocmark_event.specs.Options.{default_options}
+use Rattle.tocmark_options.specs.Options.{default_options}
 use Rattle.tocmark_event.specs.View.{Indented, Fenced, Paragraph, Heading, BlockQuote, CodeBlock, HtmlBlock, ListOf, Item, FootnoteDefinition, DefinitionList, DefinitionListTitle, DefinitionListDefinition, Table, TableHead, TableRow, TableCell, Link, MetadataBlock, Text, Code, InlineMath, Html, InlineHtml, SoftBreak, HardBreak, Rule, Start, End, Leaf}
-use Rattle.tocmark_event.specs.declared.options.Error.TheVariants.{Unrepresentable}
+use Rattle.tocmark_options.specs.declared.options.Error.TheVariants.{Unrepresentable}
 use Rattle.tocmark_examples.specs.Script.{wrote, text, one, setting, reading_of, Row}
 use Rattle.tocmark_event.specs.declared.event.HeadingLevel.TheVariants as level
 use Rattle.tocmark_event.specs.declared.event.BlockQuoteKind.TheVariants as quote

@@ -1,9 +1,9 @@
 -- Emphasis and its like at the edges of the rules, as they are written.
 use Rattle.std.specs.Prelude.{[], ◌∷◌, List, codes, true, Some, encode_utf8_all}
 use Rattle.tocmark_event.specs.Forest.{empty, node}
-use Rattle.tocmark_event.specs.Options.{default_options}
+use Rattle.tocmark_options.specs.Options.{default_options}
 use Rattle.tocmark_event.specs.View.{Fenced, Paragraph, CodeBlock, Emphasis, Strong, Strikethrough, Superscript, Subscript, Text, InlineHtml, SoftBreak, Start, End, Leaf}
-use Rattle.tocmark_event.specs.declared.options.Error.TheVariants.{Unrepresentable}
+use Rattle.tocmark_options.specs.declared.options.Error.TheVariants.{Unrepresentable}
 use Rattle.tocmark_examples.specs.Script.{wrote, text, one, setting, reading_of, Row}
 use Rattle.tocmark_event.specs.declared.event.TagEnd.TheVariants as end
 

@@ -1,9 +1,9 @@
 -- Links, also beside emphasis, images, labels and texts at the edges of the rules, as they are written.
 use Rattle.std.specs.Prelude.{[], ◌∷◌, List, codes, false, Some, None}
 use Rattle.tocmark_event.specs.Forest.{empty, node}
-use Rattle.tocmark_event.specs.Options.{default_options}
+use Rattle.tocmark_options.specs.Options.{default_options}
 use Rattle.tocmark_event.specs.View.{Paragraph, Heading, BlockQuote, ListOf, Item, Emphasis, Link, Image, Text, Code, SoftBreak, Start, End, Leaf}
-use Rattle.tocmark_event.specs.declared.options.Error.TheVariants.{Unrepresentable}
+use Rattle.tocmark_options.specs.declared.options.Error.TheVariants.{Unrepresentable}
 use Rattle.tocmark_examples.specs.Script.{wrote, text, one, setting, reading_of, Row}
 use Rattle.tocmark_event.specs.declared.event.HeadingLevel.TheVariants as level
 use Rattle.tocmark_event.specs.declared.event.LinkType.TheVariants as link

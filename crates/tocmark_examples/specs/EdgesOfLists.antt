@@ -1,9 +1,9 @@
 -- Lists at the edges of the rules, as they are written.
 use Rattle.std.specs.Prelude.{[], ◌∷◌, List, codes, true, false, Some, None, encode_utf8_all}
 use Rattle.tocmark_event.specs.Forest.{empty, node}
-use Rattle.tocmark_event.specs.Options.{default_options}
+use Rattle.tocmark_options.specs.Options.{default_options}
 use Rattle.tocmark_event.specs.View.{Indented, Fenced, Paragraph, BlockQuote, CodeBlock, HtmlBlock, ListOf, Item, Table, TableHead, TableCell, Emphasis, Text, Html, SoftBreak, Rule, Start, End, Leaf}
-use Rattle.tocmark_event.specs.declared.options.Error.TheVariants.{Unrepresentable}
+use Rattle.tocmark_options.specs.declared.options.Error.TheVariants.{Unrepresentable}
 use Rattle.tocmark_examples.specs.Script.{wrote, text, one, setting, reading_of, Row}
 use Rattle.tocmark_event.specs.declared.event.Alignment.TheVariants as alignment
 use Rattle.tocmark_event.specs.declared.event.TagEnd.TheVariants as end

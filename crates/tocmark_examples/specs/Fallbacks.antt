@@ -1,9 +1,9 @@
 -- Fallbacks, as they are written.
 use Rattle.std.specs.Prelude.{[], ◌∷◌, List, codes, Some}
 use Rattle.tocmark_event.specs.Forest.{empty, node}
-use Rattle.tocmark_event.specs.Options.{default_options}
+use Rattle.tocmark_options.specs.Options.{default_options}
 use Rattle.tocmark_event.specs.View.{Paragraph, Emphasis, Superscript, Text, Start, End, Leaf}
-use Rattle.tocmark_event.specs.declared.options.Error.TheVariants.{Unrepresentable}
+use Rattle.tocmark_options.specs.declared.options.Error.TheVariants.{Unrepresentable}
 use Rattle.tocmark_examples.specs.Script.{wrote, text, setting, reading_of, Row}
 use Rattle.tocmark_event.specs.declared.event.TagEnd.TheVariants as end
 

@@ -1,7 +1,7 @@
 -- Links, labels and texts from the source, as they are written.
 use Rattle.std.specs.Prelude.{[], ◌∷◌, List, codes, false, None}
 use Rattle.tocmark_event.specs.Forest.{empty, node}
-use Rattle.tocmark_event.specs.Options.{default_options}
+use Rattle.tocmark_options.specs.Options.{default_options}
 use Rattle.tocmark_event.specs.View.{Fenced, Paragraph, CodeBlock, ListOf, Item, Link, Image, Text, Start, End, Leaf}
 use Rattle.tocmark_examples.specs.Script.{wrote, text, text_from, setting, reading_of, Row}
 use Rattle.tocmark_event.specs.declared.event.LinkType.TheVariants as link

@@ -1,7 +1,7 @@
 -- Trees for which there is no spelling.
 use Rattle.std.specs.Prelude.{◌≡◌, None, List, [], ◌∷◌, codes}
 use Rattle.tocmark_event.specs.Forest.{empty, node}
-use Rattle.tocmark_event.specs.Options.{default_options}
+use Rattle.tocmark_options.specs.Options.{default_options}
 use Rattle.tocmark_event.specs.View.{Heading, BlockQuote, ListOf, Item, Table, TableHead, TableRow, TableCell}
 use Rattle.tocmark_event.specs.declared.event.HeadingLevel.TheVariants as level
 use Rattle.tocmark_spelling.specs.Body.{Trees}

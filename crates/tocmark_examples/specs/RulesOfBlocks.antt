@@ -1,7 +1,7 @@
 -- Rules of openings and closings of blocks, as they show in what is written.
 use Rattle.std.specs.Prelude.{[], ◌∷◌, codes, true, None, Some, List}
 use Rattle.tocmark_event.specs.Forest.{empty, node}
-use Rattle.tocmark_event.specs.Options.{default_options}
+use Rattle.tocmark_options.specs.Options.{default_options}
 use Rattle.tocmark_event.specs.View.{Indented, Fenced, Paragraph, Heading, BlockQuote, CodeBlock, HtmlBlock, ListOf, Item, FootnoteDefinition, DefinitionList, DefinitionListTitle, DefinitionListDefinition, Table, TableHead, TableRow, TableCell, Superscript, Subscript, MetadataBlock, Code, Html, SoftBreak, Rule}
 use Rattle.tocmark_event.specs.declared.event.HeadingLevel.TheVariants as level
 use Rattle.tocmark_event.specs.declared.event.BlockQuoteKind.TheVariants as quote

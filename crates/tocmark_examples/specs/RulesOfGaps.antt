@@ -1,7 +1,7 @@
 -- Rules of gaps and open containers, as they show in what is written.
 use Rattle.std.specs.Prelude.{[], ◌∷◌, codes, None, List}
 use Rattle.tocmark_event.specs.Forest.{empty, node}
-use Rattle.tocmark_event.specs.Options.{default_options}
+use Rattle.tocmark_options.specs.Options.{default_options}
 use Rattle.tocmark_event.specs.View.{Indented, Fenced, Paragraph, BlockQuote, CodeBlock, HtmlBlock, ListOf, Item, FootnoteDefinition, DefinitionList, DefinitionListTitle, DefinitionListDefinition, Table, TableHead, TableCell, Html}
 use Rattle.tocmark_event.specs.declared.event.Alignment.TheVariants as alignment
 use Rattle.tocmark_examples.specs.Script.{wrote, text, one, setting, Row}

@@ -1,7 +1,7 @@
 -- Letters, numbers and punctuation past ASCII, beside markers.
 use Rattle.std.specs.Prelude.{[], ◌∷◌, codes, List, encode_utf8_all}
 use Rattle.tocmark_event.specs.Forest.{empty, node}
-use Rattle.tocmark_event.specs.Options.{default_options}
+use Rattle.tocmark_options.specs.Options.{default_options}
 use Rattle.tocmark_event.specs.View.{Paragraph}
 use Rattle.tocmark_examples.specs.Script.{wrote, text, setting, Row}
 

@@ -1,7 +1,7 @@
 -- Rules of escapes, destinations, titles and inline leaves, as they show in what is written.
 use Rattle.std.specs.Prelude.{[], ◌∷◌, ◌++◌, codes, true, false, None, Some, List, encode_utf8_all}
 use Rattle.tocmark_event.specs.Forest.{empty, node}
-use Rattle.tocmark_event.specs.Options.{default_options}
+use Rattle.tocmark_options.specs.Options.{default_options}
 use Rattle.tocmark_event.specs.View.{Fenced, Paragraph, Heading, BlockQuote, CodeBlock, HtmlBlock, ListOf, Item, DefinitionList, DefinitionListTitle, DefinitionListDefinition, Table, TableHead, TableCell, Emphasis, Link, Image, Text, Code, InlineMath, DisplayMath, Html, InlineHtml, FootnoteReference, SoftBreak, HardBreak, Rule, TaskListMarker, Start, End, Leaf}
 use Rattle.tocmark_event.specs.declared.event.HeadingLevel.TheVariants as level
 use Rattle.tocmark_event.specs.declared.event.Alignment.TheVariants as alignment

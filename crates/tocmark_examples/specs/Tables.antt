@@ -1,9 +1,9 @@
 -- Tables, definition lists, footnotes and metadata, as they are written.
 use Rattle.std.specs.Prelude.{[], ◌∷◌, List, codes, true, false, Some, None}
 use Rattle.tocmark_event.specs.Forest.{empty, node}
-use Rattle.tocmark_event.specs.Options.{default_options}
+use Rattle.tocmark_options.specs.Options.{default_options}
 use Rattle.tocmark_event.specs.View.{Paragraph, Heading, ListOf, Item, FootnoteDefinition, DefinitionList, DefinitionListTitle, DefinitionListDefinition, Table, TableHead, TableRow, TableCell, MetadataBlock, Text, FootnoteReference, TaskListMarker, Start, End, Leaf}
-use Rattle.tocmark_event.specs.declared.options.Error.TheVariants.{UnexpectedEvent}
+use Rattle.tocmark_options.specs.declared.options.Error.TheVariants.{UnexpectedEvent}
 use Rattle.tocmark_examples.specs.Script.{wrote, text, one, setting, reading_of, Row}
 use Rattle.tocmark_event.specs.declared.event.HeadingLevel.TheVariants as level
 use Rattle.tocmark_event.specs.declared.event.MetadataBlockKind.TheVariants as metadata

@@ -1,6 +1,6 @@
 -- The rows are written as they say: each is computed.
 use Rattle.std.specs.Prelude.{refl}
-use Rattle.tocmark_event.specs.Validation.{flags_fault, lists_fault, emphasis_fault, tokens_fault, scripts_fault, size_fault, validation}
+use Rattle.tocmark_options.specs.Validation.{flags_fault, lists_fault, emphasis_fault, tokens_fault, scripts_fault, size_fault, validation}
 use Rattle.std.specs.Str.{chars, trim_start}
 use Rattle.std.specs.Fmt.{digits}
 use Rattle.ucd_table.specs.Rows.{value_in}
@@ -26,7 +26,7 @@ use Rattle.tocmark_labels.specs.Placeholder.{needs_placeholder, reserved_label}
 use Rattle.tocmark_render.specs.Choice.{spelled, first_that_reads_back, document_after, choice}
 use Rattle.tocmark_labels.specs.Units.{trees_of, waits}
 use Rattle.tocmark_render.specs.Chosen.{chosen}
-use Rattle.tocmark.specs.Walk.{joins, flushed, flushed_before, advance, step, ended}
+use Rattle.tocmark_state.specs.Walk.{joins, flushed, flushed_before, advance, step, ended}
 use Rattle.tocmark_examples_events.specs.Answers.{AreAnswered}
 use Rattle.tocmark_examples_events.specs.Events.{calls}
 

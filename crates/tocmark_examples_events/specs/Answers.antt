@@ -1,15 +1,15 @@
 -- What calls that take events with ranges hand to the writer, one after the other.
 use Rattle.std.specs.Prelude.{◌≡◌, ℕ, flat_map, Result, Ok, Err, Option, Some, None, List, [], ◌∷◌}
 use Rattle.tocmark_event.specs.declared.event.flags.ParserOptions.{ParserOptions}
-use Rattle.tocmark_event.specs.declared.options.Error.{Error}
+use Rattle.tocmark_options.specs.declared.options.Error.{Error}
 use Rattle.tocmark_spelling.specs.Plan.{Setting}
 use Rattle.tocmark_labels.specs.Definitions.{definitions_text}
 use Rattle.tocmark_labels.specs.Document.{DocumentView}
 use Rattle.tocmark_labels.specs.Ending.{holds_raw_block}
 use Rattle.tocmark_labels.specs.Units.{waits}
 use Rattle.tocmark_render.specs.Chosen.{chosen}
-use Rattle.tocmark.specs.Ranges.{Pair}
-use Rattle.tocmark.specs.Walk.{Done, done, Kept, Rendering, Standing, walk, ended, script, nothing_yet}
+use Rattle.tocmark_state.specs.Ranges.{Pair}
+use Rattle.tocmark_state.specs.Walk.{Done, done, Kept, Rendering, Standing, walk, ended, script, nothing_yet}
 
 -- the texts that each call handed, and the error that ended them, if one did
 pub record Answers : Type 0 where

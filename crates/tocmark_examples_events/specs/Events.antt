@@ -1,8 +1,8 @@
 -- Calls with events, their ranges in a source, and what is written at each.
 use Rattle.std.specs.Prelude.{[], ◌∷◌, codes, true, false, None, Some, List, encode_utf8_all}
-use Rattle.tocmark_event.specs.Options.{default_options}
+use Rattle.tocmark_options.specs.Options.{default_options}
 use Rattle.tocmark_event.specs.View.{Fenced, Paragraph, Heading, BlockQuote, CodeBlock, ListOf, Item, Emphasis, Link, Text, Code, Start, End, Leaf}
-use Rattle.tocmark_event.specs.declared.options.Error.TheVariants.{UnexpectedEvent, Unrepresentable, InvalidSourceRange}
+use Rattle.tocmark_options.specs.declared.options.Error.TheVariants.{UnexpectedEvent, Unrepresentable, InvalidSourceRange}
 use Rattle.tocmark_event.specs.declared.event.HeadingLevel.TheVariants as level
 use Rattle.tocmark_event.specs.declared.event.LinkType.TheVariants as link
 use Rattle.tocmark_event.specs.declared.event.TagEnd.TheVariants as end

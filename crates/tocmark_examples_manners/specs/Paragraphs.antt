@@ -1,7 +1,7 @@
 -- Small paragraphs, and how all candidates spell them.
 use Rattle.std.specs.Prelude.{[], ◌∷◌, ◌++◌, codes, List, encode_utf8_all}
 use Rattle.tocmark_event.specs.Forest.{empty, node}
-use Rattle.tocmark_event.specs.Options.{default_options}
+use Rattle.tocmark_options.specs.Options.{default_options}
 use Rattle.tocmark_event.specs.View.{Paragraph, Emphasis, Strong, Strikethrough, Superscript, Subscript, Text, Code, InlineHtml, SoftBreak, HardBreak, Start, End, Leaf}
 use Rattle.tocmark_event.specs.declared.event.TagEnd.TheVariants as end
 use Rattle.tocmark_examples.specs.Script.{text, one, setting, reading_of}

@@ -10,8 +10,8 @@ use Rattle.tocmark_event.specs.declared.event.HeadingLevel.TheVariants as level
 use Rattle.tocmark_event.specs.declared.event.MetadataBlockKind.TheVariants as metadata
 use Rattle.tocmark_event.specs.declared.event.TagEnd.{TagEnd}
 use Rattle.tocmark_event.specs.declared.event.TagEnd.TheVariants as end
-use Rattle.tocmark_event.specs.declared.options.Error.{Error}
-use Rattle.tocmark_event.specs.declared.options.Error.TheVariants as error
+use Rattle.tocmark_options.specs.declared.options.Error.{Error}
+use Rattle.tocmark_options.specs.declared.options.Error.TheVariants as error
 use Rattle.tocmark_spelling.specs.Body.{Trees}
 use Rattle.tocmark_labels.specs.Pending.{closed, nested}
 use Rattle.tocmark_labels.specs.Units.{if_closed, trees_read, trees_of}

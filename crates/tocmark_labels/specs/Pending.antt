@@ -4,8 +4,8 @@ use Rattle.std.specs.Borrow.{Bor}
 use Rattle.tocmark_event.specs.Ends.{same_end}
 use Rattle.tocmark_event.specs.View.{EventView, Start, End, Leaf, SourcedEvent, end_of, unsourced}
 use Rattle.tocmark_event.specs.declared.event.TagEnd.{TagEnd}
-use Rattle.tocmark_event.specs.declared.options.Error.{Error}
-use Rattle.tocmark_event.specs.declared.options.Error.TheVariants as error
+use Rattle.tocmark_options.specs.declared.options.Error.{Error}
+use Rattle.tocmark_options.specs.declared.options.Error.TheVariants as error
 
 -- the open containers after an End, which none but the innermost one's may be
 abbrev pub closed : List TagEnd → TagEnd → Result (List TagEnd) Error

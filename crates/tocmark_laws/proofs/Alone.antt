@@ -2,7 +2,7 @@
 use Rattle.std.proofs.Common.{◌≡◌, List, false, None, refl, ap, ◌∙◌, ℕ}
 use Rattle.std.specs.Prelude.{◌&&◌}
 use Rattle.tocmark_event.specs.Forest.{flat}
-use Rattle.tocmark_event.specs.Options.{OptionsView}
+use Rattle.tocmark_options.specs.Options.{OptionsView}
 use Rattle.tocmark_event.specs.Reading.{ReadingView}
 use Rattle.tocmark_event.specs.declared.event.flags.ParserOptions.{ParserOptions}
 use Rattle.tocmark_spelling.specs.Body.{Trees}
@@ -13,7 +13,7 @@ use Rattle.tocmark_labels.specs.Document.{first_document}
 use Rattle.tocmark_labels.specs.Placeholder.{needs_placeholder}
 use Rattle.tocmark_render.proofs.Chosen.{chosen-unlabelled}
 use Rattle.tocmark_render.proofs.PlainUnits.{choice-unasked}
-use Rattle.tocmark.specs.StateView.{keeping, rendering}
+use Rattle.tocmark_state.specs.StateView.{keeping, rendering}
 
 -- it takes its preferred spelling
 pub alone-chosen : (o : OptionsView) (reading : List ℕ → ParserOptions → ReadingView) (flags : ParserOptions) (f : Trees)

@@ -5,12 +5,12 @@ use Rattle.std.proofs.lemmas.List.{reverse-append}
 use Rattle.std.specs.Prelude.{slice_index}
 use Rattle.std.specs.List.{concat}
 use Rattle.tocmark_event.specs.Forest.{empty, leaf, node, flat, flat_onto}
-use Rattle.tocmark_event.specs.Options.{OptionsView}
+use Rattle.tocmark_options.specs.Options.{OptionsView}
 use Rattle.tocmark_event.specs.Reading.{ReadingView}
 use Rattle.tocmark_event.specs.View.{EventView, Start, End, Leaf, Text, CodeBlock, Fenced, SourcedEvent}
 use Rattle.tocmark_event.specs.declared.event.TagEnd.TheVariants as end
 use Rattle.tocmark_event.specs.declared.event.flags.ParserOptions.{ParserOptions}
-use Rattle.tocmark_event.specs.declared.options.Error.{Error}
+use Rattle.tocmark_options.specs.declared.options.Error.{Error}
 use Rattle.tocmark_spelling.specs.Body.{Trees, joined_by, text_of_leaf, some_leaf}
 use Rattle.tocmark_spelling.specs.Closing.{closing}
 use Rattle.tocmark_spelling.specs.Gap.{gap}
@@ -34,9 +34,9 @@ use Rattle.tocmark_labels.specs.Ending.{last_texts, holds_raw_block}
 use Rattle.tocmark_labels.specs.Placeholder.{whole, needs_placeholder, needs_placeholder_at}
 use Rattle.tocmark.proofs.BlockSpelling.{text_leaf, text_trees, page_of, blank}
 use Rattle.tocmark.proofs.Paragraphs.{laid-plain}
-use Rattle.tocmark.specs.Ranges.{Pair, unranged}
-use Rattle.tocmark.specs.StateView.{keeping, rendering}
-use Rattle.tocmark.specs.Walk.{Walk, Done, done, Kept, Rendering, Standing, beginning, finished_of, go_on, stay, nothing_yet, script, walk, joins, flushed_before, advance, step, ended}
+use Rattle.tocmark_state.specs.Ranges.{Pair, unranged}
+use Rattle.tocmark_state.specs.StateView.{keeping, rendering}
+use Rattle.tocmark_state.specs.Walk.{Walk, Done, done, Kept, Rendering, Standing, beginning, finished_of, go_on, stay, nothing_yet, script, walk, joins, flushed_before, advance, step, ended}
 use Rattle.tocmark_laws.proofs.Alone.{alone-chosen}
 use Rattle.tocmark_laws.proofs.Fences.{fence-is}
 use Rattle.tocmark_laws.specs.CodeBlocks.{IsFence, code_events, code_text, opened_code}

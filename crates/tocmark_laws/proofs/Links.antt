@@ -1,12 +1,12 @@
 -- What is handed for a paragraph with one inline link round one text.
 use Rattle.std.proofs.Common.{◌≡◌, ℕ, List, [], ◌++◌, None, Ok, false, Result, refl, ap, ◌∙◌, codes}
 use Rattle.tocmark_event.specs.Forest.{empty, leaf, node, flat}
-use Rattle.tocmark_event.specs.Options.{OptionsView}
+use Rattle.tocmark_options.specs.Options.{OptionsView}
 use Rattle.tocmark_event.specs.Reading.{ReadingView}
 use Rattle.tocmark_event.specs.View.{Link, Paragraph, Text}
 use Rattle.tocmark_event.specs.declared.event.LinkType.TheVariants as link
 use Rattle.tocmark_event.specs.declared.event.flags.ParserOptions.{ParserOptions}
-use Rattle.tocmark_event.specs.declared.options.Error.{Error}
+use Rattle.tocmark_options.specs.declared.options.Error.{Error}
 use Rattle.tocmark_escape.specs.Destination.{inline_closing}
 use Rattle.tocmark_escape.specs.Escape.{escaped}
 use Rattle.tocmark_spelling.specs.Body.{Trees}
@@ -24,8 +24,8 @@ use Rattle.tocmark_labels.specs.Document.{DocumentView, first_document}
 use Rattle.tocmark_labels.specs.Ending.{last_texts, holds_raw_block}
 use Rattle.tocmark_labels.specs.Placeholder.{needs_placeholder}
 use Rattle.tocmark.proofs.Paragraphs.{laid-plain}
-use Rattle.tocmark.specs.StateView.{keeping, rendering}
-use Rattle.tocmark.specs.Walk.{Walk, Done, done, finished_of, nothing_yet, script, joins, flushed, flushed_before, advance, step, ended}
+use Rattle.tocmark_state.specs.StateView.{keeping, rendering}
+use Rattle.tocmark_state.specs.Walk.{Walk, Done, done, finished_of, nothing_yet, script, joins, flushed, flushed_before, advance, step, ended}
 use Rattle.tocmark_laws.proofs.Alone.{alone-chosen}
 use Rattle.tocmark_laws.specs.Links.{link_events, link_text, one_text_walk, place_in_link}
 

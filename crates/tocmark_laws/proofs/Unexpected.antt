@@ -2,11 +2,11 @@
 use Rattle.std.proofs.Common.{◌≡◌, Bool, true, false, ℕ, Option, Some, None, Ok, Err, List, [], refl, sym, ap, ◌∙◌, subst}
 use Rattle.std.specs.Prelude.{◌&&◌}
 use Rattle.tocmark_event.specs.Forest.{IsBalanced, flat}
-use Rattle.tocmark_event.specs.Options.{OptionsView}
+use Rattle.tocmark_options.specs.Options.{OptionsView}
 use Rattle.tocmark_event.specs.Reading.{ReadingView}
 use Rattle.tocmark_event.specs.View.{EventView, SourcedEvent}
 use Rattle.tocmark_event.specs.declared.event.flags.ParserOptions.{ParserOptions}
-use Rattle.tocmark_event.specs.declared.options.Error.TheVariants.{UnexpectedEvent, Unrepresentable}
+use Rattle.tocmark_options.specs.declared.options.Error.TheVariants.{UnexpectedEvent, Unrepresentable}
 use Rattle.tocmark_spelling.specs.Body.{Trees}
 use Rattle.tocmark_spelling.specs.Page.{Page, Site}
 use Rattle.tocmark_spelling.specs.Plan.{Setting, Manner}
@@ -23,7 +23,7 @@ use Rattle.tocmark_labels.specs.Units.{labelled}
 use Rattle.tocmark_render.specs.Chosen.{choice_of, chosen}
 use Rattle.tocmark_render.specs.Validates.{validates}
 use Rattle.tocmark_labels.proofs.Forests.{trees-flat}
-use Rattle.tocmark.specs.StateView.{keeping, rendering}
+use Rattle.tocmark_state.specs.StateView.{keeping, rendering}
 use Rattle.tocmark_laws.specs.Unexpected.{RefusesMisplaced}
 
 no-page : (o : Option Site) → page_of o ≡ None → o ≡ None

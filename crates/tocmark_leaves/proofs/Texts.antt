@@ -1,7 +1,7 @@
 -- A text of a stretch that is written.
 use Rattle.std.proofs.Common.{◌≡◌, Bool, false, Option, Result, sym, subst}
 use Rattle.std.specs.Prelude.{OnOk, chars, length}
-use Rattle.tocmark_event.specs.Options.{OptionsView}
+use Rattle.tocmark_options.specs.Options.{OptionsView}
 use Rattle.tocmark_event.specs.View.{EventView}
 use Rattle.tocmark_event.specs.declared.event.flags.ParserOptions.{ParserOptions}
 use Rattle.tocmark_spelling.specs.Gap.{gap}

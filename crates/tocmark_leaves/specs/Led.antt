@@ -1,6 +1,6 @@
 -- Where leaves lead.
 use Rattle.std.specs.Prelude.{◌+◌, ◌&&◌, ◌||◌, Bool, if◌then◌else◌, List, Option, Some, ℕ, chars, codes, length, max}
-use Rattle.tocmark_event.specs.Options.{OptionsView}
+use Rattle.tocmark_options.specs.Options.{OptionsView}
 use Rattle.tocmark_event.specs.View.{EventView}
 use Rattle.tocmark_event.specs.declared.event.flags.ParserOptions.{ParserOptions}
 use Rattle.tocmark_escape.specs.Leaves.{code_span}

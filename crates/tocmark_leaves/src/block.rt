@@ -1,7 +1,7 @@
 //! Blocks that are leaves: HTML and thematic breaks.
 
 ghost use Rattle.std.specs.Prelude.{◌≡◌, string_bytes, OnOk};
-ghost use Rattle.tocmark_event.specs.Options.{options_view};
+ghost use Rattle.tocmark_options.specs.Options.{options_view};
 ghost use Rattle.tocmark_event.specs.View.{event_view};
 ghost use Rattle.tocmark_spelling.specs.Gap.{is_inline, is_item_opening};
 ghost use Rattle.tocmark_spelling.specs.Stretch.{html_on};
@@ -10,7 +10,7 @@ ghost use Rattle.tocmark_leaves.specs.Led.{rule_led, rule_text_in, ruled_on, Sta
 
 use std::alloc::AllocError;
 use tocmark_event::event::OwnedEvent;
-use tocmark_event::options::Options;
+use tocmark_options::options::Options;
 use tocmark_renderer::renderer::Renderer;
 use tocmark_spelling::trail::Last;
 

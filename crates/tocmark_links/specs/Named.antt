@@ -1,6 +1,6 @@
 -- For which links and images the id stands in place of the body.
 use Rattle.std.specs.Prelude.{◌≡◌, ℕ, Bool, true, false, Option, List, [], ◌∷◌, ◌&&◌, codes, slice_index_or, drop}
-use Rattle.tocmark_event.specs.Options.{OptionsView}
+use Rattle.tocmark_options.specs.Options.{OptionsView}
 use Rattle.tocmark_event.specs.View.{TagView, Paragraph, Link, Image, SourcedEvent, EventView, Start}
 use Rattle.tocmark_event.specs.declared.event.flags.ParserOptions.{ParserOptions}
 use Rattle.tocmark_spelling.specs.ById.{goes_by_id, is_same_kind}

@@ -5,7 +5,7 @@ ghost use Rattle.std.specs.Str.{IsCharBoundary};
 ghost use Rattle.tocmark_closings.specs.Leads.{is_closed, Closes};
 ghost use Rattle.tocmark_containers.specs.FrameOf.{content_view, level_of};
 ghost use Rattle.tocmark_escape.specs.Destination.{inline_closing};
-ghost use Rattle.tocmark_event.specs.Options.{OptionsView};
+ghost use Rattle.tocmark_options.specs.Options.{OptionsView};
 ghost use Rattle.tocmark_renderer.specs.WriterOf.{sheet_of};
 ghost use Rattle.tocmark_spelling.specs.Closing.{close_inline, close_link, close_reference, close_with_body, close_with_id, closing_of, needs_id};
 

@@ -4,7 +4,7 @@ ghost use Rattle.std.specs.Prelude.{◌≡◌, ◌<◌, ◌-◌, ◌+◌, ◌++�
 ghost use Rattle.std.specs.List.{list_any};
 ghost use Rattle.tocmark_ahead.specs.Ahead.{body_in, is_named_by_id, reads_back};
 ghost use Rattle.tocmark_event.specs.Merged.{merged};
-ghost use Rattle.tocmark_event.specs.Options.{OptionsView};
+ghost use Rattle.tocmark_options.specs.Options.{OptionsView};
 ghost use Rattle.tocmark_event.specs.Text.{text_of};
 ghost use Rattle.tocmark_event.specs.View.{End, SourcedEvent, Start, TagView, end_of, event_view, tag_view, unsourced};
 ghost use Rattle.tocmark_event.specs.declared.event.TagEnd.TheVariants as end;

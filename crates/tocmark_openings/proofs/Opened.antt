@@ -9,7 +9,7 @@ use Rattle.tocmark_spelling.specs.Page.{Content, Plain, Underlined, Fence, HtmlE
 use Rattle.tocmark_spelling.specs.Plan.{Setting, Manner}
 use Rattle.tocmark_spelling.specs.declared.trail.Last.TheVariants.{Other}
 use Rattle.tocmark_spelling.specs.Spelling.{skips_body, is_named}
-use Rattle.tocmark_event.specs.Options.{OptionsView}
+use Rattle.tocmark_options.specs.Options.{OptionsView}
 use Rattle.tocmark_openings.specs.AheadOf.{is_opened}
 
 -- where a container is open, its body is written

@@ -1,7 +1,7 @@
 //! Code blocks, indented and fenced.
 
 ghost use Rattle.std.specs.Prelude.{◌≡◌, codes, if◌then◌else◌, string_bytes, OnOk};
-ghost use Rattle.tocmark_event.specs.Options.{options_view};
+ghost use Rattle.tocmark_options.specs.Options.{options_view};
 ghost use Rattle.tocmark_event.specs.View.{code_view, tag_view, CodeBlock, Fenced, Indented};
 ghost use Rattle.tocmark_openings.specs.AheadOf.{IsRunAhead};
 ghost use Rattle.tocmark_pieces.specs.Texts.{IsLongest};
@@ -16,7 +16,7 @@ use crate::new_line::begin_new_line;
 use std::alloc::{AllocError, Global};
 use tocmark_containers::content::Content;
 use tocmark_event::event::{CodeBlockKindOf, TagOf};
-use tocmark_event::options::Options;
+use tocmark_options::options::Options;
 use tocmark_pieces::fences::{fence, fence_line};
 use tocmark_renderer::job::Job;
 use tocmark_renderer::renderer::Renderer;

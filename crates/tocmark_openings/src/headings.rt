@@ -10,7 +10,7 @@ ghost use Rattle.tocmark_renderer.specs.WriterOf.{levels_of, page_of, Arrives, C
 use std::alloc::{AllocError, Global};
 use tocmark_containers::content::Content;
 use tocmark_event::event::{HeadingLevel, TagOf};
-use tocmark_event::options::Error;
+use tocmark_options::options::Error;
 use tocmark_renderer::renderer::Renderer;
 
 fn heading_mark(level: HeadingLevel) -> &'static str

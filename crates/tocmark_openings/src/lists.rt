@@ -5,7 +5,7 @@ ghost use Rattle.std.specs.Option.{option_map};
 ghost use Rattle.tocmark_ahead.specs.BodyFacts.{IsForeseen};
 ghost use Rattle.tocmark_containers.specs.FrameOf.{content_view};
 ghost use Rattle.tocmark_containers.specs.Nesting.{renumbered};
-ghost use Rattle.tocmark_event.specs.Options.{options_view};
+ghost use Rattle.tocmark_options.specs.Options.{options_view};
 ghost use Rattle.tocmark_event.specs.View.{tag_view, Item, ListOf};
 ghost use Rattle.tocmark_openings.specs.Items.{choice_in, innermost_choice, is_before_code, item_under, marked_item};
 ghost use Rattle.tocmark_pieces.specs.Lists.{IsListPlace, IsMarked};
@@ -22,7 +22,7 @@ use crate::ahead::Ahead;
 use std::alloc::{AllocError, Global};
 use tocmark_containers::content::Content;
 use tocmark_event::event::{OwnedEvent, TagOf};
-use tocmark_event::options::{Error, Options};
+use tocmark_options::options::{Error, Options};
 use tocmark_pieces::lists::{
     ListPlace, Marker, item_marker, item_prefix, label_text, list_token, next_number,
 };

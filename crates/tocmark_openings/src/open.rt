@@ -21,7 +21,7 @@ use crate::quotes::open_quote;
 use crate::tables::{open_cell, open_head};
 use std::alloc::Global;
 use tocmark_event::event::TagOf;
-use tocmark_event::options::Error;
+use tocmark_options::options::Error;
 use tocmark_renderer::job::{Job, Manner};
 use tocmark_renderer::renderer::Renderer;
 use tocmark_spelling::trail::Last;

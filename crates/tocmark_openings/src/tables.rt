@@ -12,7 +12,7 @@ use crate::plain::open_plain;
 use std::alloc::{AllocError, Global};
 use tocmark_containers::content::Content;
 use tocmark_event::event::TagOf;
-use tocmark_event::options::Error;
+use tocmark_options::options::Error;
 use tocmark_renderer::renderer::Renderer;
 use tocmark_spelling::kinds::is_table;
 

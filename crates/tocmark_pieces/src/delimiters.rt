@@ -2,7 +2,7 @@
 
 ghost use Rattle.std.specs.Prelude.{◌≡◌};
 ghost use Rattle.tocmark_event.specs.View.{Superscript, Subscript};
-ghost use Rattle.tocmark_event.specs.Options.{options_view};
+ghost use Rattle.tocmark_options.specs.Options.{options_view};
 ghost use Rattle.tocmark_spelling.specs.Look.{is_preferred};
 ghost use Rattle.tocmark_spelling.specs.Opening.{has_flag, is_uniform, strikethrough_token, open_superscript, open_subscript};
 ghost use Rattle.tocmark_spelling.specs.Page.{Path, Page};
@@ -10,7 +10,7 @@ ghost use Rattle.tocmark_spelling.specs.Plan.{Setting, Manner};
 ghost use Rattle.tocmark_pieces.specs.Delimiters.{IsStruckPlace, opened_between};
 
 use tocmark_event::event::ParserOptions;
-use tocmark_event::options::Options;
+use tocmark_options::options::Options;
 use tocmark_spelling::plan::Layout;
 
 /// What stands before and after the body of a container.

@@ -1,7 +1,7 @@
 //! The fences of code blocks and their info strings.
 
 ghost use Rattle.std.specs.Prelude.{◌≡◌, ◌++◌, ◌<◌, ℕ, List, codes, flat_map, string_bytes, encode_utf8_all, IfOk, OnErr};
-ghost use Rattle.tocmark_event.specs.Options.{options_view};
+ghost use Rattle.tocmark_options.specs.Options.{options_view};
 ghost use Rattle.tocmark_spelling.specs.Page.{Fence};
 ghost use Rattle.tocmark_spelling.specs.Opening.{fence_token, fence_length, fence, info_byte};
 ghost use Rattle.tocmark_spelling.specs.Closing.{fence_closing};
@@ -9,7 +9,7 @@ ghost use Rattle.tocmark_pieces.specs.Texts.{Grows, IsLongest};
 
 use crate::repeated::repeated;
 use std::alloc::{AllocError, Global};
-use tocmark_event::options::Options;
+use tocmark_options::options::Options;
 
 /// The character of a fence: the preferred one, but `~` where that is a backtick and the info string
 /// holds one.

@@ -1,7 +1,7 @@
 //! The markers of lists and items.
 
 ghost use Rattle.std.specs.Prelude.{◌≡◌, if◌then◌else◌, codes, length, replicate, string_bytes, IfOk, []};
-ghost use Rattle.tocmark_event.specs.Options.{options_view};
+ghost use Rattle.tocmark_options.specs.Options.{options_view};
 ghost use Rattle.tocmark_escape.specs.Characters.{space};
 ghost use Rattle.tocmark_spelling.specs.Closing.{list_tail, item_tail};
 ghost use Rattle.tocmark_spelling.specs.Opening.{is_number, changed_token, continues_list, first_token, list_token, number_text, item_marker, next_number, label_text};
@@ -12,7 +12,7 @@ ghost use Rattle.tocmark_pieces.specs.Lists.{IsListPlace, IsMarked};
 
 use crate::repeated::spaces;
 use std::alloc::{AllocError, Global};
-use tocmark_event::options::Options;
+use tocmark_options::options::Options;
 use tocmark_spelling::trail::{Last, LastList, Tail};
 
 /// What the written text and the open containers say of the place where a list begins.

@@ -8,10 +8,10 @@ use tocmark_ahead::token_runs::{longest_at, token_runs};
 use tocmark_event::event::{
     Alignment, CodeBlockKindOf, EventOf, OwnedEvent, ParserOptions, TagEnd, TagOf,
 };
-use tocmark_event::options::Options;
 use tocmark_event::reader::{Reader, Reading};
 use tocmark_marker::facts::{Node, Parent, Place, Run};
 use tocmark_marker::marker::marker;
+use tocmark_options::options::Options;
 use tocmark_pieces::delimiters::{strikethrough_token, superscript};
 use tocmark_pieces::fences::{fence, fence_line};
 use tocmark_pieces::headings::attributes_text;

@@ -6,7 +6,7 @@ use Rattle.std.proofs.Math.ListN.{set}
 use Rattle.std.proofs.lemmas.Bool.{cases_lt, false≢true, eqb-true, eqb-false, not_from_false}
 use Rattle.std.proofs.lemmas.List.{drop_all}
 use Rattle.tocmark_escape.specs.Characters.{backtick}
-use Rattle.tocmark_event.specs.Options.{OptionsView}
+use Rattle.tocmark_options.specs.Options.{OptionsView}
 use Rattle.tocmark_event.specs.View.{TagView, CodeBlock, HtmlBlock, Indented, Fenced, SourcedEvent, Start, End, Leaf, Paragraph, Heading, BlockQuote, ListOf, Item, FootnoteDefinition, DefinitionList, DefinitionListTitle, DefinitionListDefinition, Table, TableHead, TableRow, TableCell, Emphasis, Strong, Strikethrough, Superscript, Subscript, Link, Image, MetadataBlock}
 use Rattle.tocmark_ahead.specs.TokenRuns.{no_runs, AreRuns}
 use Rattle.tocmark_ahead.specs.declared.token_runs.TokenRuns.{TokenRuns}

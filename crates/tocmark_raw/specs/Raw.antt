@@ -3,7 +3,7 @@ use Rattle.std.specs.Prelude.{◌≡◌, ℕ, ◌==◌, Bool, false, not, if◌t
 use Rattle.tocmark_ahead.specs.TokenRuns.{no_runs}
 use Rattle.tocmark_ahead.specs.declared.token_runs.TokenRuns.{TokenRuns}
 use Rattle.tocmark_escape.specs.Leaves.{longest_run}
-use Rattle.tocmark_event.specs.Options.{OptionsView}
+use Rattle.tocmark_options.specs.Options.{OptionsView}
 use Rattle.tocmark_event.specs.View.{TagView, CodeBlock, HtmlBlock, Fenced, SourcedEvent, Start}
 use Rattle.tocmark_spelling.specs.Body.{Trees, first_html, html_of_leaf, joined_by, text_of_leaf}
 use Rattle.tocmark_spelling.specs.Html.{is_blank_terminated, is_html_closed}

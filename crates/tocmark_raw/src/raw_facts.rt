@@ -2,7 +2,7 @@
 
 ghost use Rattle.std.specs.Prelude.{◌≡◌, IfOk, map, slice_index_or, string_bytes};
 ghost use Rattle.std.specs.List.{list_any};
-ghost use Rattle.tocmark_event.specs.Options.{options_view};
+ghost use Rattle.tocmark_options.specs.Options.{options_view};
 ghost use Rattle.tocmark_event.specs.View.{code_view, tag_view, CodeBlock};
 ghost use Rattle.tocmark_spelling.specs.Buffered.{buffered_view};
 ghost use Rattle.tocmark_raw.specs.Html.{AreHtml};
@@ -14,7 +14,7 @@ use crate::kinds::kinds_in;
 use std::alloc::{AllocError, Global};
 use tocmark_ahead::token_runs::{TokenRuns, longest_at, token_runs};
 use tocmark_event::event::{CodeBlockKindOf, EventOf, TagOf};
-use tocmark_event::options::Options;
+use tocmark_options::options::Options;
 use tocmark_pieces::fences::fence_token;
 use tocmark_spelling::buffered::BufferedEvent;
 

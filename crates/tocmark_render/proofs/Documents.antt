@@ -5,7 +5,7 @@ use Rattle.std.specs.List.{list_any}
 use Rattle.std.proofs.lemmas.Bool.{false≢true, true≢false}
 use Rattle.tocmark_event.specs.Forest.{empty, leaf, node, flat, flat_onto}
 use Rattle.tocmark_event.specs.View.{EventView, SourcedEvent, End, end_of}
-use Rattle.tocmark_event.specs.declared.options.Error.TheVariants as error
+use Rattle.tocmark_options.specs.declared.options.Error.TheVariants as error
 use Rattle.tocmark_spelling.specs.Body.{Trees, some_leaf}
 use Rattle.tocmark_spelling.specs.Page.{Page, Site}
 use Rattle.tocmark_spelling.specs.Plan.{Setting}

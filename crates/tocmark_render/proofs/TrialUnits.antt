@@ -9,8 +9,8 @@ use Rattle.tocmark_event.specs.Merged.{merged}
 use Rattle.tocmark_event.specs.Reading.{ReadingView}
 use Rattle.tocmark_event.specs.View.{SourcedEvent, unsourced}
 use Rattle.tocmark_event.specs.declared.event.flags.ParserOptions.{ParserOptions}
-use Rattle.tocmark_event.specs.declared.options.Error.{Error}
-use Rattle.tocmark_event.specs.declared.options.Error.TheVariants as error
+use Rattle.tocmark_options.specs.declared.options.Error.{Error}
+use Rattle.tocmark_options.specs.declared.options.Error.TheVariants as error
 use Rattle.tocmark_spelling.specs.Body.{Trees}
 use Rattle.tocmark_spelling.specs.Page.{Page, Site}
 use Rattle.tocmark_spelling.specs.Plan.{Manner}

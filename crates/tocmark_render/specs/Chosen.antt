@@ -1,7 +1,7 @@
 -- The choice for a unit that is given as its events.
 use Rattle.std.specs.Prelude.{Option, Some, None, Err, List}
 use Rattle.tocmark_event.specs.View.{EventView, SourcedEvent}
-use Rattle.tocmark_event.specs.declared.options.Error.TheVariants.{UnexpectedEvent}
+use Rattle.tocmark_options.specs.declared.options.Error.TheVariants.{UnexpectedEvent}
 use Rattle.tocmark_spelling.specs.Plan.{Setting}
 use Rattle.tocmark_spelling.specs.Body.{Trees}
 use Rattle.tocmark_labels.specs.Document.{DocumentView}

@@ -5,11 +5,11 @@ use Rattle.std.specs.List.{AllByRecursion}
 use Rattle.indexmap.specs.IndexSet.{IndexSet}
 use Rattle.tocmark_emphasis.specs.Low.{chooses_bytes}
 use Rattle.tocmark_event.specs.Forest.{empty}
-use Rattle.tocmark_event.specs.Options.{OptionsView, options_view}
+use Rattle.tocmark_options.specs.Options.{OptionsView, options_view}
 use Rattle.tocmark_event.specs.Reading.{ReadingView}
 use Rattle.tocmark_event.specs.View.{SourcedEvent}
 use Rattle.tocmark_event.specs.declared.event.flags.ParserOptions.{ParserOptions}
-use Rattle.tocmark_event.specs.declared.options.Error.{Error}
+use Rattle.tocmark_options.specs.declared.options.Error.{Error}
 use Rattle.tocmark_spelling.specs.Body.{Trees}
 use Rattle.tocmark_spelling.specs.Buffered.{buffered_view, following_view}
 use Rattle.tocmark_spelling.specs.Page.{Page, Site}

@@ -2,7 +2,7 @@
 
 ghost use Rattle.std.specs.Prelude.{◌≡◌, ◌∷◌, ◌==◌, ℕ, List, [], string_bytes, IfOk, IfSome, OnErr, OnOk, map, option_map, is_some, None, true};
 ghost use Rattle.std.specs.List.{list_any};
-ghost use Rattle.tocmark_event.specs.Options.{options_view};
+ghost use Rattle.tocmark_options.specs.Options.{options_view};
 ghost use Rattle.tocmark_event.specs.Reading.{ReadingView};
 ghost use Rattle.tocmark_spelling.specs.Buffered.{buffered_view, following_view, next_view};
 ghost use Rattle.tocmark_spelling.specs.Plan.{Setting};
@@ -25,7 +25,6 @@ use crate::trial::{Refused, Trial, likely_len, write};
 use std::alloc::{AllocError, Global};
 use std::mem;
 use tocmark_event::event::{Event, EventOf, OwnedEvent, ParserOptions};
-use tocmark_event::options::{Error, Options};
 use tocmark_event::reader::Reader;
 use tocmark_labels::definitions::{copied_references, definitions_text};
 use tocmark_labels::labels::Labels;
@@ -33,6 +32,7 @@ use tocmark_labels::pending::Pending;
 use tocmark_labels::placeholder::needs_list_placeholder;
 use tocmark_labels::reserved_label::reserve_list_label;
 use tocmark_labels::taken::Taken;
+use tocmark_options::options::{Error, Options};
 use tocmark_renderer::job::Manner;
 use tocmark_renderer::parts::{Parts, Reference};
 use tocmark_renderer::renderer::Renderer;

@@ -1,7 +1,7 @@
 //! The manners in which a unit may be written.
 
 ghost use Rattle.std.specs.Prelude.{◌≡◌, ◌++◌, ℕ, List, map, false, true, IfOk, OnOk, flat_map};
-ghost use Rattle.tocmark_event.specs.Options.{options_view};
+ghost use Rattle.tocmark_options.specs.Options.{options_view};
 ghost use Rattle.tocmark_renderer.specs.JobOf.{manner_view};
 ghost use Rattle.tocmark_spelling.specs.declared.plan.Layout.TheVariants as layout;
 ghost use Rattle.tocmark_spelling.specs.declared.plan.TextSpelling.TheVariants as text_spelling;
@@ -10,7 +10,7 @@ ghost use Rattle.tocmark_render.specs.Choice.{has_standard_markers};
 ghost use Rattle.tocmark_render.specs.Tries.{manners_for, plan_view, run_manners};
 
 use std::alloc::{AllocError, Global};
-use tocmark_event::options::Options;
+use tocmark_options::options::Options;
 use tocmark_renderer::job::Manner;
 use tocmark_spelling::plan::{Delimiters, Layout, TextSpelling};
 

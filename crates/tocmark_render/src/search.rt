@@ -2,7 +2,7 @@
 
 ghost use Rattle.std.specs.Prelude.{◌≡◌, None, flat_map, map, true, IfOk, OnOk};
 ghost use Rattle.std.specs.List.{AllByRecursion, list_any};
-ghost use Rattle.tocmark_event.specs.Options.{options_view};
+ghost use Rattle.tocmark_options.specs.Options.{options_view};
 ghost use Rattle.tocmark_spelling.specs.Buffered.{buffered_view};
 ghost use Rattle.tocmark_renderer.specs.JobOf.{manner_view};
 ghost use Rattle.tocmark_renderer.specs.WriterOf.{site_of};
@@ -22,8 +22,8 @@ use crate::read_back::ReadBack;
 use crate::trial::{Refused, Trial, write_preferred};
 use indexmap::IndexSet;
 use tocmark_event::event::{EventOf, ParserOptions, TagOf};
-use tocmark_event::options::{Error, Options};
 use tocmark_event::reader::Reader;
+use tocmark_options::options::{Error, Options};
 use tocmark_renderer::job::Manner;
 use tocmark_renderer::renderer::Renderer;
 use tocmark_spelling::buffered::BufferedEvent;

@@ -4,8 +4,8 @@ use Rattle.std.specs.Option.{option_map}
 use Rattle.tocmark_event.specs.View.{EventView}
 use Rattle.tocmark_spelling.specs.Marker.{ends_delimiter}
 use Rattle.tocmark_spelling.specs.Stretch.{both}
-use Rattle.tocmark_event.specs.declared.options.Error.{Error}
-use Rattle.tocmark_event.specs.declared.options.Error.TheVariants as error
+use Rattle.tocmark_options.specs.declared.options.Error.{Error}
+use Rattle.tocmark_options.specs.declared.options.Error.TheVariants as error
 use Rattle.tocmark_spelling.specs.Page as page
 use Rattle.tocmark_spelling.specs.Page.{Sheet, Trail, Path, Page, Site, prefix_of}
 use Rattle.tocmark_renderer.specs.declared.parts.Reference.{Reference}

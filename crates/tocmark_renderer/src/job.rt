@@ -2,7 +2,7 @@
 
 use std::alloc::Global;
 use tocmark_event::event::ParserOptions;
-use tocmark_event::options::Options;
+use tocmark_options::options::Options;
 use tocmark_spelling::plan::Delimiters;
 
 /// What is the same for all spellings of a unit.

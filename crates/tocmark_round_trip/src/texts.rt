@@ -1,12 +1,13 @@
 //! Texts, each as a JSON string on a line of its own, that are written back and read again.
 //!
-//! A text that doesn't come back as the same events is told by its number, with what is wrong; the last line
-//! says how many come back. Empty lines and those that begin with `#` say nothing.
+//! A text that doesn't come back as the same events is told by its number, with what is wrong. A line `%` ends a
+//! list of texts; behind each list, and the last one, stands how many of its texts come back. Empty lines and those that
+//! begin with `#` say nothing.
 
-use crate::{are_read_alike, rewritten};
+use crate::rewriting::{are_read_alike, rewritten};
 use serde_json::Value;
 use std::alloc::Global;
-use std::io::{self, ErrorKind, Read, Write};
+use std::io::{self, ErrorKind, Write};
 
 /// The text of a JSON string.
 fn text_of(alloc: Global, line: &str) -> io::Result<String> {
@@ -41,32 +42,41 @@ fn comes_back<W: Write>(
     Ok(is_same)
 }
 
-/// Takes each line in turn, and says at the end how many texts come back.
-fn answer_all<W: Write>(alloc: Global, output: &mut W, lines: &str) -> io::Result<()> {
-    let mut texts = 0usize;
-    let mut same = 0usize;
-    for line in lines.split('\n') {
-        if !line.is_empty() && !line.starts_with('#') {
-            texts = texts.saturating_add(1);
-            let text = text_of(alloc, line)?;
-            if comes_back(alloc, output, texts, text.as_str())? {
-                same = same.saturating_add(1);
-            }
-        }
-    }
+/// How many texts a list had so far, and how many of them came back.
+#[derive(Clone, Copy)]
+struct Counts {
+    texts: usize,
+    same: usize,
+}
+
+const NONE: Counts = Counts { texts: 0, same: 0 };
+
+fn write_counts<W: Write>(output: &mut W, counts: Counts) -> io::Result<()> {
+    let Counts { texts, same } = counts;
     writeln!(
         output,
         "{same} of {texts} texts come back as the same events"
     )
 }
 
-/// Reads all the lines, and writes a line for each text that doesn't come back and the last one.
+/// Takes each line in turn, and says behind each list how many of its texts come back.
 ///
 /// # Errors
 ///
-/// `InvalidData` at a line that is no JSON string, and the error of the input, of the output or of memory.
-pub fn run<R: Read, W: Write>(alloc: Global, input: &mut R, output: &mut W) -> io::Result<()> {
-    let mut lines = String::new(alloc);
-    input.read_to_string(&mut lines)?;
-    answer_all(alloc, output, lines.as_str())
+/// `InvalidData` at a line that is no JSON string, and the error of the output or of memory.
+pub fn answer_lists<W: Write>(alloc: Global, output: &mut W, lines: &str) -> io::Result<()> {
+    let mut counts = NONE;
+    for line in lines.split('\n') {
+        if line == "%" {
+            write_counts(output, counts)?;
+            counts = NONE;
+        } else if !line.is_empty() && !line.starts_with('#') {
+            counts.texts = counts.texts.saturating_add(1);
+            let text = text_of(alloc, line)?;
+            if comes_back(alloc, output, counts.texts, text.as_str())? {
+                counts.same = counts.same.saturating_add(1);
+            }
+        }
+    }
+    write_counts(output, counts)
 }

@@ -24,7 +24,7 @@ pub struct Batch {
 }
 
 /// The answer of a whole script.
-fn answer(alloc: Global, script: &Script<'_>) -> Result<String, AllocError> {
+fn answer(alloc: Global, script: &Script<'static>) -> Result<String, AllocError> {
     if !script.questions.is_empty() {
         return answers(alloc, script);
     }

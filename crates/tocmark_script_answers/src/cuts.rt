@@ -22,7 +22,7 @@ impl Cuts {
 }
 
 /// The answer where the events are cut in two.
-fn in_two(alloc: Global, script: &Script<'_>, place: usize) -> Result<String, AllocError> {
+fn in_two(alloc: Global, script: &Script<'static>, place: usize) -> Result<String, AllocError> {
     let end = script.events.len();
     let front = Call::Process {
         start: 0,
@@ -33,7 +33,7 @@ fn in_two(alloc: Global, script: &Script<'_>, place: usize) -> Result<String, Al
 }
 
 /// The answer where each call but the last takes so many events.
-fn in_parts(alloc: Global, script: &Script<'_>, size: usize) -> Result<String, AllocError> {
+fn in_parts(alloc: Global, script: &Script<'static>, size: usize) -> Result<String, AllocError> {
     let events = script.events.len();
     let size = size.max(1);
     let mut calls = Vec::new(alloc);
@@ -52,7 +52,7 @@ fn in_parts(alloc: Global, script: &Script<'_>, size: usize) -> Result<String, A
 pub fn write_cuts(
     alloc: Global,
     answer: &mut String,
-    script: &Script<'_>,
+    script: &Script<'static>,
 ) -> Result<(), AllocError> {
     let events = script.events.len();
     let whole = in_parts(alloc, script, events)?;

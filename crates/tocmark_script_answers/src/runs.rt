@@ -10,7 +10,7 @@ use tocmark_script_reader::readers::{CountedReader, ScriptReader};
 use tocmark_script_words::string::Quoted;
 
 /// The reader of one run.
-type RunReader<'r, 's> = CountedReader<'r, ScriptReader<'s>>;
+type RunReader<'r> = CountedReader<'r, ScriptReader<'static>>;
 
 /// Writes each text that it takes as a line of an answer, and refuses one.
 #[derive(Drop)]
@@ -49,8 +49,8 @@ fn call_name(call: Call) -> &'static str {
 
 /// Takes these events, with their ranges where there is a source.
 fn process(
-    state: &mut State<&RunReader<'_, '_>>,
-    events: &[RangedEvent<'_>],
+    state: &mut State<&RunReader<'_>>,
+    events: &[RangedEvent<'static>],
     source: &Option<String>,
     tape: &mut Tape,
 ) -> Result<Progress, Error> {
@@ -63,7 +63,7 @@ fn process(
 }
 
 /// Puts a clone of the state in its place.
-fn go_on_with_clone(state: &mut State<&RunReader<'_, '_>>) -> Result<Progress, Error> {
+fn go_on_with_clone(state: &mut State<&RunReader<'_>>) -> Result<Progress, Error> {
     match state.clone() {
         Ok(copy) => {
             *state = copy;
@@ -75,8 +75,8 @@ fn go_on_with_clone(state: &mut State<&RunReader<'_, '_>>) -> Result<Progress, E
 
 /// Makes one call.
 fn make(
-    state: &mut State<&RunReader<'_, '_>>,
-    script: &Script<'_>,
+    state: &mut State<&RunReader<'_>>,
+    script: &Script<'static>,
     call: Call,
     tape: &mut Tape,
 ) -> Result<Progress, Error> {
@@ -106,8 +106,8 @@ fn write_outcome(answer: &mut String, outcome: &Result<Progress, Error>) -> Resu
 
 /// Makes all calls, and writes a line for each.
 fn run_in_calls(
-    state: &mut State<&RunReader<'_, '_>>,
-    script: &Script<'_>,
+    state: &mut State<&RunReader<'_>>,
+    script: &Script<'static>,
     calls: &[Call],
     tape: &mut Tape,
 ) -> Result<(), AllocError> {
@@ -122,8 +122,8 @@ fn run_in_calls(
 
 /// Makes the calls up to the first error, and returns the sums of their counts.
 fn run_whole(
-    state: &mut State<&RunReader<'_, '_>>,
-    script: &Script<'_>,
+    state: &mut State<&RunReader<'_>>,
+    script: &Script<'static>,
     calls: &[Call],
     tape: &mut Tape,
 ) -> Result<Progress, Error> {
@@ -142,7 +142,7 @@ fn run_whole(
 /// one at the end. An `Err` says that memory ran out for the answer.
 pub fn run(
     alloc: Global,
-    script: &Script<'_>,
+    script: &Script<'static>,
     calls: &[Call],
     shows_calls: bool,
 ) -> Result<String, AllocError> {

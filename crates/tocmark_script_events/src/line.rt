@@ -218,7 +218,7 @@ fn write_leaf<W: fmt::Write>(
 
 /// An event, which `{}` writes as a line without a range.
 #[derive(Clone, Copy)]
-pub struct EventLine<'a>(pub &'a Event<'a>);
+pub struct EventLine<'a>(pub &'a Event<'static>);
 
 impl fmt::Display for EventLine<'_> {
     fn fmt<W: fmt::Write>(&self, f: &mut fmt::Formatter<W>) -> fmt::Result {

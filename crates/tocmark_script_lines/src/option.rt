@@ -1,7 +1,7 @@
 //! The options of a script.
 
 use std::alloc::Global;
-use tocmark_event::options::Options;
+use tocmark_options::options::Options;
 use tocmark_script_events::tag::truth;
 use tocmark_script_words::cursor::Cursor;
 use tocmark_script_words::fault::LineFault;

@@ -3,7 +3,7 @@
 use crate::option::{OptionSetting, set_option};
 use std::alloc::Global;
 use tocmark_event::event::{LinkType, ParserOptions};
-use tocmark_event::options::Options;
+use tocmark_options::options::Options;
 use tocmark_script_events::event::RangedEvent;
 use tocmark_script_reader::readers::ScriptReader;
 

@@ -2,13 +2,16 @@
 
 use std::alloc::{AllocError, Global};
 use tocmark::calculate_code_block_token_count;
-use tocmark::event::{CowStr, Event, EventOf, OwnedEvent, Tag, merge_all, merge_texts};
+use tocmark::event::{CowStr, Event, EventOf, OwnedEvent, merge_all, merge_texts};
 use tocmark_ahead::same_events::same_event;
 use tocmark_script_events::event::{Events, RangedEvent};
 use tocmark_script_events::line::EventLine;
 use tocmark_script_lines::script::EventsQuestion;
 
-fn write_token_count(answer: &mut String, events: &[RangedEvent<'_>]) -> Result<(), AllocError> {
+fn write_token_count(
+    answer: &mut String,
+    events: &[RangedEvent<'static>],
+) -> Result<(), AllocError> {
     match calculate_code_block_token_count(Events(events.iter())) {
         None => writeln!(answer, "None"),
         Some(count) => writeln!(answer, "Some({count})"),
@@ -17,7 +20,7 @@ fn write_token_count(answer: &mut String, events: &[RangedEvent<'_>]) -> Result<
 
 fn write_line(
     answer: &mut String,
-    event: &Event<'_>,
+    event: &Event<'static>,
     range: Option<(usize, usize)>,
 ) -> Result<(), AllocError> {
     let line = EventLine(event);
@@ -27,7 +30,7 @@ fn write_line(
     }
 }
 
-fn write_lines(answer: &mut String, events: &[RangedEvent<'_>]) -> Result<(), AllocError> {
+fn write_lines(answer: &mut String, events: &[RangedEvent<'static>]) -> Result<(), AllocError> {
     for (event, range) in events {
         write_line(answer, event, *range)?;
     }
@@ -35,7 +38,10 @@ fn write_lines(answer: &mut String, events: &[RangedEvent<'_>]) -> Result<(), Al
 }
 
 /// Copies of the events, without what stands beside them.
-fn plain<R>(alloc: Global, events: &[(Event<'_>, R)]) -> Result<Vec<Event<'static>>, AllocError> {
+fn plain<R>(
+    alloc: Global,
+    events: &[(Event<'static>, R)],
+) -> Result<Vec<Event<'static>>, AllocError> {
     let mut plain = Vec::new(alloc);
     for (event, _) in events {
         plain.push(event.to_static(alloc)?)?;
@@ -46,7 +52,7 @@ fn plain<R>(alloc: Global, events: &[(Event<'_>, R)]) -> Result<Vec<Event<'stati
 /// The events, with each stretch of texts as one.
 pub fn merged<R>(
     alloc: Global,
-    events: &[(Event<'_>, R)],
+    events: &[(Event<'static>, R)],
 ) -> Result<Vec<Event<'static>>, AllocError> {
     merge_texts(alloc, &plain(alloc, events)?)
 }
@@ -55,7 +61,7 @@ pub fn merged<R>(
 fn write_merged(
     alloc: Global,
     answer: &mut String,
-    events: &[RangedEvent<'_>],
+    events: &[RangedEvent<'static>],
 ) -> Result<(), AllocError> {
     for event in &merged(alloc, events)? {
         write_line(answer, event, None)?;
@@ -66,57 +72,41 @@ fn write_merged(
 }
 
 /// Whether a text is equal to its copy, lent and owned.
-fn text_has_copies(alloc: Global, text: &CowStr<'_>) -> Result<bool, AllocError> {
+fn text_has_copies(alloc: Global, text: &CowStr<'static>) -> Result<bool, AllocError> {
     let lent = CowStr::Borrowed(text.as_str());
     let copy = CowStr::Owned(String::from_str(alloc, text.as_str())?);
     let again = copy.clone()?;
     Ok(again == lent)
 }
 
-fn tag_has_copy(alloc: Global, tag: &Tag<'_>) -> Result<bool, AllocError> {
-    let copy: Tag<'static> = tag.copied(alloc)?;
-    Ok(copy == *tag)
+fn is_copy<T: PartialEq + Drop>(copy: T, original: &T) -> bool {
+    copy == *original
 }
 
 /// Whether the tag or the text of an event is equal to its copies.
-fn part_has_copies(alloc: Global, event: &Event<'_>) -> Result<bool, AllocError> {
+fn part_has_copies(alloc: Global, event: &Event<'static>) -> Result<bool, AllocError> {
     match event {
-        EventOf::Start(tag) => tag_has_copy(alloc, tag),
+        EventOf::Start(tag) => Ok(is_copy(tag.copied(alloc)?, tag)),
         EventOf::Text(text) => text_has_copies(alloc, text),
         _ => Ok(true),
     }
 }
 
-fn has_static_copy(alloc: Global, event: &Event<'_>) -> Result<bool, AllocError> {
-    let copy = event.to_static(alloc)?;
-    Ok(copy == *event)
-}
-
-fn has_clone(event: &Event<'_>) -> Result<bool, AllocError> {
-    let copy = event.clone()?;
-    Ok(copy == *event)
-}
-
-fn has_copy_of(alloc: Global, owned: &OwnedEvent, event: &Event<'_>) -> Result<bool, AllocError> {
-    let copy: Event<'static> = owned.copied(alloc)?;
-    Ok(copy == *event)
-}
-
-fn has_owned_copy(alloc: Global, event: &Event<'_>) -> Result<bool, AllocError> {
+fn has_owned_copy(alloc: Global, event: &Event<'static>) -> Result<bool, AllocError> {
     let owned: OwnedEvent = event.copied(alloc)?;
-    has_copy_of(alloc, &owned, event)
+    Ok(is_copy(owned.copied(alloc)?, event))
 }
 
 /// Whether an event is equal to each of its copies.
-fn has_copies(alloc: Global, event: &Event<'_>) -> Result<bool, AllocError> {
-    let is_copied = has_static_copy(alloc, event)? && has_owned_copy(alloc, event)?;
-    Ok(is_copied && has_clone(event)? && part_has_copies(alloc, event)?)
+fn has_copies(alloc: Global, event: &Event<'static>) -> Result<bool, AllocError> {
+    let is_copied = is_copy(event.to_static(alloc)?, event) && is_copy(event.clone()?, event);
+    Ok(is_copied && has_owned_copy(alloc, event)? && part_has_copies(alloc, event)?)
 }
 
 fn write_copies(
     alloc: Global,
     answer: &mut String,
-    events: &[RangedEvent<'_>],
+    events: &[RangedEvent<'static>],
 ) -> Result<(), AllocError> {
     let all = events.len();
     let mut same = 0usize;
@@ -129,7 +119,7 @@ fn write_copies(
 }
 
 /// How many of these events are the same as this one.
-fn same_as(event: &Event<'_>, events: &[RangedEvent<'_>]) -> usize {
+fn same_as(event: &Event<'static>, events: &[RangedEvent<'static>]) -> usize {
     let mut same = 0usize;
     for (other, _) in events {
         if same_event(event, other) {
@@ -139,7 +129,7 @@ fn same_as(event: &Event<'_>, events: &[RangedEvent<'_>]) -> usize {
     same
 }
 
-fn write_same(answer: &mut String, events: &[RangedEvent<'_>]) -> Result<(), AllocError> {
+fn write_same(answer: &mut String, events: &[RangedEvent<'static>]) -> Result<(), AllocError> {
     let mut pairs = 0usize;
     for (event, _) in events {
         pairs = pairs.saturating_add(same_as(event, events));
@@ -152,7 +142,7 @@ pub fn write_events_answer(
     alloc: Global,
     answer: &mut String,
     question: EventsQuestion,
-    events: &[RangedEvent<'_>],
+    events: &[RangedEvent<'static>],
 ) -> Result<(), AllocError> {
     match question {
         EventsQuestion::CountTokens => write_token_count(answer, events),

@@ -62,7 +62,7 @@ fn write_shown<T: fmt::Display>(
 fn write_validation(
     alloc: Global,
     answer: &mut String,
-    script: &Script<'_>,
+    script: &Script<'static>,
 ) -> Result<(), AllocError> {
     match script.options().validate(script.flags) {
         Ok(()) => writeln!(answer, "Ok"),
@@ -79,7 +79,7 @@ fn write_validation(
 fn write_special_characters(
     alloc: Global,
     answer: &mut String,
-    script: &Script<'_>,
+    script: &Script<'static>,
 ) -> Result<(), AllocError> {
     let text = script.options().special_characters(alloc)?;
     write_text(answer, text.as_str())
@@ -159,7 +159,7 @@ fn write_count(alloc: Global, answer: &mut String, reading: &Reading) -> Result<
 /// Writes the events of a reading.
 fn write_events(
     alloc: Global,
-    script: &Script<'_>,
+    script: &Script<'static>,
     reading: &Reading,
     output: &mut String,
 ) -> Result<State<CoreReader>, Error> {
@@ -174,7 +174,7 @@ fn write_events(
 /// Writes the events of a text's reading, with their ranges in the text.
 fn write_ranged_events(
     alloc: Global,
-    script: &Script<'_>,
+    script: &Script<'static>,
     text: &str,
     reading: &Reading,
     output: &mut String,
@@ -191,7 +191,7 @@ fn write_ranged_events(
 /// A text, read and written back, with ranges in it or without.
 fn rewritten(
     alloc: Global,
-    script: &Script<'_>,
+    script: &Script<'static>,
     text: &str,
     has_source: bool,
 ) -> Result<String, Error> {
@@ -211,7 +211,7 @@ fn rewritten(
 fn write_rewritten(
     alloc: Global,
     answer: &mut String,
-    script: &Script<'_>,
+    script: &Script<'static>,
     text: &str,
     has_source: bool,
 ) -> Result<(), AllocError> {
@@ -224,14 +224,14 @@ fn write_rewritten(
     }
 }
 
-fn read(alloc: Global, script: &Script<'_>, text: &str) -> Result<Reading, AllocError> {
+fn read(alloc: Global, script: &Script<'static>, text: &str) -> Result<Reading, AllocError> {
     CoreReader.read(alloc, text, script.flags)
 }
 
 fn write_answer(
     alloc: Global,
     answer: &mut String,
-    script: &Script<'_>,
+    script: &Script<'static>,
     question: &Question,
 ) -> Result<(), AllocError> {
     match question {
@@ -274,7 +274,7 @@ fn write_answer(
 }
 
 /// The answers to the questions of a script, in their order. An `Err` says that memory ran out.
-pub fn answers(alloc: Global, script: &Script<'_>) -> Result<String, AllocError> {
+pub fn answers(alloc: Global, script: &Script<'static>) -> Result<String, AllocError> {
     let mut answer = String::new(alloc);
     for question in &script.questions {
         write_answer(alloc, &mut answer, script, question)?;

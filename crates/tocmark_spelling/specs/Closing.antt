@@ -1,7 +1,7 @@
 -- What each container's closing writes, and what it leaves to the container's right neighbour.
 use Rattle.std.specs.Prelude.{ℕ, ◌+◌, ◌-◌, Bool, true, false, not, ◌&&◌, ◌==◌, if◌then◌else◌, nat_lt, Option, Some, None, is_some, List, [], ◌∷◌, ◌++◌, length, max, replicate, flat_map, drop, codes}
 use Rattle.tocmark_event.specs.View.{TagView, Paragraph, Heading, BlockQuote, CodeBlock, HtmlBlock, ListOf, Item, Table, TableHead, TableRow, TableCell, DefinitionList, DefinitionListTitle, DefinitionListDefinition, Emphasis, Strong, Strikethrough, Superscript, Subscript, Link, Image, MetadataBlock, end_of}
-use Rattle.tocmark_event.specs.Options.{OptionsView}
+use Rattle.tocmark_options.specs.Options.{OptionsView}
 use Rattle.tocmark_event.specs.declared.event.Alignment.{Alignment}
 use Rattle.tocmark_event.specs.declared.event.Alignment.TheVariants as alignment
 use Rattle.tocmark_event.specs.declared.event.HeadingLevel.{HeadingLevel}

@@ -1,7 +1,7 @@
 //! Each row is written in each manner by one renderer that goes back, and by renderers of their own.
 //!
-//! Standard input has rows, which are the scripts of `tocmark_script`, `tocmark_script_delimiters` and
-//! `tocmark_script_faults`, one behind the other. Each one's events are cut into units. For a unit there is
+//! Standard input has rows, which are the scripts of `tocmark_script` and `tocmark_script_rows`, one
+//! behind the other. Each one's events are cut into units. For a unit there is
 //! one renderer, which writes it in each manner in which units are tried, in order, and in the first one
 //! again, each time behind a mark, and goes back. The mark stands before the unit, and then, for another
 //! renderer, behind its first event: there the container that this event opens is open, and some text, a

@@ -8,7 +8,7 @@ use crate::report::{Place, Report};
 use crate::unit::{Outcome, Unit, write};
 use std::alloc::{AllocError, Global};
 use tocmark_event::event::OwnedEvent;
-use tocmark_event::options::Options;
+use tocmark_options::options::Options;
 use tocmark_render::candidates;
 use tocmark_renderer::job::Manner;
 use tocmark_renderer::parts::Parts;

@@ -6,7 +6,7 @@ ghost use Rattle.tocmark_emphasis.specs.Low.{AsksLow};
 use std::alloc::Global;
 use tocmark_core_reader::CoreReader;
 use tocmark_event::event::{OwnedEvent, ParserOptions};
-use tocmark_event::options::{Error, Options};
+use tocmark_options::options::{Error, Options};
 use tocmark_renderer::job::{Job, Manner};
 use tocmark_renderer::renderer::Renderer;
 use tocmark_spelling::buffered::BufferedEvent;

@@ -5,11 +5,11 @@ use Rattle.std.proofs.lemmas.List.{drop-drop, drop_all, reverse-append}
 use Rattle.tocmark_ahead.proofs.Ahead.{all-seen, place-before}
 use Rattle.tocmark_emphasis.proofs.Nodes as nodes
 use Rattle.tocmark_event.specs.Forest.{flat}
-use Rattle.tocmark_event.specs.Options.{OptionsView}
+use Rattle.tocmark_options.specs.Options.{OptionsView}
 use Rattle.tocmark_event.specs.View.{EventView, SourcedEvent, Start, End, Leaf, unsourced}
 use Rattle.tocmark_event.specs.declared.event.flags.ParserOptions.{ParserOptions}
-use Rattle.tocmark_event.specs.declared.options.Error.{Error}
-use Rattle.tocmark_event.specs.declared.options.Error.TheVariants as error
+use Rattle.tocmark_options.specs.declared.options.Error.{Error}
+use Rattle.tocmark_options.specs.declared.options.Error.TheVariants as error
 use Rattle.tocmark_links.specs.Named.{AreNamed, is_named}
 use Rattle.tocmark_renderer.specs.JobOf.{Reading}
 use Rattle.tocmark_renderer.specs.WriterOf.{Rendering, site_of, Arrives, IsRefusal}

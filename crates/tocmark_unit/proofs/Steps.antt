@@ -4,8 +4,8 @@ use Rattle.std.specs.Prelude.{IfOk}
 use Rattle.std.proofs.lemmas.Bool.{false≢true}
 use Rattle.tocmark_event.specs.View.{TagView, Paragraph, Heading, BlockQuote, CodeBlock, HtmlBlock, ListOf, Item, FootnoteDefinition, DefinitionList, DefinitionListTitle, DefinitionListDefinition, Table, TableHead, TableRow, TableCell, Emphasis, Strong, Strikethrough, Superscript, Subscript, Link, Image, MetadataBlock, EventView, SourcedEvent, SourcedLeaf, Start, End, Leaf}
 use Rattle.tocmark_event.specs.declared.event.TagEnd.{TagEnd}
-use Rattle.tocmark_event.specs.declared.options.Error.{Error}
-use Rattle.tocmark_event.specs.declared.options.Error.TheVariants as error
+use Rattle.tocmark_options.specs.declared.options.Error.{Error}
+use Rattle.tocmark_options.specs.declared.options.Error.TheVariants as error
 use Rattle.tocmark_emphasis.specs.Low.{site_in}
 use Rattle.tocmark_spelling.specs.Body.{Trees}
 use Rattle.tocmark_spelling.specs.ById.{by_id}

@@ -2,7 +2,7 @@
 use Rattle.std.proofs.Common.{◌≡◌, ℕ, List, ◌∙◌, refl, subst, sym}
 use Rattle.std.specs.Prelude.{codes}
 use Rattle.tocmark_event.specs.declared.event.LinkType.{LinkType}
-use Rattle.tocmark_event.specs.Options.{OptionsView}
+use Rattle.tocmark_options.specs.Options.{OptionsView}
 use Rattle.tocmark_event.specs.View.{TagView, Paragraph, Heading, BlockQuote, Indented, Fenced, CodeBlock, HtmlBlock, ListOf, Item, FootnoteDefinition, DefinitionList, DefinitionListTitle, DefinitionListDefinition, Table, TableHead, TableRow, TableCell, Emphasis, Strong, Strikethrough, Superscript, Subscript, Link, Image, MetadataBlock}
 use Rattle.tocmark_openings.specs.AheadOf.{IsTextAhead}
 use Rattle.tocmark_openings.specs.declared.ahead.Ahead.{Ahead}

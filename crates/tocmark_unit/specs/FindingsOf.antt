@@ -3,7 +3,7 @@ use Rattle.std.specs.Prelude.{◌≡◌, Bool, true, List}
 use Rattle.std.specs.List.{list_any}
 use Rattle.tocmark_ahead.specs.BodyFacts.{AreFacts}
 use Rattle.tocmark_emphasis.specs.ColumnsOf.{AreColumns}
-use Rattle.tocmark_event.specs.Options.{OptionsView}
+use Rattle.tocmark_options.specs.Options.{OptionsView}
 use Rattle.tocmark_event.specs.View.{SourcedEvent, unsourced}
 use Rattle.tocmark_event.specs.declared.event.flags.ParserOptions.{ParserOptions}
 use Rattle.tocmark_links.specs.Named.{AreNamed}

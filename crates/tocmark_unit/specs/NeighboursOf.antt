@@ -2,7 +2,7 @@
 use Rattle.std.specs.Prelude.{◌≡◌, ◌<◌, ◌+◌, ℕ, suc, Bool, true, false, ◌∷◌, drop, length, reverse, slice_index_or, take, List, Option, map}
 use Rattle.tocmark_emphasis.specs.NodeOf.{look_at}
 use Rattle.tocmark_event.specs.Forest.{flat}
-use Rattle.tocmark_event.specs.Options.{OptionsView}
+use Rattle.tocmark_options.specs.Options.{OptionsView}
 use Rattle.tocmark_event.specs.View.{TagView, EventView, SourcedEvent, Start, Leaf}
 use Rattle.tocmark_event.specs.declared.event.flags.ParserOptions.{ParserOptions}
 use Rattle.tocmark_renderer.specs.JobOf.{Reading}

@@ -2,8 +2,8 @@
 use Rattle.std.specs.Prelude.{◌≡◌, ◌≤◌, ◌++◌, ◌∷◌, ℕ, Option, Some, List, Result, Ok, Err, drop, length, reverse, take}
 use Rattle.tocmark_emphasis.specs.Low.{site_in}
 use Rattle.tocmark_event.specs.View.{SourcedEvent, EventView}
-use Rattle.tocmark_event.specs.declared.options.Error.{Error}
-use Rattle.tocmark_event.specs.declared.options.Error.TheVariants as error
+use Rattle.tocmark_options.specs.declared.options.Error.{Error}
+use Rattle.tocmark_options.specs.declared.options.Error.TheVariants as error
 use Rattle.tocmark_spelling.specs.Machine.{Machine, going, refused, run, step, answer_of}
 use Rattle.tocmark_spelling.specs.Plan.{Manner, Setting}
 use Rattle.tocmark_renderer.specs.WriterOf.{Rendering, site_of}

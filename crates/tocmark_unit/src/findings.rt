@@ -2,7 +2,7 @@
 
 ghost use Rattle.std.specs.Prelude.{◌≡◌, map, true, IfOk};
 ghost use Rattle.tocmark_emphasis.specs.ColumnsOf.{AreColumns};
-ghost use Rattle.tocmark_event.specs.Options.{options_view};
+ghost use Rattle.tocmark_options.specs.Options.{options_view};
 ghost use Rattle.tocmark_spelling.specs.Buffered.{buffered_view};
 ghost use Rattle.tocmark_spelling.specs.Scans.{AreEnds};
 ghost use Rattle.tocmark_unit.specs.FindingsOf.{AreFindings, has_emphasis, starts_emphasis};
@@ -13,9 +13,9 @@ use tocmark_ahead::ends::matching_ends;
 use tocmark_emphasis::columns::{Columns, columns_of};
 use tocmark_event::event::flags::ParserOptions;
 use tocmark_event::event::{EventOf, TagOf};
-use tocmark_event::options::Options;
 use tocmark_event::reader::Reader;
 use tocmark_links::named::named;
+use tocmark_options::options::Options;
 use tocmark_raw::raw_facts::{RawFacts, raw_facts};
 use tocmark_spelling::buffered::BufferedEvent;
 

@@ -1,5 +1,5 @@
 use Rattle.std.proofs.Common.{◌≡◌, length, map, ℕ, List, [], Option, ◌++◌, take, drop, reverse}
-use Rattle.tocmark_event.specs.Options.{OptionsView}
+use Rattle.tocmark_options.specs.Options.{OptionsView}
 use Rattle.tocmark_event.specs.declared.event.flags.ParserOptions.{ParserOptions}
 use Rattle.tocmark_ahead.specs.Ahead.{disturbers}
 use Rattle.tocmark_spelling.specs.Buffered.{buffered_view}

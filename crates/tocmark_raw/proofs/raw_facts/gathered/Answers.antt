@@ -1,5 +1,5 @@
 use Rattle.std.proofs.Common.{rules, ◌≡◌, ◌+◌, ◌-◌, ◌<◌, ◌≤◌, ℕ, length, map, get_or, arith, subst, length-set}
-use Rattle.tocmark_event.specs.Options.{options_view}
+use Rattle.tocmark_options.specs.Options.{options_view}
 use Rattle.tocmark_spelling.specs.Buffered.{buffered_view}
 use Rattle.tocmark_spelling.proofs.Turns.{drop-event, length-events}
 use Rattle.tocmark_raw.specs.Raw.{no_raw}

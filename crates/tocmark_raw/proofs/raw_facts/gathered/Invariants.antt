@@ -1,5 +1,5 @@
 use Rattle.std.proofs.Common.{◌≡◌, length, map, ℕ, ◌≤◌, slice_index_or}
-use Rattle.tocmark_event.specs.Options.{options_view}
+use Rattle.tocmark_options.specs.Options.{options_view}
 use Rattle.tocmark_spelling.specs.Buffered.{buffered_view}
 use Rattle.tocmark_raw.specs.Raw.{no_raw}
 use Rattle.tocmark_raw.proofs.RawLemmas.{IsGathered}

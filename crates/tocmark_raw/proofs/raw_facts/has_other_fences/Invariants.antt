@@ -1,6 +1,6 @@
 use Rattle.std.proofs.Common.{◌≡◌, map, drop}
 use Rattle.std.specs.List.{list_any}
-use Rattle.tocmark_event.specs.Options.{options_view}
+use Rattle.tocmark_options.specs.Options.{options_view}
 use Rattle.tocmark_spelling.specs.Buffered.{buffered_view}
 use Rattle.tocmark_raw.specs.Kinds.{opens}
 use Rattle.tocmark_raw.specs.Raw.{has_other_fence}

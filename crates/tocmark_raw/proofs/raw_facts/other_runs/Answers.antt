@@ -1,6 +1,6 @@
 use Rattle.std.proofs.Common.{◌∙◌, sym, map}
 use Rattle.std.proofs.lemmas.Result.{IfOk-weaker}
-use Rattle.tocmark_event.specs.Options.{options_view}
+use Rattle.tocmark_options.specs.Options.{options_view}
 use Rattle.tocmark_spelling.specs.Buffered.{buffered_view}
 use Rattle.tocmark_raw.proofs.RawLemmas.{no-other, other-runs}
 use Rattle.tocmark_raw.proofs.raw_facts.other_runs.Goals as goal

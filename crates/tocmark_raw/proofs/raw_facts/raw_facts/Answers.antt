@@ -1,5 +1,5 @@
 use Rattle.std.proofs.Common.{◌∙◌, sym, map}
-use Rattle.tocmark_event.specs.Options.{options_view}
+use Rattle.tocmark_options.specs.Options.{options_view}
 use Rattle.tocmark_spelling.specs.Buffered.{buffered_view}
 use Rattle.tocmark_raw.proofs.RawLemmas.{no-raw, not-true}
 use Rattle.tocmark_raw.proofs.raw_facts.raw_facts.Goals as goal

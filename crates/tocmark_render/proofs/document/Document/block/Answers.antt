@@ -1,5 +1,5 @@
 use Rattle.std.proofs.Common.{◌∙◌, ℕ, List, sym, subst, None, Option}
-use Rattle.tocmark_event.specs.Options.{options_view}
+use Rattle.tocmark_options.specs.Options.{options_view}
 use Rattle.tocmark_event.specs.View.{EventView, SourcedEvent}
 use Rattle.tocmark_spelling.specs.Buffered.{following_view, next_view}
 use Rattle.tocmark_spelling.specs.PlanOf.{setting_of}

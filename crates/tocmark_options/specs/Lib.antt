@@ -1,0 +1,4 @@
+pub mod ErrorText
+pub mod Options
+pub mod Validation
+pub mod Special

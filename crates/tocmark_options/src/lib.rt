@@ -1,0 +1,4 @@
+//! The options of what writes Markdown events, and its errors.
+#![tactic(auto)]
+
+pub mod options;

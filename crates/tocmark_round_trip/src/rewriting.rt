@@ -1,0 +1,64 @@
+//! Texts that the core reader reads, written back by the default options, and whether two texts are read
+//! alike.
+
+use std::alloc::{AllocError, Global};
+use tocmark::{Error, cmark, cmark_with_source_range};
+use tocmark_ahead::same_events::same_events;
+use tocmark_core_reader::CoreReader;
+use tocmark_event::event::{OwnedEvent, ParserOptions, merge_all};
+use tocmark_event::reader::{Reader, Reading};
+
+/// CommonMark alone.
+pub const FLAGS: ParserOptions = ParserOptions(0);
+
+/// The events of a reading, each stretch of texts as one.
+///
+/// # Errors
+///
+/// `AllocError` where memory runs out.
+pub fn merged(alloc: Global, reading: &Reading) -> Result<Vec<OwnedEvent>, AllocError> {
+    let mut events: Vec<OwnedEvent> = Vec::new(alloc);
+    for (event, _range) in &reading.events {
+        events.push(event.copied(alloc)?)?;
+    }
+    merge_all(alloc, &events)
+}
+
+/// Whether two texts are read as the same events, each stretch of texts as one.
+///
+/// # Errors
+///
+/// `AllocError` where memory runs out.
+pub fn are_read_alike(alloc: Global, left: &str, right: &str) -> Result<bool, AllocError> {
+    let left = merged(alloc, &CoreReader.read(alloc, left, FLAGS)?)?;
+    let right = merged(alloc, &CoreReader.read(alloc, right, FLAGS)?)?;
+    Ok(same_events(&left, &right))
+}
+
+/// The text that the events of a text are written as.
+///
+/// # Errors
+///
+/// The error of the call that writes, such as `Unrepresentable` where no spelling of a unit reads back, and
+/// `OutOfMemory` where memory runs out.
+pub fn rewritten(alloc: Global, text: &str) -> Result<String, Error> {
+    let reading = CoreReader.read(alloc, text, FLAGS)?;
+    let mut output = String::new(alloc);
+    let state = cmark(alloc, reading.events(), &mut output, CoreReader, FLAGS)?;
+    drop(state);
+    Ok(output)
+}
+
+/// The text that the events of a text are written as, with the spelling of its texts taken from it.
+///
+/// # Errors
+///
+/// The error of the call that writes, as for `rewritten`.
+pub fn rewritten_from_source(alloc: Global, text: &str) -> Result<String, Error> {
+    let reading = CoreReader.read(alloc, text, FLAGS)?;
+    let mut output = String::new(alloc);
+    let pairs = reading.pairs();
+    let state = cmark_with_source_range(alloc, pairs, text, &mut output, CoreReader, FLAGS)?;
+    drop(state);
+    Ok(output)
+}

@@ -1,0 +1,27 @@
+use Rattle.std.proofs.Common.{Ok, Err}
+use Rattle.std.proofs.lemmas.List.{length-map}
+use Rattle.tocmark_options.specs.Options.{options_view, owned_options_view}
+use Rattle.tocmark_state.specs.StateView.{pairs, standing_of}
+use Rattle.tocmark_state.proofs.Runs.{Adds-with}
+use Rattle.tocmark_state.proofs.state.State.process.Goals as goal
+
+pub returns-in-Ok-clause-active : goal.returns-in-Ok-clause-active
+returns-in-Ok-clause-active g c a =
+    let e = c.in-Ok.ensures in (
+      c.into_iter-events.result,
+      e.0,
+      c.into_iter-events.ensures.into_iter_gives,
+      e.1,
+      λ flags source p h. Adds-with g.W.Taker.takes g.W.Taker.refuses c.args.writer.now c.take_all.new.writer (owned_options_view c.args.self.now.options) (options_view c.lent_options.result) (g.R.Reader.reading c.args.self.now.reader) flags source (Ok c.in-Ok.progress) (standing_of c.take_all.new.work) p (pairs e.0) (standing_of c.args.self.now.work) c.lent_options.ensures h.standing (e.2 source) (rw length-map (e.3 source)),
+    )
+
+pub returns-in-Err-clause-active : goal.returns-in-Err-clause-active
+returns-in-Err-clause-active g c a =
+    let e = c.in-Err.ensures in
+    rw (c.failed.ensures.error, c.failed.ensures.state) (
+      c.into_iter-events.result,
+      e.0,
+      c.into_iter-events.ensures.into_iter_gives,
+      e.1,
+      λ flags source p h. Adds-with g.W.Taker.takes g.W.Taker.refuses c.args.writer.now c.take_all.new.writer (owned_options_view c.args.self.now.options) (options_view c.lent_options.result) (g.R.Reader.reading c.args.self.now.reader) flags source (Err c.in-Err.error) (standing_of c.take_all.new.work) p (pairs e.0) (standing_of c.args.self.now.work) c.lent_options.ensures h.standing (e.2 source) tt,
+    )
