@@ -10,7 +10,8 @@ NAME = f"benches/{os.path.basename(sys.argv[0])}"
 MEMCHECK = ["valgrind", "--tool=memcheck", "--leak-check=no", "--undef-value-errors=no"]
 CACHEGRIND = ["valgrind", "--tool=cachegrind", "--cache-sim=no", "--cachegrind-out-file=/dev/null"]
 CALLGRIND = ["valgrind", "--tool=callgrind", "--callgrind-out-file=/dev/null"]
-READING = "tocmark_core_reader::reader::CoreReaderReader::read"
+# What a reading is made by; `read` itself, which only calls it, may be part of its caller.
+READING = "tocmark_core_reader::reader::find"
 
 
 def built(crate):
@@ -46,7 +47,10 @@ def counted(words, text=""):
 def counted_in_readings(words, text=""):
     """The number of instructions that a command took in readings of the core reader."""
     ran = run([*CALLGRIND, f"--toggle-collect={READING}", *words], text)
-    return int(re.search(rb"Collected : (\d+)", ran.stderr)[1])
+    count = int(re.search(rb"Collected : (\d+)", ran.stderr)[1])
+    if not count:
+        sys.exit(f"{NAME}: nothing is counted in {READING}")
+    return count
 
 
 def allocated(words, text=""):
