@@ -8,11 +8,11 @@ use Rattle.std.specs.Char.{is_ascii_digit}
 use Rattle.std.specs.List.{prefix_len}
 use Rattle.std.specs.Option.{option_or}
 use Rattle.tocmark_core_scan.specs.Basic.{plus}
-use Rattle.tocmark_core_blocks.specs.Cells.{cell, cell_byte, trailing, first_cursor}
-use Rattle.tocmark_core_blocks.specs.Marks.{is_rule, is_rule_byte, marker_at, bullet_at, ordered_at, is_behind, underline_at, is_underline_byte, tail_length, tail_of, digit_count}
-use Rattle.tocmark_core_blocks.specs.declared.cell.Cell.{Cell}
-use Rattle.tocmark_core_blocks.specs.declared.mark.Marker.{Marker}
-use Rattle.tocmark_core_blocks.specs.declared.mark.Tail.{Tail}
+use Rattle.tocmark_core_marks.specs.Cells.{cell, cell_byte, trailing, first_cursor}
+use Rattle.tocmark_core_marks.specs.Marks.{is_rule, is_rule_byte, marker_at, bullet_at, ordered_at, is_behind, underline_at, is_underline_byte, tail_length, tail_of, digit_count}
+use Rattle.tocmark_core_marks.specs.declared.cell.Cell.{Cell}
+use Rattle.tocmark_core_marks.specs.declared.mark.Marker.{Marker}
+use Rattle.tocmark_core_marks.specs.declared.mark.Tail.{Tail}
 use Rattle.tocmark_core_blocks.proofs.PlainLines.{numbered}
 use Rattle.tocmark_core_blocks.proofs.PlainSteps.{BeginsNothing}
 use Rattle.tocmark_core_blocks.proofs.PlainStarts.{IsQuiet, quiet_begins_nothing, some_cells, no_heading, no_fence, no_underline}

@@ -2,9 +2,9 @@
 use Rattle.std.proofs.Common.{◌≡◌, ℕ, suc, ◌+◌, ◌^◌, ◌<◌, false, ◌==◌, List, [], ◌∷◌, ◌++◌, length, refl, ap, sym, ◌∙◌, arith, append_assoc, append-nil}
 use Rattle.std.specs.List.{AllByRecursion}
 use Rattle.tocmark_core_scan.specs.Basic.{plus}
-use Rattle.tocmark_core_blocks.specs.Lines.{ends_here, lines_from}
-use Rattle.tocmark_core_blocks.specs.Cells.{cell, filled, cells_of}
-use Rattle.tocmark_core_blocks.specs.declared.cell.Cell.{Cell}
+use Rattle.tocmark_core_marks.specs.Lines.{ends_here, lines_from}
+use Rattle.tocmark_core_marks.specs.Cells.{cell, filled, cells_of}
+use Rattle.tocmark_core_marks.specs.declared.cell.Cell.{Cell}
 
 -- a byte that ends no line, and is no tab
 pub record IsWithin (b : ℕ) : Type 0 where

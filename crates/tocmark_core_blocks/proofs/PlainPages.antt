@@ -4,10 +4,10 @@ use Rattle.std.specs.List.{AllByRecursion, fold}
 use Rattle.tocmark_core_scan.specs.Basic.{byte_at}
 use Rattle.tocmark_core_blocks.specs.Blocks.{BlocksView, line_taken, page_of, blocks_of}
 use Rattle.tocmark_core_blocks.specs.Pages.{State, first_page, closed_to}
-use Rattle.tocmark_core_blocks.specs.Lines.{lines_of}
-use Rattle.tocmark_core_blocks.specs.declared.cell.Cell.{Cell}
-use Rattle.tocmark_core_blocks.specs.declared.line.Line.{Line}
-use Rattle.tocmark_core_blocks.specs.declared.definition.Piece.{Piece}
+use Rattle.tocmark_core_marks.specs.Lines.{lines_of}
+use Rattle.tocmark_core_marks.specs.declared.cell.Cell.{Cell}
+use Rattle.tocmark_core_marks.specs.declared.line.Line.{Line}
+use Rattle.tocmark_core_leaves.specs.declared.definition.Piece.{Piece}
 use Rattle.tocmark_core_blocks.specs.declared.page.BlockKind.TheVariants as kind
 use Rattle.tocmark_core_blocks.proofs.PlainSteps.{IsPlainLine, line_piece, paragraph, line_begins, line_goes_on, paragraph_ends}
 

@@ -2,8 +2,8 @@
 use Rattle.std.proofs.Common.{◌≡◌, ℕ, suc, ◌+◌, false, ◌==◌, nat_le, List, ◌∷◌, length, refl, arith, None}
 use Rattle.std.proofs.lemmas.Bool.Decides.{nat_tests}
 use Rattle.std.specs.Char.{is_ascii_digit}
-use Rattle.tocmark_core_blocks.specs.Cells.{first_cursor}
-use Rattle.tocmark_core_blocks.specs.Marks.{is_rule, is_rule_byte, marker_at, bullet_at, ordered_at, heading_at, is_behind, fence_at, is_fence_byte, underline_at, is_underline_byte, tail_of}
+use Rattle.tocmark_core_marks.specs.Cells.{first_cursor}
+use Rattle.tocmark_core_marks.specs.Marks.{is_rule, is_rule_byte, marker_at, bullet_at, ordered_at, heading_at, is_behind, fence_at, is_fence_byte, underline_at, is_underline_byte, tail_of}
 use Rattle.tocmark_core_blocks.proofs.PlainLines.{numbered}
 use Rattle.tocmark_core_blocks.proofs.PlainSteps.{BeginsNothing, front}
 

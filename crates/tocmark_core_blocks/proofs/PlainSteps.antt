@@ -3,24 +3,24 @@ use Rattle.std.proofs.Common.{◌≡◌, ℕ, suc, ◌-◌, ◌<◌, Bool, true,
 use Rattle.std.proofs.Math.Seq.{take-length}
 use Rattle.tocmark_core_scan.specs.Basic.{byte_at, piece}
 use Rattle.tocmark_core_scan.proofs.Repeats.{repeated_stop}
-use Rattle.tocmark_core_blocks.specs.Cells.{cells_of, cell_byte, cell_place, first_cursor}
+use Rattle.tocmark_core_marks.specs.Cells.{cells_of, cell_byte, cell_place, first_cursor}
 use Rattle.tocmark_core_blocks.specs.Blocks.{container_once, containers_opened, leaf_started, started_at, text_taken, text_started, goes_directly, turn_of, touched, cells_taken, line_taken, begun_at, started}
-use Rattle.tocmark_core_blocks.specs.Codes.{piece_of, text_piece}
-use Rattle.tocmark_core_blocks.specs.Containers.{container_at, item_at, raised_at}
+use Rattle.tocmark_core_leaves.specs.Codes.{piece_of, text_piece}
+use Rattle.tocmark_core_marks.specs.Containers.{container_at, item_at, raised_at}
 use Rattle.std.proofs.lemmas.Bool.Decides.{nat_tests}
-use Rattle.tocmark_core_blocks.specs.Definitions.{begins_definition, definitions_from}
-use Rattle.tocmark_core_blocks.specs.Leaves.{leaf_at, mark_at, html_at, underline_in, rule_at, is_paragraph, leaf_turn}
-use Rattle.tocmark_core_blocks.specs.Html.{html_kind}
-use Rattle.tocmark_core_blocks.specs.Marks.{is_rule, marker_at, heading_at, fence_at, underline_at, tail_of}
+use Rattle.tocmark_core_leaves.specs.Definitions.{begins_definition, definitions_from}
+use Rattle.tocmark_core_leaves.specs.Leaves.{leaf_at, mark_at, html_at, underline_in, rule_at, is_paragraph, leaf_turn}
+use Rattle.tocmark_core_marks.specs.Html.{html_kind}
+use Rattle.tocmark_core_marks.specs.Marks.{is_rule, marker_at, heading_at, fence_at, underline_at, tail_of}
 use Rattle.tocmark_core_blocks.specs.Pages.{State, first_page, leaf_opened, leaf_closed, closed_to, times, list_left, begun, loosened, had_marked, list_of, is_apart, leaf_finished, finished, settled, shortened, piece_taken, one_closed}
 use Rattle.tocmark_core_blocks.specs.declared.block.Place.{Place}
-use Rattle.tocmark_core_blocks.specs.declared.cell.Cell.{Cell}
-use Rattle.tocmark_core_blocks.specs.declared.cell.Cursor.{Cursor}
-use Rattle.tocmark_core_blocks.specs.declared.line.Line.{Line}
-use Rattle.tocmark_core_blocks.specs.declared.definition.Piece.{Piece}
+use Rattle.tocmark_core_marks.specs.declared.cell.Cell.{Cell}
+use Rattle.tocmark_core_marks.specs.declared.cell.Cursor.{Cursor}
+use Rattle.tocmark_core_marks.specs.declared.line.Line.{Line}
+use Rattle.tocmark_core_leaves.specs.declared.definition.Piece.{Piece}
 use Rattle.tocmark_core_blocks.specs.declared.page.BlockKind.TheVariants as kind
-use Rattle.tocmark_core_blocks.specs.declared.leaf.Leaf.TheVariants as leaf
-use Rattle.tocmark_core_blocks.specs.declared.leaf.LeafStart.TheVariants as start
+use Rattle.tocmark_core_leaves.specs.declared.leaf.Leaf.TheVariants as leaf
+use Rattle.tocmark_core_leaves.specs.declared.leaf.LeafStart.TheVariants as start
 
 -- the front of a line that begins with no space
 abbrev pub front : Cursor

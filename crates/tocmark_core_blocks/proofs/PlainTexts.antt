@@ -4,9 +4,9 @@ use Rattle.std.proofs.lemmas.Bool.Decides.{nat_tests}
 use Rattle.std.specs.List.{AllByRecursion}
 use Rattle.tocmark_core_scan.specs.Basic.{plus, byte_at, piece}
 use Rattle.tocmark_core_scan.proofs.PlainPieces.{feed_joined, piece_between}
-use Rattle.tocmark_core_blocks.specs.Lines.{ends_here, line_stop, line, lines_from}
-use Rattle.tocmark_core_blocks.specs.Cells.{cells_of, cell_place}
-use Rattle.tocmark_core_blocks.specs.declared.line.Line.{Line}
+use Rattle.tocmark_core_marks.specs.Lines.{ends_here, line_stop, line, lines_from}
+use Rattle.tocmark_core_marks.specs.Cells.{cells_of, cell_place}
+use Rattle.tocmark_core_marks.specs.declared.line.Line.{Line}
 use Rattle.tocmark_core_blocks.proofs.PlainLines.{IsWithin, lines_within, cells_within, numbered}
 use Rattle.tocmark_core_blocks.proofs.PlainSteps.{IsPlainLine, BeginsNothing}
 use Rattle.tocmark_core_blocks.proofs.PlainPages.{ArePlain}

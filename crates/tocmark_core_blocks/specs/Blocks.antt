@@ -5,37 +5,37 @@ use Rattle.std.specs.Option.{option_map_or}
 use Rattle.tocmark_event.specs.declared.event.HeadingLevel.{HeadingLevel}
 use Rattle.tocmark_core_scan.specs.Basic.{plus, piece}
 use Rattle.tocmark_core_scan.specs.Repeat.{repeated}
-use Rattle.tocmark_core_blocks.specs.Lines.{lines_of}
-use Rattle.tocmark_core_blocks.specs.Cells.{cells_of, cell_place, ink_from, moved, trimmed}
-use Rattle.tocmark_core_blocks.specs.Codes.{code_piece, text_piece, heading_piece, keeps_line}
-use Rattle.tocmark_core_blocks.specs.Definitions.{DefinitionView, definition_view}
-use Rattle.tocmark_core_blocks.specs.Containers.{after_quote, container_at, matched, touched_from}
-use Rattle.tocmark_core_blocks.specs.Html.{html_ends}
-use Rattle.tocmark_core_blocks.specs.Leaves.{is_paragraph, leaf_at, leaf_turn, rule_at}
-use Rattle.tocmark_core_blocks.specs.Marks.{tail_of}
+use Rattle.tocmark_core_marks.specs.Lines.{lines_of}
+use Rattle.tocmark_core_marks.specs.Cells.{cells_of, cell_place, ink_from, moved, trimmed}
+use Rattle.tocmark_core_leaves.specs.Codes.{code_piece, text_piece, heading_piece, keeps_line}
+use Rattle.tocmark_core_leaves.specs.Definitions.{DefinitionView, definition_view}
+use Rattle.tocmark_core_marks.specs.Containers.{after_quote, container_at, matched, touched_from}
+use Rattle.tocmark_core_marks.specs.Html.{html_ends}
+use Rattle.tocmark_core_leaves.specs.Leaves.{is_paragraph, leaf_at, leaf_turn, rule_at}
+use Rattle.tocmark_core_marks.specs.Marks.{tail_of}
 use Rattle.tocmark_core_blocks.specs.Pages.{State, first_page, innermost, leaf_finished, settled, closed_to, list_left, opened_with, leaf_opened, piece_taken}
-use Rattle.tocmark_core_blocks.specs.declared.line.Line.{Line}
-use Rattle.tocmark_core_blocks.specs.declared.cell.Cell.{Cell}
-use Rattle.tocmark_core_blocks.specs.declared.cell.Cursor.{Cursor}
+use Rattle.tocmark_core_marks.specs.declared.line.Line.{Line}
+use Rattle.tocmark_core_marks.specs.declared.cell.Cell.{Cell}
+use Rattle.tocmark_core_marks.specs.declared.cell.Cursor.{Cursor}
 use Rattle.tocmark_core_blocks.specs.declared.block.Place.{Place}
 use Rattle.tocmark_core_blocks.specs.declared.block.Blocks.{Blocks}
-use Rattle.tocmark_core_blocks.specs.declared.definition.Piece.{Piece}
-use Rattle.tocmark_core_blocks.specs.declared.container.Container.{Container}
-use Rattle.tocmark_core_blocks.specs.declared.container.Container.TheVariants as container
-use Rattle.tocmark_core_blocks.specs.declared.container.Opened.{Opened}
-use Rattle.tocmark_core_blocks.specs.declared.container.ItemStart.{ItemStart}
-use Rattle.tocmark_core_blocks.specs.declared.container.ContainerStart.{ContainerStart}
-use Rattle.tocmark_core_blocks.specs.declared.container.ContainerStart.TheVariants as begins
-use Rattle.tocmark_core_blocks.specs.declared.html.HtmlKind.{HtmlKind}
-use Rattle.tocmark_core_blocks.specs.declared.leaf.Leaf.{Leaf}
-use Rattle.tocmark_core_blocks.specs.declared.leaf.Leaf.TheVariants as leaf
-use Rattle.tocmark_core_blocks.specs.declared.leaf.LeafStart.{LeafStart}
-use Rattle.tocmark_core_blocks.specs.declared.leaf.LeafStart.TheVariants as start
-use Rattle.tocmark_core_blocks.specs.declared.leaf.Turn.{Turn}
-use Rattle.tocmark_core_blocks.specs.declared.leaf.Turn.TheVariants as turn
-use Rattle.tocmark_core_blocks.specs.declared.mark.Fence.{Fence}
-use Rattle.tocmark_core_blocks.specs.declared.mark.Heading.{Heading}
-use Rattle.tocmark_core_blocks.specs.declared.mark.Tail.{Tail}
+use Rattle.tocmark_core_leaves.specs.declared.definition.Piece.{Piece}
+use Rattle.tocmark_core_marks.specs.declared.container.Container.{Container}
+use Rattle.tocmark_core_marks.specs.declared.container.Container.TheVariants as container
+use Rattle.tocmark_core_marks.specs.declared.container.Opened.{Opened}
+use Rattle.tocmark_core_marks.specs.declared.container.ItemStart.{ItemStart}
+use Rattle.tocmark_core_marks.specs.declared.container.ContainerStart.{ContainerStart}
+use Rattle.tocmark_core_marks.specs.declared.container.ContainerStart.TheVariants as begins
+use Rattle.tocmark_core_marks.specs.declared.html.HtmlKind.{HtmlKind}
+use Rattle.tocmark_core_leaves.specs.declared.leaf.Leaf.{Leaf}
+use Rattle.tocmark_core_leaves.specs.declared.leaf.Leaf.TheVariants as leaf
+use Rattle.tocmark_core_leaves.specs.declared.leaf.LeafStart.{LeafStart}
+use Rattle.tocmark_core_leaves.specs.declared.leaf.LeafStart.TheVariants as start
+use Rattle.tocmark_core_leaves.specs.declared.leaf.Turn.{Turn}
+use Rattle.tocmark_core_leaves.specs.declared.leaf.Turn.TheVariants as turn
+use Rattle.tocmark_core_marks.specs.declared.mark.Fence.{Fence}
+use Rattle.tocmark_core_marks.specs.declared.mark.Heading.{Heading}
+use Rattle.tocmark_core_marks.specs.declared.mark.Tail.{Tail}
 use Rattle.tocmark_core_blocks.specs.declared.page.Block.{Block}
 use Rattle.tocmark_core_blocks.specs.declared.page.BlockKind.{BlockKind}
 use Rattle.tocmark_core_blocks.specs.declared.page.BlockKind.TheVariants as kind

@@ -1,10 +1,2 @@
-pub mod Lines
-pub mod Cells
-pub mod Marks
-pub mod Html
-pub mod Containers
-pub mod Leaves
-pub mod Definitions
 pub mod Pages
-pub mod Codes
 pub mod Blocks

@@ -2,15 +2,15 @@
 use Rattle.std.specs.Prelude.{ℕ, zero, suc, ◌-◌, Bool, true, false, ◌&&◌, ◌||◌, nat_lt, if◌then◌else◌, List, [], ◌∷◌, ◌++◌, length, map, take, drop, slice_get, slice_set, Option, Some, None}
 use Rattle.std.specs.Option.{option_map, option_map_or, option_and_then}
 use Rattle.tocmark_core_scan.specs.Basic.{plus}
-use Rattle.tocmark_core_blocks.specs.Containers.{raised_at}
-use Rattle.tocmark_core_blocks.specs.Definitions.{DefinitionView, definition_view, definitions_from}
-use Rattle.tocmark_core_blocks.specs.declared.line.Line.{Line}
-use Rattle.tocmark_core_blocks.specs.declared.container.Container.{Container}
-use Rattle.tocmark_core_blocks.specs.declared.container.Container.TheVariants as container
-use Rattle.tocmark_core_blocks.specs.declared.container.Opened.{Opened}
-use Rattle.tocmark_core_blocks.specs.declared.definition.Piece.{Piece}
-use Rattle.tocmark_core_blocks.specs.declared.leaf.Leaf.{Leaf}
-use Rattle.tocmark_core_blocks.specs.declared.leaf.Leaf.TheVariants as leaf
+use Rattle.tocmark_core_marks.specs.Containers.{raised_at}
+use Rattle.tocmark_core_leaves.specs.Definitions.{DefinitionView, definition_view, definitions_from}
+use Rattle.tocmark_core_marks.specs.declared.line.Line.{Line}
+use Rattle.tocmark_core_marks.specs.declared.container.Container.{Container}
+use Rattle.tocmark_core_marks.specs.declared.container.Container.TheVariants as container
+use Rattle.tocmark_core_marks.specs.declared.container.Opened.{Opened}
+use Rattle.tocmark_core_leaves.specs.declared.definition.Piece.{Piece}
+use Rattle.tocmark_core_leaves.specs.declared.leaf.Leaf.{Leaf}
+use Rattle.tocmark_core_leaves.specs.declared.leaf.Leaf.TheVariants as leaf
 use Rattle.tocmark_core_blocks.specs.declared.page.BlockKind.{BlockKind}
 use Rattle.tocmark_core_blocks.specs.declared.page.Block.{Block}
 use Rattle.tocmark_core_blocks.specs.declared.page.Page.{Page}

@@ -5,18 +5,18 @@ ghost use Rattle.std.specs.List.{fold};
 ghost use Rattle.tocmark_core_blocks.specs.Pages.{page};
 ghost use Rattle.tocmark_core_blocks.specs.Blocks.{info_of, goes_directly, quote_opened, is_in_list, list_started, item_opened, container_once, containers_opened, code_taken, html_ended, text_taken, text_started, indented_started, heading_started, fence_started, html_started, rule_started, has_text, underlined, underline_taken, started, leaf_started, turn_of, leaf_ended, touched, cells_taken, line_taken, page_of, blocks_view, blocks_of};
 
-use crate::cell::{Cells, Cursor, cell_place, ink_from, is_blank_at, moved, trimmed};
-use crate::code::{code_piece, heading_piece, keeps_line, text_piece};
-use crate::container::{
-    Container, ContainerStart, ItemStart, after_quote, container_at, matched, touch,
-};
-use crate::definition::{LinkDefinition, Piece};
-use crate::html::{HtmlKind, html_ends};
-use crate::leaf::{Leaf, LeafStart, Turn, is_paragraph, leaf_at, leaf_turn, rule_at};
-use crate::line::{Line, lines};
-use crate::mark::{Fence, Heading, Tail, tail_of};
 use crate::page::{Block, BlockKind, Page};
 use std::alloc::{AllocError, Global};
+use tocmark_core_leaves::code::{code_piece, heading_piece, keeps_line, text_piece};
+use tocmark_core_leaves::definition::{LinkDefinition, Piece};
+use tocmark_core_leaves::leaf::{Leaf, LeafStart, Turn, is_paragraph, leaf_at, leaf_turn, rule_at};
+use tocmark_core_marks::cell::{Cells, Cursor, cell_place, ink_from, is_blank_at, moved, trimmed};
+use tocmark_core_marks::container::{
+    Container, ContainerStart, ItemStart, after_quote, container_at, matched, touch,
+};
+use tocmark_core_marks::html::{HtmlKind, html_ends};
+use tocmark_core_marks::line::{Line, lines};
+use tocmark_core_marks::mark::{Fence, Heading, Tail, tail_of};
 use tocmark_core_scan::basic::{minus, piece, plus, set};
 use tocmark_event::event::HeadingLevel;
 

@@ -3,16 +3,8 @@
 #![tactic(auto)]
 
 mod block;
-mod cell;
-mod code;
-mod container;
-mod definition;
-mod html;
-mod leaf;
-mod line;
-mod mark;
 mod page;
 
 pub use block::{Blocks, read_blocks};
-pub use definition::{LinkDefinition, Piece};
 pub use page::{Block, BlockKind};
+pub use tocmark_core_leaves::definition::{LinkDefinition, Piece};

@@ -3,11 +3,11 @@
 ghost use Rattle.std.specs.Prelude.{◌≡◌, drop, OnOk};
 ghost use Rattle.tocmark_core_blocks.specs.Pages.{page, first_page, raised_last, shortened, is_list, is_quote, quote_left, quote_entered, piece_pushed, ended, finished, leaf_finished, settled, leaf_closed, one_closed, times, closed_to, list_left, list_of, is_apart, loosened, had_marked, begun, opened_with, leaf_opened, piece_taken};
 
-use crate::container::{Container, Opened, raise_at};
-use crate::definition::{LinkDefinition, Piece, take_definitions};
-use crate::leaf::Leaf;
-use crate::line::Line;
 use std::alloc::{AllocError, Global};
+use tocmark_core_leaves::definition::{LinkDefinition, Piece, take_definitions};
+use tocmark_core_leaves::leaf::Leaf;
+use tocmark_core_marks::container::{Container, Opened, raise_at};
+use tocmark_core_marks::line::Line;
 use tocmark_core_scan::basic::{minus, plus, set};
 use tocmark_event::event::HeadingLevel;
 

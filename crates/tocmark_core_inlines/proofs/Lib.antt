@@ -1,11 +1,7 @@
-pub mod Search
 pub mod PlainInlines
 pub mod PlainPasses
 pub mod PlainNodes
 pub mod PlainParts
 pub mod PlainLeaf
 pub mod PlainNeighbours
-pub mod Marks
 pub mod Sparse
-pub mod NotedRuns
-pub mod Runless

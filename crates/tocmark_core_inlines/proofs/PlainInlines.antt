@@ -2,7 +2,7 @@
 use Rattle.std.proofs.Common.{◌≡◌, ℕ, false, ◌==◌, List, Option, refl}
 use native.Mathlib.Numerals.{unary_clauses}
 use Rattle.tocmark_core_inlines.specs.Scan as s
-use Rattle.tocmark_core_inlines.specs.declared.definitions.Entry.{Entry}
+use Rattle.tocmark_core_spans.specs.declared.definitions.Entry.{Entry}
 
 -- a byte that means nothing to the first pass
 pub record IsInert (b : ℕ) : Type 0 where

@@ -4,15 +4,15 @@ use Rattle.std.proofs.lemmas.List.{map-append}
 use Rattle.tocmark_core_scan.specs.Html.{last_ends}
 use Rattle.tocmark_core_scan.specs.Content as content
 use Rattle.tocmark_core_scan.proofs.PlainContent.{places_of}
-use Rattle.tocmark_core_inlines.specs.Tick.{last_ticks}
+use Rattle.tocmark_core_spans.specs.Tick.{last_ticks}
 use Rattle.tocmark_core_inlines.specs.Scan as s
 use Rattle.tocmark_core_inlines.specs.Write as w
 use Rattle.tocmark_core_inlines.specs.Inlines as inlines
 use Rattle.tocmark_core_inlines.specs.Inlines.{scan_start}
-use Rattle.tocmark_core_inlines.specs.Emphasis.{emphasized}
-use Rattle.tocmark_core_inlines.specs.declared.definitions.Entry.{Entry}
-use Rattle.tocmark_core_inlines.specs.declared.role.Stretch.{Stretch}
-use Rattle.tocmark_core_inlines.specs.declared.role.Target.{Target}
+use Rattle.tocmark_core_spans.specs.Emphasis.{emphasized}
+use Rattle.tocmark_core_spans.specs.declared.definitions.Entry.{Entry}
+use Rattle.tocmark_core_spans.specs.declared.role.Stretch.{Stretch}
+use Rattle.tocmark_core_spans.specs.declared.role.Target.{Target}
 use Rattle.tocmark_core_inlines.specs.declared.write.Node.{Node}
 use Rattle.tocmark_core_inlines.specs.declared.write.Item.{Item}
 use Rattle.tocmark_core_inlines.specs.declared.write.Item.TheVariants as item

@@ -10,7 +10,7 @@ use Rattle.tocmark_core_scan.specs.declared.side.Side.TheVariants.{Other}
 use Rattle.tocmark_core_scan.proofs.PlainMarks.{amp_reference, side_at_letter, side_before_letter}
 use Rattle.tocmark_core_scan.proofs.PlainSpaces.{drop_at, byte_front, space_reference}
 use Rattle.tocmark_core_inlines.specs.Scan as s
-use Rattle.tocmark_core_inlines.specs.declared.definitions.Entry.{Entry}
+use Rattle.tocmark_core_spans.specs.declared.definitions.Entry.{Entry}
 use Rattle.tocmark_core_inlines.proofs.PlainInlines.{IsInert}
 use Rattle.tocmark_core_inlines.proofs.PlainPasses.{IsReadAt, AreRead}
 use Rattle.tocmark_core_inlines.proofs.PlainParts.{inert_is_read, exclamation_is_read, backslash_is_read, underscore_is_read}

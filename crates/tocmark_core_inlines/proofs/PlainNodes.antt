@@ -5,10 +5,10 @@ use Rattle.std.specs.List.{fold}
 use Rattle.std.proofs.lemmas.List.Sums.{fold-append}
 use Rattle.tocmark_core_scan.specs.Basic.{plus}
 use Rattle.tocmark_core_inlines.specs.Write as w
-use Rattle.tocmark_core_inlines.specs.declared.role.Role.{Role}
-use Rattle.tocmark_core_inlines.specs.declared.role.Role.TheVariants.{Plain, Hidden, Fresh, Single}
-use Rattle.tocmark_core_inlines.specs.declared.role.Leaf.{Leaf}
-use Rattle.tocmark_core_inlines.specs.declared.role.Leaf.TheVariants.{Character, SoftBreak}
+use Rattle.tocmark_core_spans.specs.declared.role.Role.{Role}
+use Rattle.tocmark_core_spans.specs.declared.role.Role.TheVariants.{Plain, Hidden, Fresh, Single}
+use Rattle.tocmark_core_spans.specs.declared.role.Leaf.{Leaf}
+use Rattle.tocmark_core_spans.specs.declared.role.Leaf.TheVariants.{Character, SoftBreak}
 use Rattle.tocmark_core_inlines.specs.declared.write.Node.{Node}
 use Rattle.tocmark_core_inlines.specs.declared.write.Item.{Item}
 use Rattle.tocmark_core_inlines.specs.declared.write.Item.TheVariants as item

@@ -7,9 +7,9 @@ use Rattle.tocmark_core_scan.specs.Side.{side_at, side_before}
 use Rattle.tocmark_core_scan.specs.declared.class.Class.TheVariants.{Only}
 use Rattle.tocmark_core_scan.specs.declared.side.Side.TheVariants.{Other}
 use Rattle.tocmark_core_inlines.specs.Scan as s
-use Rattle.tocmark_core_inlines.specs.Run.{run_at, run_between, acts, flanks, is_space, is_punctuation}
-use Rattle.tocmark_core_inlines.specs.declared.definitions.Entry.{Entry}
-use Rattle.tocmark_core_inlines.specs.declared.run.Run.{Run}
+use Rattle.tocmark_core_spans.specs.Run.{run_at, run_between, acts, flanks, is_space, is_punctuation}
+use Rattle.tocmark_core_spans.specs.declared.definitions.Entry.{Entry}
+use Rattle.tocmark_core_spans.specs.declared.run.Run.{Run}
 use Rattle.tocmark_core_inlines.proofs.PlainInlines.{IsInert, looked_inert}
 use Rattle.tocmark_core_inlines.proofs.PlainPasses.{IsReadAt}
 use Rattle.tocmark_core_scan.specs.PlainParts.{Bare}

@@ -8,10 +8,10 @@ use Rattle.tocmark_core_scan.specs.Repeat.{iterated}
 use Rattle.tocmark_core_scan.specs.Reference.{is_escape, reference_at}
 use Rattle.tocmark_core_scan.proofs.Repeats.{iterated_stop}
 use Rattle.tocmark_core_inlines.specs.Scan as s
-use Rattle.tocmark_core_inlines.specs.declared.definitions.Entry.{Entry}
-use Rattle.tocmark_core_inlines.specs.declared.role.Role.{Role}
-use Rattle.tocmark_core_inlines.specs.declared.role.Role.TheVariants.{Plain, Hidden, Fresh, Single}
-use Rattle.tocmark_core_inlines.specs.declared.role.Leaf.TheVariants.{Character, SoftBreak}
+use Rattle.tocmark_core_spans.specs.declared.definitions.Entry.{Entry}
+use Rattle.tocmark_core_spans.specs.declared.role.Role.{Role}
+use Rattle.tocmark_core_spans.specs.declared.role.Role.TheVariants.{Plain, Hidden, Fresh, Single}
+use Rattle.tocmark_core_spans.specs.declared.role.Leaf.TheVariants.{Character, SoftBreak}
 use Rattle.tocmark_core_scan.specs.PlainParts.{Part, Bare, Escaped, Referred, Feed, spelled_part, spelled}
 
 -- what the bytes of a part are

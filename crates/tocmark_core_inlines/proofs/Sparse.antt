@@ -7,12 +7,12 @@ use Rattle.std.proofs.lemmas.List.{length-replicate}
 use Rattle.std.specs.List.{fold}
 use Rattle.std.proofs.lemmas.List.Sums.{fold-append}
 use Rattle.tocmark_core_scan.specs.Basic.{plus}
-use Rattle.tocmark_core_inlines.specs.Role.{roles_of, with_mark}
+use Rattle.tocmark_core_spans.specs.Role.{roles_of, with_mark}
 use Rattle.tocmark_core_inlines.specs.Write.{State, pushed, flushed_from, flushed, opened, closed, single, gone_on, texted, shown, next_place, role_step, begun_at, passed, mark_step, is_between, ascend, write_start}
-use Rattle.tocmark_core_inlines.specs.declared.role.Mark.{Mark}
-use Rattle.tocmark_core_inlines.specs.declared.role.Role.{Role}
-use Rattle.tocmark_core_inlines.specs.declared.role.Role.TheVariants.{Plain, Fresh, Hidden, Open, Close, Single}
-use Rattle.tocmark_core_inlines.specs.declared.role.Roles.{Roles}
+use Rattle.tocmark_core_spans.specs.declared.role.Mark.{Mark}
+use Rattle.tocmark_core_spans.specs.declared.role.Role.{Role}
+use Rattle.tocmark_core_spans.specs.declared.role.Role.TheVariants.{Plain, Fresh, Hidden, Open, Close, Single}
+use Rattle.tocmark_core_spans.specs.declared.role.Roles.{Roles}
 use Rattle.tocmark_core_inlines.proofs.PlainPasses.{set_behind}
 
 -- a plain byte begins a text or goes on with one

@@ -3,11 +3,11 @@ use Rattle.std.specs.Prelude.{ℕ, List, [], ◌++◌, length, map, replicate, O
 use Rattle.tocmark_core_scan.specs.Content as content
 use Rattle.tocmark_core_inlines.specs.Scan as scan
 use Rattle.tocmark_core_inlines.specs.Write.{written, moved}
-use Rattle.tocmark_core_inlines.specs.declared.definitions.Entry.{Entry}
+use Rattle.tocmark_core_spans.specs.declared.definitions.Entry.{Entry}
 use Rattle.tocmark_core_inlines.specs.declared.inlines.Inlines.{Inlines}
-use Rattle.tocmark_core_inlines.specs.declared.role.Role.TheVariants.{Plain}
-use Rattle.tocmark_core_inlines.specs.declared.role.Stretch.{Stretch}
-use Rattle.tocmark_core_inlines.specs.declared.role.Target.{Target}
+use Rattle.tocmark_core_spans.specs.declared.role.Role.TheVariants.{Plain}
+use Rattle.tocmark_core_spans.specs.declared.role.Stretch.{Stretch}
+use Rattle.tocmark_core_spans.specs.declared.role.Target.{Target}
 use Rattle.tocmark_core_inlines.specs.declared.write.Node.{Node}
 
 -- the nodes of the leaves so far, and the texts, targets and missed labels beside them

@@ -13,23 +13,23 @@ use Rattle.tocmark_core_scan.specs.declared.html.LastEnds.{LastEnds}
 use Rattle.tocmark_core_scan.specs.declared.reference.Reference.{Reference}
 use Rattle.tocmark_event.specs.declared.event.LinkType.{LinkType}
 use Rattle.tocmark_event.specs.declared.event.LinkType.TheVariants.{Inline, Autolink, Email}
-use Rattle.tocmark_core_inlines.specs.Role.{roles_of}
-use Rattle.tocmark_core_inlines.specs.Tick.{last_ticks, tick_end, push_shown, stripped}
-use Rattle.tocmark_core_inlines.specs.Run.{run_at}
-use Rattle.tocmark_core_inlines.specs.Emphasis.{emphasized}
-use Rattle.tocmark_core_inlines.specs.Link.{inline_target, label_asked}
-use Rattle.tocmark_core_inlines.specs.declared.definitions.Entry.{Entry}
-use Rattle.tocmark_core_inlines.specs.declared.link.Bracket.{Bracket}
-use Rattle.tocmark_core_inlines.specs.declared.link.InlineTarget.{InlineTarget}
-use Rattle.tocmark_core_inlines.specs.declared.link.Asked.{Asked}
-use Rattle.tocmark_core_inlines.specs.declared.role.Role.{Role}
-use Rattle.tocmark_core_inlines.specs.declared.role.Role.TheVariants.{Fresh, Hidden, Open, Close, Single}
-use Rattle.tocmark_core_inlines.specs.declared.role.Leaf.{Leaf}
-use Rattle.tocmark_core_inlines.specs.declared.role.Leaf.TheVariants.{Character, Code, Html, SoftBreak, HardBreak}
-use Rattle.tocmark_core_inlines.specs.declared.role.Span.TheVariants.{Link, Image}
-use Rattle.tocmark_core_inlines.specs.declared.role.Stretch.{Stretch}
-use Rattle.tocmark_core_inlines.specs.declared.role.Target.{Target}
-use Rattle.tocmark_core_inlines.specs.declared.run.Run.{Run}
+use Rattle.tocmark_core_spans.specs.Role.{roles_of}
+use Rattle.tocmark_core_spans.specs.Tick.{last_ticks, tick_end, push_shown, stripped}
+use Rattle.tocmark_core_spans.specs.Run.{run_at}
+use Rattle.tocmark_core_spans.specs.Emphasis.{emphasized}
+use Rattle.tocmark_core_spans.specs.Link.{inline_target, label_asked}
+use Rattle.tocmark_core_spans.specs.declared.definitions.Entry.{Entry}
+use Rattle.tocmark_core_spans.specs.declared.link.Bracket.{Bracket}
+use Rattle.tocmark_core_spans.specs.declared.link.InlineTarget.{InlineTarget}
+use Rattle.tocmark_core_spans.specs.declared.link.Asked.{Asked}
+use Rattle.tocmark_core_spans.specs.declared.role.Role.{Role}
+use Rattle.tocmark_core_spans.specs.declared.role.Role.TheVariants.{Fresh, Hidden, Open, Close, Single}
+use Rattle.tocmark_core_spans.specs.declared.role.Leaf.{Leaf}
+use Rattle.tocmark_core_spans.specs.declared.role.Leaf.TheVariants.{Character, Code, Html, SoftBreak, HardBreak}
+use Rattle.tocmark_core_spans.specs.declared.role.Span.TheVariants.{Link, Image}
+use Rattle.tocmark_core_spans.specs.declared.role.Stretch.{Stretch}
+use Rattle.tocmark_core_spans.specs.declared.role.Target.{Target}
+use Rattle.tocmark_core_spans.specs.declared.run.Run.{Run}
 use Rattle.tocmark_core_inlines.specs.declared.scan.Ahead.{Ahead}
 use Rattle.tocmark_core_inlines.specs.declared.scan.Scanner.{Scanner}
 

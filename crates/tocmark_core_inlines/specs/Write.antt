@@ -1,11 +1,11 @@
 -- The second pass over a leaf's text: from what each byte is to nodes.
 use Rattle.std.specs.Prelude.{ℕ, ◌-◌, max, Bool, true, ◌&&◌, nat_lt, nat_le, if◌then◌else◌, List, [], ◌∷◌, ◌++◌, fold, slice_get, Option, Some, None, unwrap_or}
 use Rattle.tocmark_core_scan.specs.Basic.{plus}
-use Rattle.tocmark_core_inlines.specs.declared.role.Mark.{Mark}
-use Rattle.tocmark_core_inlines.specs.declared.role.Role.{Role}
-use Rattle.tocmark_core_inlines.specs.declared.role.Role.TheVariants.{Plain, Fresh, Hidden, Open, Close, Single}
-use Rattle.tocmark_core_inlines.specs.declared.role.Leaf.{Leaf}
-use Rattle.tocmark_core_inlines.specs.declared.role.Span.{Span}
+use Rattle.tocmark_core_spans.specs.declared.role.Mark.{Mark}
+use Rattle.tocmark_core_spans.specs.declared.role.Role.{Role}
+use Rattle.tocmark_core_spans.specs.declared.role.Role.TheVariants.{Plain, Fresh, Hidden, Open, Close, Single}
+use Rattle.tocmark_core_spans.specs.declared.role.Leaf.{Leaf}
+use Rattle.tocmark_core_spans.specs.declared.role.Span.{Span}
 use Rattle.tocmark_core_inlines.specs.declared.write.Item.{Item}
 use Rattle.tocmark_core_inlines.specs.declared.write.Item.TheVariants as item
 use Rattle.tocmark_core_inlines.specs.declared.write.Node.{Node}

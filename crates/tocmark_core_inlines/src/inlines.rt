@@ -2,25 +2,29 @@
 
 ghost use Rattle.std.specs.Prelude.{◌≡◌, IfOk};
 ghost use Rattle.tocmark_core_scan.specs.Content.{content_view};
-ghost use Rattle.tocmark_core_inlines.specs.Definitions.{entry_of};
+ghost use Rattle.tocmark_core_spans.specs.Definitions.{entry_of};
 ghost use Rattle.tocmark_core_inlines.specs.Scan.{scan};
 ghost use Rattle.tocmark_core_inlines.specs.Inlines.{inlines_view, scan_start, read_inlines};
 
-use crate::definitions::Definitions;
-use crate::role::{Roles, Stretch, Target};
 use crate::scan::Scanner;
 use crate::write::{Node, push_moved, write};
 use std::alloc::{AllocError, Global};
 use tocmark_core_scan::content::Content;
+use tocmark_core_spans::definitions::Definitions;
+use tocmark_core_spans::role::{Roles, Stretch, Target};
 
 /// The nodes of leaves in the order of the document, with ranges in bytes of its source; the targets of
 /// their links and images; the texts that stand nowhere in the source; and the labels that were looked
 /// up in vain, in order and with repetitions.
 #[derive(Drop)]
 pub struct Inlines {
+    /// The nodes.
     pub nodes: Vec<Node>,
+    /// The targets, by the numbers of links and images.
     pub targets: Vec<Target>,
+    /// The bytes of the texts, of which stretches are parts.
     pub texts: Vec<u8>,
+    /// The labels that were looked up in vain.
     pub missed: Vec<Stretch>,
 }
 

@@ -3,13 +3,13 @@
 ghost use Rattle.std.specs.Prelude.{◌≡◌, ◌+◌, ◌^◌, ◌<◌, ◌≤◌, ◌++◌, IfOk, OnOk, map};
 ghost use Rattle.std.specs.List.{fold};
 ghost use Rattle.tocmark_core_scan.specs.Content.{content_view};
-ghost use Rattle.tocmark_core_inlines.specs.Role.{role_at, roles_of};
+ghost use Rattle.tocmark_core_spans.specs.Role.{role_at, roles_of};
 ghost use Rattle.tocmark_core_inlines.specs.Write.{writing, pushed, flushed, opened, closed, single, gone_on, shown, role_step, passed, mark_step, is_between, ascend, written, moved};
 
-use crate::role::{Leaf, Mark, Role, Roles, Span};
 use std::alloc::{AllocError, Global};
 use tocmark_core_scan::basic::{minus, plus};
 use tocmark_core_scan::content::Content;
+use tocmark_core_spans::role::{Leaf, Mark, Role, Roles, Span};
 
 /// What stands at a node.
 #[derive(Clone, Copy)]
@@ -18,25 +18,35 @@ pub enum Item {
     Text,
     /// A container; what lies in it are the nodes behind it that are deeper.
     Span(Span),
+    /// An inline without children, other than a text.
     Leaf(Leaf),
 }
 
 /// An inline, from its first byte to before its end.
 #[derive(Clone, Copy)]
 pub struct Node {
+    /// Its depth: a node lies in the nearest container before it whose depth is less.
     pub depth: usize,
+    /// What it is.
     pub item: Item,
+    /// The place of its first byte.
     pub start: usize,
+    /// The place behind its last byte.
     pub end: usize,
 }
 
 /// The nodes so far, the depth, and where the open text began.
 #[derive(Drop)]
 pub struct Writer {
+    /// The nodes so far.
     pub nodes: Vec<Node>,
+    /// The depth of the next node.
     pub depth: usize,
+    /// The place of the open text's first byte, if a text is open.
     pub text: Option<usize>,
+    /// The place of the next byte.
     pub place: usize,
+    /// The place from which roles are read again: bytes before it are part of a leaf or an ending.
     pub resume: usize,
 }
 

@@ -5,12 +5,12 @@ use Rattle.std.specs.Prelude.{nat_le, if◌then◌else◌, get_or, take, length,
 use Rattle.std.proofs.lemmas.List.Sums.{fold-append, fold_more}
 use Rattle.tocmark_core_scan.specs.Basic.{plus}
 use Rattle.tocmark_core_scan.specs.Content as content
-use Rattle.tocmark_core_blocks.specs.declared.definition.Piece.{Piece}
+use Rattle.tocmark_core_leaves.specs.declared.definition.Piece.{Piece}
 use Rattle.tocmark_core_blocks.specs.declared.page.Block.{Block}
 use Rattle.tocmark_core_blocks.specs.declared.page.BlockKind.{BlockKind}
 use Rattle.tocmark_core_blocks.specs.declared.page.BlockKind.TheVariants as kind
 use Rattle.tocmark_core_inlines.specs.Inlines as inlines
-use Rattle.tocmark_core_inlines.specs.declared.definitions.Entry.{Entry}
+use Rattle.tocmark_core_spans.specs.declared.definitions.Entry.{Entry}
 use Rattle.tocmark_core_pages.specs.Emitted.{NodeView, Writing, step}
 use Rattle.tocmark_core_pages.specs.Inlines.{inline_node}
 use Rattle.tocmark_core_pages.specs.Pages.{State, Progress, written_behind, written_by, written_alone, content_line, lines_nodes, block_node, pieces_of, with_inlines, leaf_inlines, with_block, with_lines, with_rule, wrapped, paragraph_taken, taken_as, block_taken, is_unwrapped, block_step}

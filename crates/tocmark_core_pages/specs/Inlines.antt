@@ -2,12 +2,12 @@
 use Rattle.std.specs.Prelude.{ℕ, List, encode_utf8, slice_get, unwrap_or}
 use Rattle.tocmark_event.specs.View.{TagView, Emphasis, Strong, Link, Image, Text, Code, InlineHtml, SoftBreak, HardBreak}
 use Rattle.tocmark_event.specs.declared.event.LinkType.TheVariants.{Inline}
-use Rattle.tocmark_core_inlines.specs.Definitions.{stretch_text, no_stretch}
-use Rattle.tocmark_core_inlines.specs.declared.role.Leaf.{Leaf}
-use Rattle.tocmark_core_inlines.specs.declared.role.Leaf.TheVariants as leaf
-use Rattle.tocmark_core_inlines.specs.declared.role.Span.{Span}
-use Rattle.tocmark_core_inlines.specs.declared.role.Span.TheVariants as span
-use Rattle.tocmark_core_inlines.specs.declared.role.Target.{Target}
+use Rattle.tocmark_core_spans.specs.Definitions.{stretch_text, no_stretch}
+use Rattle.tocmark_core_spans.specs.declared.role.Leaf.{Leaf}
+use Rattle.tocmark_core_spans.specs.declared.role.Leaf.TheVariants as leaf
+use Rattle.tocmark_core_spans.specs.declared.role.Span.{Span}
+use Rattle.tocmark_core_spans.specs.declared.role.Span.TheVariants as span
+use Rattle.tocmark_core_spans.specs.declared.role.Target.{Target}
 use Rattle.tocmark_core_inlines.specs.declared.write.Item.{Item}
 use Rattle.tocmark_core_inlines.specs.declared.write.Item.TheVariants as item
 use Rattle.tocmark_core_inlines.specs.declared.write.Node.{Node}

@@ -6,12 +6,12 @@ use Rattle.tocmark_event.specs.View as view
 use Rattle.tocmark_core_scan.specs.Basic.{plus, piece}
 use Rattle.tocmark_core_scan.specs.Content as content
 use Rattle.tocmark_core_scan.specs.declared.content.Line.{Line}
-use Rattle.tocmark_core_blocks.specs.declared.definition.Piece.{Piece}
+use Rattle.tocmark_core_leaves.specs.declared.definition.Piece.{Piece}
 use Rattle.tocmark_core_blocks.specs.declared.page.Block.{Block}
 use Rattle.tocmark_core_blocks.specs.declared.page.BlockKind.{BlockKind}
 use Rattle.tocmark_core_blocks.specs.declared.page.BlockKind.TheVariants as kind
 use Rattle.tocmark_core_inlines.specs.Inlines as inlines
-use Rattle.tocmark_core_inlines.specs.declared.definitions.Entry.{Entry}
+use Rattle.tocmark_core_spans.specs.declared.definitions.Entry.{Entry}
 use Rattle.tocmark_core_pages.specs.Emitted.{ItemView, NodeView, Container, Given, Writing, emission_view, step}
 use Rattle.tocmark_core_pages.specs.Inlines.{inline_node}
 use Rattle.tocmark_core_pages.specs.Words.{cleaned, info_text, spaces_text}

@@ -11,8 +11,8 @@ ghost use Rattle.std.specs.Prelude.{encode_utf8};
 use crate::emit::{Emission, Item, Node};
 use crate::words::stretch_text;
 use std::alloc::{AllocError, Global};
-use tocmark_core_inlines::role::{Leaf, Span, Stretch, Target};
 use tocmark_core_inlines::write as inline;
+use tocmark_core_spans::role::{Leaf, Span, Stretch, Target};
 use tocmark_event::event::{CowStr, LinkType, Tag};
 
 #[tactic(auto, unfolding(crate::specs::Inlines::target_at))]

@@ -4,7 +4,7 @@ ghost use Rattle.std.specs.Prelude.{◌≡◌, [], map, IfOk, OnOk};
 ghost use Rattle.std.specs.List.{fold};
 ghost use Rattle.tocmark_event.specs.Text.{text_of};
 ghost use Rattle.tocmark_event.specs.View.{tag_view};
-ghost use Rattle.tocmark_core_inlines.specs.Definitions.{entry_of};
+ghost use Rattle.tocmark_core_spans.specs.Definitions.{entry_of};
 ghost use Rattle.tocmark_core_inlines.specs.Inlines.{inlines_view};
 ghost use Rattle.tocmark_core_pages.specs.Emitted.{item_view, emission_view, step};
 ghost use Rattle.tocmark_core_pages.specs.Pages.{pieces_of, content_line, space_nodes, line_item, line_nodes, lines_nodes, block_tag, is_unwrapped, block_node, assembly_view, leaf_inlines, with_block, with_lines, with_rule, wrapped, paragraph_taken, block_taken, assembled, written_alone, written_by};
@@ -15,10 +15,10 @@ use crate::words::{cleaned_part, info_text, spaces_text};
 use std::alloc::{AllocError, Global};
 use std::mem;
 use tocmark_core_blocks::{Block, BlockKind, Piece};
-use tocmark_core_inlines::definitions::Definitions;
 use tocmark_core_inlines::inlines::{Inlines, read_inlines};
 use tocmark_core_scan::basic::{minus, piece, plus};
 use tocmark_core_scan::content::{Line, content_of};
+use tocmark_core_spans::definitions::Definitions;
 use tocmark_event::event::{CodeBlockKind, CowStr, Tag};
 
 /// The pieces of a range, none where it is none of the list.

@@ -5,17 +5,17 @@ ghost use Rattle.std.specs.List.{flat_map};
 ghost use Rattle.tocmark_core_scan.specs.Basic.{piece};
 ghost use Rattle.tocmark_core_scan.specs.Reference.{unescaped};
 ghost use Rattle.tocmark_event.specs.Text.{text_of};
-ghost use Rattle.tocmark_core_blocks.specs.Definitions.{replaced};
-ghost use Rattle.tocmark_core_inlines.specs.Definitions.{stretch_text};
+ghost use Rattle.tocmark_core_leaves.specs.Definitions.{replaced};
+ghost use Rattle.tocmark_core_spans.specs.Definitions.{stretch_text};
 ghost use Rattle.tocmark_core_pages.specs.Words.{feed_if, cleaned, info_text, spaces_text};
 
 use std::alloc::{AllocError, Global};
-use tocmark_core_inlines::role::Stretch;
 use tocmark_core_scan::basic::{piece, plus};
 use tocmark_core_scan::reference::unescaped;
+use tocmark_core_spans::role::Stretch;
 use tocmark_event::event::CowStr;
 
-#[tactic(auto, unfolding(tocmark_core_blocks::specs::Definitions::replaced))]
+#[tactic(auto, unfolding(tocmark_core_leaves::specs::Definitions::replaced))]
 fn push_byte(out: &mut Vec<u8>, byte: u8) -> Result<(), AllocError>
     ensures { OnOk result (out.new.items ≡ out.old.items ++ replaced byte) }
 {

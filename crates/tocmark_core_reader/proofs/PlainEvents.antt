@@ -6,7 +6,7 @@ use Rattle.std.proofs.lemmas.List.Sums.{fold-append}
 use Rattle.tocmark_event.proofs.Merging.{after_text-twice}
 use Rattle.tocmark_event.specs.Merged.{merged, after_text, with_text}
 use Rattle.tocmark_event.specs.View.{EventView, Leaf, LeafView, Text, SoftBreak}
-use Rattle.tocmark_core_inlines.specs.declared.role.Leaf.TheVariants as leaf
+use Rattle.tocmark_core_spans.specs.declared.role.Leaf.TheVariants as leaf
 use Rattle.tocmark_core_inlines.specs.declared.write.Node.{Node}
 use Rattle.tocmark_core_inlines.specs.declared.write.Item.TheVariants as item
 use Rattle.tocmark_core_inlines.proofs.PlainNodes.{node, nodes_of, text_until, begun}

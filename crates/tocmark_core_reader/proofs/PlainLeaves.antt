@@ -14,13 +14,13 @@ use Rattle.tocmark_core_scan.specs.declared.content.Line.{Line as ContentLine}
 use Rattle.tocmark_core_scan.proofs.PlainContent.{places_of}
 use Rattle.tocmark_core_scan.proofs.PlainPieces.{feed_joined, line_places, AreNoZeros, content_of_lines}
 use Rattle.tocmark_core_blocks.specs.Blocks.{BlocksView, blocks_of}
-use Rattle.tocmark_core_blocks.specs.declared.definition.Piece.{Piece}
+use Rattle.tocmark_core_leaves.specs.declared.definition.Piece.{Piece}
 use Rattle.tocmark_core_blocks.specs.declared.page.Block.{Block}
 use Rattle.tocmark_core_blocks.specs.declared.page.BlockKind.TheVariants as kind
 use Rattle.tocmark_core_blocks.proofs.PlainSteps.{line_piece}
 use Rattle.tocmark_core_blocks.proofs.PlainPages.{last_end, plain_blocks}
 use Rattle.tocmark_core_blocks.proofs.PlainTexts.{IsTextLine, line_list, lines_joined, lines_plain}
-use Rattle.tocmark_core_inlines.specs.Definitions as defs
+use Rattle.tocmark_core_spans.specs.Definitions as defs
 use Rattle.tocmark_core_inlines.specs.Inlines as inlines
 use Rattle.tocmark_core_inlines.proofs.PlainPasses.{AreRead}
 use Rattle.tocmark_core_inlines.proofs.PlainLeaf.{known, parts_inlines}

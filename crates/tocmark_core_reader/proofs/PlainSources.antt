@@ -6,7 +6,7 @@ use Rattle.std.specs.List.{AllByRecursion}
 use Rattle.std.specs.Str.Lossy.{utf8_lossy}
 use Rattle.tocmark_core_scan.specs.Basic.{piece}
 use Rattle.tocmark_core_scan.proofs.PlainPieces.{piece_between}
-use Rattle.tocmark_core_blocks.specs.Definitions.{replaced}
+use Rattle.tocmark_core_leaves.specs.Definitions.{replaced}
 use Rattle.tocmark_core_pages.specs.Range.{snapped, is_cut}
 use Rattle.tocmark_core_pages.specs.Words.{cleaned}
 use Rattle.tocmark_core_reader.proofs.PlainEvents.{source_of, AreSourced}

@@ -4,9 +4,9 @@ use Rattle.std.specs.List.{fold}
 use Rattle.tocmark_event.specs.Reading.{ReadingView}
 use Rattle.tocmark_core_scan.specs.Label.{first_place}
 use Rattle.tocmark_core_blocks.specs.Blocks.{blocks_of}
-use Rattle.tocmark_core_blocks.specs.Definitions.{DefinitionView}
-use Rattle.tocmark_core_inlines.specs.Definitions as defs
-use Rattle.tocmark_core_inlines.specs.declared.definitions.Entry.{Entry}
+use Rattle.tocmark_core_leaves.specs.Definitions.{DefinitionView}
+use Rattle.tocmark_core_spans.specs.Definitions as defs
+use Rattle.tocmark_core_spans.specs.declared.definitions.Entry.{Entry}
 use Rattle.tocmark_core_pages.specs.Emitted.{NodeView, emitted}
 use Rattle.tocmark_core_pages.specs.Pages.{assembled}
 

@@ -1,16 +1,16 @@
 //! The reader.
 
 ghost use Rattle.std.specs.Prelude.{◌≡◌, map, string_bytes, IfOk, OnOk};
-ghost use Rattle.tocmark_core_blocks.specs.Definitions.{definition_view};
-ghost use Rattle.tocmark_core_inlines.specs.Definitions.{collected_view, entry_of};
+ghost use Rattle.tocmark_core_leaves.specs.Definitions.{definition_view};
+ghost use Rattle.tocmark_core_spans.specs.Definitions.{collected_view, entry_of};
 ghost use Rattle.tocmark_core_reader.specs.Reading.{define_step, collected, first_entry, core_reading};
 ghost use Rattle.tocmark_event.specs.Reading.{reading_view};
 
 use std::alloc::{AllocError, Global};
 use tocmark_core_blocks::{LinkDefinition, read_blocks};
-use tocmark_core_inlines::definitions::{Collected, Definitions, Entry, distinct_labels};
 use tocmark_core_pages::page::assemble;
 use tocmark_core_scan::label::first_places;
+use tocmark_core_spans::definitions::{Collected, Definitions, Entry, distinct_labels};
 use tocmark_event::event::ParserOptions;
 use tocmark_event::reader::{Reader, Reading};
 

@@ -1,4 +1,4 @@
-//! Tests of the core reader: texts with all their events, ranges and labels.
+//! Tests of the core reader: which texts are plain.
 #![tactic(auto)]
 
 #[cfg(test)]

@@ -5,7 +5,7 @@ use thiserror::Error;
 /// A fault of the program, shown as one line on standard error.
 #[derive(Debug, Drop, Error)]
 pub enum Fault {
-    #[error("usage: tocmark_script")]
+    #[error("usage: tocmark_script [--rows]")]
     Usage,
     #[error("tocmark_script: cannot read standard input")]
     Read,

@@ -9,10 +9,29 @@ mod runs;
 use crate::batch::Batch;
 use crate::fault::Fault;
 use std::alloc::Global;
-use std::io::{Read, Write};
+use std::io::{ErrorKind, Read, Write};
 
-/// Answers each script of a text in turn. False where some script has no answer.
-fn answer_all<O: Write, F: Write>(
+/// The text of scripts that standard input has.
+///
+/// # Errors
+///
+/// `Read` where it can't be read, and `NotUtf8` where it isn't UTF-8.
+pub fn scripts<I: Read>(alloc: Global, input: &mut I) -> Result<String, Fault> {
+    let mut text = String::new(alloc);
+    match input.read_to_string(&mut text) {
+        Ok(_bytes) => Ok(text),
+        Err(error) if error.kind() == ErrorKind::InvalidData => Err(Fault::NotUtf8),
+        Err(_error) => Err(Fault::Read),
+    }
+}
+
+/// Answers each script of a text in turn. `output` gets the answers, and `faults` a line for each script that can't
+/// be read or for whose answer memory runs out; the other ones are still answered. False where there is such a script.
+///
+/// # Errors
+///
+/// `Write` where the output can't be written.
+pub fn answer_scripts<O: Write, F: Write>(
     alloc: Global,
     text: &str,
     output: &mut O,
@@ -25,54 +44,7 @@ fn answer_all<O: Write, F: Write>(
     batch.end(output, faults)
 }
 
-fn answer<I: Read, O: Write, F: Write>(
-    alloc: Global,
-    words: &[String],
-    input: &mut I,
-    output: &mut O,
-    faults: &mut F,
-) -> Result<bool, Fault> {
-    if !words.is_empty() {
-        return Err(Fault::Usage);
-    }
-    let mut bytes = Vec::new(alloc);
-    if input.read_to_end(&mut bytes).is_err() {
-        return Err(Fault::Read);
-    }
-    let Ok(text) = std::str::from_utf8(&bytes) else {
-        return Err(Fault::NotUtf8);
-    };
-    answer_all(alloc, text, output, faults)
-}
-
 /// Writes a fault's line. One that can't be written changes nothing.
 pub fn complain<F: Write>(faults: &mut F, fault: &Fault) {
     let _ = writeln!(faults, "{fault}");
-}
-
-/// The program: the status that it ends with.
-///
-/// `words` are the arguments without the program's name, `input` is read whole, `output` gets the answer
-/// of each script in turn, and `faults` a line for each fault. The status is 0 where each script has its
-/// answer, 2 for an argument, where no input is read, and 1 for any other fault: a script that can't be
-/// read or for whose answer memory runs out, where the other scripts are still answered, input that can't
-/// be read or isn't UTF-8, or output that can't be written.
-pub fn run<I: Read, O: Write, F: Write>(
-    alloc: Global,
-    words: &[String],
-    input: &mut I,
-    output: &mut O,
-    faults: &mut F,
-) -> u8 {
-    match answer(alloc, words, input, output, faults) {
-        Ok(true) => 0,
-        Ok(false) => 1,
-        Err(fault) => {
-            complain(faults, &fault);
-            match fault {
-                Fault::Usage => 2,
-                _ => 1,
-            }
-        }
-    }
 }

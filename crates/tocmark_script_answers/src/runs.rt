@@ -138,6 +138,38 @@ fn run_whole(
     Ok(total)
 }
 
+/// Makes the calls of a new state, and writes a line for each of them or one at the end.
+fn answer_calls(
+    state: State<&RunReader<'_>>,
+    script: &Script<'static>,
+    calls: &[Call],
+    shows_calls: bool,
+    tape: &mut Tape,
+) -> Result<(), AllocError> {
+    let mut state = state;
+    if shows_calls {
+        run_in_calls(&mut state, script, calls, tape)
+    } else {
+        let outcome = run_whole(&mut state, script, calls, tape);
+        write_outcome(&mut tape.answer, &outcome)
+    }
+}
+
+/// Makes a state and its calls, and writes their lines.
+fn answer_script(
+    alloc: Global,
+    script: &Script<'static>,
+    calls: &[Call],
+    shows_calls: bool,
+    tape: &mut Tape,
+) -> Result<(), AllocError> {
+    let reader = CountedReader::new(&script.reader, script.refused_reading);
+    match State::new(alloc, &reader, script.flags, script.options()) {
+        Ok(state) => answer_calls(state, script, calls, shows_calls, tape),
+        Err(error) => write_outcome(&mut tape.answer, &Err(error)),
+    }
+}
+
 /// What a script without questions is answered where these calls are made, with a line for each call or
 /// one at the end. An `Err` says that memory ran out for the answer.
 pub fn run(
@@ -152,15 +184,7 @@ pub fn run(
         refused_text: script.refused_text,
         is_full: false,
     };
-    let reader = CountedReader::new(&script.reader, script.refused_reading);
-    match State::new(alloc, &reader, script.flags, script.options()) {
-        Ok(mut state) if shows_calls => run_in_calls(&mut state, script, calls, &mut tape)?,
-        Ok(mut state) => {
-            let outcome = run_whole(&mut state, script, calls, &mut tape);
-            write_outcome(&mut tape.answer, &outcome)?;
-        }
-        Err(error) => write_outcome(&mut tape.answer, &Err(error))?,
-    }
+    answer_script(alloc, script, calls, shows_calls, &mut tape)?;
     if tape.is_full {
         return Err(AllocError);
     }

@@ -1,4 +1,4 @@
-use Rattle.tocmark_core_inlines.specs.Definitions.{entry_of}
+use Rattle.tocmark_core_spans.specs.Definitions.{entry_of}
 use Rattle.tocmark_core_pages.specs.Pages.{assembly_view, start_state}
 use Rattle.tocmark_core_pages.proofs.Behind.{more_behind}
 use Rattle.tocmark_core_pages.proofs.page.assemble.Goals as goal

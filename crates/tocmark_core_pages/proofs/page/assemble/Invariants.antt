@@ -1,6 +1,6 @@
 use Rattle.std.proofs.Common.{◌≡◌, take}
 use Rattle.std.specs.List.{fold}
-use Rattle.tocmark_core_inlines.specs.Definitions.{entry_of}
+use Rattle.tocmark_core_spans.specs.Definitions.{entry_of}
 use Rattle.tocmark_core_pages.specs.Pages.{assembly_view, block_step, start_state, written_alone}
 use Rattle.tocmark_core_pages.proofs.page.assemble.Given as goal
 

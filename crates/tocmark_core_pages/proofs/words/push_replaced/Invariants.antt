@@ -1,6 +1,6 @@
 use Rattle.std.proofs.Common.{◌≡◌, ◌++◌, take}
 use Rattle.std.specs.List.{flat_map}
-use Rattle.tocmark_core_blocks.specs.Definitions.{replaced}
+use Rattle.tocmark_core_leaves.specs.Definitions.{replaced}
 use Rattle.tocmark_core_pages.proofs.words.push_replaced.Given as goal
 
 abbrev pub invariant-loop-byte : goal.invariant-loop-byte

@@ -1,6 +1,6 @@
 use Rattle.std.proofs.Common.{◌≡◌, take}
 use Rattle.std.specs.List.{fold}
-use Rattle.tocmark_core_inlines.specs.Definitions.{entry_of}
+use Rattle.tocmark_core_spans.specs.Definitions.{entry_of}
 use Rattle.tocmark_core_inlines.specs.Scan.{scan, ahead_view, with_place, scan_step}
 use Rattle.tocmark_core_inlines.proofs.scan.Scanner.run.Given as goal
 

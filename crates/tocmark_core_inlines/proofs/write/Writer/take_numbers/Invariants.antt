@@ -1,6 +1,6 @@
 use Rattle.std.proofs.Common.{◌≡◌, ◌≤◌, map, take}
 use Rattle.std.specs.List.{fold}
-use Rattle.tocmark_core_inlines.specs.Role.{role_at}
+use Rattle.tocmark_core_spans.specs.Role.{role_at}
 use Rattle.tocmark_core_inlines.specs.Write.{writing, passed, role_step}
 use Rattle.tocmark_core_inlines.proofs.write.Writer.take_numbers.Given as goal
 

@@ -1,6 +1,6 @@
 use Rattle.std.proofs.Common.{ap, sym, ◌∙◌}
 use Rattle.std.proofs.lemmas.Result.{on_ok_weaker}
-use Rattle.tocmark_core_inlines.specs.Definitions.{entry_of}
+use Rattle.tocmark_core_spans.specs.Definitions.{entry_of}
 use Rattle.tocmark_core_pages.specs.Pages.{assembly_view, leaf_inlines, written_by}
 use Rattle.tocmark_core_pages.proofs.Behind.{Find, wrapped_behind}
 use Rattle.tocmark_core_pages.proofs.page.Assembly.read_wrapped.Goals as goal

@@ -1,5 +1,0 @@
-//! Tests of the blocks of texts.
-#![tactic(auto)]
-
-#[cfg(test)]
-mod tests;

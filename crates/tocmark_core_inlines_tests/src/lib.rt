@@ -1,5 +1,0 @@
-//! Tests of the inlines of texts.
-#![tactic(auto)]
-
-#[cfg(test)]
-mod tests;

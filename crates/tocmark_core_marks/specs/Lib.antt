@@ -1,0 +1,5 @@
+pub mod Lines
+pub mod Cells
+pub mod Marks
+pub mod Html
+pub mod Containers

@@ -1,0 +1,4 @@
+pub mod Search
+pub mod Marks
+pub mod NotedRuns
+pub mod Runless

@@ -1,0 +1,6 @@
+pub mod Role
+pub mod Run
+pub mod Emphasis
+pub mod Tick
+pub mod Link
+pub mod Definitions
