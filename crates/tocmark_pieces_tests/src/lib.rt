@@ -1,4 +1,5 @@
-//! Tests of `tocmark_pieces`, `tocmark_marker` and of runs in code, with values by hand from the rules.
+//! Tests of `tocmark_pieces` and of runs in code where no script leads; their other branches are rows of
+//! `tocmark_script`.
 #![tactic(auto)]
 
 #[cfg(test)]
