@@ -17,11 +17,11 @@ use Rattle.tocmark_labels.specs.Document.{DocumentView, first_document}
 use Rattle.tocmark_labels.specs.Ending.{last_texts, holds_raw_block, unless_empty}
 use Rattle.tocmark_labels.specs.Units.{waits}
 use Rattle.tocmark_labels.proofs.Forests.{waits-flat}
-use Rattle.tocmark_state.specs.Ranges.{Pair, unranged}
-use Rattle.tocmark_state.specs.StateView.{keeping, rendering}
+use Rattle.tocmark_work.specs.Ranges.{Pair, unranged}
+use Rattle.tocmark_work.specs.WorkView.{keeping, rendering}
 use Rattle.tocmark.specs.TextBlocks.{Kind, Block, HasText, MakesBlocks, blocks_walk, tag_of, mark_of, block_text, block_events, document_of, feeds_behind, place_in, texts_behind}
-use Rattle.tocmark_state.specs.Walk.{Walk, Done, done, Kept, Rendering, Standing, beginning, nothing_yet, go_on, stay, finished_of, flushed, flushed_before, flushed_or_deferred, flush_of, joins, advance, step, walk, script, ended, with_event}
-use Rattle.tocmark_state.specs.Writes.{Makes}
+use Rattle.tocmark_work.specs.Walk.{Walk, Done, done, Kept, Rendering, Standing, beginning, nothing_yet, go_on, stay, finished_of, flushed, flushed_before, flushed_or_deferred, flush_of, joins, advance, step, walk, script, ended, with_event}
+use Rattle.tocmark_work.specs.Writes.{Makes}
 use Rattle.tocmark.proofs.BlockEscapes.{IsFilled, escaped_filled}
 use Rattle.tocmark.proofs.BlockSpelling.{text_leaf, text_trees, unit, IsCalm, IsChosen, block_placed, block_chosen}
 

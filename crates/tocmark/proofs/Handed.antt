@@ -9,8 +9,8 @@ use Rattle.tocmark_event.specs.Text.{ParserEvent}
 use Rattle.tocmark_event.specs.declared.reader.Events.{Events}
 use Rattle.tocmark_event.specs.declared.reader.Pairs.{Pairs}
 use Rattle.tocmark.specs.Paragraphs.{Keeps}
-use Rattle.tocmark_state.specs.Ranges.{Range, unranged}
-use Rattle.tocmark_state.specs.StateView.{pairs, ranged_pairs}
+use Rattle.tocmark_work.specs.Ranges.{Range, unranged}
+use Rattle.tocmark_work.specs.WorkView.{pairs, ranged_pairs}
 
 module _ {S A B : Type 0} (view : A → B) (rest : S → List B) where
   -- what was given, and then what is left, is all

@@ -32,8 +32,8 @@ use Rattle.tocmark_render.specs.Chosen.{chosen}
 use Rattle.tocmark_render.proofs.Chosen.{chosen-unlabelled}
 use Rattle.tocmark_render.proofs.PlainUnits.{choice-unasked}
 use Rattle.tocmark.specs.Paragraphs.{ReadsAs, ReadsAsSpan, paragraph_with, paragraph_of}
-use Rattle.tocmark_state.specs.StateView.{keeping, rendering}
-use Rattle.tocmark_state.specs.Walk.{Walk, Done, done, finished_of, handed_text, nothing_yet, script, joins, flushed, flushed_before, advance, step, ended}
+use Rattle.tocmark_work.specs.WorkView.{keeping, rendering}
+use Rattle.tocmark_work.specs.Walk.{Walk, Done, done, finished_of, handed_text, nothing_yet, script, joins, flushed, flushed_before, advance, step, ended}
 
 -- a text that is handed
 handed : (text : List ℕ) → concat (handed_text text) ≡ text

@@ -31,10 +31,10 @@ use Rattle.tocmark_render.proofs.Chosen.{chosen-unlabelled}
 use Rattle.tocmark_render.proofs.PlainUnits.{choice-unasked}
 use Rattle.tocmark_core_scan.proofs.PlainTests.{all_from}
 use Rattle.tocmark.specs.PlainLines.{is_line, paragraph_of_lines, IsReadBack, HandsLines}
-use Rattle.tocmark_state.specs.Ranges.{Pair, unranged}
-use Rattle.tocmark_state.specs.StateView.{keeping, rendering}
-use Rattle.tocmark_state.specs.Walk.{Walk, Done, done, Kept, Rendering, Standing, finished_of, nothing_yet, beginning, go_on, script, stay, walk, joins, flushed_before, advance, step, ended}
-use Rattle.tocmark_state.specs.Writes.{Makes}
+use Rattle.tocmark_work.specs.Ranges.{Pair, unranged}
+use Rattle.tocmark_work.specs.WorkView.{keeping, rendering}
+use Rattle.tocmark_work.specs.Walk.{Walk, Done, done, Kept, Rendering, Standing, finished_of, nothing_yet, beginning, go_on, script, stay, walk, joins, flushed_before, advance, step, ended}
+use Rattle.tocmark_work.specs.Writes.{Makes}
 use Rattle.tocmark.proofs.PlainParagraph.{Escapes, IsLineText, line_from, lines_stand, lines_are_read_back}
 use Rattle.tocmark.proofs.Paragraphs.{neither_in}
 use Rattle.tocmark.proofs.PlainSpelling.{line_trees, in_paragraph, page_of, within, site_of, around, lines_text, lines_spelled, written_some}

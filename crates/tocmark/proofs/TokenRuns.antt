@@ -1,7 +1,7 @@
 -- Runs of a token, when more is seen.
 use Rattle.std.proofs.Common.{◌≡◌, ℕ, ◌+◌, ◌≤◌, max, ne_eqb, List, [], ◌∷◌, arith}
 use Rattle.tocmark_escape.specs.Leaves.{run_length, longest_run}
-use Rattle.tocmark_state.specs.StateView.{at_most}
+use Rattle.tocmark_work.specs.WorkView.{at_most}
 use Rattle.tocmark.specs.TokenCount.{longest_token_run}
 
 run_length-le : (token : ℕ) (text : List ℕ) → run_length token text ≤ longest_run token text

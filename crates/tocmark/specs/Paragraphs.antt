@@ -6,8 +6,8 @@ use Rattle.tocmark_event.specs.declared.event.TagEnd.TheVariants as end
 use Rattle.tocmark_escape.specs.Escape.{Place, escaped}
 use Rattle.tocmark_escape.specs.Leaves.{code_span, unspan}
 use Rattle.tocmark_escape.specs.Unescape.{unescape}
-use Rattle.tocmark_state.specs.Ranges.{Pair, unranged}
-use Rattle.tocmark_state.specs.Walk.{Walk, Done, done}
+use Rattle.tocmark_work.specs.Ranges.{Pair, unranged}
+use Rattle.tocmark_work.specs.Walk.{Walk, Done, done}
 
 -- a paragraph with one leaf, without ranges
 abbrev pub paragraph_with : LeafView → List Pair

@@ -8,9 +8,9 @@ use Rattle.tocmark_core_reader.specs.PlainTexts.{text_parts, is_printable, is_pl
 use Rattle.tocmark_core_reader.specs.Reading.{core_reading}
 use Rattle.tocmark_core_scan.specs.PlainParts.{Part, spelled, meant, last_byte}
 use Rattle.tocmark_escape.specs.Escape.{Place, ends_line, escaped}
-use Rattle.tocmark_state.specs.Ranges.{Pair, unranged}
-use Rattle.tocmark_state.specs.Walk.{Walk, Done, done}
-use Rattle.tocmark_state.specs.Writes.{Makes}
+use Rattle.tocmark_work.specs.Ranges.{Pair, unranged}
+use Rattle.tocmark_work.specs.Walk.{Walk, Done, done}
+use Rattle.tocmark_work.specs.Writes.{Makes}
 
 -- a line: at least one character, each from U+0020 to U+007E, the last of them no space
 abbrev pub is_line : List ℕ → Bool

@@ -3,7 +3,7 @@ use Rattle.std.specs.Prelude.{ℕ, ◌+◌, max, List}
 use Rattle.tocmark_event.specs.View.{EventView}
 use Rattle.tocmark_escape.specs.Leaves.{run_length, longest_run}
 use Rattle.tocmark.specs.TokenCount.{code_in}
-use Rattle.tocmark_state.specs.StateView.{at_most}
+use Rattle.tocmark_work.specs.WorkView.{at_most}
 use Rattle.tocmark.specs.declared.token_count.Runs.{Runs}
 use Rattle.tocmark.specs.declared.token_count.Seen.{Seen}
 

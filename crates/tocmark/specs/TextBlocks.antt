@@ -9,10 +9,10 @@ use Rattle.tocmark_event.specs.declared.event.flags.ParserOptions.{ParserOptions
 use Rattle.tocmark_options.specs.declared.options.Error.{Error}
 use Rattle.tocmark_escape.specs.Escape.{Place, escaped}
 use Rattle.tocmark_spelling.specs.Opening.{level_number}
-use Rattle.tocmark_state.specs.Ranges.{Pair, unranged}
-use Rattle.tocmark_state.specs.StateView.{rendering}
-use Rattle.tocmark_state.specs.Walk.{Walk, Done, done, nothing_yet, script}
-use Rattle.tocmark_state.specs.Writes.{Makes}
+use Rattle.tocmark_work.specs.Ranges.{Pair, unranged}
+use Rattle.tocmark_work.specs.WorkView.{rendering}
+use Rattle.tocmark_work.specs.Walk.{Walk, Done, done, nothing_yet, script}
+use Rattle.tocmark_work.specs.Writes.{Makes}
 
 -- a paragraph, or a heading with its level from 1 to 6
 pub data Kind : Type 0 where

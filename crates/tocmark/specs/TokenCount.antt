@@ -3,7 +3,7 @@ use Rattle.std.specs.Prelude.{ℕ, ◌+◌, Bool, true, false, nat_lt, if◌then
 use Rattle.tocmark_event.specs.View.{EventView, Start, End, Leaf, CodeBlock, Text}
 use Rattle.tocmark_event.specs.declared.event.TagEnd.TheVariants as end
 use Rattle.tocmark_escape.specs.Leaves.{longest_run}
-use Rattle.tocmark_state.specs.StateView.{at_most}
+use Rattle.tocmark_work.specs.WorkView.{at_most}
 
 -- a text in an open code block as it is; any other text ends a run, as a line feed does
 abbrev pub text_in : Bool → List ℕ → List ℕ

@@ -27,11 +27,12 @@ ghost use Rattle.std.specs.List.{list_all};
 ghost use Rattle.tocmark_event.specs.Text.{ParserEvent};
 ghost use Rattle.tocmark_options.specs.Options.{default_options, options_view};
 ghost use Rattle.tocmark.specs.PlainLines.{HandsLines, is_line, paragraph_of_lines};
-ghost use Rattle.tocmark_state.specs.Ranges.{Range};
+ghost use Rattle.tocmark_work.specs.Ranges.{Range};
 ghost use Rattle.tocmark.specs.TextBlocks.{MakesBlocks};
-ghost use Rattle.tocmark_state.specs.Walk.{done, nothing_yet, script, walk};
-ghost use Rattle.tocmark_state.specs.Writes.{Makes, TakesAll};
-ghost use Rattle.tocmark_state.specs.StateView.{IsFinished, pairs, ranged_pairs, rendering};
+ghost use Rattle.tocmark_work.specs.Walk.{done, nothing_yet, script, walk};
+ghost use Rattle.tocmark_work.specs.Writes.{Makes, TakesAll};
+ghost use Rattle.tocmark_state.specs.StateView.{IsFinished};
+ghost use Rattle.tocmark_work.specs.WorkView.{pairs, ranged_pairs, rendering};
 
 use std::alloc::Global;
 pub use tocmark_core_reader as core_reader;
@@ -41,8 +42,9 @@ pub use tocmark_event::{event, reader};
 pub use tocmark_options::options::{
     DEFAULT_CODE_BLOCK_TOKEN_COUNT, Error, Options, OptionsError, SUPPORTED_PARSER_OPTIONS,
 };
-pub use tocmark_state::state::{Progress, State};
-pub use tocmark_state::taker::Taker;
+pub use tocmark_state::state::State;
+pub use tocmark_work::taker::Taker;
+pub use tocmark_work::work::Progress;
 pub use token_count::calculate_code_block_token_count;
 
 /// Writes events with the default options: `cmark_with_options` with `Options::default()`.

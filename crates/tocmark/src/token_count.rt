@@ -5,7 +5,7 @@ ghost use Rattle.std.specs.Borrow.{Bor};
 ghost use Rattle.std.specs.Iterator.{IsFinite, Drains};
 ghost use Rattle.tocmark_event.specs.Text.{ParserEvent, text_of};
 ghost use Rattle.tocmark_event.specs.View.{EventView, event_view};
-ghost use Rattle.tocmark_state.specs.StateView.{at_most};
+ghost use Rattle.tocmark_work.specs.WorkView.{at_most};
 ghost use Rattle.tocmark.specs.TokenCount.{code_in, count_beyond, longest_token_run, token_count};
 ghost use Rattle.tocmark.specs.SeenTokens.{onward, with_text, with_events};
 

@@ -1,17 +1,14 @@
 -- The starts of the nodes that disturb, one event after the other.
-use Rattle.std.proofs.Common.{◌≡◌, ℕ, suc, ◌+◌, ◌<◌, Bool, false, Option, List, [], ◌∷◌, ◌++◌, refl, sym, ap, ◌∙◌, take, drop, reverse, length, arith, slice_index_or}
+use Rattle.std.proofs.Common.{◌≡◌, ℕ, suc, ◌+◌, Bool, Option, List, [], ◌∷◌, ◌++◌, refl, sym, ap, ◌∙◌, take, drop, reverse, arith}
 use Rattle.std.specs.Prelude.{◌&&◌}
 use Rattle.std.proofs.lemmas.List.{append_assoc, drop-drop}
 use Rattle.tocmark_event.specs.View.{SourcedEvent, TagView, Start, End, Leaf}
-use Rattle.tocmark_spelling.specs.Edges.{edge_before, edge_after}
-use Rattle.tocmark_spelling.specs.Page.{front}
 use Rattle.tocmark_spelling.specs.Plan.{Setting}
 use Rattle.tocmark_spelling.specs.Runs.{start_width, close_width, counts, disturbs_at}
 use Rattle.tocmark_spelling.specs.Scans.{span}
 use Rattle.tocmark_ahead.specs.Ahead.{behind_body, character_before, character_after, starts_disturber, disturbers}
-use Rattle.tocmark_ahead.specs.Sides.{mark_of, no_side, AreRound}
-use Rattle.tocmark_ahead.specs.declared.sides.Side.{Side}
-use Rattle.tocmark_ahead.proofs.Ahead.{place-rest, place-before, place-within}
+use Rattle.tocmark_ahead.specs.Sides.{mark_of}
+use Rattle.tocmark_ahead.proofs.Ahead.{place-rest, place-before}
 
 mark-is : (s : Setting) (runs : Bool) (e : SourcedEvent) (before rest : List SourcedEvent) (b f a : Option ℕ)
     → b ≡ character_before runs before → f ≡ character_after runs start_width rest
@@ -22,33 +19,17 @@ mark-is s runs (End k) before rest b f a p q r = refl
 mark-is s runs (Leaf l) before rest b f a p q r = refl
 
 module _ (es rest : List SourcedEvent) (n : ℕ) (e : SourcedEvent) (at : drop n es ≡ e ∷ rest) where
-  -- the event at a place by the columns
-  pub mark-at : (s : Setting) (runs : Bool) (end : ℕ) (befores starts_on ends_on : List Side) (m : Bool) (b f a : Option ℕ)
-      → ((t : TagView) → drop n es ≡ Start t ∷ rest → end ≡ n + 1 + span 0 rest) → AreRound runs es befores starts_on ends_on
-      → b ≡ (slice_index_or befores n no_side).character → f ≡ (slice_index_or starts_on (n + 1) no_side).character → a ≡ (slice_index_or ends_on (end + 1) no_side).character
-      → m ≡ mark_of s runs e b f a → m ≡ starts_disturber s runs (reverse (take n es)) e rest
-  mark-at s runs end befores starts_on ends_on m b f a reach round p q r is =
-      let lt : n < length es = place-within es rest n e at in
+  -- the event at a place
+  pub mark-at : (s : Setting) (runs : Bool) (end : ℕ) (m : Bool) → ((t : TagView) → drop n es ≡ Start t ∷ rest → end ≡ n + 1 + span 0 rest)
+      → m ≡ mark_of s runs e (character_before runs (reverse (take n es))) (character_after runs start_width (drop (n + 1) es)) (character_after runs close_width (drop (end + 1) es))
+      → m ≡ starts_disturber s runs (reverse (take n es)) e rest
+  mark-at s runs end m reach is =
       let next : drop (n + 1) es ≡ rest = place-rest es rest n e at in
       let beyond : (t : TagView) → e ≡ Start t → drop (end + 1) es ≡ behind_body rest = λ t start.
       let place : end + 1 ≡ n + 1 + suc (span 0 rest) = omega (arith, reach t (at ∙ ap (λ x. x ∷ rest) start)) in
       ap (λ k. drop k es) place ∙ sym (drop-drop (suc (span 0 rest)) (n + 1) es) ∙ ap (drop (suc (span 0 rest))) next in
-      is ∙ mark-is s runs e (reverse (take n es)) rest b f a
-      (p ∙ round.before n lt)
-      (q ∙ round.starts (n + 1) ∙ ap (character_after runs start_width) next)
-      (λ t start. r ∙ round.behind (end + 1) ∙ ap (character_after runs close_width) (beyond t start))
-
-  -- the event at a place by its neighbours
-  pub mark-beside : (s : Setting) (end : ℕ) (m : Bool) → ((t : TagView) → drop n es ≡ Start t ∷ rest → end ≡ n + 1 + span 0 rest)
-      → m ≡ mark_of s false e (edge_before (front (reverse (take n es)))) (edge_after (front (drop (n + 1) es))) (edge_after (front (drop (end + 1) es)))
-      → m ≡ starts_disturber s false (reverse (take n es)) e rest
-  mark-beside s end m reach is =
-      let next : drop (n + 1) es ≡ rest = place-rest es rest n e at in
-      let beyond : (t : TagView) → e ≡ Start t → drop (end + 1) es ≡ behind_body rest = λ t start.
-      let place : end + 1 ≡ n + 1 + suc (span 0 rest) = omega (arith, reach t (at ∙ ap (λ x. x ∷ rest) start)) in
-      ap (λ k. drop k es) place ∙ sym (drop-drop (suc (span 0 rest)) (n + 1) es) ∙ ap (drop (suc (span 0 rest))) next in
-      is ∙ mark-is s false e (reverse (take n es)) rest (edge_before (front (reverse (take n es)))) (edge_after (front (drop (n + 1) es))) (edge_after (front (drop (end + 1) es)))
-      refl (ap (λ x. edge_after (front x)) next) (λ t start. ap (λ x. edge_after (front x)) (beyond t start))
+      is ∙ mark-is s runs e (reverse (take n es)) rest (character_before runs (reverse (take n es))) (character_after runs start_width (drop (n + 1) es)) (character_after runs close_width (drop (end + 1) es))
+      refl (ap (character_after runs start_width) next) (λ t start. ap (character_after runs close_width) (beyond t start))
 
   -- one mark more
   pub marks-step : (s : Setting) (runs : Bool) (marks new whole : List Bool) (m : Bool) → new ≡ marks ++ m ∷ [] → m ≡ starts_disturber s runs (reverse (take n es)) e rest

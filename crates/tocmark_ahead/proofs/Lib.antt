@@ -6,7 +6,6 @@ pub mod SideLaws
 pub mod LastCharacter
 pub mod Ahead
 pub mod Gathered
-pub mod SameKeys
 pub mod Feeds
 pub mod FactLemmas
 pub mod RunLemmas

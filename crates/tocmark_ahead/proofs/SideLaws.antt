@@ -13,7 +13,7 @@ use Rattle.tocmark_spelling.specs.Page.{front}
 use Rattle.tocmark_spelling.specs.Runs.{tag_width, end_width, width_ahead, behind_run, marker_only, text_only}
 use Rattle.tocmark_ahead.specs.Sides.{picked, width_of, side_at, side_with, no_side}
 use Rattle.tocmark_ahead.specs.declared.sides.Counted.{Counted}
-use Rattle.tocmark_ahead.specs.declared.sides.Counted.TheVariants.{Starts, Ends, Nothing}
+use Rattle.tocmark_ahead.specs.declared.sides.Counted.TheVariants.{Starts, Ends}
 use Rattle.tocmark_ahead.specs.declared.sides.Side.{Side}
 
 pub side-none : (first : Bool) (width : SourcedEvent → ℕ) → no_side ≡ side_at first width []
@@ -56,7 +56,6 @@ width-bound Starts (Leaf l) = omega arith
 width-bound Ends (Start t) = omega arith
 width-bound Ends (End k) = end-bound k
 width-bound Ends (Leaf l) = omega arith
-width-bound Nothing e = omega arith
 
 ahead-by : (counted : Counted) (e : SourcedEvent) (es : List SourcedEvent) (b : Bool) → width_ahead (width_of counted) es ≤ 2 * length es → (if b then 0 else width_of counted e + width_ahead (width_of counted) es) ≤ 2 * suc (length es)
 ahead-by counted e es true h = omega arith

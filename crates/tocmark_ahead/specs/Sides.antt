@@ -9,19 +9,19 @@ use Rattle.tocmark_escape.specs.Characters.{is_white_space}
 use Rattle.tocmark_spelling.specs.Plan.{Setting}
 use Rattle.tocmark_spelling.specs.Words.{first_character, last_character}
 use Rattle.tocmark_ahead.specs.declared.sides.Counted.{Counted}
-use Rattle.tocmark_ahead.specs.declared.sides.Counted.TheVariants.{Starts, Ends, Nothing}
+use Rattle.tocmark_ahead.specs.declared.sides.Counted.TheVariants.{Starts, Ends}
 use Rattle.tocmark_ahead.specs.declared.sides.Side.{Side}
+use Rattle.tocmark_ahead.specs.declared.marks.Round.{Round}
 
 -- the first character of a text, or its last
 abbrev pub picked : Bool → List ℕ → Option ℕ
 picked true = first_character
 picked false = last_character
 
--- the width of the delimiter that an event opens, or that it closes; none counts where runs don't
+-- the width of the delimiter that an event opens, or that it closes
 abbrev pub width_of : Counted → SourcedEvent → ℕ
 width_of Starts = start_width
 width_of Ends = close_width
-width_of Nothing = λ e. 0
 
 -- the run that a list begins with: its width, the character beyond it, and that of a Text there if it is `*` or `_`
 abbrev pub side_at : Bool → (SourcedEvent → ℕ) → List SourcedEvent → Side
@@ -62,16 +62,16 @@ abbrev pub mark_of : Setting → Bool → SourcedEvent → Option ℕ → Option
 mark_of s runs (Start t) before first after = counts runs t && disturbs_at s before first after
 mark_of s runs e before first after = false
 
--- the characters beyond these sides are those that a mark asks for, by runs or by the neighbours alone
-pub record AreRound (runs : Bool) (es : List SourcedEvent) (befores starts_on ends_on : List Side) : Type 0 where
-  pub before : (i : ℕ) → i < length es → (slice_index_or befores i no_side).character ≡ character_before runs (reverse (take i es))
-  pub starts : (i : ℕ) → (slice_index_or starts_on i no_side).character ≡ character_after runs start_width (drop i es)
-  pub behind : (i : ℕ) → (slice_index_or ends_on i no_side).character ≡ character_after runs close_width (drop i es)
+-- the characters beyond these sides are those that a mark asks for by runs
+pub record AreRound (es : List SourcedEvent) (befores starts_on ends_on : List Side) : Type 0 where
+  pub before : (i : ℕ) → i < length es → (slice_index_or befores i no_side).character ≡ character_before true (reverse (take i es))
+  pub starts : (i : ℕ) → (slice_index_or starts_on i no_side).character ≡ character_after true start_width (drop i es)
+  pub behind : (i : ℕ) → (slice_index_or ends_on i no_side).character ≡ character_after true close_width (drop i es)
 
--- by runs Starts (or Ends) count, else nothing does
-abbrev pub counted_if : Bool → Counted → Counted
-counted_if true counted = counted
-counted_if false counted = Nothing
+-- so it is of these sides, if there are any
+abbrev pub AreRoundIf : List SourcedEvent → Option Round → Type 0
+AreRoundIf es None = Unit {0}
+AreRoundIf es (Some round) = AreRound es round.before.items round.starts.items round.ends.items
 
 -- the run of this width between two sides
 abbrev pub run_of : ℕ → Side → Side → Run

@@ -1,7 +1,8 @@
 //! What the spelling of a container looks ahead for.
 
-ghost use Rattle.std.specs.Prelude.{◌≡◌, ℕ, ◌+◌, ◌≤◌, map, slice_index_or, not, ◌&&◌, ◌||◌, Option, None, string_bytes, if◌then◌else◌, Bool, List, [], Some, IfOk, length, false, take, drop, reverse};
-ghost use Rattle.tocmark_ahead.specs.Ahead.{comes_before, disturbers, HoldMarks, AreDisturbed};
+ghost use Rattle.std.specs.Prelude.{◌≡◌, ℕ, ◌+◌, ◌≤◌, ◌<◌, map, slice_index_or, not, ◌&&◌, ◌||◌, Option, None, string_bytes, if◌then◌else◌, Bool, List, [], Some, IfOk, length, false, take, drop, reverse, is_some};
+ghost use Rattle.std.specs.Option.{option_copied};
+ghost use Rattle.tocmark_ahead.specs.Ahead.{character_after, character_before, comes_before, disturbers, HoldMarks, AreDisturbed};
 ghost use Rattle.tocmark_options.specs.Options.{OptionsView};
 ghost use Rattle.tocmark_event.specs.View.{SourcedEvent, tag_view};
 ghost use Rattle.tocmark_event.specs.declared.event.flags.ParserOptions.{ParserOptions};
@@ -9,8 +10,8 @@ ghost use Rattle.tocmark_spelling.specs.Buffered.{buffered_view};
 ghost use Rattle.tocmark_spelling.specs.Edges.{edge_before, edge_after};
 ghost use Rattle.tocmark_spelling.specs.Page.{front};
 ghost use Rattle.tocmark_spelling.specs.PlanOf.{setting_of};
-ghost use Rattle.tocmark_spelling.specs.Runs.{counts, disturbs_at};
-ghost use Rattle.tocmark_ahead.specs.Sides.{closes_at, counted_if, mark_of, no_side, AreRound};
+ghost use Rattle.tocmark_spelling.specs.Runs.{close_width, counts, disturbs_at, start_width};
+ghost use Rattle.tocmark_ahead.specs.Sides.{closes_at, mark_of, no_side, AreRound, AreRoundIf};
 ghost use Rattle.tocmark_spelling.specs.Plan.{Setting};
 ghost use Rattle.tocmark_spelling.specs.Scans.{AreEnds};
 
@@ -34,24 +35,29 @@ fn closes_between(before: Option<char>, at_before: bool, at_first: bool, at_afte
     }
 }
 
+/// The characters round a node.
+#[derive(Clone, Copy)]
+struct Characters {
+    /// The one before its start.
+    before: Option<char>,
+    /// The one behind its start.
+    first: Option<char>,
+    /// The one behind its end.
+    after: Option<char>,
+}
+
 /// Whether the markers between these characters would be asterisks that could close the emphasis round
 /// them. An `Err` says that memory ran out.
-fn disturbs_at<R: Reader>(
-    alloc: Global,
-    reader: &R,
-    before: Option<char>,
-    first: Option<char>,
-    after: Option<char>,
-) -> Result<bool, AllocError>
+fn disturbs_at<R: Reader>(alloc: Global, reader: &R, round: Characters) -> Result<bool, AllocError>
     ensures { (o : OptionsView) (flags : ParserOptions) (label : Option (List ℕ))
         → IfOk result (λ disturbs.
         disturbs ≡ disturbs_at (setting_of o flags (R.reading reader.now) label)
-        before first after) }
+        round.before round.first round.after) }
 {
-    let at_before = is_boundary(alloc, reader, before)?;
-    let at_first = is_boundary(alloc, reader, first)?;
-    let at_after = is_boundary(alloc, reader, after)?;
-    Ok(closes_between(before, at_before, at_first, at_after))
+    let at_before = is_boundary(alloc, reader, round.before)?;
+    let at_first = is_boundary(alloc, reader, round.first)?;
+    let at_after = is_boundary(alloc, reader, round.after)?;
+    Ok(closes_between(round.before, at_before, at_first, at_after))
 }
 
 /// By runs emphasis and strong emphasis count, else the former alone.
@@ -62,34 +68,6 @@ fn counts(tag: &TagOf<String>, runs: bool) -> bool
         TagOf::Emphasis => true,
         TagOf::Strong => runs,
         _ => false,
-    }
-}
-
-/// Whether an event starts a node that disturbs, given the characters before its start, behind it, and
-/// behind its end. An `Err` says that memory ran out.
-fn mark_of<R: Reader>(
-    alloc: Global,
-    reader: &R,
-    runs: bool,
-    event: &BufferedEvent,
-    before: Option<char>,
-    first: Option<char>,
-    after: Option<char>,
-) -> Result<bool, AllocError>
-    ensures { (o : OptionsView) (flags : ParserOptions) (label : Option (List ℕ))
-        → IfOk result (λ mark.
-        mark ≡ mark_of (setting_of o flags (R.reading reader.now) label) runs
-        (buffered_view event.now) before first after) }
-{
-    match &event.event {
-        EventOf::Start(tag) => {
-            if counts(tag, runs) {
-                disturbs_at(alloc, reader, before, first, after)
-            } else {
-                Ok(false)
-            }
-        }
-        _ => Ok(false),
     }
 }
 
@@ -113,7 +91,7 @@ fn character_behind(sides: &[Side], place: usize) -> Option<char>
     }
 }
 
-/// What stands round the events of a unit.
+/// What stands round the events of a unit, by the runs there.
 #[derive(Drop)]
 struct Round {
     /// The sides before each event.
@@ -125,49 +103,48 @@ struct Round {
 }
 
 /// What stands round events. An `Err` says that memory ran out.
-fn sides_round(alloc: Global, runs: bool, events: &[BufferedEvent]) -> Result<Round, AllocError>
-    ensures { IfOk result (λ round. AreRound runs (map buffered_view events.now)
+fn sides_round(alloc: Global, events: &[BufferedEvent]) -> Result<Round, AllocError>
+    ensures { IfOk result (λ round. AreRound (map buffered_view events.now)
         round.before.items round.starts.items round.ends.items) }
 {
-    let starts_counted = counted_if(runs, Counted::Starts);
-    let ends_counted = counted_if(runs, Counted::Ends);
     Ok(Round {
-        before: sides_before(alloc, events, starts_counted)?,
-        starts: sides_ahead(alloc, events, starts_counted)?,
-        ends: sides_ahead(alloc, events, ends_counted)?,
+        before: sides_before(alloc, events, Counted::Starts)?,
+        starts: sides_ahead(alloc, events, Counted::Starts)?,
+        ends: sides_ahead(alloc, events, Counted::Ends)?,
     })
 }
 
-/// For each event whether it starts a node whose markers would be asterisks that could close the
-/// emphasis round them. An `Err` says that memory ran out.
-fn disturbers<R: Reader>(
+/// What stands round events where runs count, and nothing where they don't. An `Err` says that memory
+/// ran out.
+fn round_if(
     alloc: Global,
-    reader: &R,
     runs: bool,
     events: &[BufferedEvent],
-    ends: &[Option<usize>],
-    round: &Round,
-) -> Result<Vec<bool>, AllocError>
-    requires ends { AreEnds (map buffered_view events.now) ends.now }
-    requires round { AreRound runs (map buffered_view events.now)
-        round.now.before.items round.now.starts.items round.now.ends.items }
-    ensures len { IfOk result (λ marks. length marks.items ≡ length events.now) }
-    ensures marks { (o : OptionsView) (flags : ParserOptions) (label : Option (List ℕ))
-        → IfOk result (λ marks.
-        marks.items
-        ≡ disturbers (setting_of o flags (R.reading reader.now) label) runs []
-        (map buffered_view events.now)) }
+) -> Result<Option<Round>, AllocError>
+    ensures runs { IfOk result (λ round. is_some round ≡ runs) }
+    ensures round { IfOk result (λ round. AreRoundIf (map buffered_view events.now) round) }
 {
-    let mut marks = Vec::with_capacity(alloc, events.len())?;
-    for event in events {
-        let i = marks.len();
-        let left = character_at(&round.before, i);
-        let first = character_behind(&round.starts, i);
-        let after = character_behind(&round.ends, body_end(ends, i));
-        let mark = mark_of(alloc, reader, runs, event, left, first, after)?;
-        marks.push(mark)?;
+    if runs {
+        Ok(Some(sides_round(alloc, events)?))
+    } else {
+        Ok(None)
     }
-    Ok(marks)
+}
+
+/// The characters beyond the runs round the node that starts at a place and ends at another one.
+fn beyond_runs(round: &Round, place: usize, end: usize) -> Characters
+    ensures before { result.before
+        ≡ (slice_index_or round.now.before.items place no_side).character }
+    ensures first { result.first
+        ≡ (slice_index_or round.now.starts.items (place + 1) no_side).character }
+    ensures after { result.after
+        ≡ (slice_index_or round.now.ends.items (end + 1) no_side).character }
+{
+    Characters {
+        before: character_at(&round.before, place),
+        first: character_behind(&round.starts, place),
+        after: character_behind(&round.ends, end),
+    }
 }
 
 /// The last character of the event before a place, as its neighbour there sees it.
@@ -204,32 +181,76 @@ fn edge_behind(events: &[BufferedEvent], place: usize) -> Option<char>
     }
 }
 
-/// Whether the event at a place starts a node that disturbs by its neighbours alone, given where its
-/// body ends. Neighbours are looked at where emphasis starts only. An `Err` says that memory ran out.
-fn mark_beside<R: Reader>(
+/// The characters of the neighbours of the node that starts at a place and ends at another one.
+fn beside(events: &[BufferedEvent], place: usize, end: usize) -> Characters
+    requires { place ≤ length events.now }
+    ensures before { result.before
+        ≡ edge_before (front (reverse (take place (map buffered_view events.now)))) }
+    ensures first { result.first
+        ≡ edge_after (front (drop (place + 1) (map buffered_view events.now))) }
+    ensures after { result.after
+        ≡ edge_after (front (drop (end + 1) (map buffered_view events.now))) }
+{
+    Characters {
+        before: edge_before(events, place),
+        first: edge_behind(events, place),
+        after: edge_behind(events, end),
+    }
+}
+
+/// The characters round such a node: those beyond the runs there, or of its neighbours where no runs
+/// are given.
+fn characters_round(
+    events: &[BufferedEvent],
+    round: Option<&Round>,
+    place: usize,
+    end: usize,
+) -> Characters
+    requires place { place < length events.now }
+    requires round { AreRoundIf (map buffered_view events.now) (option_copied round) }
+    ensures before { result.before ≡ character_before (is_some round.entry)
+        (reverse (take place (map buffered_view events.now))) }
+    ensures first { result.first ≡ character_after (is_some round.entry) start_width
+        (drop (place + 1) (map buffered_view events.now)) }
+    ensures after { result.after ≡ character_after (is_some round.entry) close_width
+        (drop (end + 1) (map buffered_view events.now)) }
+{
+    match round {
+        None => beside(events, place, end),
+        Some(round) => beyond_runs(round, place, end),
+    }
+}
+
+/// Whether the event at a place starts a node that disturbs, given where its body ends; by its
+/// neighbours alone where no runs are given. Characters are looked at where a node starts that counts.
+///
+/// An `Err` says that memory ran out.
+fn mark_at<R: Reader>(
     alloc: Global,
     reader: &R,
     events: &[BufferedEvent],
     event: &BufferedEvent,
+    round: Option<&Round>,
     place: usize,
     end: usize,
 ) -> Result<bool, AllocError>
-    requires { place ≤ length events.now }
+    requires place { place < length events.now }
+    requires round { AreRoundIf (map buffered_view events.now) (option_copied round) }
     ensures { (o : OptionsView) (flags : ParserOptions) (label : Option (List ℕ))
         → IfOk result (λ mark.
-        mark ≡ mark_of (setting_of o flags (R.reading reader.now) label) false
+        mark ≡ mark_of (setting_of o flags (R.reading reader.now) label) (is_some round.entry)
         (buffered_view event.now)
-        (edge_before (front (reverse (take place (map buffered_view events.now)))))
-        (edge_after (front (drop (place + 1) (map buffered_view events.now))))
-        (edge_after (front (drop (end + 1) (map buffered_view events.now))))) }
+        (character_before (is_some round.entry)
+        (reverse (take place (map buffered_view events.now))))
+        (character_after (is_some round.entry) start_width
+        (drop (place + 1) (map buffered_view events.now)))
+        (character_after (is_some round.entry) close_width
+        (drop (end + 1) (map buffered_view events.now)))) }
 {
     match &event.event {
         EventOf::Start(tag) => {
-            if counts(tag, false) {
-                let before = edge_before(events, place);
-                let first = edge_behind(events, place);
-                let after = edge_behind(events, end);
-                disturbs_at(alloc, reader, before, first, after)
+            if counts(tag, round.is_some()) {
+                disturbs_at(alloc, reader, characters_round(events, round, place, end))
             } else {
                 Ok(false)
             }
@@ -238,53 +259,33 @@ fn mark_beside<R: Reader>(
     }
 }
 
-/// The same marks as `disturbers` finds, by neighbours alone. An `Err` says that memory ran out.
-fn disturbers_beside<R: Reader>(
+/// For each event whether it starts a node whose markers would be asterisks that could close the
+/// emphasis round them; by neighbours alone where no runs are given.
+///
+/// An `Err` says that memory ran out.
+fn disturbers<R: Reader>(
     alloc: Global,
     reader: &R,
     events: &[BufferedEvent],
     ends: &[Option<usize>],
+    round: Option<&Round>,
 ) -> Result<Vec<bool>, AllocError>
     requires ends { AreEnds (map buffered_view events.now) ends.now }
+    requires round { AreRoundIf (map buffered_view events.now) (option_copied round) }
     ensures len { IfOk result (λ marks. length marks.items ≡ length events.now) }
     ensures marks { (o : OptionsView) (flags : ParserOptions) (label : Option (List ℕ))
         → IfOk result (λ marks.
         marks.items
-        ≡ disturbers (setting_of o flags (R.reading reader.now) label) false []
+        ≡ disturbers (setting_of o flags (R.reading reader.now) label) (is_some round.entry) []
         (map buffered_view events.now)) }
 {
-    let mut found = Vec::with_capacity(alloc, events.len())?;
+    let mut marks = Vec::with_capacity(alloc, events.len())?;
     for event in events {
-        let i = found.len();
-        let mark = mark_beside(alloc, reader, events, event, i, body_end(ends, i))?;
-        found.push(mark)?;
+        let i = marks.len();
+        let mark = mark_at(alloc, reader, events, event, round, i, body_end(ends, i))?;
+        marks.push(mark)?;
     }
-    Ok(found)
-}
-
-/// For each event whether it starts a node that disturbs, by runs or by neighbours alone. Columns of
-/// runs are made for the former only. An `Err` says that memory ran out.
-fn marks_of<R: Reader>(
-    alloc: Global,
-    reader: &R,
-    runs: bool,
-    events: &[BufferedEvent],
-    ends: &[Option<usize>],
-) -> Result<Vec<bool>, AllocError>
-    requires ends { AreEnds (map buffered_view events.now) ends.now }
-    ensures len { IfOk result (λ marks. length marks.items ≡ length events.now) }
-    ensures marks { (o : OptionsView) (flags : ParserOptions) (label : Option (List ℕ))
-        → IfOk result (λ marks.
-        marks.items
-        ≡ disturbers (setting_of o flags (R.reading reader.now) label) runs []
-        (map buffered_view events.now)) }
-{
-    if runs {
-        let round = sides_round(alloc, runs, events)?;
-        disturbers(alloc, reader, runs, events, ends, &round)
-    } else {
-        disturbers_beside(alloc, reader, events, ends)
-    }
+    Ok(marks)
 }
 
 /// Whether there is a place and it comes before an end; any does where there is no end.
@@ -331,12 +332,6 @@ pub fn marks_within(
     Ok(found)
 }
 
-fn counted_if(runs: bool, counted: Counted) -> Counted
-    ensures { result ≡ counted_if runs counted }
-{
-    if runs { counted } else { Counted::Nothing }
-}
-
 /// For each start whether its body holds a node whose markers would be asterisks that could close the
 /// emphasis round them, so that a container there prefers the underscore; by runs, or by neighbours alone.
 ///
@@ -354,6 +349,7 @@ pub fn preferences<R: Reader>(
         AreDisturbed (setting_of o flags (R.reading reader.now) label) runs
         (map buffered_view events.now) found.items) }
 {
-    let marks = marks_of(alloc, reader, runs, events, ends)?;
+    let round = round_if(alloc, runs, events)?;
+    let marks = disturbers(alloc, reader, events, ends, round.as_ref())?;
     marks_within(alloc, &marks, ends)
 }

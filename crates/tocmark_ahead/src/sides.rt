@@ -20,7 +20,6 @@ pub enum Counted {
     Starts,
     /// Their ends.
     Ends,
-    Nothing,
 }
 
 /// A run of delimiters on one side of a place.
@@ -130,7 +129,6 @@ fn width_of(event: &BufferedEvent, counted: Counted) -> usize
     match counted {
         Counted::Starts => start_width(event),
         Counted::Ends => close_width(event),
-        Counted::Nothing => 0,
     }
 }
 

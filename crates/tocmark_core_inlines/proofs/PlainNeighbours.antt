@@ -3,12 +3,13 @@ use Rattle.std.proofs.Common.{◌≡◌, ℕ, zero, suc, ◌+◌, ◌-◌, ◌^�
 use Rattle.std.proofs.lemmas.Bool.Decides.{nat_tests}
 use Rattle.std.specs.Char.{is_ascii_alphanumeric, is_ascii_punctuation}
 use Rattle.tocmark_core_scan.specs.Basic.{plus, byte_at, starts_at}
-use Rattle.tocmark_core_scan.specs.Reference.{is_escape}
-use Rattle.tocmark_core_scan.specs.declared.reference.Reference.{Reference}
+use Rattle.tocmark_core_tokens.specs.Reference.{is_escape}
+use Rattle.tocmark_core_tokens.specs.declared.reference.Reference.{Reference}
 use Rattle.tocmark_core_scan.specs.Side.{side_before}
 use Rattle.tocmark_core_scan.specs.declared.side.Side.TheVariants.{Other}
-use Rattle.tocmark_core_scan.proofs.PlainMarks.{amp_reference, side_at_letter, side_before_letter}
-use Rattle.tocmark_core_scan.proofs.PlainSpaces.{drop_at, byte_front, space_reference}
+use Rattle.tocmark_core_scan.proofs.PlainSides.{side_at_letter, side_before_letter}
+use Rattle.tocmark_core_scan.proofs.PlainPlaces.{drop_at, byte_front}
+use Rattle.tocmark_core_tokens.proofs.PlainReferences.{amp_reference, space_reference}
 use Rattle.tocmark_core_inlines.specs.Scan as s
 use Rattle.tocmark_core_spans.specs.declared.definitions.Entry.{Entry}
 use Rattle.tocmark_core_inlines.proofs.PlainInlines.{IsInert}

@@ -2,7 +2,7 @@
 use Rattle.std.proofs.Common.{◌≡◌, ℕ, ◌+◌, ◌-◌, ◌^◌, ◌<◌, false, ◌==◌, List, ◌∷◌, length, drop, codes, Option, refl, ap, ◌∙◌, arith}
 use Rattle.tocmark_core_scan.specs.Basic.{plus, starts_at}
 use Rattle.tocmark_core_scan.specs.Class.{run_end, is_in}
-use Rattle.tocmark_core_scan.specs.Reference.{is_escape}
+use Rattle.tocmark_core_tokens.specs.Reference.{is_escape}
 use Rattle.tocmark_core_scan.specs.Side.{side_at, side_before}
 use Rattle.tocmark_core_scan.specs.declared.class.Class.TheVariants.{Only}
 use Rattle.tocmark_core_scan.specs.declared.side.Side.TheVariants.{Other}

@@ -5,7 +5,7 @@ use Rattle.std.specs.List.{fold}
 use Rattle.std.proofs.lemmas.List.Sums.{fold-append}
 use Rattle.tocmark_core_scan.specs.Basic.{plus}
 use Rattle.tocmark_core_scan.specs.Repeat.{iterated}
-use Rattle.tocmark_core_scan.specs.Reference.{is_escape, reference_at}
+use Rattle.tocmark_core_tokens.specs.Reference.{is_escape, reference_at}
 use Rattle.tocmark_core_scan.proofs.Repeats.{iterated_stop}
 use Rattle.tocmark_core_inlines.specs.Scan as s
 use Rattle.tocmark_core_spans.specs.declared.definitions.Entry.{Entry}

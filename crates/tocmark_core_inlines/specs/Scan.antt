@@ -4,13 +4,13 @@ use Rattle.std.specs.List.{list_any}
 use Rattle.tocmark_core_scan.specs.Basic.{plus, byte_at, piece, starts_at}
 use Rattle.tocmark_core_scan.specs.Class.{run_end}
 use Rattle.tocmark_core_scan.specs.Repeat.{iterated}
-use Rattle.tocmark_core_scan.specs.Html.{last_ends, raw_html}
-use Rattle.tocmark_core_scan.specs.Autolink.{uri_end, mail_end}
-use Rattle.tocmark_core_scan.specs.Reference.{is_escape, reference_at, unescaped}
-use Rattle.tocmark_core_scan.specs.Label.{collapsed, key_of}
+use Rattle.tocmark_core_tokens.specs.Html.{last_ends, raw_html}
+use Rattle.tocmark_core_tokens.specs.Autolink.{uri_end, mail_end}
+use Rattle.tocmark_core_tokens.specs.Reference.{is_escape, reference_at, unescaped}
+use Rattle.tocmark_core_tokens.specs.Label.{collapsed, key_of}
 use Rattle.tocmark_core_scan.specs.declared.class.Class.TheVariants.{Only}
-use Rattle.tocmark_core_scan.specs.declared.html.LastEnds.{LastEnds}
-use Rattle.tocmark_core_scan.specs.declared.reference.Reference.{Reference}
+use Rattle.tocmark_core_tokens.specs.declared.html.LastEnds.{LastEnds}
+use Rattle.tocmark_core_tokens.specs.declared.reference.Reference.{Reference}
 use Rattle.tocmark_event.specs.declared.event.LinkType.{LinkType}
 use Rattle.tocmark_event.specs.declared.event.LinkType.TheVariants.{Inline, Autolink, Email}
 use Rattle.tocmark_core_spans.specs.Role.{roles_of}

@@ -6,18 +6,18 @@ ghost use Rattle.tocmark_core_spans.specs.Definitions.{entry_of};
 ghost use Rattle.tocmark_core_inlines.specs.Scan.{before_space, scan, ahead_view, ends_of, ticks_of, stretch, kept, kept_code, kept_resolved, targeted, put_leaf, escaped, referred, code_put, coded, run_taken, marked, opened, imaged, addressed, html_put, tagged, mailed, angled, line_ended, spanned, settled, linked, closed_inline, missing, looked_up, closed_by_label, closed_active, popped, closed, looked_mark, looked, is_mark, with_place, scan_step, ran, scanned};
 
 use std::alloc::{AllocError, Global};
-use tocmark_core_scan::autolink::{mail_end, uri_end};
 use tocmark_core_scan::basic::{byte_at, minus, piece, plus, set, starts_at};
 use tocmark_core_scan::class::{Class, run_end};
-use tocmark_core_scan::html::{LastEnds, last_ends, raw_html};
-use tocmark_core_scan::label::{collapsed, key_of};
-use tocmark_core_scan::reference::{is_escape, reference_at, unescaped};
 use tocmark_core_spans::definitions::Definitions;
 use tocmark_core_spans::emphasis::emphasize;
 use tocmark_core_spans::link::{Asked, Bracket, InlineTarget, inline_target, label_asked};
 use tocmark_core_spans::role::{Leaf, Role, Roles, Span, Stretch, Target};
 use tocmark_core_spans::run::{Run, run_at};
 use tocmark_core_spans::tick::{last_ticks, push_code, tick_end};
+use tocmark_core_tokens::autolink::{mail_end, uri_end};
+use tocmark_core_tokens::html::{LastEnds, last_ends, raw_html};
+use tocmark_core_tokens::label::{collapsed, key_of};
+use tocmark_core_tokens::reference::{is_escape, reference_at, unescaped};
 use tocmark_event::event::LinkType;
 
 /// What is known of a text before it is read: where no end of raw HTML and no backticks follow.

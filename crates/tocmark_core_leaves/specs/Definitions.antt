@@ -4,8 +4,8 @@ use Rattle.std.specs.List.{flat_map}
 use Rattle.std.specs.Option.{option_map_or}
 use Rattle.tocmark_core_scan.specs.Basic.{byte_at, piece}
 use Rattle.tocmark_core_scan.specs.Repeat.{repeated}
-use Rattle.tocmark_core_scan.specs.Word.{definition_at}
-use Rattle.tocmark_core_scan.specs.declared.word.Definition.{Definition}
+use Rattle.tocmark_core_tokens.specs.Word.{definition_at}
+use Rattle.tocmark_core_tokens.specs.declared.word.Definition.{Definition}
 use Rattle.tocmark_core_leaves.specs.declared.definition.Piece.{Piece}
 use Rattle.tocmark_core_leaves.specs.declared.definition.LinkDefinition.{LinkDefinition}
 

@@ -7,7 +7,7 @@ ghost use Rattle.tocmark_core_leaves.specs.Definitions.{begins_definition, repla
 
 use std::alloc::{AllocError, Global};
 use tocmark_core_scan::basic::{byte_at, piece};
-use tocmark_core_scan::word::{Definition, definition_at};
+use tocmark_core_tokens::word::{Definition, definition_at};
 
 /// A line of a leaf, without the prefixes of its containers. Places are bytes of the text.
 #[derive(Clone, Copy, PartialEq, Eq)]

@@ -4,7 +4,7 @@ use Rattle.std.specs.List.{list_any}
 use Rattle.std.specs.Char.{is_ascii_alphabetic, to_ascii_lowercase}
 use Rattle.tocmark_core_scan.specs.Basic.{plus, byte_at, piece, starts_at}
 use Rattle.tocmark_core_scan.specs.Class.{run_end}
-use Rattle.tocmark_core_scan.specs.Html.{closing_tag, open_tag}
+use Rattle.tocmark_core_tokens.specs.Html.{closing_tag, open_tag}
 use Rattle.tocmark_core_scan.specs.declared.class.Class.TheVariants.{TagName, Blank}
 use Rattle.tocmark_core_marks.specs.declared.html.HtmlKind.{HtmlKind}
 use Rattle.tocmark_core_marks.specs.declared.html.HtmlKind.TheVariants.{Raw, Comment, Instruction, Declaration, CharacterData, Named, Alone}

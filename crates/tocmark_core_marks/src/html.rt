@@ -6,7 +6,7 @@ ghost use Rattle.tocmark_core_marks.specs.Html.{same_word, is_raw_name, is_block
 
 use tocmark_core_scan::basic::{byte_at, piece, plus, starts_at};
 use tocmark_core_scan::class::{Class, run_end};
-use tocmark_core_scan::html::{closing_tag, open_tag};
+use tocmark_core_tokens::html::{closing_tag, open_tag};
 
 /// The seven kinds of HTML blocks.
 #[derive(Clone, Copy, PartialEq, Eq)]

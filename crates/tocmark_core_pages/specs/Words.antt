@@ -2,7 +2,7 @@
 use Rattle.std.specs.Prelude.{ℕ, Bool, if◌then◌else◌, List, [], ◌∷◌, ◌++◌, replicate}
 use Rattle.std.specs.List.{flat_map}
 use Rattle.std.specs.Str.Lossy.{utf8_lossy}
-use Rattle.tocmark_core_scan.specs.Reference.{unescaped}
+use Rattle.tocmark_core_tokens.specs.Reference.{unescaped}
 use Rattle.tocmark_core_leaves.specs.Definitions.{replaced}
 
 -- a line feed, for a line that ends

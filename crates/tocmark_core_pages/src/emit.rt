@@ -105,7 +105,7 @@ impl Emission {
     {
         while self.stack.len() > depth {
             if let Some(last) = self.stack.pop() {
-                self.events.push((Event::End(last.end), last.range))?;
+                push(&mut self.events, Event::End(last.end), last.range)?;
             }
         }
         Ok(())
@@ -121,11 +121,10 @@ impl Emission {
         ensures { OnOk result (emission_view self.new
             ≡ put text.now (Container (tag_view text_of tag.entry)) range (emission_view self.old)) }
     {
-        self.stack.push(Open {
-            end: tag.to_end(),
-            range,
-        })?;
-        push(&mut self.events, Event::Start(tag), range)
+        let end = tag.to_end();
+        push(&mut self.events, Event::Start(tag), range)?;
+        self.stack.push(Open { end, range })?;
+        Ok(())
     }
 
     /// Puts one item behind the events so far.

@@ -3,7 +3,7 @@
 ghost use Rattle.std.specs.Prelude.{◌≡◌, ◌++◌, true, string_bytes, IfOk, OnOk};
 ghost use Rattle.std.specs.List.{flat_map};
 ghost use Rattle.tocmark_core_scan.specs.Basic.{piece};
-ghost use Rattle.tocmark_core_scan.specs.Reference.{unescaped};
+ghost use Rattle.tocmark_core_tokens.specs.Reference.{unescaped};
 ghost use Rattle.tocmark_event.specs.Text.{text_of};
 ghost use Rattle.tocmark_core_leaves.specs.Definitions.{replaced};
 ghost use Rattle.tocmark_core_spans.specs.Definitions.{stretch_text};
@@ -11,8 +11,8 @@ ghost use Rattle.tocmark_core_pages.specs.Words.{feed_if, cleaned, info_text, sp
 
 use std::alloc::{AllocError, Global};
 use tocmark_core_scan::basic::{piece, plus};
-use tocmark_core_scan::reference::unescaped;
 use tocmark_core_spans::role::Stretch;
+use tocmark_core_tokens::reference::unescaped;
 use tocmark_event::event::CowStr;
 
 #[tactic(auto, unfolding(tocmark_core_leaves::specs::Definitions::replaced))]

@@ -2,7 +2,7 @@
 use Rattle.std.proofs.Common.{◌≡◌, ℕ, List, ap}
 use Rattle.std.specs.HashMap.{get_by_text}
 use mathlib.Core.Path.{fun_ext}
-use Rattle.tocmark_core_scan.specs.Label.{first_place}
+use Rattle.tocmark_core_tokens.specs.Label.{first_place}
 use Rattle.tocmark_core_spans.specs.Definitions.{entry_of, entry_at}
 use Rattle.tocmark_core_spans.specs.declared.definitions.Definitions.{Definitions}
 use Rattle.tocmark_core_reader.specs.Reading.{first_entry}

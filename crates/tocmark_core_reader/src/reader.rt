@@ -9,8 +9,8 @@ ghost use Rattle.tocmark_event.specs.Reading.{reading_view};
 use std::alloc::{AllocError, Global};
 use tocmark_core_blocks::{LinkDefinition, read_blocks};
 use tocmark_core_pages::page::assemble;
-use tocmark_core_scan::label::first_places;
 use tocmark_core_spans::definitions::{Collected, Definitions, Entry, distinct_labels};
+use tocmark_core_tokens::label::first_places;
 use tocmark_event::event::ParserOptions;
 use tocmark_event::reader::{Reader, Reading};
 

@@ -1,8 +1,7 @@
 pub mod Repeats
 pub mod Whole
-pub mod Places
 pub mod PlainContent
-pub mod PlainMarks
 pub mod PlainPieces
-pub mod PlainSpaces
+pub mod PlainPlaces
+pub mod PlainSides
 pub mod PlainTests

@@ -1,11 +1,6 @@
 pub mod Basic
 pub mod Repeat
 pub mod Class
-pub mod Word
-pub mod Html
-pub mod Autolink
-pub mod Reference
 pub mod Side
-pub mod Label
 pub mod Content
 pub mod PlainParts

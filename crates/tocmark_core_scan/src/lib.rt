@@ -2,12 +2,7 @@
 //! byte offsets, and each function answers at every argument: past the end of a text stands a line feed.
 #![tactic(auto)]
 
-pub mod autolink;
 pub mod basic;
 pub mod class;
 pub mod content;
-pub mod html;
-pub mod label;
-pub mod reference;
 pub mod side;
-pub mod word;

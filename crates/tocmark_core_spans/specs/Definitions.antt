@@ -3,9 +3,9 @@ use Rattle.std.specs.Prelude.{ℕ, List, [], ◌∷◌, ◌++◌, length, map, s
 use Rattle.std.specs.HashMap.{get_by_text}
 use Rattle.std.specs.Str.Lossy.{utf8_lossy}
 use Rattle.tocmark_core_scan.specs.Basic.{piece}
-use Rattle.tocmark_core_scan.specs.Label.{collapsed, key_of, distinct_from}
-use Rattle.tocmark_core_scan.specs.Reference.{unescaped}
-use Rattle.tocmark_core_scan.specs.declared.word.Definition.{Definition}
+use Rattle.tocmark_core_tokens.specs.Label.{collapsed, key_of, distinct_from}
+use Rattle.tocmark_core_tokens.specs.Reference.{unescaped}
+use Rattle.tocmark_core_tokens.specs.declared.word.Definition.{Definition}
 use Rattle.tocmark_core_spans.specs.declared.definitions.Definitions.{Definitions}
 use Rattle.tocmark_core_spans.specs.declared.definitions.Entry.{Entry}
 use Rattle.tocmark_core_spans.specs.declared.definitions.Collected.{Collected}

@@ -2,9 +2,9 @@
 use Rattle.std.specs.Prelude.{ℕ, Bool, not, ◌==◌, ◌&&◌, ◌||◌, if◌then◌else◌, List, codes, Option, Some, None}
 use Rattle.tocmark_core_scan.specs.Basic.{plus, byte_at, starts_at}
 use Rattle.tocmark_core_scan.specs.Class.{run_end}
-use Rattle.tocmark_core_scan.specs.Word.{word, destination, title, label, label_from}
+use Rattle.tocmark_core_tokens.specs.Word.{word, destination, title, label, label_from}
 use Rattle.tocmark_core_scan.specs.declared.class.Class.TheVariants.{White}
-use Rattle.tocmark_core_scan.specs.declared.word.Word.{Word}
+use Rattle.tocmark_core_tokens.specs.declared.word.Word.{Word}
 use Rattle.tocmark_event.specs.declared.event.LinkType.TheVariants.{Reference, Collapsed, Shortcut}
 use Rattle.tocmark_core_spans.specs.declared.link.Bracket.{Bracket}
 use Rattle.tocmark_core_spans.specs.declared.link.InlineTarget.{InlineTarget}

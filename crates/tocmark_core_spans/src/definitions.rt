@@ -7,9 +7,9 @@ use crate::role::Stretch;
 use std::alloc::{AllocError, Global};
 use std::collections::HashMap;
 use tocmark_core_scan::basic::piece;
-use tocmark_core_scan::label::{collapsed, distinct, key_of};
-use tocmark_core_scan::reference::unescaped;
-use tocmark_core_scan::word::Definition;
+use tocmark_core_tokens::label::{collapsed, distinct, key_of};
+use tocmark_core_tokens::reference::unescaped;
+use tocmark_core_tokens::word::Definition;
 
 /// What a label is defined as, in the texts of the document's inlines.
 #[derive(Clone, Copy)]

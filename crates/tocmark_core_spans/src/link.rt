@@ -5,7 +5,7 @@ ghost use Rattle.tocmark_core_spans.specs.Link.{begins_title, inline_title, inli
 
 use tocmark_core_scan::basic::{byte_at, plus, starts_at};
 use tocmark_core_scan::class::{Class, run_end};
-use tocmark_core_scan::word::{Word, destination, label, label_from, title};
+use tocmark_core_tokens::word::{Word, destination, label, label_from, title};
 use tocmark_event::event::LinkType;
 
 /// A bracket that may begin the text of a link or an image.

@@ -15,12 +15,12 @@ ghost use Rattle.tocmark_spelling.specs.Runs.{last_run, run_around};
 
 use crate::ends::{last_byte, last_character};
 use std::alloc::{AllocError, Global};
-use tocmark_ahead::same_events::end_number;
 use tocmark_containers::content::Content;
 use tocmark_containers::frame::Frame;
 use tocmark_event::event::{EventOf, OwnedEvent, TagOf};
 use tocmark_marker::facts::{Parent, Place, asks_runs};
 use tocmark_renderer::renderer::Renderer;
+use tocmark_same_events::number::end_number;
 use tocmark_spelling::plan::{Delimiters, Layout};
 
 /// What stands before the body of a delimited container.

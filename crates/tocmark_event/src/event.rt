@@ -3,7 +3,7 @@
 ghost use Rattle.std.specs.Prelude.{◌≡◌, ◌++◌, ◌↔◌, map, string_bytes, IfOk, OnOk, IsTrue};
 ghost use Rattle.std.specs.Option.{option_map};
 ghost use Rattle.tocmark_event.specs.Text.{text_of};
-ghost use Rattle.tocmark_event.specs.View.{event_view, tag_view, code_view, attribute_view, end_of};
+ghost use Rattle.tocmark_event.specs.View.{Heading, CodeBlock, Link, Image, event_view, tag_view, code_view, attribute_view, end_of};
 ghost use Rattle.tocmark_event.specs.Merged.{merged, pending_text, or_empty};
 
 use std::alloc::{AllocError, Global};
@@ -283,6 +283,24 @@ pub type OwnedTag = TagOf<String>;
 /// An event that owns its texts as strings: what is kept between calls.
 pub type OwnedEvent = EventOf<String>;
 
+fn copied_text<T: Words, U: OwnedWords>(alloc: Global, text: &T) -> Result<U, AllocError>
+    ensures { IfOk result (λ copy. U.Words.bytes copy ≡ T.bytes text.now) }
+{
+    U::from_text(alloc, text.words())
+}
+
+fn copied_option<T: Words, U: OwnedWords>(
+    alloc: Global,
+    text: &Option<T>,
+) -> Result<Option<U>, AllocError>
+    ensures { IfOk result (λ copy. option_map U.Words.bytes copy ≡ option_map T.bytes text.now) }
+{
+    match text {
+        None => Ok(None),
+        Some(text) => Ok(Some(copied_text(alloc, text)?)),
+    }
+}
+
 fn copied_texts<T: Words, U: OwnedWords + Drop>(
     alloc: Global,
     texts: &[T],
@@ -291,21 +309,20 @@ fn copied_texts<T: Words, U: OwnedWords + Drop>(
 {
     let mut copies = Vec::new(alloc);
     for text in texts {
-        copies.push(U::from_text(alloc, text.words())?)?;
+        copies.push(copied_text(alloc, text)?)?;
     }
     Ok(copies)
 }
 
-fn copied_text<T: Words, U: OwnedWords>(
+fn copied_attribute<T: Words, U: OwnedWords + Drop>(
     alloc: Global,
-    text: &Option<T>,
-) -> Result<Option<U>, AllocError>
-    ensures { IfOk result (λ copy. option_map U.Words.bytes copy ≡ option_map T.bytes text.now) }
+    attribute: &(T, Option<T>),
+) -> Result<(U, Option<U>), AllocError>
+    ensures { IfOk result (λ copy.
+        attribute_view U.Words.bytes copy ≡ attribute_view T.bytes attribute.now) }
 {
-    match text {
-        None => Ok(None),
-        Some(text) => Ok(Some(U::from_text(alloc, text.words())?)),
-    }
+    let (key, value) = attribute;
+    Ok((copied_text(alloc, key)?, copied_option(alloc, value)?))
 }
 
 fn copied_attributes<T: Words, U: OwnedWords + Drop>(
@@ -317,22 +334,78 @@ fn copied_attributes<T: Words, U: OwnedWords + Drop>(
         ≡ map (attribute_view T.bytes) attributes.now) }
 {
     let mut copies = Vec::new(alloc);
-    for (key, value) in attributes {
-        let key = U::from_text(alloc, key.words())?;
-        let value = copied_text(alloc, value)?;
-        copies.push((key, value))?;
+    for attribute in attributes {
+        copies.push(copied_attribute(alloc, attribute)?)?;
     }
     Ok(copies)
 }
 
-fn copied_alignments(alloc: Global, alignments: &[Alignment]) -> Result<Vec<Alignment>, AllocError>
-    ensures { IfOk result (λ copies. copies.items ≡ alignments.now) }
+fn copied_heading<T: Words, U: OwnedWords + Drop>(
+    alloc: Global,
+    level: HeadingLevel,
+    id: &Option<T>,
+    classes: &[T],
+    attrs: &[(T, Option<T>)],
+) -> Result<TagOf<U>, AllocError>
+    ensures { IfOk result (λ copy. tag_view U.Words.bytes copy
+        ≡ Heading level (option_map T.bytes id.now) (map T.bytes classes.now)
+        (map (attribute_view T.bytes) attrs.now)) }
 {
-    let mut copies = Vec::new(alloc);
-    for alignment in alignments {
-        copies.push(*alignment)?;
-    }
-    Ok(copies)
+    Ok(TagOf::Heading {
+        level,
+        id: copied_option(alloc, id)?,
+        classes: copied_texts(alloc, classes)?,
+        attrs: copied_attributes(alloc, attrs)?,
+    })
+}
+
+fn copied_code_block<T: Words, U: OwnedWords + Drop>(
+    alloc: Global,
+    kind: &CodeBlockKindOf<T>,
+) -> Result<TagOf<U>, AllocError>
+    ensures { IfOk result (λ copy.
+        tag_view U.Words.bytes copy ≡ CodeBlock (code_view T.bytes kind.now)) }
+{
+    Ok(TagOf::CodeBlock(match kind {
+        CodeBlockKindOf::Indented => CodeBlockKindOf::Indented,
+        CodeBlockKindOf::Fenced(info) => CodeBlockKindOf::Fenced(copied_text(alloc, info)?),
+    }))
+}
+
+fn copied_link<T: Words, U: OwnedWords + Drop>(
+    alloc: Global,
+    link_type: LinkType,
+    dest_url: &T,
+    title: &T,
+    id: &T,
+) -> Result<TagOf<U>, AllocError>
+    ensures { IfOk result (λ copy. tag_view U.Words.bytes copy
+        ≡ Link link_type (T.bytes dest_url.now) (T.bytes title.now) (T.bytes id.now)) }
+{
+    Ok(TagOf::Link {
+        link_type,
+        dest_url: copied_text(alloc, dest_url)?,
+        title: copied_text(alloc, title)?,
+        id: copied_text(alloc, id)?,
+    })
+}
+
+fn copied_image<T: Words, U: OwnedWords + Drop>(
+    alloc: Global,
+    link_type: LinkType,
+    dest_url: &T,
+    title: &T,
+    id: &T,
+) -> Result<TagOf<U>, AllocError>
+    ensures { IfOk result (λ copy. tag_view U.Words.bytes copy
+        ≡ Image link_type (T.bytes dest_url.now) (T.bytes title.now) (T.bytes id.now)) }
+{
+    Ok(TagOf::Image {
+        link_type,
+        dest_url: copied_text(alloc, dest_url)?,
+        title: copied_text(alloc, title)?,
+        id: copied_text(alloc, id)?,
+    })
 }
 
 impl<T: Words> TagOf<T> {
@@ -378,30 +451,19 @@ impl<T: Words> TagOf<T> {
                 id,
                 classes,
                 attrs,
-            } => Ok(TagOf::Heading {
-                level: *level,
-                id: copied_text(alloc, id)?,
-                classes: copied_texts(alloc, classes)?,
-                attrs: copied_attributes(alloc, attrs)?,
-            }),
+            } => copied_heading(alloc, *level, id, classes, attrs),
             TagOf::BlockQuote(kind) => Ok(TagOf::BlockQuote(*kind)),
-            TagOf::CodeBlock(CodeBlockKindOf::Indented) => {
-                Ok(TagOf::CodeBlock(CodeBlockKindOf::Indented))
-            }
-            TagOf::CodeBlock(CodeBlockKindOf::Fenced(info)) => Ok(TagOf::CodeBlock(
-                CodeBlockKindOf::Fenced(U::from_text(alloc, info.words())?),
-            )),
+            TagOf::CodeBlock(kind) => copied_code_block(alloc, kind),
             TagOf::HtmlBlock => Ok(TagOf::HtmlBlock),
             TagOf::List(start) => Ok(TagOf::List(*start)),
             TagOf::Item => Ok(TagOf::Item),
-            TagOf::FootnoteDefinition(label) => Ok(TagOf::FootnoteDefinition(U::from_text(
-                alloc,
-                label.words(),
-            )?)),
+            TagOf::FootnoteDefinition(label) => {
+                Ok(TagOf::FootnoteDefinition(copied_text(alloc, label)?))
+            }
             TagOf::DefinitionList => Ok(TagOf::DefinitionList),
             TagOf::DefinitionListTitle => Ok(TagOf::DefinitionListTitle),
             TagOf::DefinitionListDefinition => Ok(TagOf::DefinitionListDefinition),
-            TagOf::Table(alignments) => Ok(TagOf::Table(copied_alignments(alloc, alignments)?)),
+            TagOf::Table(alignments) => Ok(TagOf::Table(Vec::from_slice(alloc, alignments)?)),
             TagOf::TableHead => Ok(TagOf::TableHead),
             TagOf::TableRow => Ok(TagOf::TableRow),
             TagOf::TableCell => Ok(TagOf::TableCell),
@@ -415,23 +477,13 @@ impl<T: Words> TagOf<T> {
                 dest_url,
                 title,
                 id,
-            } => Ok(TagOf::Link {
-                link_type: *link_type,
-                dest_url: U::from_text(alloc, dest_url.words())?,
-                title: U::from_text(alloc, title.words())?,
-                id: U::from_text(alloc, id.words())?,
-            }),
+            } => copied_link(alloc, *link_type, dest_url, title, id),
             TagOf::Image {
                 link_type,
                 dest_url,
                 title,
                 id,
-            } => Ok(TagOf::Image {
-                link_type: *link_type,
-                dest_url: U::from_text(alloc, dest_url.words())?,
-                title: U::from_text(alloc, title.words())?,
-                id: U::from_text(alloc, id.words())?,
-            }),
+            } => copied_image(alloc, *link_type, dest_url, title, id),
             TagOf::MetadataBlock(kind) => Ok(TagOf::MetadataBlock(*kind)),
         }
     }
@@ -446,24 +498,15 @@ impl<T: Words> EventOf<T> {
         match self {
             EventOf::Start(tag) => Ok(EventOf::Start(tag.copied(alloc)?)),
             EventOf::End(end) => Ok(EventOf::End(*end)),
-            EventOf::Text(text) => Ok(EventOf::Text(U::from_text(alloc, text.words())?)),
-            EventOf::Code(text) => Ok(EventOf::Code(U::from_text(alloc, text.words())?)),
-            EventOf::InlineMath(text) => Ok(EventOf::InlineMath(U::from_text(
-                alloc,
-                text.words(),
-            )?)),
-            EventOf::DisplayMath(text) => {
-                Ok(EventOf::DisplayMath(U::from_text(alloc, text.words())?))
+            EventOf::Text(text) => Ok(EventOf::Text(copied_text(alloc, text)?)),
+            EventOf::Code(text) => Ok(EventOf::Code(copied_text(alloc, text)?)),
+            EventOf::InlineMath(text) => Ok(EventOf::InlineMath(copied_text(alloc, text)?)),
+            EventOf::DisplayMath(text) => Ok(EventOf::DisplayMath(copied_text(alloc, text)?)),
+            EventOf::Html(text) => Ok(EventOf::Html(copied_text(alloc, text)?)),
+            EventOf::InlineHtml(text) => Ok(EventOf::InlineHtml(copied_text(alloc, text)?)),
+            EventOf::FootnoteReference(label) => {
+                Ok(EventOf::FootnoteReference(copied_text(alloc, label)?))
             }
-            EventOf::Html(text) => Ok(EventOf::Html(U::from_text(alloc, text.words())?)),
-            EventOf::InlineHtml(text) => Ok(EventOf::InlineHtml(U::from_text(
-                alloc,
-                text.words(),
-            )?)),
-            EventOf::FootnoteReference(label) => Ok(EventOf::FootnoteReference(U::from_text(
-                alloc,
-                label.words(),
-            )?)),
             EventOf::SoftBreak => Ok(EventOf::SoftBreak),
             EventOf::HardBreak => Ok(EventOf::HardBreak),
             EventOf::Rule => Ok(EventOf::Rule),

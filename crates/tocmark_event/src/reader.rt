@@ -20,18 +20,24 @@ pub struct Reading {
 }
 
 impl Reading {
+    fn lent(&self) -> &[(Event<'_>, (usize, usize))]
+        ensures { result.now ≡ self.now.events.items }
+    {
+        &self.events
+    }
+
     /// The events, one after the other: what `cmark` takes.
     pub fn events(&self) -> Events<'_>
         ensures { events_left result ≡ map (λ e. e.0) (reading_view self.now).events }
     {
-        Events(self.events.iter())
+        Events(self.lent().iter())
     }
 
     /// The events with their ranges, one after the other: what `cmark_with_source_range` takes.
     pub fn pairs(&self) -> Pairs<'_>
         ensures { pairs_left result ≡ map (λ e. (e.0, Some e.1)) (reading_view self.now).events }
     {
-        Pairs(self.events.iter())
+        Pairs(self.lent().iter())
     }
 }
 

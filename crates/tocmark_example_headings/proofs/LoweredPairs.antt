@@ -7,8 +7,8 @@ use Rattle.std.specs.Slice.Iter.{iter_rest, iter_steps}
 use Rattle.std.specs.declared.slice.Iter.{Iter}
 use Rattle.tocmark_event.specs.Text.{ParserEvent, text_of}
 use Rattle.tocmark_event.specs.View.{EventView, event_view}
-use Rattle.tocmark_state.specs.Ranges.{unranged}
-use Rattle.tocmark_state.specs.StateView.{pairs}
+use Rattle.tocmark_work.specs.Ranges.{unranged}
+use Rattle.tocmark_work.specs.WorkView.{pairs}
 use Rattle.tocmark_example_headings.specs.Headings.{lowered}
 
 nothing_left : {A : Type 0} (xs : List A) → length xs ≡ 0 → xs ≡ []

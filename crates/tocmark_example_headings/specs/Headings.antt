@@ -7,9 +7,9 @@ use Rattle.tocmark_event.specs.declared.event.HeadingLevel.{HeadingLevel}
 use Rattle.tocmark_event.specs.declared.event.HeadingLevel.TheVariants.{H1, H2, H3, H4, H5, H6}
 use Rattle.tocmark_event.specs.declared.event.TagEnd.TheVariants as end
 use Rattle.tocmark_core_reader.specs.Reading.{core_reading}
-use Rattle.tocmark_state.specs.Ranges.{unranged}
-use Rattle.tocmark_state.specs.StateView.{rendering}
-use Rattle.tocmark_state.specs.Walk.{Walk, Done, done, nothing_yet, script}
+use Rattle.tocmark_work.specs.Ranges.{unranged}
+use Rattle.tocmark_work.specs.WorkView.{rendering}
+use Rattle.tocmark_work.specs.Walk.{Walk, Done, done, nothing_yet, script}
 
 -- the level below; there is none below the sixth
 abbrev pub below : HeadingLevel → HeadingLevel

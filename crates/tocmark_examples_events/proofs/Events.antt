@@ -26,7 +26,7 @@ use Rattle.tocmark_labels.specs.Placeholder.{needs_placeholder, reserved_label}
 use Rattle.tocmark_render.specs.Choice.{spelled, first_that_reads_back, document_after, choice}
 use Rattle.tocmark_labels.specs.Units.{trees_of, waits}
 use Rattle.tocmark_render.specs.Chosen.{chosen}
-use Rattle.tocmark_state.specs.Walk.{joins, flushed, flushed_before, advance, step, ended}
+use Rattle.tocmark_work.specs.Walk.{joins, flushed, flushed_before, advance, step, ended}
 use Rattle.tocmark_examples_events.specs.Answers.{AreAnswered}
 use Rattle.tocmark_examples_events.specs.Events.{calls}
 

@@ -8,8 +8,8 @@ use Rattle.tocmark_labels.specs.Document.{DocumentView}
 use Rattle.tocmark_labels.specs.Ending.{holds_raw_block}
 use Rattle.tocmark_labels.specs.Units.{waits}
 use Rattle.tocmark_render.specs.Chosen.{chosen}
-use Rattle.tocmark_state.specs.Ranges.{Pair}
-use Rattle.tocmark_state.specs.Walk.{Done, done, Kept, Rendering, Standing, walk, ended, script, nothing_yet}
+use Rattle.tocmark_work.specs.Ranges.{Pair}
+use Rattle.tocmark_work.specs.Walk.{Done, done, Kept, Rendering, Standing, walk, ended, script, nothing_yet}
 
 -- the texts that each call handed, and the error that ended them, if one did
 pub record Answers : Type 0 where

@@ -9,9 +9,9 @@ ghost use Rattle.tocmark_labels.specs.Units.{trees_of};
 
 use std::alloc::{AllocError, Global};
 use std::marker::Model;
-use tocmark_ahead::same_events::end_number;
 use tocmark_event::event::{Event, EventOf, TagEnd};
 use tocmark_options::options::Error;
+use tocmark_same_events::number::end_number;
 use tocmark_spelling::buffered::BufferedEvent;
 
 /// Events that wait for their unit. Each End among them is the innermost open container's.

@@ -13,7 +13,7 @@ use Rattle.tocmark_labels.specs.Document.{first_document}
 use Rattle.tocmark_labels.specs.Placeholder.{needs_placeholder}
 use Rattle.tocmark_render.proofs.Chosen.{chosen-unlabelled}
 use Rattle.tocmark_render.proofs.PlainUnits.{choice-unasked}
-use Rattle.tocmark_state.specs.StateView.{keeping, rendering}
+use Rattle.tocmark_work.specs.WorkView.{keeping, rendering}
 
 -- it takes its preferred spelling
 pub alone-chosen : (o : OptionsView) (reading : List ℕ → ParserOptions → ReadingView) (flags : ParserOptions) (f : Trees)

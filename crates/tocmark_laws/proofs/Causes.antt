@@ -8,8 +8,8 @@ use Rattle.tocmark_event.specs.declared.event.TagEnd.{TagEnd}
 use Rattle.tocmark_options.specs.declared.options.Error.TheVariants.{UnexpectedEvent}
 use Rattle.tocmark.specs.Causes.{Cause, BadRange, RefusedUnit, WrongEnd, EndCause, OpenContainer, RefusedLastUnit, IsRefusedIn}
 use Rattle.tocmark.specs.Causes as refused
-use Rattle.tocmark_state.specs.Ranges.{Pair}
-use Rattle.tocmark_state.specs.Walk.{Kept, Rendering, Standing, beginning, is_whole, script, walk}
+use Rattle.tocmark_work.specs.Ranges.{Pair}
+use Rattle.tocmark_work.specs.Walk.{Kept, Rendering, Standing, beginning, is_whole, script, walk}
 use Rattle.tocmark.proofs.Causes.{script_cause}
 use Rattle.tocmark_labels.proofs.Balanced.{reading-balanced}
 use Rattle.tocmark.proofs.Reading.{nothing_nested}

@@ -34,9 +34,9 @@ use Rattle.tocmark_labels.specs.Ending.{last_texts, holds_raw_block}
 use Rattle.tocmark_labels.specs.Placeholder.{whole, needs_placeholder, needs_placeholder_at}
 use Rattle.tocmark.proofs.BlockSpelling.{text_leaf, text_trees, page_of, blank}
 use Rattle.tocmark.proofs.Paragraphs.{laid-plain}
-use Rattle.tocmark_state.specs.Ranges.{Pair, unranged}
-use Rattle.tocmark_state.specs.StateView.{keeping, rendering}
-use Rattle.tocmark_state.specs.Walk.{Walk, Done, done, Kept, Rendering, Standing, beginning, finished_of, go_on, stay, nothing_yet, script, walk, joins, flushed_before, advance, step, ended}
+use Rattle.tocmark_work.specs.Ranges.{Pair, unranged}
+use Rattle.tocmark_work.specs.WorkView.{keeping, rendering}
+use Rattle.tocmark_work.specs.Walk.{Walk, Done, done, Kept, Rendering, Standing, beginning, finished_of, go_on, stay, nothing_yet, script, walk, joins, flushed_before, advance, step, ended}
 use Rattle.tocmark_laws.proofs.Alone.{alone-chosen}
 use Rattle.tocmark_laws.proofs.Fences.{fence-is}
 use Rattle.tocmark_laws.specs.CodeBlocks.{IsFence, code_events, code_text, opened_code}

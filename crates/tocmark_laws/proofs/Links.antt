@@ -24,8 +24,8 @@ use Rattle.tocmark_labels.specs.Document.{DocumentView, first_document}
 use Rattle.tocmark_labels.specs.Ending.{last_texts, holds_raw_block}
 use Rattle.tocmark_labels.specs.Placeholder.{needs_placeholder}
 use Rattle.tocmark.proofs.Paragraphs.{laid-plain}
-use Rattle.tocmark_state.specs.StateView.{keeping, rendering}
-use Rattle.tocmark_state.specs.Walk.{Walk, Done, done, finished_of, nothing_yet, script, joins, flushed, flushed_before, advance, step, ended}
+use Rattle.tocmark_work.specs.WorkView.{keeping, rendering}
+use Rattle.tocmark_work.specs.Walk.{Walk, Done, done, finished_of, nothing_yet, script, joins, flushed, flushed_before, advance, step, ended}
 use Rattle.tocmark_laws.proofs.Alone.{alone-chosen}
 use Rattle.tocmark_laws.specs.Links.{link_events, link_text, one_text_walk, place_in_link}
 

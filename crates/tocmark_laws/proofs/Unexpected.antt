@@ -23,7 +23,7 @@ use Rattle.tocmark_labels.specs.Units.{labelled}
 use Rattle.tocmark_render.specs.Chosen.{choice_of, chosen}
 use Rattle.tocmark_render.specs.Validates.{validates}
 use Rattle.tocmark_labels.proofs.Forests.{trees-flat}
-use Rattle.tocmark_state.specs.StateView.{keeping, rendering}
+use Rattle.tocmark_work.specs.WorkView.{keeping, rendering}
 use Rattle.tocmark_laws.specs.Unexpected.{RefusesMisplaced}
 
 no-page : (o : Option Site) → page_of o ≡ None → o ≡ None

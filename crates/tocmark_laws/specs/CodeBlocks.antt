@@ -9,9 +9,9 @@ use Rattle.tocmark_event.specs.declared.event.flags.ParserOptions.{ParserOptions
 use Rattle.tocmark_escape.specs.Characters.{backtick}
 use Rattle.tocmark_spelling.specs.Opening.{info_byte}
 use Rattle.tocmark_spelling.specs.Words.{last_byte}
-use Rattle.tocmark_state.specs.Ranges.{Pair, unranged}
-use Rattle.tocmark_state.specs.StateView.{rendering}
-use Rattle.tocmark_state.specs.Walk.{nothing_yet, script}
+use Rattle.tocmark_work.specs.Ranges.{Pair, unranged}
+use Rattle.tocmark_work.specs.WorkView.{rendering}
+use Rattle.tocmark_work.specs.Walk.{nothing_yet, script}
 use Rattle.tocmark_laws.specs.Links.{one_text_walk}
 
 -- a fenced code block with this info string and these texts, without ranges

@@ -8,9 +8,9 @@ use Rattle.tocmark_event.specs.declared.event.TagEnd.TheVariants as end
 use Rattle.tocmark_event.specs.declared.event.flags.ParserOptions.{ParserOptions}
 use Rattle.tocmark_escape.specs.Destination.{inline_closing}
 use Rattle.tocmark_escape.specs.Escape.{Place, escaped}
-use Rattle.tocmark_state.specs.Ranges.{Pair, unranged}
-use Rattle.tocmark_state.specs.StateView.{rendering}
-use Rattle.tocmark_state.specs.Walk.{Walk, Done, done, nothing_yet, script}
+use Rattle.tocmark_work.specs.Ranges.{Pair, unranged}
+use Rattle.tocmark_work.specs.WorkView.{rendering}
+use Rattle.tocmark_work.specs.Walk.{Walk, Done, done, nothing_yet, script}
 
 -- a paragraph with one inline link round one text, without ranges
 abbrev pub link_events : List ℕ → List ℕ → List ℕ → List ℕ → List Pair

@@ -4,8 +4,8 @@ use Rattle.tocmark_event.specs.Forest.{IsBalanced}
 use Rattle.tocmark_event.specs.View.{EventView, SourcedEvent}
 use Rattle.tocmark_options.specs.declared.options.Error.TheVariants.{UnexpectedEvent}
 use Rattle.tocmark.specs.Causes.{HasWrongEnd}
-use Rattle.tocmark_state.specs.Ranges.{Pair}
-use Rattle.tocmark_state.specs.Walk.{Kept, Rendering, Standing, walk}
+use Rattle.tocmark_work.specs.Ranges.{Pair}
+use Rattle.tocmark_work.specs.Walk.{Kept, Rendering, Standing, walk}
 use Rattle.tocmark_causes.specs.Misplaced.{HasMisplacedStart}
 
 -- a unit, the events of a forest, is refused as unexpected only for an event that may not stand where it does

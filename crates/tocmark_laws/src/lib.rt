@@ -4,11 +4,11 @@
 ghost use Rattle.std.specs.Prelude.{◌≡◌, ◌++◌, ℕ, Err, List, Ok, Option};
 ghost use Rattle.std.specs.List.{concat};
 ghost use Rattle.tocmark.specs.Paragraphs.{Keeps};
-ghost use Rattle.tocmark_state.specs.StateView.{rendering};
-ghost use Rattle.tocmark_state.specs.Walk.{done, nothing_yet, script};
-ghost use Rattle.tocmark_state.specs.Ranges.{Pair};
-ghost use Rattle.tocmark_state.specs.Writes.{Makes};
-ghost use Rattle.tocmark_state.specs.declared.state.Progress.{Progress};
+ghost use Rattle.tocmark_work.specs.WorkView.{rendering};
+ghost use Rattle.tocmark_work.specs.Walk.{done, nothing_yet, script};
+ghost use Rattle.tocmark_work.specs.Ranges.{Pair};
+ghost use Rattle.tocmark_work.specs.Writes.{Makes};
+ghost use Rattle.tocmark_work.specs.declared.work.Progress.{Progress};
 ghost use Rattle.tocmark_causes.specs.Misplaced.{HasMisplacedStart};
 ghost use Rattle.tocmark_event.specs.Forest.{IsBalanced};
 ghost use Rattle.tocmark_options.specs.Options.{OptionsView};

@@ -12,8 +12,8 @@ ghost use Rattle.tocmark_read_back.specs.Agrees.{begins_paragraph};
 ghost use Rattle.tocmark_read_back.specs.InParagraph.{in_paragraph, stands_alone};
 
 use crate::alike::{alike, rest_found};
-use tocmark_ahead::same_events::same_event;
 use tocmark_event::event::{Event, EventOf, OwnedEvent, TagEnd, TagOf};
+use tocmark_same_events::event::same_event;
 use tocmark_spelling::buffered::BufferedEvent;
 use tocmark_spelling::kinds::{is_inline_end, is_inline_tag};
 

@@ -10,8 +10,8 @@ ghost use Rattle.tocmark_spelling.specs.Buffered.{event_of, following_view, next
 ghost use Rattle.tocmark_spelling.specs.SameEvents.{same_events};
 ghost use Rattle.tocmark_read_back.specs.Alike.{alike, cut, expected_view, first, onward, text_in, Passes};
 
-use tocmark_ahead::same_events::same_event;
 use tocmark_event::event::{Event, EventOf, OwnedEvent, Words};
+use tocmark_same_events::event::same_event;
 use tocmark_spelling::buffered::BufferedEvent;
 
 /// The events that must be read.

@@ -1,7 +1,7 @@
 pub mod Chosen
 pub mod PlainUnits
 pub mod ReadBacks
-pub mod Documents
+pub mod UnitEvents
 pub mod Trials
 pub mod TrialUnits
 pub mod Refused

@@ -25,15 +25,14 @@ use Rattle.tocmark_read_back.specs.InParagraph.{in_paragraph}
 use Rattle.tocmark_render.specs.Candidates.{has_source, is_delimiter_block, preferred_manner}
 use Rattle.tocmark_render.specs.Choice.{Chosen, accepted_if, first_that_reads_back, if_read_back, page_in, page_of, page_read_back, preferred, spelled}
 use Rattle.tocmark_labels.specs.Document.{DocumentView}
-use Rattle.tocmark_render.specs.DocumentOf.{Refuses, is_delimiter_event, is_sourced_event}
 use Rattle.tocmark_labels.specs.Placeholder.{whole}
 use Rattle.tocmark_render.specs.ReadsBack.{flags_at, found_in, is_taken, reads_back, whole_text}
-use Rattle.tocmark_render.specs.TrialOf.{Came, ComesOrBack, IsLow, IsReady, WentBack, Writes, asked_of, events_in, or_no_trees, read_of, reads_back_in, spelled_at}
-use Rattle.tocmark_render.specs.Tries.{Asked, Found, Lost, Stopped, StopsTrial, first, misplaced}
+use Rattle.tocmark_render.specs.TrialOf.{Came, ComesOrBack, IsLow, IsReady, Refuses, WentBack, Writes, asked_of, events_in, or_no_trees, read_of, reads_back_in, spelled_at}
+use Rattle.tocmark_render.specs.Tries.{Asked, Found, Lost, Stopped, StopsTrial, first, is_delimiter_event, is_sourced_event, misplaced}
 use Rattle.tocmark_labels.specs.Units.{trees_of}
 use Rattle.tocmark_render.specs.declared.trial.Trial.{Trial}
 use Rattle.tocmark_labels.proofs.Balanced.{flat-of-trees}
-use Rattle.tocmark_render.proofs.Documents.{delimiters-flat, source-flat}
+use Rattle.tocmark_render.proofs.UnitEvents.{delimiters-flat, source-flat}
 use Rattle.tocmark_render.proofs.Trials.{none-test}
 
 flat-or-none : (es : List SourcedEvent) (o : Option Trees) → trees_of es ≡ o → is_some o ≡ true → flat (or_no_trees o) ≡ es

@@ -18,11 +18,11 @@ use Rattle.tocmark_render.specs.Candidates.{candidates, fallback_manners, fallba
 use Rattle.tocmark_renderer.specs.WriterOf as renderer
 use Rattle.tocmark_renderer.specs.WriterOf.{Rendering, site_of}
 use Rattle.tocmark_render.specs.Choice.{Chosen, choice, preferred, accepted, accepted_if, page_of, page_in, by_markers, unless_misplaced, first_or, has_standard_markers, first_that_reads_back, page_read_back, spelled}
-use Rattle.tocmark_render.specs.DocumentOf.{Refuses}
 use Rattle.tocmark_labels.specs.Placeholder.{whole}
+use Rattle.tocmark_render.specs.ReadsBack.{reads_back}
 use Rattle.tocmark_render.specs.Validates.{validates}
-use Rattle.tocmark_labels.specs.Document.{DocumentView}
-use Rattle.tocmark_render.specs.TrialOf.{IsLeft, IsWritten, Writes}
+use Rattle.tocmark_labels.specs.Document.{DocumentView, first_document}
+use Rattle.tocmark_render.specs.TrialOf.{IsLeft, IsWritten, Refuses, Writes}
 use Rattle.tocmark_render.specs.Tries.{if_delimiters, if_source, manners_for, plan_view, Asked, Found, Lost, PlacedIfTried, Stopped, StopsTrial, Tries, first, misplaced}
 
 -- two truths, each by itself
@@ -61,6 +61,34 @@ module _ (q : Asked) (d : DocumentView) where
   first-more [] b = ap (λ o. found_or_else o (first q d b)) (sym first-none)
   first-more (m ∷ a) b =
       first-step m (a ++ b) ∙ ap (found_or_else (read m)) (first-more a b) ∙ or-assoc (read m) (first q d a) (first q d b) ∙ ap (λ o. found_or_else o (first q d b)) (sym (first-step m a))
+
+-- a search asks neither for the definitions that a document has nor for its literal labels
+module _ (q : Asked) (d : DocumentView) where
+  -- a document that leaves nothing else to a unit than this one
+  abbrev bare : DocumentView
+  bare = record first_document { trail = d.trail; feeds = d.feeds; known = d.known; flushed = d.flushed }
+
+  bare-read : (o : Option Page) → page_read_back q.setting bare q.unit o ≡ page_read_back q.setting d q.unit o
+  unfolding reads_back
+  bare-read None = refl
+  bare-read (Some p) = refl
+
+  bare-spelled : (m : Manner) → spelled q.setting bare q.unit q.next m ≡ spelled q.setting d q.unit q.next m
+  unfolding spelled
+  bare-spelled m = refl
+
+  bare-first : (ms : List Manner) → first q bare ms ≡ first q d ms
+  bare-first [] = first-none q bare ∙ sym (first-none q d)
+  bare-first (m ∷ ms) =
+      first-step q bare m ms
+      ∙ ap (λ o. found_or_else o (first q bare ms)) (ap (page_read_back q.setting bare q.unit) (bare-spelled m) ∙ bare-read (spelled q.setting d q.unit q.next m))
+      ∙ ap (found_or_else (read q d m)) (bare-first ms)
+      ∙ sym (first-step q d m ms)
+
+  pub tries-bare : {X : Type 0} (old : Site) (new : Rendering) (ms : List Manner) (r : Result (Option X) Error) → Tries q bare old new ms r → Tries q d old new ms r
+  tries-bare old new ms (Ok (Some x)) h = record { is_first = sym (bare-first ms) ∙ h.is_first; marked = h.marked; placed = h.placed }
+  tries-bare old new ms (Ok None) h = record { none = sym (bare-first ms) ∙ h.none; kept = h.kept; placed = h.placed }
+  tries-bare old new ms (Err e) h = h
 
 -- of all these candidates, those before the rest came to nothing, and the renderer stands where it began
 pub record GoesOn (q : Asked) (d : DocumentView) (old : Site) (now : Rendering) (all rest : List Manner) : Type 0 where

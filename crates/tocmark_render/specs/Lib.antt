@@ -3,6 +3,5 @@ pub mod Candidates
 pub mod ReadsBack
 pub mod Choice
 pub mod Chosen
-pub mod DocumentOf
 pub mod Tries
 pub mod TrialOf

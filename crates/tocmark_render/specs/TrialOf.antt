@@ -10,6 +10,7 @@ use Rattle.tocmark_event.specs.Reading.{ReadingView}
 use Rattle.tocmark_event.specs.View.{SourcedEvent}
 use Rattle.tocmark_event.specs.declared.event.flags.ParserOptions.{ParserOptions}
 use Rattle.tocmark_options.specs.declared.options.Error.{Error}
+use Rattle.tocmark_options.specs.declared.options.Error.TheVariants as error
 use Rattle.tocmark_spelling.specs.Body.{Trees}
 use Rattle.tocmark_spelling.specs.Buffered.{buffered_view, following_view}
 use Rattle.tocmark_spelling.specs.Page.{Page, Site}
@@ -19,14 +20,13 @@ use Rattle.tocmark_spelling.specs.Spelling.{spelling}
 use Rattle.tocmark_unit.specs.FindingsOf.{AreFindings}
 use Rattle.tocmark_renderer.specs.WriterOf.{Arrives, IsRefusal, Rendering, blank, page_of, site_of}
 use Rattle.tocmark_render.specs.Choice.{Chosen, accepted, choice, definitions_of}
-use Rattle.tocmark_labels.specs.Document.{DocumentView}
-use Rattle.tocmark_render.specs.DocumentOf.{Refuses, document_at, document_view}
-use Rattle.tocmark_labels.specs.LabelsOf.{label_now}
+use Rattle.tocmark_labels.specs.Document.{DocumentView, first_document}
+use Rattle.tocmark_labels.specs.LabelsOf.{label_now, labels_of}
 use Rattle.tocmark_labels.specs.Placeholder.{whole}
 use Rattle.tocmark_render.specs.ReadsBack.{flags_at, is_read_back, whole_text}
 use Rattle.tocmark_render.specs.Tries.{Asked, Tries}
 use Rattle.tocmark_labels.specs.Units.{trees_of}
-use Rattle.tocmark_render.specs.declared.document.Document.{Document}
+use Rattle.tocmark_render.specs.declared.earlier.Earlier.{Earlier}
 use Rattle.tocmark_render.specs.declared.read_back.ReadBack.{ReadBack}
 use Rattle.tocmark_render.specs.declared.trial.Trial.{Trial}
 
@@ -85,6 +85,18 @@ pub record IsKnown (q : Asked) (d : DocumentView) (p : Page) (known : ReadBack) 
   pub definitions : string_bytes known.definitions ≡ definitions_of p
   pub unresolved : map string_bytes known.unresolved.items ≡ unresolved_in q d (read_of p)
 
+-- a document that leaves nothing but this to a unit
+abbrev pub earlier_view : Earlier → DocumentView
+earlier_view e = record first_document { known = labels_of e.known.now; flushed = e.flushed }
+
+-- the same, behind which a renderer stands here
+abbrev pub earlier_at : Earlier → Site → DocumentView
+earlier_at e here = record (earlier_view e) { trail = here.page.trail; feeds = here.page.sheet.feeds }
+
+-- a document that leaves this to a unit and is otherwise like this one, and behind which a renderer stands here
+abbrev pub left_by : DocumentView → Earlier → Site → DocumentView
+left_by d e here = record d { trail = here.page.trail; feeds = here.page.sheet.feeds; known = labels_of e.known.now; flushed = e.flushed }
+
 -- in none of these texts is the unit read back
 abbrev pub AreRefused : {S : Type 0} → Asked → DocumentView → IndexSet (String Global) S → Type 0
 AreRefused q d refused = AllByRecursion (λ t. reads_back_in q d (string_bytes t) ≡ false) refused.keys
@@ -109,12 +121,18 @@ abbrev pub WritesIn : {R X : Type 0} → (R → List ℕ → ParserOptions → R
 WritesIn reading t old new m r = ComesOrBack r (site_of old) new (spelled_at (asked_of reading t) (site_of old) m)
 
 -- what trying these spellings of a trial's unit in order came to
-abbrev pub TriesIn : {R X : Type 0} → (R → List ℕ → ParserOptions → ReadingView) → Trial R → Document → Rendering → Rendering → List Manner → Result (Option X) Error → Type 0
-TriesIn reading t d old new ms r = Tries (asked_of reading t) (document_at d (site_of old)) (site_of old) new ms r
+abbrev pub TriesIn : {R X : Type 0} → (R → List ℕ → ParserOptions → ReadingView) → Trial R → Earlier → Rendering → Rendering → List Manner → Result (Option X) Error → Type 0
+TriesIn reading t e old new ms r = Tries (asked_of reading t) (earlier_at e (site_of old)) (site_of old) new ms r
 
 -- what is known of a spelling that is read back is so of the page that the renderer came to
-abbrev pub KnowsIn : {R E : Type 0} → (R → List ℕ → ParserOptions → ReadingView) → Trial R → Document → Rendering → Result (Option ReadBack) E → Type 0
-KnowsIn reading t d new r = IfOk r (λ known. IfSome known (IsKnown (asked_of reading t) (document_view d) (page_of new)))
+abbrev pub KnowsIn : {R E : Type 0} → (R → List ℕ → ParserOptions → ReadingView) → Trial R → Earlier → Rendering → Result (Option ReadBack) E → Type 0
+KnowsIn reading t e new r = IfOk r (λ known. IfSome known (IsKnown (asked_of reading t) (earlier_view e) (page_of new)))
+
+-- an error is that of the definition, unless memory ran out
+abbrev pub Refuses : {Y : Type 0} → Error → Result Y Error → Type 0
+Refuses error.OutOfMemory answer = Unit {0}
+Refuses (error.FormatFailed f) answer = ⊥
+Refuses e answer = answer ≡ Err e
 
 -- the renderer has written what is chosen, and the mark is where it began
 pub record IsWritten (s : Setting) (d : DocumentView) (old : Site) (new : Rendering) (answer : Chosen) : Type 0 where
@@ -131,9 +149,10 @@ abbrev pub Writes : {X : Type 0} → Result X Error → Setting → DocumentView
 Writes (Ok x) s d old new answer = IsWritten s d old new answer
 Writes (Err e) s d old new answer = IsLeft old new e answer
 
--- the unit of a trial was written as it is chosen behind a document, or refused so
-abbrev pub WritesChosen : {R X : Type 0} → (R → List ℕ → ParserOptions → ReadingView) → Trial R → Document → Rendering → Rendering → Result X Error → Type 0
-WritesChosen reading t document old new r =
-    let q = asked_of reading t in
-    let d = document_at document (site_of old) in
-    Writes r q.setting d (site_of old) new (choice q.setting d q.unit q.next)
+-- the unit was written as it is chosen behind this document, or refused so
+abbrev pub WritesChoice : {X : Type 0} → Asked → DocumentView → Rendering → Rendering → Result X Error → Type 0
+WritesChoice q d old new r = Writes r q.setting d (site_of old) new (choice q.setting d q.unit q.next)
+
+-- the unit of a trial was written as it is chosen behind each document that leaves this to it, or refused so
+abbrev pub Chooses : {R X : Type 0} → (R → List ℕ → ParserOptions → ReadingView) → Trial R → Earlier → Rendering → Rendering → Result X Error → Type 0
+Chooses reading t e old new r = (d : DocumentView) → WritesChoice (asked_of reading t) (left_by d e (site_of old)) old new r

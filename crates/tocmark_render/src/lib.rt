@@ -1,11 +1,11 @@
-//! The text of one unit of events, and what it leaves to later ones.
+//! How a unit of events may be written, and the choice among these spellings.
 #![tactic(auto)]
 
-pub mod document;
+pub mod earlier;
 pub mod laws;
 mod manners;
-mod read_back;
-mod search;
-mod trial;
+pub mod read_back;
+pub mod search;
+pub mod trial;
 
 pub use crate::manners::candidates;

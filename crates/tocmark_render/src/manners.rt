@@ -1,11 +1,11 @@
 //! The manners in which a unit may be written.
 
-ghost use Rattle.std.specs.Prelude.{◌≡◌, ◌++◌, ℕ, List, map, false, true, IfOk, OnOk, flat_map};
+ghost use Rattle.std.specs.Prelude.{◌≡◌, ◌++◌, map, false, true, IfOk, OnOk, flat_map};
 ghost use Rattle.tocmark_options.specs.Options.{options_view};
 ghost use Rattle.tocmark_renderer.specs.JobOf.{manner_view};
 ghost use Rattle.tocmark_spelling.specs.declared.plan.Layout.TheVariants as layout;
 ghost use Rattle.tocmark_spelling.specs.declared.plan.TextSpelling.TheVariants as text_spelling;
-ghost use Rattle.tocmark_render.specs.Candidates.{delimiter_manners, fallback_manners, fallbacks, in_manner, other_emphasis, other_strong, own_markers, pair, source_manners};
+ghost use Rattle.tocmark_render.specs.Candidates.{fallback_manners, fallbacks, in_manner, other_emphasis, other_strong, own_markers, pair, source_manners};
 ghost use Rattle.tocmark_render.specs.Choice.{has_standard_markers};
 ghost use Rattle.tocmark_render.specs.Tries.{manners_for, plan_view, run_manners};
 

@@ -26,7 +26,7 @@ pub struct ReadBack {
 
 /// The labels that a reader looks up in vain in a text, if it finds a unit's events there and none of
 /// these labels is taken. An `Err` says that memory ran out or the reader answered it.
-pub fn find<R: Reader>(
+pub(crate) fn find<R: Reader>(
     alloc: Global,
     reader: &R,
     flags: ParserOptions,
@@ -58,7 +58,7 @@ pub fn find<R: Reader>(
 }
 
 /// Definitions and a blank line before a text. An `Err` says that memory ran out.
-pub fn behind_definitions(
+pub(crate) fn behind_definitions(
     alloc: Global,
     definitions: &str,
     text: &str,

@@ -8,12 +8,11 @@ ghost use Rattle.tocmark_renderer.specs.JobOf.{manner_view};
 ghost use Rattle.tocmark_renderer.specs.WriterOf.{site_of};
 ghost use Rattle.tocmark_render.specs.Candidates.{delimiter_manners, fallback_manners, fallbacks, preferred_manner};
 ghost use Rattle.tocmark_render.specs.Choice.{has_standard_markers};
-ghost use Rattle.tocmark_render.specs.DocumentOf.{document_view, is_delimiter_event, is_sourced_event};
-ghost use Rattle.tocmark_render.specs.Tries.{if_source, manners_for};
-ghost use Rattle.tocmark_render.specs.TrialOf.{AreRefused, IsFront, IsLow, IsReady, KnowsIn, TriesIn, WritesChosen, WritesIn, asked_of, options_in};
+ghost use Rattle.tocmark_render.specs.Tries.{if_source, is_delimiter_event, is_sourced_event, manners_for};
+ghost use Rattle.tocmark_render.specs.TrialOf.{AreRefused, Chooses, IsFront, IsLow, IsReady, KnowsIn, TriesIn, WritesIn, asked_of, earlier_view, options_in};
 ghost use Rattle.tocmark_render.specs.Validates.{validates};
 
-use crate::document::Document;
+use crate::earlier::Earlier;
 use crate::manners::{
     fallback_plans, has_standard_markers, preferred_manner, run_manners, source_manners,
     with_all_markers,
@@ -84,7 +83,7 @@ fn has_delimiters(unit: &[BufferedEvent]) -> bool
 /// `Err`, the renderer has gone back.
 fn try_all<'t, R: Reader>(
     trial: &Trial<'t, '_, R>,
-    document: &Document,
+    earlier: Earlier<'_>,
     renderer: &mut Renderer<'t>,
     refused: &mut Refused,
     manners: &[Manner<'_>],
@@ -92,16 +91,16 @@ fn try_all<'t, R: Reader>(
     requires ready { IsReady R.reading trial.now }
     requires low { AllByRecursion IsLow (map manner_view manners.now) }
     requires refused { let q = asked_of R.reading trial.now in
-        AreRefused q (document_view document.now) refused.old }
+        AreRefused q (earlier_view earlier) refused.old }
     requires front { IsFront (site_of renderer.old) }
-    ensures tried { TriesIn R.reading trial.now document.now renderer.old renderer.new
+    ensures tried { TriesIn R.reading trial.now earlier.entry renderer.old renderer.new
         (map manner_view manners.now) result }
-    ensures known { KnowsIn R.reading trial.now document.now renderer.new result }
+    ensures known { KnowsIn R.reading trial.now earlier.entry renderer.new result }
     ensures refused { let q = asked_of R.reading trial.now in
-        OnOk result (AreRefused q (document_view document.now) refused.new) }
+        OnOk result (AreRefused q (earlier_view earlier.entry) refused.new) }
 {
     for manner in manners {
-        if let Some(known) = document.try_one(trial, renderer, refused, manner)? {
+        if let Some(known) = earlier.try_one(trial, renderer, refused, manner)? {
             return Ok(Some(known));
         }
     }
@@ -111,7 +110,7 @@ fn try_all<'t, R: Reader>(
 /// Tries the manners from the source, if some text of the unit is known there, as `try_all` does.
 fn try_source<'t, R: Reader>(
     trial: &Trial<'t, '_, R>,
-    document: &Document,
+    earlier: Earlier<'_>,
     renderer: &mut Renderer<'t>,
     refused: &mut Refused,
     has_source: bool,
@@ -120,23 +119,23 @@ fn try_source<'t, R: Reader>(
     requires ready { IsReady R.reading trial.now }
     requires standard { has_standard_markers (options_in trial.now) ≡ true }
     requires refused { let q = asked_of R.reading trial.now in
-        AreRefused q (document_view document.now) refused.old }
+        AreRefused q (earlier_view earlier) refused.old }
     requires front { IsFront (site_of renderer.old) }
-    ensures tried { TriesIn R.reading trial.now document.now renderer.old renderer.new
+    ensures tried { TriesIn R.reading trial.now earlier.entry renderer.old renderer.new
         (if_source has_source (options_in trial.now) has_delimiters) result }
-    ensures known { KnowsIn R.reading trial.now document.now renderer.new result }
+    ensures known { KnowsIn R.reading trial.now earlier.entry renderer.new result }
     ensures refused { let q = asked_of R.reading trial.now in
-        OnOk result (AreRefused q (document_view document.now) refused.new) }
+        OnOk result (AreRefused q (earlier_view earlier.entry) refused.new) }
 {
     if !has_source {
         return Ok(None);
     }
     if has_delimiters {
         let manners = source_manners(trial.options);
-        try_all(trial, document, renderer, refused, &manners)
+        try_all(trial, earlier, renderer, refused, &manners)
     } else {
         let manners = [preferred_manner(trial.options, true)];
-        try_all(trial, document, renderer, refused, &manners)
+        try_all(trial, earlier, renderer, refused, &manners)
     }
 }
 
@@ -144,21 +143,21 @@ fn try_source<'t, R: Reader>(
 /// time.
 fn try_fallbacks<'t, R: Reader>(
     trial: &Trial<'t, '_, R>,
-    document: &Document,
+    earlier: Earlier<'_>,
     renderer: &mut Renderer<'t>,
     refused: &mut Refused,
 ) -> Result<Option<ReadBack>, Error>
     requires ready { IsReady R.reading trial.now }
     requires refused { let q = asked_of R.reading trial.now in
-        AreRefused q (document_view document.now) refused.old }
+        AreRefused q (earlier_view earlier) refused.old }
     requires front { IsFront (site_of renderer.old) }
-    ensures tried { TriesIn R.reading trial.now document.now renderer.old renderer.new
+    ensures tried { TriesIn R.reading trial.now earlier.entry renderer.old renderer.new
         (flat_map fallback_manners fallbacks) result }
-    ensures known { KnowsIn R.reading trial.now document.now renderer.new result }
+    ensures known { KnowsIn R.reading trial.now earlier.entry renderer.new result }
 {
     for plan in fallback_plans() {
         let manners = with_all_markers(plan);
-        if let Some(known) = try_all(trial, document, renderer, refused, &manners)? {
+        if let Some(known) = try_all(trial, earlier, renderer, refused, &manners)? {
             return Ok(Some(known));
         }
     }
@@ -169,30 +168,30 @@ fn try_fallbacks<'t, R: Reader>(
 /// others is read back.
 fn try_delimiters<'t, R: Reader>(
     trial: &Trial<'t, '_, R>,
-    document: &Document,
+    earlier: Earlier<'_>,
     renderer: &mut Renderer<'t>,
     refused: &mut Refused,
 ) -> Result<Option<ReadBack>, Error>
     requires ready { IsReady R.reading trial.now }
     requires standard { has_standard_markers (options_in trial.now) ≡ true }
     requires refused { let q = asked_of R.reading trial.now in
-        AreRefused q (document_view document.now) refused.old }
+        AreRefused q (earlier_view earlier) refused.old }
     requires front { IsFront (site_of renderer.old) }
-    ensures tried { TriesIn R.reading trial.now document.now renderer.old renderer.new
+    ensures tried { TriesIn R.reading trial.now earlier.entry renderer.old renderer.new
         (delimiter_manners (options_in trial.now)) result }
-    ensures known { KnowsIn R.reading trial.now document.now renderer.new result }
+    ensures known { KnowsIn R.reading trial.now earlier.entry renderer.new result }
 {
     let manners = run_manners(trial.options);
-    if let Some(known) = try_all(trial, document, renderer, refused, &manners)? {
+    if let Some(known) = try_all(trial, earlier, renderer, refused, &manners)? {
         return Ok(Some(known));
     }
-    try_fallbacks(trial, document, renderer, refused)
+    try_fallbacks(trial, earlier, renderer, refused)
 }
 
 /// Tries all candidates of a unit, if it has some, as `try_all` does: first those from the source.
 fn search<'t, R: Reader>(
     trial: &Trial<'t, '_, R>,
-    document: &Document,
+    earlier: Earlier<'_>,
     renderer: &mut Renderer<'t>,
     has_source: bool,
     has_delimiters: bool,
@@ -200,14 +199,14 @@ fn search<'t, R: Reader>(
     requires ready { IsReady R.reading trial.now }
     requires standard { has_standard_markers (options_in trial.now) ≡ true }
     requires front { IsFront (site_of renderer.old) }
-    ensures tried { TriesIn R.reading trial.now document.now renderer.old renderer.new
+    ensures tried { TriesIn R.reading trial.now earlier.entry renderer.old renderer.new
         (manners_for (options_in trial.now) has_source has_delimiters) result }
-    ensures known { KnowsIn R.reading trial.now document.now renderer.new result }
+    ensures known { KnowsIn R.reading trial.now earlier.entry renderer.new result }
 {
     let mut refused = IndexSet::new(trial.alloc);
     if let Some(known) = try_source(
         trial,
-        document,
+        earlier,
         renderer,
         &mut refused,
         has_source,
@@ -216,7 +215,7 @@ fn search<'t, R: Reader>(
         return Ok(Some(known));
     }
     if has_delimiters {
-        try_delimiters(trial, document, renderer, &mut refused)
+        try_delimiters(trial, earlier, renderer, &mut refused)
     } else {
         Ok(None)
     }
@@ -254,21 +253,20 @@ fn write_unread<'t, R: Reader>(
 /// the renderer has gone back then.
 pub fn choose<'t, R: Reader>(
     trial: &Trial<'t, '_, R>,
-    document: &Document,
+    earlier: Earlier<'_>,
     renderer: &mut Renderer<'t>,
 ) -> Result<Option<ReadBack>, Error>
     requires ready { IsReady R.reading trial.now }
     requires front { IsFront (site_of renderer.old) }
-    ensures chosen { let reading = R.reading in
-        WritesChosen reading trial.now document.now renderer.old renderer.new result }
-    ensures known { KnowsIn R.reading trial.now document.now renderer.new result }
+    ensures chosen { Chooses R.reading trial.now earlier.entry renderer.old renderer.new result }
+    ensures known { KnowsIn R.reading trial.now earlier.entry renderer.new result }
 {
     if !has_standard_markers(trial.options) {
         return write_unread(trial, renderer);
     }
     let has_delimiters = has_delimiters(trial.unit);
     let has_source = has_source(trial.unit);
-    if let Some(known) = search(trial, document, renderer, has_source, has_delimiters)? {
+    if let Some(known) = search(trial, earlier, renderer, has_source, has_delimiters)? {
         return Ok(Some(known));
     }
     if has_delimiters && accepts(trial.options, trial.flags) {

@@ -18,10 +18,10 @@ use tocmark_unit::block::write_unit;
 use tocmark_unit::findings::Findings;
 
 /// The texts of a unit, each behind the definitions that it needs, that weren't read back.
-pub type Refused = IndexSet<String>;
+pub(crate) type Refused = IndexSet<String>;
 
 /// What stays the same while spellings of a unit are tried.
-#[derive(Clone, Copy)]
+#[derive(Drop)]
 pub struct Trial<'t, 'o, R> {
     pub alloc: Global,
     pub reader: &'t R,
@@ -59,7 +59,7 @@ pub fn likely_len(unit: &[BufferedEvent]) -> usize {
 
 /// Writes the unit of a trial in one manner, behind a mark. An `Err` is as in `write_unit`; the
 /// renderer has gone back then.
-pub fn write<'t, R: Reader>(
+pub(crate) fn write<'t, R: Reader>(
     trial: &Trial<'t, '_, R>,
     renderer: &mut Renderer<'t>,
     manner: &Manner<'_>,
@@ -86,7 +86,7 @@ pub fn write<'t, R: Reader>(
 }
 
 /// Writes the unit of a trial in the preferred spelling, unread, as `write` does.
-pub fn write_preferred<'t, R: Reader>(
+pub(crate) fn write_preferred<'t, R: Reader>(
     trial: &Trial<'t, '_, R>,
     renderer: &mut Renderer<'t>,
 ) -> Result<(), Error>

@@ -62,13 +62,17 @@ fn process(
     }
 }
 
+/// Puts a value in another one's place, if there was memory for it.
+fn replace<T: Drop>(place: &mut T, value: Result<T, AllocError>) -> Result<(), AllocError> {
+    *place = value?;
+    Ok(())
+}
+
 /// Puts a clone of the state in its place.
 fn go_on_with_clone(state: &mut State<&RunReader<'_>>) -> Result<Progress, Error> {
-    match state.clone() {
-        Ok(copy) => {
-            *state = copy;
-            Ok(Progress::default())
-        }
+    let clone = state.clone();
+    match replace(state, clone) {
+        Ok(()) => Ok(Progress::default()),
         Err(_) => Err(Error::OutOfMemory),
     }
 }
@@ -140,17 +144,16 @@ fn run_whole(
 
 /// Makes the calls of a new state, and writes a line for each of them or one at the end.
 fn answer_calls(
-    state: State<&RunReader<'_>>,
+    state: &mut State<&RunReader<'_>>,
     script: &Script<'static>,
     calls: &[Call],
     shows_calls: bool,
     tape: &mut Tape,
 ) -> Result<(), AllocError> {
-    let mut state = state;
     if shows_calls {
-        run_in_calls(&mut state, script, calls, tape)
+        run_in_calls(state, script, calls, tape)
     } else {
-        let outcome = run_whole(&mut state, script, calls, tape);
+        let outcome = run_whole(state, script, calls, tape);
         write_outcome(&mut tape.answer, &outcome)
     }
 }
@@ -165,7 +168,7 @@ fn answer_script(
 ) -> Result<(), AllocError> {
     let reader = CountedReader::new(&script.reader, script.refused_reading);
     match State::new(alloc, &reader, script.flags, script.options()) {
-        Ok(state) => answer_calls(state, script, calls, shows_calls, tape),
+        Ok(mut state) => answer_calls(&mut state, script, calls, shows_calls, tape),
         Err(error) => write_outcome(&mut tape.answer, &Err(error)),
     }
 }

@@ -116,7 +116,7 @@ fn text(
 }
 
 fn start(alloc: Global, cursor: &mut Cursor<'_>) -> Result<Event<'static>, LineFault> {
-    Ok(Event::Start(tag(alloc, cursor)?))
+    tag(alloc, cursor).map(Event::Start)
 }
 
 fn end(cursor: &mut Cursor<'_>) -> Result<Event<'static>, LineFault> {
@@ -133,14 +133,28 @@ fn event_of_parts(
     name: EventName,
     cursor: &mut Cursor<'_>,
 ) -> Result<Event<'static>, LineFault> {
-    match name {
-        EventName::Start => start(alloc, cursor),
-        EventName::End => end(cursor),
-        EventName::Text(name) => text(alloc, name, cursor),
-        EventName::SoftBreak => Ok(Event::SoftBreak),
-        EventName::HardBreak => Ok(Event::HardBreak),
-        EventName::Rule => Ok(Event::Rule),
-        EventName::TaskListMarker => marker(cursor),
+    let event = match name {
+        EventName::Start => return start(alloc, cursor),
+        EventName::End => return end(cursor),
+        EventName::Text(name) => return text(alloc, name, cursor),
+        EventName::TaskListMarker => return marker(cursor),
+        EventName::SoftBreak => Event::SoftBreak,
+        EventName::HardBreak => Event::HardBreak,
+        EventName::Rule => Event::Rule,
+    };
+    Ok(event)
+}
+
+/// The event of this name, whose parts are all that is left of a line, with its range.
+fn event_with_range(
+    alloc: Global,
+    name: EventName,
+    range: Option<(usize, usize)>,
+    cursor: &mut Cursor<'_>,
+) -> Result<RangedEvent<'static>, LineFault> {
+    match event_of_parts(alloc, name, cursor) {
+        Ok(event) => cursor.ended((event, range)),
+        Err(fault) => Err(fault),
     }
 }
 
@@ -154,8 +168,5 @@ pub fn event_in_line(
         return Ok(None);
     };
     let range = cursor.range()?;
-    match event_of_parts(alloc, name, &mut cursor) {
-        Ok(event) => cursor.ended(Some((event, range))),
-        Err(fault) => Err(fault),
-    }
+    event_with_range(alloc, name, range, &mut cursor).map(Some)
 }

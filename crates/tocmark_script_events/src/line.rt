@@ -88,29 +88,38 @@ fn end_name(end: TagEnd) -> &'static str {
     }
 }
 
-/// The end of a tag, which `{}` writes as a line has it behind `End`.
-#[derive(Clone, Copy)]
-struct EndLine(TagEnd);
-
-impl fmt::Display for EndLine {
-    fn fmt<W: fmt::Write>(&self, f: &mut fmt::Formatter<W>) -> fmt::Result {
-        let name = end_name(self.0);
-        f.write_str(name)?;
-        match self.0 {
-            TagEnd::Heading(level) => {
-                let level = level_number(level);
-                write!(f, " {level}")
-            }
-            TagEnd::BlockQuote(Some(kind)) => write_word(f, quote_kind_name(kind)),
-            TagEnd::List(is_ordered) => write!(f, " {is_ordered}"),
-            TagEnd::MetadataBlock(kind) => write_word(f, metadata_kind_name(kind)),
-            _ => Ok(()),
-        }
-    }
-}
-
 fn write_word<W: fmt::Write>(f: &mut fmt::Formatter<W>, word: &str) -> fmt::Result {
     write!(f, " {word}")
+}
+
+fn write_level<W: fmt::Write>(f: &mut fmt::Formatter<W>, level: HeadingLevel) -> fmt::Result {
+    let level = level_number(level);
+    write!(f, " {level}")
+}
+
+fn write_number<W: fmt::Write>(f: &mut fmt::Formatter<W>, number: u64) -> fmt::Result {
+    write!(f, " {number}")
+}
+
+fn write_truth<W: fmt::Write>(f: &mut fmt::Formatter<W>, truth: bool) -> fmt::Result {
+    write!(f, " {truth}")
+}
+
+/// What a line has behind `End`.
+fn write_end<W: fmt::Write>(f: &mut fmt::Formatter<W>, end: TagEnd) -> fmt::Result {
+    write_word(f, end_name(end))?;
+    write_end_part(f, end)
+}
+
+/// What a line has behind the name of an end.
+fn write_end_part<W: fmt::Write>(f: &mut fmt::Formatter<W>, end: TagEnd) -> fmt::Result {
+    match end {
+        TagEnd::Heading(level) => write_level(f, level),
+        TagEnd::BlockQuote(Some(kind)) => write_word(f, quote_kind_name(kind)),
+        TagEnd::List(is_ordered) => write_truth(f, is_ordered),
+        TagEnd::MetadataBlock(kind) => write_word(f, metadata_kind_name(kind)),
+        _ => Ok(()),
+    }
 }
 
 fn write_string<W: fmt::Write>(f: &mut fmt::Formatter<W>, text: &CowStr<'_>) -> fmt::Result {
@@ -118,29 +127,65 @@ fn write_string<W: fmt::Write>(f: &mut fmt::Formatter<W>, text: &CowStr<'_>) -> 
     write!(f, " {text}")
 }
 
-fn write_attributes<W: fmt::Write>(
+/// A name, `=` and a text.
+fn write_named<W: fmt::Write>(
     f: &mut fmt::Formatter<W>,
+    name: &str,
+    text: &CowStr<'_>,
+) -> fmt::Result {
+    let text = Quoted(text.as_str());
+    write!(f, " {name}={text}")
+}
+
+fn write_value<W: fmt::Write>(f: &mut fmt::Formatter<W>, value: &CowStr<'_>) -> fmt::Result {
+    let value = Quoted(value.as_str());
+    write!(f, "={value}")
+}
+
+/// An attribute's name and its value, if it has one.
+fn write_attribute<W: fmt::Write>(
+    f: &mut fmt::Formatter<W>,
+    name: &CowStr<'_>,
+    value: &Option<CowStr<'_>>,
+) -> fmt::Result {
+    write_named(f, "attr", name)?;
+    match value {
+        Some(value) => write_value(f, value),
+        None => Ok(()),
+    }
+}
+
+fn write_heading<W: fmt::Write>(
+    f: &mut fmt::Formatter<W>,
+    level: HeadingLevel,
     id: &Option<CowStr<'_>>,
     classes: &[CowStr<'_>],
     attrs: &[(CowStr<'_>, Option<CowStr<'_>>)],
 ) -> fmt::Result {
+    write_level(f, level)?;
     if let Some(id) = id {
-        let id = Quoted(id.as_str());
-        write!(f, " id={id}")?;
+        write_named(f, "id", id)?;
     }
     for class in classes {
-        let class = Quoted(class.as_str());
-        write!(f, " class={class}")?;
+        write_named(f, "class", class)?;
     }
     for (name, value) in attrs {
-        let name = Quoted(name.as_str());
-        write!(f, " attr={name}")?;
-        if let Some(value) = value {
-            let value = Quoted(value.as_str());
-            write!(f, "={value}")?;
-        }
+        write_attribute(f, name, value)?;
     }
     Ok(())
+}
+
+fn write_code_block<W: fmt::Write>(
+    f: &mut fmt::Formatter<W>,
+    kind: &CodeBlockKindOf<CowStr<'_>>,
+) -> fmt::Result {
+    match kind {
+        CodeBlockKindOf::Indented => write_word(f, "Indented"),
+        CodeBlockKindOf::Fenced(info) => {
+            write_word(f, "Fenced")?;
+            write_string(f, info)
+        }
+    }
 }
 
 fn write_target<W: fmt::Write>(
@@ -150,11 +195,10 @@ fn write_target<W: fmt::Write>(
     title: &CowStr<'_>,
     id: &CowStr<'_>,
 ) -> fmt::Result {
-    let name = link_type_name(link_type);
-    let dest_url = Quoted(dest_url.as_str());
-    let title = Quoted(title.as_str());
-    let id = Quoted(id.as_str());
-    write!(f, " {name} dest={dest_url} title={title} id={id}")
+    write_word(f, link_type_name(link_type))?;
+    write_named(f, "dest", dest_url)?;
+    write_named(f, "title", title)?;
+    write_named(f, "id", id)
 }
 
 fn write_alignments<W: fmt::Write>(
@@ -162,8 +206,7 @@ fn write_alignments<W: fmt::Write>(
     alignments: &[Alignment],
 ) -> fmt::Result {
     for alignment in alignments {
-        let name = alignment_name(*alignment);
-        write!(f, " {name}")?;
+        write_word(f, alignment_name(*alignment))?;
     }
     Ok(())
 }
@@ -176,18 +219,10 @@ fn write_parts<W: fmt::Write>(f: &mut fmt::Formatter<W>, tag: &Tag<'_>) -> fmt::
             id,
             classes,
             attrs,
-        } => {
-            let level = level_number(*level);
-            write!(f, " {level}")?;
-            write_attributes(f, id, classes, attrs)
-        }
+        } => write_heading(f, *level, id, classes, attrs),
         TagOf::BlockQuote(Some(kind)) => write_word(f, quote_kind_name(*kind)),
-        TagOf::CodeBlock(CodeBlockKindOf::Indented) => write_word(f, "Indented"),
-        TagOf::CodeBlock(CodeBlockKindOf::Fenced(info)) => {
-            write_word(f, "Fenced")?;
-            write_string(f, info)
-        }
-        TagOf::List(Some(start)) => write!(f, " {start}"),
+        TagOf::CodeBlock(kind) => write_code_block(f, kind),
+        TagOf::List(Some(start)) => write_number(f, *start),
         TagOf::FootnoteDefinition(label) => write_string(f, label),
         TagOf::Table(alignments) => write_alignments(f, alignments),
         TagOf::Link {
@@ -195,8 +230,8 @@ fn write_parts<W: fmt::Write>(f: &mut fmt::Formatter<W>, tag: &Tag<'_>) -> fmt::
             dest_url,
             title,
             id,
-        } => write_target(f, *link_type, dest_url, title, id),
-        TagOf::Image {
+        }
+        | TagOf::Image {
             link_type,
             dest_url,
             title,
@@ -207,13 +242,45 @@ fn write_parts<W: fmt::Write>(f: &mut fmt::Formatter<W>, tag: &Tag<'_>) -> fmt::
     }
 }
 
-fn write_leaf<W: fmt::Write>(
-    f: &mut fmt::Formatter<W>,
-    name: &str,
-    text: &CowStr<'_>,
-) -> fmt::Result {
-    let text = Quoted(text.as_str());
-    write!(f, "{name} {text}")
+/// What a line has behind `Start`.
+fn write_start<W: fmt::Write>(f: &mut fmt::Formatter<W>, tag: &Tag<'_>) -> fmt::Result {
+    write_word(f, end_name(tag.to_end()))?;
+    write_parts(f, tag)
+}
+
+fn event_name(event: &Event<'_>) -> &'static str {
+    match event {
+        EventOf::Start(_) => "Start",
+        EventOf::End(_) => "End",
+        EventOf::Text(_) => "Text",
+        EventOf::Code(_) => "Code",
+        EventOf::InlineMath(_) => "InlineMath",
+        EventOf::DisplayMath(_) => "DisplayMath",
+        EventOf::Html(_) => "Html",
+        EventOf::InlineHtml(_) => "InlineHtml",
+        EventOf::FootnoteReference(_) => "FootnoteReference",
+        EventOf::SoftBreak => "SoftBreak",
+        EventOf::HardBreak => "HardBreak",
+        EventOf::Rule => "Rule",
+        EventOf::TaskListMarker(_) => "TaskListMarker",
+    }
+}
+
+/// What a line has behind the name of an event.
+fn write_event_parts<W: fmt::Write>(f: &mut fmt::Formatter<W>, event: &Event<'_>) -> fmt::Result {
+    match event {
+        EventOf::Start(tag) => write_start(f, tag),
+        EventOf::End(end) => write_end(f, *end),
+        EventOf::Text(text)
+        | EventOf::Code(text)
+        | EventOf::InlineMath(text)
+        | EventOf::DisplayMath(text)
+        | EventOf::Html(text)
+        | EventOf::InlineHtml(text)
+        | EventOf::FootnoteReference(text) => write_string(f, text),
+        EventOf::SoftBreak | EventOf::HardBreak | EventOf::Rule => Ok(()),
+        EventOf::TaskListMarker(is_checked) => write_truth(f, *is_checked),
+    }
 }
 
 /// An event, which `{}` writes as a line without a range.
@@ -222,27 +289,7 @@ pub struct EventLine<'a>(pub &'a Event<'static>);
 
 impl fmt::Display for EventLine<'_> {
     fn fmt<W: fmt::Write>(&self, f: &mut fmt::Formatter<W>) -> fmt::Result {
-        match self.0 {
-            EventOf::Start(tag) => {
-                let name = end_name(tag.to_end());
-                write!(f, "Start {name}")?;
-                write_parts(f, tag)
-            }
-            EventOf::End(end) => {
-                let end = EndLine(*end);
-                write!(f, "End {end}")
-            }
-            EventOf::Text(text) => write_leaf(f, "Text", text),
-            EventOf::Code(text) => write_leaf(f, "Code", text),
-            EventOf::InlineMath(text) => write_leaf(f, "InlineMath", text),
-            EventOf::DisplayMath(text) => write_leaf(f, "DisplayMath", text),
-            EventOf::Html(text) => write_leaf(f, "Html", text),
-            EventOf::InlineHtml(text) => write_leaf(f, "InlineHtml", text),
-            EventOf::FootnoteReference(label) => write_leaf(f, "FootnoteReference", label),
-            EventOf::SoftBreak => write!(f, "SoftBreak"),
-            EventOf::HardBreak => write!(f, "HardBreak"),
-            EventOf::Rule => write!(f, "Rule"),
-            EventOf::TaskListMarker(is_checked) => write!(f, "TaskListMarker {is_checked}"),
-        }
+        f.write_str(event_name(self.0))?;
+        write_event_parts(f, self.0)
     }
 }

@@ -1,6 +1,6 @@
 //! Tags and their ends, read from a line.
 
-use std::alloc::Global;
+use std::alloc::{AllocError, Global};
 use tocmark_event::event::{
     Alignment, BlockQuoteKind, CodeBlockKind, CowStr, HeadingLevel, LinkType, MetadataBlockKind,
     Tag, TagEnd,
@@ -128,7 +128,7 @@ fn quote_kind(cursor: &mut Cursor<'_>) -> Result<Option<BlockQuoteKind>, LineFau
         return Ok(None);
     }
     let expected = "the kind of a quote: Note, Tip, Important, Warning or Caution";
-    Ok(Some(cursor.expect_known(&QUOTE_KINDS, expected)?))
+    cursor.expect_known(&QUOTE_KINDS, expected).map(Some)
 }
 
 fn metadata_kind(cursor: &mut Cursor<'_>) -> Result<MetadataBlockKind, LineFault> {
@@ -145,52 +145,95 @@ pub fn truth(cursor: &mut Cursor<'_>, expected: &'static str) -> Result<bool, Li
     cursor.expect_known(&TRUTHS, expected)
 }
 
-/// The classes that come next. Each takes some bytes of the line.
-fn classes(alloc: Global, cursor: &mut Cursor<'_>) -> Result<Vec<CowStr<'static>>, LineFault> {
-    let mut classes = Vec::new(alloc);
-    for _ in 0..cursor.len() {
-        let Some(class) = cursor.named(alloc, "class")? else {
-            break;
-        };
-        classes.push(owned(class))?;
-    }
-    Ok(classes)
+/// The string behind a name and `=`, or nothing where another name comes next.
+fn named(
+    alloc: Global,
+    name: &str,
+    cursor: &mut Cursor<'_>,
+) -> Result<Option<CowStr<'static>>, LineFault> {
+    Ok(cursor.named(alloc, name)?.map(owned))
 }
 
 /// An attribute's name and its value, if it has one.
 type Attribute = (CowStr<'static>, Option<CowStr<'static>>);
 
+/// The attribute that comes next, if one does.
+fn attribute(alloc: Global, cursor: &mut Cursor<'_>) -> Result<Option<Attribute>, LineFault> {
+    match cursor.attribute(alloc)? {
+        Some((name, value)) => Ok(Some((owned(name), value.map(owned)))),
+        None => Ok(None),
+    }
+}
+
+/// Adds an item to a list, if there is one. Returns whether there is.
+fn adds<T: Drop>(list: &mut Vec<T>, item: Option<T>) -> Result<bool, AllocError> {
+    match item {
+        Some(item) => {
+            list.push(item)?;
+            Ok(true)
+        }
+        None => Ok(false),
+    }
+}
+
+/// The classes that come next. Each takes some bytes of the line.
+fn classes(alloc: Global, cursor: &mut Cursor<'_>) -> Result<Vec<CowStr<'static>>, LineFault> {
+    let mut classes = Vec::new(alloc);
+    for _ in 0..cursor.len() {
+        if !adds(&mut classes, named(alloc, "class", cursor)?)? {
+            break;
+        }
+    }
+    Ok(classes)
+}
+
 /// The attributes that come next. Each takes some bytes of the line.
 fn attributes(alloc: Global, cursor: &mut Cursor<'_>) -> Result<Vec<Attribute>, LineFault> {
     let mut attributes = Vec::new(alloc);
     for _ in 0..cursor.len() {
-        let Some((name, value)) = cursor.attribute(alloc)? else {
+        if !adds(&mut attributes, attribute(alloc, cursor)?)? {
             break;
-        };
-        attributes.push((owned(name), value.map(owned)))?;
+        }
     }
     Ok(attributes)
 }
 
-fn heading(alloc: Global, cursor: &mut Cursor<'_>) -> Result<Tag<'static>, LineFault> {
+/// A heading with this level and id, whose classes and attributes come next.
+fn heading_with(
+    alloc: Global,
+    level: HeadingLevel,
+    id: Option<CowStr<'static>>,
+    cursor: &mut Cursor<'_>,
+) -> Result<Tag<'static>, LineFault> {
+    let classes = classes(alloc, cursor)?;
+    let attrs = attributes(alloc, cursor)?;
     Ok(Tag::Heading {
-        level: level(cursor)?,
-        id: cursor.named(alloc, "id")?.map(owned),
-        classes: classes(alloc, cursor)?,
-        attrs: attributes(alloc, cursor)?,
+        level,
+        id,
+        classes,
+        attrs,
     })
 }
 
+fn heading(alloc: Global, cursor: &mut Cursor<'_>) -> Result<Tag<'static>, LineFault> {
+    let level = level(cursor)?;
+    let id = named(alloc, "id", cursor)?;
+    heading_with(alloc, level, id, cursor)
+}
+
+fn fenced(alloc: Global, cursor: &mut Cursor<'_>) -> Result<Tag<'static>, LineFault> {
+    let info = owned(cursor.string(alloc)?);
+    Ok(Tag::CodeBlock(CodeBlockKind::Fenced(info)))
+}
+
+/// The words behind the name of a code block, each with whether the block is a fenced one.
+const CODE_BLOCKS: [(&str, bool); 2] = [("Indented", false), ("Fenced", true)];
+
 fn code_block(alloc: Global, cursor: &mut Cursor<'_>) -> Result<Tag<'static>, LineFault> {
-    let fault = cursor.expected("Indented or Fenced");
-    match cursor.word() {
-        Some("Indented") => Ok(Tag::CodeBlock(CodeBlockKind::Indented)),
-        Some("Fenced") => {
-            let info = owned(cursor.string(alloc)?);
-            Ok(Tag::CodeBlock(CodeBlockKind::Fenced(info)))
-        }
-        _ => Err(fault),
+    if cursor.expect_known(&CODE_BLOCKS, "Indented or Fenced")? {
+        return fenced(alloc, cursor);
     }
+    Ok(Tag::CodeBlock(CodeBlockKind::Indented))
 }
 
 fn list(cursor: &mut Cursor<'_>) -> Result<Tag<'static>, LineFault> {
@@ -253,7 +296,7 @@ fn quote(cursor: &mut Cursor<'_>) -> Result<Tag<'static>, LineFault> {
 }
 
 fn footnote(alloc: Global, cursor: &mut Cursor<'_>) -> Result<Tag<'static>, LineFault> {
-    Ok(Tag::FootnoteDefinition(owned(cursor.string(alloc)?)))
+    cursor.string(alloc).map(owned).map(Tag::FootnoteDefinition)
 }
 
 fn metadata(cursor: &mut Cursor<'_>) -> Result<Tag<'static>, LineFault> {
@@ -262,31 +305,32 @@ fn metadata(cursor: &mut Cursor<'_>) -> Result<Tag<'static>, LineFault> {
 
 /// A tag with this end, up to the parts of both, which come next.
 fn tag_of(alloc: Global, end: TagEnd, cursor: &mut Cursor<'_>) -> Result<Tag<'static>, LineFault> {
-    match end {
-        TagEnd::Paragraph => Ok(Tag::Paragraph),
-        TagEnd::Heading(_) => heading(alloc, cursor),
-        TagEnd::BlockQuote(_) => quote(cursor),
-        TagEnd::CodeBlock => code_block(alloc, cursor),
-        TagEnd::HtmlBlock => Ok(Tag::HtmlBlock),
-        TagEnd::List(_) => list(cursor),
-        TagEnd::Item => Ok(Tag::Item),
-        TagEnd::FootnoteDefinition => footnote(alloc, cursor),
-        TagEnd::DefinitionList => Ok(Tag::DefinitionList),
-        TagEnd::DefinitionListTitle => Ok(Tag::DefinitionListTitle),
-        TagEnd::DefinitionListDefinition => Ok(Tag::DefinitionListDefinition),
-        TagEnd::Table => table(alloc, cursor),
-        TagEnd::TableHead => Ok(Tag::TableHead),
-        TagEnd::TableRow => Ok(Tag::TableRow),
-        TagEnd::TableCell => Ok(Tag::TableCell),
-        TagEnd::Emphasis => Ok(Tag::Emphasis),
-        TagEnd::Strong => Ok(Tag::Strong),
-        TagEnd::Strikethrough => Ok(Tag::Strikethrough),
-        TagEnd::Superscript => Ok(Tag::Superscript),
-        TagEnd::Subscript => Ok(Tag::Subscript),
-        TagEnd::Link => link(alloc, cursor),
-        TagEnd::Image => image(alloc, cursor),
-        TagEnd::MetadataBlock(_) => metadata(cursor),
-    }
+    let tag = match end {
+        TagEnd::Heading(_) => return heading(alloc, cursor),
+        TagEnd::BlockQuote(_) => return quote(cursor),
+        TagEnd::CodeBlock => return code_block(alloc, cursor),
+        TagEnd::List(_) => return list(cursor),
+        TagEnd::FootnoteDefinition => return footnote(alloc, cursor),
+        TagEnd::Table => return table(alloc, cursor),
+        TagEnd::Link => return link(alloc, cursor),
+        TagEnd::Image => return image(alloc, cursor),
+        TagEnd::MetadataBlock(_) => return metadata(cursor),
+        TagEnd::Paragraph => Tag::Paragraph,
+        TagEnd::HtmlBlock => Tag::HtmlBlock,
+        TagEnd::Item => Tag::Item,
+        TagEnd::DefinitionList => Tag::DefinitionList,
+        TagEnd::DefinitionListTitle => Tag::DefinitionListTitle,
+        TagEnd::DefinitionListDefinition => Tag::DefinitionListDefinition,
+        TagEnd::TableHead => Tag::TableHead,
+        TagEnd::TableRow => Tag::TableRow,
+        TagEnd::TableCell => Tag::TableCell,
+        TagEnd::Emphasis => Tag::Emphasis,
+        TagEnd::Strong => Tag::Strong,
+        TagEnd::Strikethrough => Tag::Strikethrough,
+        TagEnd::Superscript => Tag::Superscript,
+        TagEnd::Subscript => Tag::Subscript,
+    };
+    Ok(tag)
 }
 
 /// A tag with its parts.
@@ -298,10 +342,10 @@ pub fn tag(alloc: Global, cursor: &mut Cursor<'_>) -> Result<Tag<'static>, LineF
 /// This end, or where such ends have a part, the end with the part that comes next.
 fn end_of_part(end: TagEnd, part: EndPart, cursor: &mut Cursor<'_>) -> Result<TagEnd, LineFault> {
     match part {
-        EndPart::Level => Ok(TagEnd::Heading(level(cursor)?)),
-        EndPart::QuoteKind => Ok(TagEnd::BlockQuote(quote_kind(cursor)?)),
-        EndPart::IsOrdered => Ok(TagEnd::List(truth(cursor, IS_ORDERED)?)),
-        EndPart::MetadataKind => Ok(TagEnd::MetadataBlock(metadata_kind(cursor)?)),
+        EndPart::Level => level(cursor).map(TagEnd::Heading),
+        EndPart::QuoteKind => quote_kind(cursor).map(TagEnd::BlockQuote),
+        EndPart::IsOrdered => truth(cursor, IS_ORDERED).map(TagEnd::List),
+        EndPart::MetadataKind => metadata_kind(cursor).map(TagEnd::MetadataBlock),
         EndPart::Nothing => Ok(end),
     }
 }

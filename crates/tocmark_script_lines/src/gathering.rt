@@ -1,8 +1,9 @@
 //! Scripts whose lines are being read.
 
-use crate::script::{Call, EventsQuestion, Question, Script, Setting};
+use crate::script::{Call, Question, Script, Setting};
 use crate::statement::{Other, Statement};
 use std::alloc::{AllocError, Global};
+use std::mem;
 use tocmark_script_events::event::RangedEvent;
 use tocmark_script_reader::readers::{ReadEvents, ScriptReader, Table};
 use tocmark_script_words::fault::LineFault;
@@ -17,35 +18,103 @@ struct OpenReading<'a> {
     events: ReadEvents<'a>,
 }
 
+/// The calls of a script whose lines are being read.
+#[derive(Drop)]
+struct Calls {
+    made: Vec<Call>,
+    /// How many events they take.
+    called: usize,
+    has_finish: bool,
+}
+
 /// A script whose lines are being read.
 #[derive(Drop)]
 pub struct Gathering<'a> {
     alloc: Global,
+    /// What the lines say, but for the calls and the table.
     script: Script<'a>,
-    /// How many events are taken by the calls so far.
-    called: usize,
-    /// The table of readings, if the script gives one.
-    table: Option<Table<'a>>,
+    calls: Calls,
+    /// The readings so far.
+    table: Table<'a>,
+    /// Whether the script gives a table of readings.
+    has_table: bool,
     reading: Option<OpenReading<'a>>,
-    has_finish: bool,
     /// Whether some line said something.
     has_statement: bool,
+}
+
+impl Calls {
+    fn add(&mut self, call: Call) -> Result<(), LineFault> {
+        Ok(self.made.push(call)?)
+    }
+
+    /// A call that takes the events since the last one, of so many.
+    fn process(&mut self, events: usize) -> Result<(), LineFault> {
+        self.add(Call::Process {
+            start: self.called,
+            end: events,
+        })?;
+        self.called = events;
+        Ok(())
+    }
+
+    fn process_waiting(&mut self, events: usize) -> Result<(), LineFault> {
+        if self.called == events {
+            Ok(())
+        } else {
+            self.process(events)
+        }
+    }
+
+    fn finish(&mut self, events: usize) -> Result<(), LineFault> {
+        self.process_waiting(events)?;
+        self.has_finish = true;
+        self.add(Call::Finish)
+    }
+
+    fn clone_state(&mut self, events: usize) -> Result<(), LineFault> {
+        self.process_waiting(events)?;
+        self.add(Call::Clone)
+    }
+
+    /// Makes the calls behind the last line.
+    fn complete(&mut self, events: usize) -> Result<(), LineFault> {
+        self.process_waiting(events)?;
+        if self.has_finish {
+            Ok(())
+        } else {
+            self.finish(events)
+        }
+    }
+}
+
+/// Adds an item to a list.
+fn add<T: Drop>(list: &mut Vec<T>, item: T) -> Result<(), AllocError> {
+    Ok(list.push(item)?)
 }
 
 /// Adds an event to a reading, where one without a range gets an empty one.
 fn add_read(
     events: &mut ReadEvents<'static>,
     event: RangedEvent<'static>,
-) -> Result<(), LineFault> {
-    Ok(events.push((event.0, event.1.unwrap_or((0, 0))))?)
+) -> Result<(), AllocError> {
+    let (event, range) = event;
+    add(events, (event, range.unwrap_or((0, 0))))
 }
 
-/// Adds an event to a script.
-fn add(
-    events: &mut Vec<RangedEvent<'static>>,
-    event: RangedEvent<'static>,
+/// Has a text be read as these events, or any other text if none is given.
+fn add_reading(
+    table: &mut Table<'static>,
+    text: Option<String>,
+    events: ReadEvents<'static>,
 ) -> Result<(), LineFault> {
-    Ok(events.push(event)?)
+    match text {
+        Some(text) => {
+            table.readings.insert(text, events)?;
+        }
+        None => table.otherwise = events,
+    }
+    Ok(())
 }
 
 impl Gathering<'static> {
@@ -54,10 +123,14 @@ impl Gathering<'static> {
         Gathering {
             alloc,
             script: Script::new(alloc),
-            called: 0,
-            table: None,
+            calls: Calls {
+                made: Vec::new(alloc),
+                called: 0,
+                has_finish: false,
+            },
+            table: Table::new(alloc),
+            has_table: false,
             reading: None,
-            has_finish: false,
             has_statement: false,
         }
     }
@@ -67,70 +140,31 @@ impl Gathering<'static> {
         !self.has_statement
     }
 
-    /// A call that takes the events since the last one.
-    fn process(&mut self) -> Result<(), LineFault> {
-        let start = self.called;
-        let end = self.script.events.len();
-        self.script.calls.push(Call::Process { start, end })?;
-        self.called = end;
-        Ok(())
-    }
-
-    fn process_waiting(&mut self) -> Result<(), LineFault> {
-        if self.called == self.script.events.len() {
-            Ok(())
-        } else {
-            self.process()
-        }
-    }
-
-    fn finish(&mut self) -> Result<(), LineFault> {
-        self.process_waiting()?;
-        self.has_finish = true;
-        self.script.calls.push(Call::Finish)?;
-        Ok(())
-    }
-
-    fn clone_state(&mut self) -> Result<(), LineFault> {
-        self.process_waiting()?;
-        self.script.calls.push(Call::Clone)?;
-        Ok(())
-    }
-
-    /// The table of readings so far, or one without readings.
-    fn take_table(&mut self) -> Table<'static> {
-        match self.table.take() {
-            Some(table) => table,
-            None => Table::new(self.alloc),
-        }
-    }
-
     fn end_reading(&mut self) -> Result<(), LineFault> {
-        let Some(OpenReading { text, events, .. }) = self.reading.take() else {
-            return Err(LineFault::Wrong("no line Reads stands before this End of reading"));
-        };
-        let mut table = self.take_table();
-        match text {
-            None => table.otherwise = events,
-            Some(text) => {
-                table.readings.insert(text, events)?;
+        match self.reading.take() {
+            Some(OpenReading { text, events, .. }) => {
+                self.has_table = true;
+                add_reading(&mut self.table, text, events)
             }
+            None => Err(LineFault::Wrong("no line Reads stands before this End of reading")),
         }
-        self.table = Some(table);
-        Ok(())
     }
 
-    /// Takes an event, into the open reading if there is one.
-    fn take_event(&mut self, event: RangedEvent<'static>) -> Result<(), LineFault> {
+    /// Adds an event, to the open reading if there is one.
+    fn add_event(&mut self, event: RangedEvent<'static>) -> Result<(), AllocError> {
         match &mut self.reading {
             Some(reading) => add_read(&mut reading.events, event),
             None => add(&mut self.script.events, event),
         }
     }
 
-    fn take_copy(&mut self, event: &RangedEvent<'static>) -> Result<(), LineFault> {
+    fn take_event(&mut self, event: RangedEvent<'static>) -> Result<(), LineFault> {
+        Ok(self.add_event(event)?)
+    }
+
+    fn add_copy(&mut self, event: &RangedEvent<'static>) -> Result<(), AllocError> {
         let (event, range) = event;
-        self.take_event((event.to_static(self.alloc)?, *range))
+        self.add_event((event.to_static(self.alloc)?, *range))
     }
 
     /// Makes room for so many events where the next one goes.
@@ -141,13 +175,20 @@ impl Gathering<'static> {
         }
     }
 
-    /// Takes so many copies of an event.
-    fn take_copies(&mut self, event: &RangedEvent<'static>, times: usize) -> Result<(), LineFault> {
+    /// Adds so many copies of an event.
+    fn add_copies(&mut self, event: &RangedEvent<'static>, times: usize) -> Result<(), AllocError> {
         self.reserve(times)?;
         for _ in 0..times {
-            self.take_copy(event)?;
+            self.add_copy(event)?;
         }
         Ok(())
+    }
+
+    /// Takes an event so many times.
+    fn take_copies(&mut self, event: RangedEvent<'static>, times: usize) -> Result<(), LineFault> {
+        let added = self.add_copies(&event, times);
+        drop(event);
+        Ok(added?)
     }
 
     fn open_reading(&mut self, line: usize, text: Option<String>) -> Result<(), LineFault> {
@@ -164,12 +205,6 @@ impl Gathering<'static> {
         Ok(())
     }
 
-    /// Asks of the events so far.
-    fn ask_of_events(&mut self, question: EventsQuestion) -> Result<(), LineFault> {
-        let events = self.script.events.len();
-        self.ask(Question::OfEvents { question, events })
-    }
-
     fn set(&mut self, setting: Setting) -> Result<(), LineFault> {
         self.script.set(setting);
         Ok(())
@@ -177,20 +212,21 @@ impl Gathering<'static> {
 
     /// Has the reader be a table, without readings so far if none came.
     fn read_nothing(&mut self) -> Result<(), LineFault> {
-        self.table = Some(self.take_table());
+        self.has_table = true;
         Ok(())
     }
 
     /// Takes a statement that stands outside of readings, in the line with this number.
     fn take_outside(&mut self, line: usize, statement: Other) -> Result<(), LineFault> {
+        let events = self.script.events.len();
         match statement {
             Other::Set(setting) => self.set(setting),
-            Other::Cut => self.process(),
-            Other::Finish => self.finish(),
-            Other::Clone => self.clone_state(),
+            Other::Cut => self.calls.process(events),
+            Other::Finish => self.calls.finish(events),
+            Other::Clone => self.calls.clone_state(events),
             Other::ReaderNothing => self.read_nothing(),
             Other::Reads(text) => self.open_reading(line, text),
-            Other::AskOfEvents(question) => self.ask_of_events(question),
+            Other::AskOfEvents(question) => self.ask(Question::OfEvents { question, events }),
             Other::Ask(question) => self.ask(question),
         }
     }
@@ -211,7 +247,7 @@ impl Gathering<'static> {
         self.has_statement = true;
         match statement {
             Statement::Event(event) => self.take_event(event),
-            Statement::Repeat { event, times } => self.take_copies(&event, times),
+            Statement::Repeat { event, times } => self.take_copies(event, times),
             Statement::EndOfReading => self.end_reading(),
             Statement::Other(statement) => self.take_other(line, statement),
         }
@@ -225,27 +261,35 @@ impl Gathering<'static> {
         }
     }
 
-    /// Makes the calls behind the last line, and takes the table as the reader.
+    /// Makes the calls behind the last line.
     fn complete(&mut self) -> Result<(), LineFault> {
         if self.reading.is_some() {
             return Err(LineFault::Wrong("no line End of reading stands behind this reading"));
         }
-        self.process_waiting()?;
-        if !self.has_finish {
-            self.finish()?;
-        }
-        if let Some(table) = self.table.take() {
+        self.calls.complete(self.script.events.len())
+    }
+
+    /// Has the script have its calls, and the table as its reader if the script gives one.
+    fn fill_script(&mut self) {
+        mem::swap(&mut self.script.calls, &mut self.calls.made);
+        if self.has_table {
+            let table = mem::replace(&mut self.table, Table::new(self.alloc));
             self.script.reader = ScriptReader::Table(table);
         }
-        Ok(())
+    }
+
+    /// Takes the whole script out.
+    fn take_script(&mut self) -> Result<Script<'static>, LineFault> {
+        self.complete()?;
+        self.fill_script();
+        Ok(mem::replace(&mut self.script, Script::new(self.alloc)))
     }
 
     /// The whole script, behind its last line.
     pub fn end(self) -> Result<Script<'static>, LineFault> {
         let mut whole = self;
-        match whole.complete() {
-            Ok(()) => Ok(whole.script),
-            Err(fault) => Err(fault),
-        }
+        let script = whole.take_script();
+        drop(whole);
+        script
     }
 }

@@ -2,6 +2,7 @@
 #![tactic(auto)]
 
 pub mod gathering;
+pub mod lines;
 mod option;
 pub mod script;
 pub mod statement;

@@ -130,15 +130,35 @@ fn expect_size(cursor: &mut Cursor<'_>) -> Result<usize, LineFault> {
     }
 }
 
+fn size_setting(option: SizeOption, cursor: &mut Cursor<'_>) -> Result<OptionSetting, LineFault> {
+    let size = expect_size(cursor)?;
+    Ok(OptionSetting::Size(option, size))
+}
+
+fn choice_setting(
+    option: ChoiceOption,
+    cursor: &mut Cursor<'_>,
+) -> Result<OptionSetting, LineFault> {
+    let choice = truth(cursor, "true or false")?;
+    Ok(OptionSetting::Choice(option, choice))
+}
+
+fn token_setting(
+    alloc: Global,
+    option: TokenOption,
+    cursor: &mut Cursor<'_>,
+) -> Result<OptionSetting, LineFault> {
+    let token = cursor.character(alloc)?;
+    Ok(OptionSetting::Token(option, token))
+}
+
 /// An option's name and its value.
 pub fn option_setting(alloc: Global, cursor: &mut Cursor<'_>) -> Result<OptionSetting, LineFault> {
     match cursor.expect_known(&OPTIONS, "the name of an option")? {
-        OptionName::Size(option) => Ok(OptionSetting::Size(option, expect_size(cursor)?)),
-        OptionName::Choice(option) => {
-            Ok(OptionSetting::Choice(option, truth(cursor, "true or false")?))
-        }
-        OptionName::Token(option) => Ok(OptionSetting::Token(option, cursor.character(alloc)?)),
-        OptionName::StrongToken => Ok(OptionSetting::StrongToken(cursor.string(alloc)?)),
+        OptionName::Size(option) => size_setting(option, cursor),
+        OptionName::Choice(option) => choice_setting(option, cursor),
+        OptionName::Token(option) => token_setting(alloc, option, cursor),
+        OptionName::StrongToken => cursor.string(alloc).map(OptionSetting::StrongToken),
     }
 }
 

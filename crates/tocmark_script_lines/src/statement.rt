@@ -22,13 +22,118 @@ const A_READING: &str = "the number of a reading, from 1";
 
 const A_CARRIAGE_RETURN: &str = "it ends with a carriage return, and a line feed alone ends a line";
 
-/// What is asked of the events so far, by its name.
-const EVENTS_QUESTIONS: [(&str, EventsQuestion); 5] = [
-    ("Count", EventsQuestion::CountTokens),
-    ("Events", EventsQuestion::Show),
-    ("Merged", EventsQuestion::ShowMerged),
-    ("Copies", EventsQuestion::CountCopies),
-    ("Same", EventsQuestion::CountSame),
+/// A question of a text.
+#[derive(Clone, Copy)]
+enum TextQuestion {
+    Fault,
+    EscapeDestination,
+    EscapeTitle,
+    Read,
+    ReadMerged,
+    CountRead,
+    Roundtrip,
+    RoundtripSource,
+}
+
+/// What the name of a question says.
+#[derive(Clone, Copy)]
+enum QuestionName {
+    Validate,
+    CountValid,
+    SpecialCharacters,
+    ErrorTexts,
+    Escape,
+    CloseLink,
+    LongestRun,
+    /// A question of the strings up to the end of the line, joined.
+    OfStrings(TextQuestion),
+    /// A question of one string.
+    OfString(TextQuestion),
+}
+
+/// What the name of a setting says.
+#[derive(Clone, Copy)]
+enum SettingName {
+    Flags,
+    Option,
+    Source,
+    Calls,
+    Cuts,
+    FailAt,
+    ReadFailAt,
+}
+
+/// What the name of a statement says that can't stand in a reading.
+#[derive(Clone, Copy)]
+enum OtherName {
+    Cut,
+    Finish,
+    Clone,
+    Reader,
+    Reads,
+    AskOfEvents(EventsQuestion),
+    Set(SettingName),
+    Ask(QuestionName),
+}
+
+const OTHERS: [(&str, OtherName); 30] = [
+    ("Cut", OtherName::Cut),
+    ("Finish", OtherName::Finish),
+    ("Clone", OtherName::Clone),
+    ("Reader", OtherName::Reader),
+    ("Reads", OtherName::Reads),
+    ("Count", OtherName::AskOfEvents(EventsQuestion::CountTokens)),
+    ("Events", OtherName::AskOfEvents(EventsQuestion::Show)),
+    ("Merged", OtherName::AskOfEvents(EventsQuestion::ShowMerged)),
+    (
+        "Copies",
+        OtherName::AskOfEvents(EventsQuestion::CountCopies),
+    ),
+    ("Same", OtherName::AskOfEvents(EventsQuestion::CountSame)),
+    ("Flags", OtherName::Set(SettingName::Flags)),
+    ("Option", OtherName::Set(SettingName::Option)),
+    ("Source", OtherName::Set(SettingName::Source)),
+    ("Calls", OtherName::Set(SettingName::Calls)),
+    ("Cuts", OtherName::Set(SettingName::Cuts)),
+    ("FailAt", OtherName::Set(SettingName::FailAt)),
+    ("ReadFailAt", OtherName::Set(SettingName::ReadFailAt)),
+    ("Validate", OtherName::Ask(QuestionName::Validate)),
+    ("CountValid", OtherName::Ask(QuestionName::CountValid)),
+    ("Special", OtherName::Ask(QuestionName::SpecialCharacters)),
+    ("ErrorTexts", OtherName::Ask(QuestionName::ErrorTexts)),
+    ("Escape", OtherName::Ask(QuestionName::Escape)),
+    ("Close", OtherName::Ask(QuestionName::CloseLink)),
+    ("Longest", OtherName::Ask(QuestionName::LongestRun)),
+    (
+        "CountRead",
+        OtherName::Ask(QuestionName::OfStrings(TextQuestion::CountRead)),
+    ),
+    (
+        "Fault",
+        OtherName::Ask(QuestionName::OfString(TextQuestion::Fault)),
+    ),
+    (
+        "Read",
+        OtherName::Ask(QuestionName::OfString(TextQuestion::Read)),
+    ),
+    (
+        "ReadMerged",
+        OtherName::Ask(QuestionName::OfString(TextQuestion::ReadMerged)),
+    ),
+    (
+        "Roundtrip",
+        OtherName::Ask(QuestionName::OfString(TextQuestion::Roundtrip)),
+    ),
+    (
+        "RoundtripSource",
+        OtherName::Ask(QuestionName::OfString(TextQuestion::RoundtripSource)),
+    ),
+];
+
+/// What can be escaped, by its name.
+const ESCAPED: [(&str, TextQuestion); 2] = [
+    ("dest", TextQuestion::EscapeDestination),
+    ("title", TextQuestion::EscapeTitle),
 ];
 
 /// What a line says.
@@ -96,15 +201,24 @@ fn number(cursor: &mut Cursor<'_>, expected: &'static str) -> Result<usize, Line
     }
 }
 
-fn repeat(alloc: Global, cursor: &mut Cursor<'_>) -> Result<Statement, LineFault> {
-    let times = number(cursor, "how often the event comes")?;
-    let fault = cursor.expected("an event");
+/// The event that is all that is left of a line, so many times.
+fn repeated_event(
+    alloc: Global,
+    times: usize,
+    cursor: &mut Cursor<'_>,
+) -> Result<Statement, LineFault> {
     let event = event_in_line(alloc, cursor)?;
+    let fault = cursor.expected("an event");
     cursor.pass_all();
     match event {
         Some(event) => Ok(Statement::Repeat { event, times }),
         None => Err(fault),
     }
+}
+
+fn repeat(alloc: Global, cursor: &mut Cursor<'_>) -> Result<Statement, LineFault> {
+    let times = number(cursor, "how often the event comes")?;
+    repeated_event(alloc, times, cursor)
 }
 
 fn reader(alloc: Global, cursor: &mut Cursor<'_>) -> Result<Other, LineFault> {
@@ -132,20 +246,32 @@ fn place(cursor: &mut Cursor<'_>, expected: &'static str) -> Result<usize, LineF
     }
 }
 
-/// What can be escaped, by its name.
-#[derive(Clone, Copy)]
-enum Escaped {
-    Destination,
-    Title,
+fn question_of_text(question: TextQuestion, text: String) -> Question {
+    match question {
+        TextQuestion::Fault => Question::Fault(text),
+        TextQuestion::EscapeDestination => Question::EscapeDestination(text),
+        TextQuestion::EscapeTitle => Question::EscapeTitle(text),
+        TextQuestion::Read => Question::Read(text),
+        TextQuestion::ReadMerged => Question::ReadMerged(text),
+        TextQuestion::CountRead => Question::CountRead(text),
+        TextQuestion::Roundtrip => Question::Roundtrip(text),
+        TextQuestion::RoundtripSource => Question::RoundtripSource(text),
+    }
 }
 
-const ESCAPED: [(&str, Escaped); 2] = [("dest", Escaped::Destination), ("title", Escaped::Title)];
+/// A question of the string that comes next.
+fn question_of_string(
+    alloc: Global,
+    question: TextQuestion,
+    cursor: &mut Cursor<'_>,
+) -> Result<Question, LineFault> {
+    let text = cursor.string(alloc)?;
+    Ok(question_of_text(question, text))
+}
 
 fn escape(alloc: Global, cursor: &mut Cursor<'_>) -> Result<Question, LineFault> {
-    match cursor.expect_known(&ESCAPED, "dest or title")? {
-        Escaped::Destination => Ok(Question::EscapeDestination(cursor.string(alloc)?)),
-        Escaped::Title => Ok(Question::EscapeTitle(cursor.string(alloc)?)),
-    }
+    let question = cursor.expect_known(&ESCAPED, "dest or title")?;
+    question_of_string(alloc, question, cursor)
 }
 
 fn close(alloc: Global, cursor: &mut Cursor<'_>) -> Result<Question, LineFault> {
@@ -177,71 +303,88 @@ fn joined_strings(alloc: Global, cursor: &mut Cursor<'_>) -> Result<String, Line
     Ok(text)
 }
 
-/// The question of this name.
-fn question(alloc: Global, name: &str, cursor: &mut Cursor<'_>) -> Result<Question, LineFault> {
-    match name {
-        "Validate" => Ok(Question::Validate),
-        "CountValid" => Ok(Question::CountValid),
-        "Special" => Ok(Question::SpecialCharacters),
-        "Fault" => Ok(Question::Fault(cursor.string(alloc)?)),
-        "Escape" => escape(alloc, cursor),
-        "Close" => close(alloc, cursor),
-        "Longest" => longest(alloc, cursor),
-        "ErrorTexts" => Ok(Question::ErrorTexts),
-        "Read" => Ok(Question::Read(cursor.string(alloc)?)),
-        "ReadMerged" => Ok(Question::ReadMerged(cursor.string(alloc)?)),
-        "CountRead" => Ok(Question::CountRead(joined_strings(alloc, cursor)?)),
-        "Roundtrip" => Ok(Question::Roundtrip(cursor.string(alloc)?)),
-        "RoundtripSource" => Ok(Question::RoundtripSource(cursor.string(alloc)?)),
-        _ => Err(LineFault::Expected {
-            expected: A_STATEMENT,
-            at: 0,
-        }),
-    }
+/// A question of the strings up to the end of the line.
+fn question_of_strings(
+    alloc: Global,
+    question: TextQuestion,
+    cursor: &mut Cursor<'_>,
+) -> Result<Question, LineFault> {
+    let text = joined_strings(alloc, cursor)?;
+    Ok(question_of_text(question, text))
 }
 
-/// The setting of this name, or nothing where it is none.
+/// The question of this name, whose parts come next.
+fn question(
+    alloc: Global,
+    name: QuestionName,
+    cursor: &mut Cursor<'_>,
+) -> Result<Question, LineFault> {
+    let question = match name {
+        QuestionName::Escape => return escape(alloc, cursor),
+        QuestionName::CloseLink => return close(alloc, cursor),
+        QuestionName::LongestRun => return longest(alloc, cursor),
+        QuestionName::OfStrings(name) => return question_of_strings(alloc, name, cursor),
+        QuestionName::OfString(name) => return question_of_string(alloc, name, cursor),
+        QuestionName::Validate => Question::Validate,
+        QuestionName::CountValid => Question::CountValid,
+        QuestionName::SpecialCharacters => Question::SpecialCharacters,
+        QuestionName::ErrorTexts => Question::ErrorTexts,
+    };
+    Ok(question)
+}
+
+/// The setting of this name, whose parts come next.
 fn setting(
     alloc: Global,
-    name: &str,
+    name: SettingName,
     cursor: &mut Cursor<'_>,
-) -> Result<Option<Setting>, LineFault> {
+) -> Result<Setting, LineFault> {
     match name {
-        "Flags" => Ok(Some(flags(cursor)?)),
-        "Option" => Ok(Some(Setting::Option(option_setting(alloc, cursor)?))),
-        "Source" => Ok(Some(Setting::Source(cursor.string(alloc)?))),
-        "Calls" => Ok(Some(Setting::Calls)),
-        "Cuts" => Ok(Some(Setting::Cuts)),
-        "FailAt" => Ok(Some(Setting::FailAt(place(cursor, A_TEXT)?))),
-        "ReadFailAt" => Ok(Some(Setting::ReadFailAt(place(cursor, A_READING)?))),
-        _ => Ok(None),
+        SettingName::Flags => flags(cursor),
+        SettingName::Option => option_setting(alloc, cursor).map(Setting::Option),
+        SettingName::Source => cursor.string(alloc).map(Setting::Source),
+        SettingName::Calls => Ok(Setting::Calls),
+        SettingName::Cuts => Ok(Setting::Cuts),
+        SettingName::FailAt => place(cursor, A_TEXT).map(Setting::FailAt),
+        SettingName::ReadFailAt => place(cursor, A_READING).map(Setting::ReadFailAt),
     }
 }
 
-/// The setting or question of this name.
-fn setting_or_question(
+fn set(alloc: Global, name: SettingName, cursor: &mut Cursor<'_>) -> Result<Other, LineFault> {
+    setting(alloc, name, cursor).map(Other::Set)
+}
+
+fn ask(alloc: Global, name: QuestionName, cursor: &mut Cursor<'_>) -> Result<Other, LineFault> {
+    question(alloc, name, cursor).map(Other::Ask)
+}
+
+/// The statement of this name, whose parts come next.
+fn other_of_parts(
     alloc: Global,
-    name: &str,
+    name: OtherName,
     cursor: &mut Cursor<'_>,
 ) -> Result<Other, LineFault> {
-    if let Some(question) = known(&EVENTS_QUESTIONS, name) {
-        return Ok(Other::AskOfEvents(question));
-    }
-    match setting(alloc, name, cursor)? {
-        Some(setting) => Ok(Other::Set(setting)),
-        None => Ok(Other::Ask(question(alloc, name, cursor)?)),
-    }
+    let statement = match name {
+        OtherName::Reader => return reader(alloc, cursor),
+        OtherName::Reads => return reads(alloc, cursor),
+        OtherName::Set(name) => return set(alloc, name, cursor),
+        OtherName::Ask(name) => return ask(alloc, name, cursor),
+        OtherName::AskOfEvents(question) => Other::AskOfEvents(question),
+        OtherName::Cut => Other::Cut,
+        OtherName::Finish => Other::Finish,
+        OtherName::Clone => Other::Clone,
+    };
+    Ok(statement)
 }
 
 /// The statement of this name, which can't stand in a reading.
 fn other_statement(alloc: Global, name: &str, cursor: &mut Cursor<'_>) -> Result<Other, LineFault> {
-    match name {
-        "Cut" => Ok(Other::Cut),
-        "Finish" => Ok(Other::Finish),
-        "Clone" => Ok(Other::Clone),
-        "Reader" => reader(alloc, cursor),
-        "Reads" => reads(alloc, cursor),
-        _ => setting_or_question(alloc, name, cursor),
+    match known(&OTHERS, name) {
+        Some(name) => other_of_parts(alloc, name, cursor),
+        None => Err(LineFault::Expected {
+            expected: A_STATEMENT,
+            at: 0,
+        }),
     }
 }
 
@@ -254,15 +397,25 @@ fn statement_of_parts(
     if name == "Repeat" {
         return repeat(alloc, cursor);
     }
-    Ok(Statement::Other(other_statement(alloc, name, cursor)?))
+    other_statement(alloc, name, cursor).map(Statement::Other)
 }
 
 /// What a line says that is no event.
 fn statement_without_event(alloc: Global, line: &Cursor<'_>) -> Result<Statement, LineFault> {
     let mut cursor = *line;
     let name = cursor.word().unwrap_or("");
-    let statement = statement_of_parts(alloc, name, &mut cursor)?;
-    cursor.ended(statement)
+    match statement_of_parts(alloc, name, &mut cursor) {
+        Ok(statement) => cursor.ended(statement),
+        Err(fault) => Err(fault),
+    }
+}
+
+/// What a line says from its first word on.
+fn statement_of_words(alloc: Global, line: &Cursor<'_>) -> Result<Statement, LineFault> {
+    match event_in_line(alloc, line)? {
+        Some(event) => Ok(Statement::Event(event)),
+        None => statement_without_event(alloc, line),
+    }
 }
 
 /// What a line says that isn't empty and no comment.
@@ -273,11 +426,7 @@ fn said(alloc: Global, line: &str) -> Result<Statement, LineFault> {
     if line == "End of reading" {
         return Ok(Statement::EndOfReading);
     }
-    let cursor = Cursor::new(line);
-    match event_in_line(alloc, &cursor)? {
-        Some(event) => Ok(Statement::Event(event)),
-        None => statement_without_event(alloc, &cursor),
-    }
+    statement_of_words(alloc, &Cursor::new(line))
 }
 
 /// What a line says, or nothing where it is empty or a comment.
@@ -285,5 +434,5 @@ pub fn statement_in_line(alloc: Global, line: &str) -> Result<Option<Statement>,
     if line.is_empty() || line.starts_with('#') || line.starts_with('>') {
         return Ok(None);
     }
-    Ok(Some(said(alloc, line)?))
+    said(alloc, line).map(Some)
 }

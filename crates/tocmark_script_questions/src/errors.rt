@@ -1,4 +1,4 @@
-//! The names of errors.
+//! Errors and their names.
 
 use tocmark::Error;
 
@@ -12,5 +12,13 @@ pub fn error_name(error: &Error) -> &'static str {
         Error::Finished => "Finished",
         Error::Failed => "Failed",
         Error::OutOfMemory => "OutOfMemory",
+    }
+}
+
+/// Lets go what a call gave, and keeps its error.
+pub fn ended<T: Drop, E>(given: Result<T, E>) -> Result<(), E> {
+    match given {
+        Ok(_) => Ok(()),
+        Err(error) => Err(error),
     }
 }

@@ -3,16 +3,20 @@
 use std::alloc::{AllocError, Global};
 use tocmark::calculate_code_block_token_count;
 use tocmark::event::{CowStr, Event, EventOf, OwnedEvent, merge_all, merge_texts};
-use tocmark_ahead::same_events::same_event;
+use tocmark_same_events::event::same_event;
 use tocmark_script_events::event::{Events, RangedEvent};
 use tocmark_script_events::line::EventLine;
 use tocmark_script_lines::script::EventsQuestion;
+
+fn token_count(events: &[RangedEvent<'static>]) -> Option<usize> {
+    calculate_code_block_token_count(Events(events.iter()))
+}
 
 fn write_token_count(
     answer: &mut String,
     events: &[RangedEvent<'static>],
 ) -> Result<(), AllocError> {
-    match calculate_code_block_token_count(Events(events.iter())) {
+    match token_count(events) {
         None => writeln!(answer, "None"),
         Some(count) => writeln!(answer, "Some({count})"),
     }
@@ -57,17 +61,28 @@ pub fn merged<R>(
     merge_texts(alloc, &plain(alloc, events)?)
 }
 
+/// Writes the lines of events without ranges.
+pub fn write_events(answer: &mut String, events: &[Event<'static>]) -> Result<(), AllocError> {
+    for event in events {
+        write_line(answer, event, None)?;
+    }
+    Ok(())
+}
+
+/// How many events there are where each owns its texts, merged.
+fn owned_count(alloc: Global, events: &[RangedEvent<'static>]) -> Result<usize, AllocError> {
+    let owned: Vec<OwnedEvent> = merge_all(alloc, &plain(alloc, events)?)?;
+    Ok(owned.len())
+}
+
 /// Writes the lines of the merged events, and how many of them there are where each owns its texts.
 fn write_merged(
     alloc: Global,
     answer: &mut String,
     events: &[RangedEvent<'static>],
 ) -> Result<(), AllocError> {
-    for event in &merged(alloc, events)? {
-        write_line(answer, event, None)?;
-    }
-    let owned: Vec<OwnedEvent> = merge_all(alloc, &plain(alloc, events)?)?;
-    let count = owned.len();
+    write_events(answer, &merged(alloc, events)?)?;
+    let count = owned_count(alloc, events)?;
     writeln!(answer, "{count} events")
 }
 
@@ -92,15 +107,35 @@ fn part_has_copies(alloc: Global, event: &Event<'static>) -> Result<bool, AllocE
     }
 }
 
-fn has_owned_copy(alloc: Global, event: &Event<'static>) -> Result<bool, AllocError> {
-    let owned: OwnedEvent = event.copied(alloc)?;
+fn has_static_copy(alloc: Global, event: &Event<'static>) -> Result<bool, AllocError> {
+    Ok(is_copy(event.to_static(alloc)?, event))
+}
+
+fn has_clone(event: &Event<'static>) -> Result<bool, AllocError> {
+    Ok(is_copy(event.clone()?, event))
+}
+
+/// Whether an event is equal to the copy of its copy that owns its texts.
+fn has_copy_in(
+    alloc: Global,
+    owned: &OwnedEvent,
+    event: &Event<'static>,
+) -> Result<bool, AllocError> {
     Ok(is_copy(owned.copied(alloc)?, event))
+}
+
+fn has_owned_copy(alloc: Global, event: &Event<'static>) -> Result<bool, AllocError> {
+    has_copy_in(alloc, &event.copied(alloc)?, event)
 }
 
 /// Whether an event is equal to each of its copies.
 fn has_copies(alloc: Global, event: &Event<'static>) -> Result<bool, AllocError> {
-    let is_copied = is_copy(event.to_static(alloc)?, event) && is_copy(event.clone()?, event);
-    Ok(is_copied && has_owned_copy(alloc, event)? && part_has_copies(alloc, event)?)
+    Ok(
+        has_static_copy(alloc, event)?
+            && has_clone(event)?
+            && has_owned_copy(alloc, event)?
+            && part_has_copies(alloc, event)?,
+    )
 }
 
 fn write_copies(

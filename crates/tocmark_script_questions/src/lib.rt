@@ -5,4 +5,5 @@ pub mod errors;
 mod events;
 mod faults;
 pub mod question;
+mod readings;
 mod valid;

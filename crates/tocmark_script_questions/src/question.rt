@@ -1,22 +1,17 @@
 //! Questions of a script, and their answers.
 
 use crate::errors::error_name;
-use crate::events::{merged, write_events_answer};
+use crate::events::write_events_answer;
 use crate::faults::write_fault;
+use crate::readings::{write_read, write_read_count, write_read_merged, write_roundtrip};
 use crate::valid::write_valid_count;
 use std::alloc::{AllocError, Global};
 use std::fmt;
-use tocmark::core_reader::CoreReader;
 use tocmark::event::LinkType;
-use tocmark::reader::{Reader, Reading};
-use tocmark::{
-    Error, OptionsError, State, cmark, cmark_with_options, cmark_with_source_range,
-    cmark_with_source_range_and_options,
-};
+use tocmark::{Error, OptionsError};
 use tocmark_escape::text_modifications::{
     EscapeDestination, EscapeLinkTitle, close_link, max_consecutive_chars,
 };
-use tocmark_script_events::line::EventLine;
 use tocmark_script_lines::script::{Question, Script};
 use tocmark_script_words::string::Quoted;
 
@@ -44,7 +39,8 @@ impl fmt::Display for OptionsFault {
     }
 }
 
-fn write_text(answer: &mut String, text: &str) -> Result<(), AllocError> {
+/// Writes a text as a string, on a line of its own.
+pub fn write_text(answer: &mut String, text: &str) -> Result<(), AllocError> {
     let text = Quoted(text);
     writeln!(answer, "{text}")
 }
@@ -99,6 +95,11 @@ fn write_closing(
     write_text(answer, text.as_str())
 }
 
+fn write_longest_run(answer: &mut String, search: char, text: &str) -> Result<(), AllocError> {
+    let longest = max_consecutive_chars(text, search);
+    writeln!(answer, "{longest}")
+}
+
 fn write_error_texts(alloc: Global, answer: &mut String) -> Result<(), AllocError> {
     let errors = [
         Error::FormatFailed(fmt::Error),
@@ -118,116 +119,7 @@ fn write_error_texts(alloc: Global, answer: &mut String) -> Result<(), AllocErro
     Ok(())
 }
 
-fn write_labels(answer: &mut String, name: &str, labels: &[String]) -> Result<(), AllocError> {
-    for label in labels {
-        let label = Quoted(label.as_str());
-        writeln!(answer, "{name} {label}")?;
-    }
-    Ok(())
-}
-
-fn write_all_labels(
-    answer: &mut String,
-    defined: &[String],
-    unresolved: &[String],
-) -> Result<(), AllocError> {
-    write_labels(answer, "Defined", defined)?;
-    write_labels(answer, "Unresolved", unresolved)
-}
-
-fn write_reading(answer: &mut String, reading: &Reading) -> Result<(), AllocError> {
-    for (event, (start, end)) in &reading.events {
-        let line = EventLine(event);
-        writeln!(answer, "{line} {start}..{end}")?;
-    }
-    write_all_labels(answer, &reading.defined, &reading.unresolved)
-}
-
-fn write_merged(alloc: Global, answer: &mut String, reading: &Reading) -> Result<(), AllocError> {
-    for event in &merged(alloc, &reading.events)? {
-        let line = EventLine(event);
-        writeln!(answer, "{line}")?;
-    }
-    write_all_labels(answer, &reading.defined, &reading.unresolved)
-}
-
-fn write_count(alloc: Global, answer: &mut String, reading: &Reading) -> Result<(), AllocError> {
-    let count = merged(alloc, &reading.events)?.len();
-    writeln!(answer, "{count} events")
-}
-
-/// Writes the events of a reading.
-fn write_events(
-    alloc: Global,
-    script: &Script<'static>,
-    reading: &Reading,
-    output: &mut String,
-) -> Result<State<CoreReader>, Error> {
-    let (flags, events) = (script.flags, reading.events());
-    if script.has_options {
-        cmark_with_options(alloc, events, output, CoreReader, flags, script.options())
-    } else {
-        cmark(alloc, events, output, CoreReader, flags)
-    }
-}
-
-/// Writes the events of a text's reading, with their ranges in the text.
-fn write_ranged_events(
-    alloc: Global,
-    script: &Script<'static>,
-    text: &str,
-    reading: &Reading,
-    output: &mut String,
-) -> Result<State<CoreReader>, Error> {
-    let (flags, pairs) = (script.flags, reading.pairs());
-    if script.has_options {
-        let options = script.options();
-        cmark_with_source_range_and_options(alloc, pairs, text, output, CoreReader, flags, options)
-    } else {
-        cmark_with_source_range(alloc, pairs, text, output, CoreReader, flags)
-    }
-}
-
-/// A text, read and written back, with ranges in it or without.
-fn rewritten(
-    alloc: Global,
-    script: &Script<'static>,
-    text: &str,
-    has_source: bool,
-) -> Result<String, Error> {
-    let reading = CoreReader.read(alloc, text, script.flags)?;
-    let mut output = String::new(alloc);
-    let ended = if has_source {
-        write_ranged_events(alloc, script, text, &reading, &mut output)
-    } else {
-        write_events(alloc, script, &reading, &mut output)
-    };
-    match ended {
-        Ok(_) => Ok(output),
-        Err(error) => Err(error),
-    }
-}
-
-fn write_rewritten(
-    alloc: Global,
-    answer: &mut String,
-    script: &Script<'static>,
-    text: &str,
-    has_source: bool,
-) -> Result<(), AllocError> {
-    match rewritten(alloc, script, text, has_source) {
-        Ok(output) => write_text(answer, output.as_str()),
-        Err(error) => {
-            let name = error_name(&error);
-            writeln!(answer, "Err {name}")
-        }
-    }
-}
-
-fn read(alloc: Global, script: &Script<'static>, text: &str) -> Result<Reading, AllocError> {
-    CoreReader.read(alloc, text, script.flags)
-}
-
+/// Writes the answer to a question.
 fn write_answer(
     alloc: Global,
     answer: &mut String,
@@ -254,21 +146,14 @@ fn write_answer(
             dest_url,
             title,
         } => write_closing(alloc, answer, *link_type, dest_url.as_str(), title.as_str()),
-        Question::LongestRun { search, text } => {
-            let longest = max_consecutive_chars(text.as_str(), *search);
-            writeln!(answer, "{longest}")
-        }
+        Question::LongestRun { search, text } => write_longest_run(answer, *search, text.as_str()),
         Question::ErrorTexts => write_error_texts(alloc, answer),
-        Question::Read(text) => write_reading(answer, &read(alloc, script, text.as_str())?),
-        Question::ReadMerged(text) => {
-            write_merged(alloc, answer, &read(alloc, script, text.as_str())?)
-        }
-        Question::CountRead(text) => {
-            write_count(alloc, answer, &read(alloc, script, text.as_str())?)
-        }
-        Question::Roundtrip(text) => write_rewritten(alloc, answer, script, text.as_str(), false),
+        Question::Read(text) => write_read(alloc, answer, script, text.as_str()),
+        Question::ReadMerged(text) => write_read_merged(alloc, answer, script, text.as_str()),
+        Question::CountRead(text) => write_read_count(alloc, answer, script, text.as_str()),
+        Question::Roundtrip(text) => write_roundtrip(alloc, answer, script, text.as_str(), false),
         Question::RoundtripSource(text) => {
-            write_rewritten(alloc, answer, script, text.as_str(), true)
+            write_roundtrip(alloc, answer, script, text.as_str(), true)
         }
     }
 }

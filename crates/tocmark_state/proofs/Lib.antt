@@ -1,2 +1,2 @@
-pub mod Walks
 pub mod Runs
+pub mod Statuses

@@ -1,4 +1,1 @@
-pub mod Ranges
-pub mod Walk
-pub mod Writes
 pub mod StateView

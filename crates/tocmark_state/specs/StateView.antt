@@ -1,67 +1,19 @@
 -- What a state holds, as plain values.
-use Rattle.std.specs.Prelude.{◌≡◌, ℕ, ◌-◌, ◌^◌, ◌++◌, min, List, map, length, Result, Ok, Err, Option, None, string_bytes, String}
-use Rattle.std.specs.Borrow.{Bor}
-use Rattle.std.specs.Global.{Global}
+use Rattle.std.specs.Prelude.{◌≡◌, ℕ, ◌-◌, ◌++◌, List, length, Result, Ok}
 use Rattle.std.specs.List.{sum_by}
 use Rattle.std.specs.Result.{IfOk}
-use Rattle.tocmark_options.specs.Options.{OptionsView, options_view, owned_options_view}
+use Rattle.tocmark_options.specs.Options.{owned_options_view}
 use Rattle.tocmark_event.specs.Reading.{ReadingView}
-use Rattle.tocmark_event.specs.Text.{ParserEvent, text_of}
-use Rattle.tocmark_event.specs.View.{EventView, SourcedEvent, event_view}
 use Rattle.tocmark_event.specs.declared.event.flags.ParserOptions.{ParserOptions}
 use Rattle.tocmark_options.specs.declared.options.Error.{Error}
-use Rattle.tocmark_spelling.specs.Buffered.{sourced}
-use Rattle.tocmark_spelling.specs.PlanOf.{setting_of}
-use Rattle.tocmark_labels.specs.Definitions.{definitions_text}
-use Rattle.tocmark_labels.specs.Document.{DocumentView}
-use Rattle.tocmark_render.specs.DocumentOf.{Refuses, document_view, document_flags}
-use Rattle.tocmark_labels.specs.Ending.{holds_raw_block}
-use Rattle.tocmark_render.specs.Chosen.{chosen}
-use Rattle.tocmark_labels.specs.Pending.{text_now}
-use Rattle.tocmark_labels.specs.Units.{waits}
-use Rattle.tocmark_render.specs.declared.document.Document.{Document}
-use Rattle.tocmark_state.specs.declared.state.Progress.{Progress}
-use Rattle.tocmark_state.specs.declared.state.Work.{Work}
+use Rattle.tocmark_work.specs.declared.work.Progress.{Progress}
 use Rattle.tocmark_state.specs.declared.state.State.{State}
-use Rattle.tocmark_state.specs.declared.state.Tools.{Tools}
 use Rattle.tocmark_state.specs.declared.state.Status.{Status}
 use Rattle.tocmark_state.specs.declared.state.Status.TheVariants.{Active, Finished, Failed}
-use Rattle.tocmark_state.specs.Ranges.{Pair, Range, unranged}
-use Rattle.tocmark_state.specs.Walk.{done, Kept, Rendering, Standing, walk, nothing_yet, script}
-use Rattle.tocmark_state.specs.Writes.{Makes}
-
--- a call that left y where it succeeded
-abbrev pub Answers : {X Y : Type 0} → Result X Error → Y → Result Y Error → Type 0
-Answers (Ok x) y answer = answer ≡ Ok y
-Answers (Err e) y answer = Refuses e answer
-
--- the flags stay with the document
-abbrev pub keeping : ParserOptions → Result (List ℕ × DocumentView) Error → Result (List ℕ × Kept) Error
-keeping flags (Ok x) = Ok (x.0, record { flags = flags; document = x.1 })
-keeping flags (Err e) = Err e
-
--- how units are written with these options and a reader with these readings
-abbrev pub rendering : OptionsView → (List ℕ → ParserOptions → ReadingView) → Rendering
-rendering options reading = record {
-  choice = λ kept unit next. keeping kept.flags (chosen (setting_of options kept.flags reading None) kept.document unit next);
-  waits = waits;
-  definitions = λ kept. definitions_text kept.document.references kept.document.feeds;
-  holds_raw = holds_raw_block;
-}
-
--- a document with its flags
-abbrev pub kept_of : Document → Kept
-kept_of d = record { flags = document_flags d; document = document_view d }
-
--- where a state's events stand
-abbrev pub standing_of : Work → Standing
-standing_of w = record {
-  pending = w.pending.events;
-  open_tags = w.pending.open_tags;
-  document = kept_of w.document;
-  range_end = w.range_end;
-  is_deferred = w.is_deferred;
-}
+use Rattle.tocmark_work.specs.Ranges.{Pair}
+use Rattle.tocmark_work.specs.Walk.{done, Rendering, Standing, walk, nothing_yet, script}
+use Rattle.tocmark_work.specs.Writes.{Makes}
+use Rattle.tocmark_work.specs.WorkView.{Counts, pairs, rendering, standing_of}
 
 -- where the events that a state took stand
 abbrev pub place_of : {R : Type 0} → State R → Standing
@@ -75,11 +27,6 @@ status_of s = s.status
 abbrev pub reader_of : {R : Type 0} → State R → R
 reader_of s = s.reader
 
--- a call that wrote a unit answered its text and left this document, or refused the unit as the choice does
-abbrev pub Chooses : Result (String Global) Error → Kept → Result (List ℕ × Kept) Error → Type 0
-Chooses (Ok text) kept choice = choice ≡ Ok (string_bytes text, kept)
-Chooses (Err e) kept choice = Refuses e choice
-
 -- two states take the same further events, under the same options
 pub record SameStanding {R : Type 0} (s t : State R) : Type 0 where
   pub status : status_of t ≡ status_of s
@@ -90,44 +37,14 @@ pub record SameStanding {R : Type 0} (s t : State R) : Type 0 where
 abbrev pub rendering_of : {R : Type 0} → (R → List ℕ → ParserOptions → ReadingView) → State R → Rendering
 rendering_of reading s = rendering (owned_options_view s.options) (reading s.reader)
 
--- how units are written in a call
-abbrev pub rendering_with : {R : Type 0} → (R → List ℕ → ParserOptions → ReadingView) → Tools R → Rendering
-rendering_with reading t = rendering (options_view t.options) (reading t.reader.now)
-
--- events as pairs without ranges
-abbrev pub pairs : List (Bor ParserEvent) → List Pair
-pairs xs = map (λ x. unranged (event_view text_of x.now)) xs
-
 -- the state takes events
 abbrev pub IsActive : {R : Type 0} → State R → Type 0
 IsActive s = status_of s ≡ Active
-
--- an event with its range
-abbrev pub ranged_pair : Bor ParserEvent × Option Range → Pair
-ranged_pair x = (event_view text_of x.0.now, x.1)
-
--- events with their ranges
-abbrev pub ranged_pairs : List (Bor ParserEvent × Option Range) → List Pair
-ranged_pairs xs = map ranged_pair xs
-
--- an event with this spelling in the source, and the end of the last range
-abbrev pub ResolvedAs : EventView → Result (Option (Bor (List ℕ)) × ℕ) Error → Result (SourcedEvent × ℕ) Error → Type 0
-ResolvedAs e (Ok x) answer = answer ≡ Ok (sourced e (text_now x.0), x.1)
-ResolvedAs e (Err x) answer = Refuses x answer
 
 -- a state that is active, and stands where the list of pairs over the source does
 pub record Stands {R : Type 0} (reading : R → List ℕ → ParserOptions → ReadingView) (flags : ParserOptions) (source : List ℕ) (s : State R) (p : List Pair) : Type 0 where
   pub active : IsActive s
   pub standing : (walk (rendering_of reading s) source (nothing_yet flags) p).outcome ≡ Ok (place_of s)
-
--- a count stops at the greatest number of its type
-abbrev pub at_most : ℕ → ℕ
-at_most n = min n (2 ^ 64 - 1)
-
--- what a call counts: its events, and the bytes that it handed
-pub record Counts (p : Progress) (events bytes : ℕ) : Type 0 where
-  pub events_consumed : p.events_consumed ≡ at_most events
-  pub bytes_written : p.bytes_written ≡ at_most bytes
 
 -- a call was refused
 abbrev pub IsFailed : {R : Type 0} → State R → Type 0
@@ -136,10 +53,6 @@ IsFailed s = status_of s ≡ Failed
 -- the events have ended
 abbrev pub IsFinished : {R : Type 0} → State R → Type 0
 IsFinished s = status_of s ≡ Finished
-
--- nothing is known of what a writer refuses
-abbrev pub unknown : {W : Type 0} → W → List ℕ → W → Type 0
-unknown w text v = Unit {0}
 
 -- A call that took the pairs q after p handed what the walk of both adds to that of p, and stands there or answers its end.
 pub record Adds {W : Type 0} (gives refuses : W → List ℕ → W → Type 0) (w v : W) (how : Rendering) (flags : ParserOptions) (source : List ℕ) (r : Result Progress Error) (place : Standing) (p q : List Pair) : Type 0 where

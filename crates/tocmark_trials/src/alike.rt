@@ -81,6 +81,23 @@ fn are_same_runs(
     Ok(last == right.last_run()?)
 }
 
+/// What is written or carried along otherwise by one renderer than by another one, if anything.
+fn difference_in_page(left: &Renderer<'_>, right: &Renderer<'_>) -> Option<&'static str> {
+    if left.text() != right.text() {
+        Some("the text")
+    } else if left.newlines() != right.newlines() {
+        Some("the line feeds")
+    } else if !are_same_references(left.references(), right.references()) {
+        Some("the definitions")
+    } else if !is_same_carried(left.carried(), right.carried()) {
+        Some("what is carried along")
+    } else if !are_same_containers(left, right) {
+        Some("the open containers")
+    } else {
+        None
+    }
+}
+
 /// What stands in one renderer otherwise than in another one, if anything. Runs of markers are compared
 /// round the places from `start` on.
 pub fn difference(
@@ -90,20 +107,8 @@ pub fn difference(
 ) -> Result<Option<&'static str>, AllocError>
     ensures mark { left.new.at_mark ≡ left.old.at_mark }
 {
-    if left.text() != right.text() {
-        return Ok(Some("the text"));
-    }
-    if left.newlines() != right.newlines() {
-        return Ok(Some("the line feeds"));
-    }
-    if !are_same_references(left.references(), right.references()) {
-        return Ok(Some("the definitions"));
-    }
-    if !is_same_carried(left.carried(), right.carried()) {
-        return Ok(Some("what is carried along"));
-    }
-    if !are_same_containers(left, right) {
-        return Ok(Some("the open containers"));
+    if let Some(what) = difference_in_page(left, right) {
+        return Ok(Some(what));
     }
     if !are_same_runs(left, right, start)? {
         return Ok(Some("the runs of markers"));

@@ -4,14 +4,12 @@ use crate::report::Report;
 use crate::trials::{Front, try_all};
 use crate::unit::Unit;
 use std::alloc::{AllocError, Global};
-use std::mem;
 use tocmark_event::event::{Event, ParserOptions};
 use tocmark_labels::pending::Pending;
 use tocmark_options::options::{Error, Options};
-use tocmark_script_lines::gathering::Gathering;
+use tocmark_script_lines::lines::ScriptLines;
 use tocmark_script_lines::script::Script;
-use tocmark_script_lines::statement::statement_in_line;
-use tocmark_script_words::fault::LineFault;
+use tocmark_script_words::fault::{LineFault, NumberedFault};
 use tocmark_spelling::buffered::BufferedEvent;
 
 /// What stands in the source for an event with a range.
@@ -106,7 +104,7 @@ fn try_units(
 }
 
 /// Tries the units of a script.
-fn try_script(alloc: Global, script: &Script<'_>, report: &mut Report) -> Result<(), LineFault> {
+fn try_script(alloc: Global, script: &Script<'_>, report: &mut Report) -> Result<(), AllocError> {
     let mut row = Row {
         alloc,
         options: script.options(),
@@ -114,99 +112,68 @@ fn try_script(alloc: Global, script: &Script<'_>, report: &mut Report) -> Result
         events: Pending::new(alloc),
         ends: Vec::new(alloc),
     };
-    match row.run(script, report) {
-        Ok(()) => Ok(()),
-        Err(error) => Err(LineFault::from(error)),
+    row.run(script, report)
+}
+
+/// Passes over a fault that says that memory can't hold a row. An `Err` is another one.
+fn pass_over(fault: NumberedFault<'_>) -> Result<(), NumberedFault<'_>> {
+    match fault.fault {
+        LineFault::OutOfMemory => Ok(()),
+        _ => Err(fault),
     }
+}
+
+/// Tries the units of a row, and returns whether memory could hold it. An `Err` says what else is wrong with a line.
+fn try_row(
+    alloc: Global,
+    row: Result<Option<Script<'static>>, NumberedFault<'static>>,
+    report: &mut Report,
+) -> Result<bool, NumberedFault<'static>> {
+    match row {
+        Ok(Some(script)) => Ok(try_script(alloc, &script, report).is_ok()),
+        Ok(None) => Ok(false),
+        Err(fault) => {
+            pass_over(fault)?;
+            Ok(false)
+        }
+    }
+}
+
+/// Takes the end of a row.
+fn end_row(
+    alloc: Global,
+    lines: &mut ScriptLines,
+    report: &mut Report,
+) -> Result<(), NumberedFault<'static>> {
+    lines.pass();
+    report.begin_row();
+    let is_held = try_row(alloc, lines.end(), report)?;
+    report.end_row(is_held);
+    Ok(())
 }
 
 /// Takes a line of a row.
-fn take_line(
-    alloc: Global,
-    row: &mut Gathering<'static>,
-    number: usize,
-    line: &str,
-) -> Result<(), LineFault> {
-    match statement_in_line(alloc, line) {
-        Ok(Some(statement)) => row.take(number, statement),
-        Ok(None) => Ok(()),
-        Err(fault) => Err(fault),
-    }
-}
-
-/// Takes the end of a row, and tries its units.
-fn end_row(alloc: Global, row: Gathering<'static>, report: &mut Report) -> Result<(), LineFault> {
-    match row.end() {
-        Ok(script) => try_script(alloc, &script, report),
-        Err(fault) => Err(fault),
-    }
-}
-
-/// Whether memory could hold what was taken. An `Err` says what else is wrong with a line.
-fn fits(taken: Result<(), LineFault>) -> Result<bool, LineFault> {
-    match taken {
-        Ok(()) => Ok(true),
-        Err(LineFault::OutOfMemory) => Ok(false),
-        Err(fault) => Err(fault),
-    }
-}
-
-/// Rows of which one is being read.
-#[derive(Drop)]
-struct Rows {
-    alloc: Global,
-    row: Gathering<'static>,
-    /// Whether memory could hold what was read of it.
-    fits: bool,
-}
-
-impl Rows {
-    /// Takes a line, which is passed over in a row that memory can't hold.
-    fn take(&mut self, number: usize, line: &str) -> Result<(), LineFault> {
-        if self.fits {
-            self.fits = fits(take_line(self.alloc, &mut self.row, number, line))?;
-        }
-        Ok(())
-    }
-
-    /// Tries the row that was read; the next one begins.
-    fn run(&mut self, report: &mut Report) -> Result<(), LineFault> {
-        let row = mem::replace(&mut self.row, Gathering::new(self.alloc));
-        end_row(self.alloc, row, report)
-    }
-
-    /// Takes the end of a row.
-    fn end(&mut self, report: &mut Report) -> Result<(), LineFault> {
-        report.begin_row();
-        if self.fits {
-            self.fits = fits(self.run(report))?;
-        } else {
-            self.row = Gathering::new(self.alloc);
-        }
-        report.end_row(self.fits);
-        self.fits = true;
-        Ok(())
-    }
-
-    fn take_all(&mut self, text: &str, report: &mut Report) -> Result<(), LineFault> {
-        for (number, line) in text.split('\n').enumerate() {
-            if line == "%" {
-                self.end(report)?;
-            } else {
-                self.take(number, line)?;
-            }
-        }
-        Ok(())
+fn take_line<'l>(lines: &mut ScriptLines, line: &'l str) -> Result<(), NumberedFault<'l>> {
+    match lines.take(line) {
+        Ok(()) => Ok(()),
+        Err(fault) => pass_over(fault),
     }
 }
 
 /// Tries the rows of a text, each of which ends with a line `%`. One that memory can't hold is passed over.
 /// An `Err` says what is wrong with a line.
-pub fn try_rows(alloc: Global, text: &str, report: &mut Report) -> Result<(), LineFault> {
-    let mut rows = Rows {
-        alloc,
-        row: Gathering::new(alloc),
-        fits: true,
-    };
-    rows.take_all(text, report)
+pub fn try_rows<'l>(
+    alloc: Global,
+    text: &'l str,
+    report: &mut Report,
+) -> Result<(), NumberedFault<'l>> {
+    let mut lines = ScriptLines::new(alloc);
+    for line in text.split('\n') {
+        if line == "%" {
+            end_row(alloc, &mut lines, report)?;
+        } else {
+            take_line(&mut lines, line)?;
+        }
+    }
+    Ok(())
 }

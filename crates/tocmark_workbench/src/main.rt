@@ -9,24 +9,15 @@
 //! takes each event by a call of its own.
 #![tactic(auto)]
 
-mod documents;
-mod paper;
-mod reading;
-mod rewriting;
-mod shape;
-mod short_texts;
-mod texts;
-mod writing;
-
-use crate::documents::answer_documents;
-use crate::reading::measure_readings;
-use crate::short_texts::answer_short_texts;
-use crate::texts::answer_lists;
-use crate::writing::{How, measure_writing};
 use std::alloc::Global;
 use std::env;
 use std::io::{self, Read, Write};
 use std::process::ExitCode;
+use tocmark_workbench_shapes::reading::measure_readings;
+use tocmark_workbench_shapes::writing::{How, measure_writing};
+use tocmark_workbench_texts::documents::answer_documents;
+use tocmark_workbench_texts::short_texts::answer_short_texts;
+use tocmark_workbench_texts::texts::answer_lists;
 
 /// What the arguments ask for.
 #[derive(Drop)]

@@ -1,10 +1,11 @@
 use Rattle.std.proofs.Common.{◌∙◌, [], Result, Err, Ok, refl, subst, sym}
 use Rattle.std.proofs.lemmas.Result.{err_from_is_err_and}
 use Rattle.tocmark_options.specs.declared.options.Error.{Error}
-use Rattle.tocmark_state.specs.declared.state.Progress.{Progress}
-use Rattle.tocmark_state.specs.Walk.{Rendering, done, nothing_yet, script, walk}
-use Rattle.tocmark_state.specs.Writes.{Makes, RefusesAt, TakesAllAt}
-use Rattle.tocmark_state.specs.StateView.{Ends, pairs, place_of, rendering_of, Stands}
+use Rattle.tocmark_work.specs.declared.work.Progress.{Progress}
+use Rattle.tocmark_work.specs.Walk.{Rendering, done, nothing_yet, script, walk}
+use Rattle.tocmark_work.specs.Writes.{Makes, RefusesAt, TakesAllAt}
+use Rattle.tocmark_state.specs.StateView.{Ends, place_of, rendering_of, Stands}
+use Rattle.tocmark_work.specs.WorkView.{pairs}
 use Rattle.tocmark_state.proofs.Runs.{Adds-script, Ends-script, taken_front}
 use Rattle.tocmark.proofs.cmark_with_options.Goals as goal
 

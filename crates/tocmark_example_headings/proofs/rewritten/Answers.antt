@@ -5,9 +5,9 @@ use Rattle.tocmark_options.specs.Options.{default_options}
 use Rattle.tocmark_event.specs.Reading.{ReadingView}
 use Rattle.tocmark_event.specs.declared.event.flags.ParserOptions.{ParserOptions}
 use Rattle.tocmark_core_reader.specs.Reading.{core_reading}
-use Rattle.tocmark_state.specs.Ranges.{Pair, unranged}
-use Rattle.tocmark_state.specs.StateView.{rendering, pairs}
-use Rattle.tocmark_state.specs.Walk.{Walk, Done, done, nothing_yet, script}
+use Rattle.tocmark_work.specs.Ranges.{Pair, unranged}
+use Rattle.tocmark_work.specs.WorkView.{rendering, pairs}
+use Rattle.tocmark_work.specs.Walk.{Walk, Done, done, nothing_yet, script}
 use Rattle.tocmark.proofs.Handed.{written_in_parts}
 use Rattle.tocmark_example_headings.specs.Headings.{lowered}
 use Rattle.tocmark_example_headings.proofs.LoweredPairs.{all_lent, lowered_pairs}

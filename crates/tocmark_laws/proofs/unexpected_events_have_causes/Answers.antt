@@ -1,4 +1,4 @@
-use Rattle.tocmark_state.specs.StateView.{rendering}
+use Rattle.tocmark_work.specs.WorkView.{rendering}
 use Rattle.tocmark_labels.specs.Document.{first_document}
 use Rattle.tocmark_laws.proofs.Causes.{unexpected-cause}
 use Rattle.tocmark_laws.proofs.Unexpected.{rendering-misplaced}

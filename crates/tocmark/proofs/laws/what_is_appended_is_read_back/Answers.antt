@@ -1,8 +1,8 @@
 use Rattle.std.proofs.Common.{ℕ, List}
 use Rattle.std.specs.List.{concat}
 use Rattle.tocmark.specs.Paragraphs.{paragraph_of}
-use Rattle.tocmark_state.specs.StateView.{rendering}
-use Rattle.tocmark_state.specs.Walk.{nothing_yet, script}
+use Rattle.tocmark_work.specs.WorkView.{rendering}
+use Rattle.tocmark_work.specs.Walk.{nothing_yet, script}
 use Rattle.tocmark.proofs.Handed.{kept_in_parts}
 use Rattle.tocmark.proofs.laws.what_is_appended_is_read_back.Goals as goal
 

@@ -1,4 +1,5 @@
 use Rattle.std.proofs.Common.{◌≡◌, length, map, ℕ, List, [], Option, ◌++◌, take, drop, reverse}
+use Rattle.std.specs.Prelude.{is_some}
 use Rattle.tocmark_options.specs.Options.{OptionsView}
 use Rattle.tocmark_event.specs.declared.event.flags.ParserOptions.{ParserOptions}
 use Rattle.tocmark_ahead.specs.Ahead.{disturbers}
@@ -10,5 +11,5 @@ abbrev pub invariant-loop-event : goal.invariant-loop-event
 invariant-loop-event g l =
     record {
       len : length l.marks.items ≡ l.event-index;
-      marks : (o : OptionsView) (flags : ParserOptions) (label : Option (List ℕ)) → l.marks.items ++ disturbers (setting_of o flags (g.R.Reader.reading l.reader) label) l.runs (reverse (take l.event-index (map buffered_view l.events))) (drop l.event-index (map buffered_view l.events)) ≡ disturbers (setting_of o flags (g.R.Reader.reading l.reader) label) l.runs [] (map buffered_view l.events);
+      marks : (o : OptionsView) (flags : ParserOptions) (label : Option (List ℕ)) → l.marks.items ++ disturbers (setting_of o flags (g.R.Reader.reading l.reader) label) (is_some l.round) (reverse (take l.event-index (map buffered_view l.events))) (drop l.event-index (map buffered_view l.events)) ≡ disturbers (setting_of o flags (g.R.Reader.reading l.reader) label) (is_some l.round) [] (map buffered_view l.events);
     }

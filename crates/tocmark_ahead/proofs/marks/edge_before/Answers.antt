@@ -1,4 +1,4 @@
-use Rattle.std.proofs.Common.{◌≡◌, ◌∙◌, ◌+◌, ◌-◌, ◌<◌, sym, ap, length, map, take, reverse, arith}
+use Rattle.std.proofs.Common.{◌≡◌, ◌∙◌, ◌+◌, ◌-◌, sym, ap, map, take, reverse, arith}
 use Rattle.tocmark_spelling.specs.Buffered.{buffered_view}
 use Rattle.tocmark_spelling.specs.Edges.{edge_before}
 use Rattle.tocmark_spelling.specs.Page.{front}

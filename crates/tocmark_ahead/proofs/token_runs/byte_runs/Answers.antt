@@ -1,4 +1,4 @@
-use Rattle.std.proofs.Common.{◌≡◌, ◌∙◌, refl, sym, ap, arith, slice_index}
+use Rattle.std.proofs.Common.{◌∙◌, refl, sym, ap, arith, slice_index}
 use Rattle.tocmark_ahead.specs.TokenRuns.{joined_runs}
 use Rattle.tocmark_ahead.specs.declared.token_runs.TokenRuns.{TokenRuns}
 use Rattle.tocmark_ahead.proofs.RunLemmas.{runs, runs-more, without}

@@ -2,8 +2,7 @@ use Rattle.std.proofs.Common.{drop, map, subst, sym}
 use Rattle.std.proofs.lemmas.Result.{err_from_is_err_and}
 use Rattle.tocmark_renderer.specs.JobOf.{manner_view}
 use Rattle.tocmark_renderer.specs.WriterOf.{site_of}
-use Rattle.tocmark_render.specs.DocumentOf.{document_at}
-use Rattle.tocmark_render.specs.TrialOf.{IsFront, asked_of}
+use Rattle.tocmark_render.specs.TrialOf.{IsFront, asked_of, earlier_at}
 use Rattle.tocmark_render.proofs.LowManners.{low-at}
 use Rattle.tocmark_render.proofs.Trials.{goes-on-all, lost-all, none-left, one-found, one-lost, stopped-there, views-end}
 use Rattle.tocmark_render.proofs.search.try_all.Goals as goal
@@ -17,20 +16,20 @@ try_one-requires-clause-front g c = subst IsFront (sym c.loop-manner.invariant.0
 pub loop-manner-init : goal.loop-manner-init
 loop-manner-init g c =
     let q = asked_of g.R.Reader.reading c.args.trial.now in (
-      goes-on-all q (document_at c.args.document.now (site_of c.args.renderer.now)) c.args.renderer.now (map manner_view c.args.manners.now),
+      goes-on-all q (earlier_at c.args.earlier (site_of c.args.renderer.now)) c.args.renderer.now (map manner_view c.args.manners.now),
       c.requires.refused,
     )
 
 pub returns-in-Some-clause-tried : goal.returns-in-Some-clause-tried
 returns-in-Some-clause-tried g c =
     let q = asked_of g.R.Reader.reading c.args.trial.now in
-    one-found manner_view c.args.manners.now c.loop-manner.manner-index _ q (document_at c.args.document.now) (site_of c.args.renderer.now) c.loop-manner.renderer c.try_one.new.renderer
+    one-found manner_view c.args.manners.now c.loop-manner.manner-index _ q (earlier_at c.args.earlier) (site_of c.args.renderer.now) c.loop-manner.renderer c.try_one.new.renderer
     c.loop-manner-test.true c.loop-manner.invariant.0 c.in_ok-known.field-0 c.in-Some.known c.in-Some.is c.in_ok-known.ensures.tried
 
 pub loop-manner-preserved : goal.loop-manner-preserved
 loop-manner-preserved g c =
     let q = asked_of g.R.Reader.reading c.args.trial.now in (
-      one-lost manner_view c.args.manners.now c.loop-manner.manner-index _ q (document_at c.args.document.now) (site_of c.args.renderer.now) c.loop-manner.renderer c.try_one.new.renderer
+      one-lost manner_view c.args.manners.now c.loop-manner.manner-index _ q (earlier_at c.args.earlier) (site_of c.args.renderer.now) c.loop-manner.renderer c.try_one.new.renderer
           c.loop-manner-test.true c.loop-manner.invariant.0 c.in_ok-known.field-0 (none-left c.in_ok-known.field-0 c.in_default.not-Some) c.in_ok-known.ensures.tried,
       c.in_ok-known.ensures.refused,
     )
@@ -47,4 +46,4 @@ returns-clause-tried g c =
     let xs = c.args.manners.now in
     let i = c.loop-manner.manner-index in
     let old = site_of c.args.renderer.now in
-    lost-all q (document_at c.args.document.now old) old c.loop-manner.renderer (map manner_view xs) (map manner_view (drop i xs)) c.loop-manner.invariant.0 (views-end manner_view xs i c.loop-manner-test.false)
+    lost-all q (earlier_at c.args.earlier old) old c.loop-manner.renderer (map manner_view xs) (map manner_view (drop i xs)) c.loop-manner.invariant.0 (views-end manner_view xs i c.loop-manner-test.false)

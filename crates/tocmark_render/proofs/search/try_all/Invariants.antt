@@ -1,8 +1,7 @@
 use Rattle.std.proofs.Common.{drop, map}
 use Rattle.tocmark_renderer.specs.JobOf.{manner_view}
 use Rattle.tocmark_renderer.specs.WriterOf.{site_of}
-use Rattle.tocmark_render.specs.TrialOf.{AreRefused, asked_of}
-use Rattle.tocmark_render.specs.DocumentOf.{document_at, document_view}
+use Rattle.tocmark_render.specs.TrialOf.{AreRefused, asked_of, earlier_at, earlier_view}
 use Rattle.tocmark_render.proofs.Trials.{GoesOn}
 use Rattle.tocmark_render.proofs.search.try_all.Given as goal
 
@@ -10,4 +9,4 @@ abbrev pub invariant-loop-manner : goal.invariant-loop-manner
 invariant-loop-manner g l =
     let q = asked_of g.R.Reader.reading l.trial in
     let old = site_of l.initial.renderer in
-    GoesOn q (document_at l.document old) old l.renderer (map manner_view l.manners) (map manner_view (drop l.manner-index l.manners)) × AreRefused q (document_view l.document) l.refused
+    GoesOn q (earlier_at l.earlier old) old l.renderer (map manner_view l.manners) (map manner_view (drop l.manner-index l.manners)) × AreRefused q (earlier_view l.earlier) l.refused

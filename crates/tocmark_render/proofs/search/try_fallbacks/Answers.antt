@@ -4,8 +4,7 @@ use Rattle.std.proofs.lemmas.Result.{err_from_is_err_and}
 use Rattle.tocmark_renderer.specs.JobOf.{manner_view}
 use Rattle.tocmark_renderer.specs.WriterOf.{site_of}
 use Rattle.tocmark_render.specs.Candidates.{fallback_manners, fallbacks}
-use Rattle.tocmark_render.specs.DocumentOf.{document_at}
-use Rattle.tocmark_render.specs.TrialOf.{IsFront, IsLow, asked_of}
+use Rattle.tocmark_render.specs.TrialOf.{IsFront, IsLow, asked_of, earlier_at}
 use Rattle.tocmark_render.specs.Tries.{plan_view}
 use Rattle.tocmark_render.proofs.LowManners.{low-fallback}
 use Rattle.tocmark_render.proofs.Trials.{fallback_at, fallbacks-begin, fallbacks-end, fallbacks-left, lost-all, none-left, some-found, some-lost, stopped-there}
@@ -21,20 +20,20 @@ pub loop-plan-init : goal.loop-plan-init
 loop-plan-init g c =
     let q = asked_of g.R.Reader.reading c.args.trial.now in
     let now = c.args.renderer.now in (
-      fallbacks-begin q (document_at c.args.document.now (site_of now)) now c.fallback_plans-plan-items.result c.fallback_plans-plan-items.ensures,
+      fallbacks-begin q (earlier_at c.args.earlier (site_of now)) now c.fallback_plans-plan-items.result c.fallback_plans-plan-items.ensures,
       c.requires.refused,
     )
 
 pub returns-in-Some-clause-tried : goal.returns-in-Some-clause-tried
 returns-in-Some-clause-tried g c =
     let q = asked_of g.R.Reader.reading c.args.trial.now in
-    some-found fallback_at c.fallback_plans-plan-items.result c.loop-plan.plan-index _ q (document_at c.args.document.now) (site_of c.args.renderer.now) c.loop-plan.renderer c.try_all.new.renderer
+    some-found fallback_at c.fallback_plans-plan-items.result c.loop-plan.plan-index _ q (earlier_at c.args.earlier) (site_of c.args.renderer.now) c.loop-plan.renderer c.try_all.new.renderer
     (flat_map fallback_manners fallbacks) (map manner_view c.with_all_markers-manners.result) (fallbacks-left c.fallback_plans-plan-items.result c.loop-plan.plan-index c.fallback_plans-plan-items.ensures c.loop-plan-test.true) c.with_all_markers-manners.ensures c.loop-plan.invariant.0 c.in_ok-known.field-0 c.in-Some.known c.in-Some.is c.in_ok-known.ensures.tried
 
 pub loop-plan-preserved : goal.loop-plan-preserved
 loop-plan-preserved g c =
     let q = asked_of g.R.Reader.reading c.args.trial.now in (
-      some-lost fallback_at c.fallback_plans-plan-items.result c.loop-plan.plan-index _ q (document_at c.args.document.now) (site_of c.args.renderer.now) c.loop-plan.renderer c.try_all.new.renderer
+      some-lost fallback_at c.fallback_plans-plan-items.result c.loop-plan.plan-index _ q (earlier_at c.args.earlier) (site_of c.args.renderer.now) c.loop-plan.renderer c.try_all.new.renderer
           (flat_map fallback_manners fallbacks) (map manner_view c.with_all_markers-manners.result) (fallbacks-left c.fallback_plans-plan-items.result c.loop-plan.plan-index c.fallback_plans-plan-items.ensures c.loop-plan-test.true) c.with_all_markers-manners.ensures c.loop-plan.invariant.0 c.in_ok-known.field-0 (none-left c.in_ok-known.field-0 c.in_default.not-Some) c.in_ok-known.ensures.tried,
       c.in_ok-known.ensures.refused,
     )
@@ -49,4 +48,4 @@ pub returns-clause-tried : goal.returns-clause-tried
 returns-clause-tried g c =
     let q = asked_of g.R.Reader.reading c.args.trial.now in
     let old = site_of c.args.renderer.now in
-    lost-all q (document_at c.args.document.now old) old c.loop-plan.renderer (flat_map fallback_manners fallbacks) (flat_map fallback_at (drop c.loop-plan.plan-index c.fallback_plans-plan-items.result)) c.loop-plan.invariant.0 (fallbacks-end c.fallback_plans-plan-items.result c.loop-plan.plan-index c.fallback_plans-plan-items.ensures c.loop-plan-test.false)
+    lost-all q (earlier_at c.args.earlier old) old c.loop-plan.renderer (flat_map fallback_manners fallbacks) (flat_map fallback_at (drop c.loop-plan.plan-index c.fallback_plans-plan-items.result)) c.loop-plan.invariant.0 (fallbacks-end c.fallback_plans-plan-items.result c.loop-plan.plan-index c.fallback_plans-plan-items.ensures c.loop-plan-test.false)

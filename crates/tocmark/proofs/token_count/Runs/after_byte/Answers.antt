@@ -1,5 +1,5 @@
 use Rattle.std.proofs.Common.{ap}
-use Rattle.tocmark_state.specs.StateView.{at_most}
+use Rattle.tocmark_work.specs.WorkView.{at_most}
 use Rattle.tocmark.proofs.TokenRuns.{run_ends}
 use Rattle.tocmark.proofs.token_count.Runs.after_byte.Goals as goal
 

@@ -6,5 +6,5 @@ use Rattle.tocmark_event.proofs.reader.Reading.pairs.Goals as goal
 
 pub returns : goal.returns
 returns c =
-    ap (map (λ e. (event_view text_of e.0, Some e.1))) (c.iter.ensures.rest ∙ c.deref.ensures.value)
+    ap (map (λ e. (event_view text_of e.0, Some e.1))) (c.iter.ensures.rest ∙ c.lent.ensures)
     ∙ sym (map-map (λ e. (e.0, Some e.1)) (λ e. (event_view text_of e.0, e.1)) c.args.self.now.events.items)

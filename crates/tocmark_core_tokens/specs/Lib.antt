@@ -1,0 +1,5 @@
+pub mod Word
+pub mod Html
+pub mod Autolink
+pub mod Reference
+pub mod Label

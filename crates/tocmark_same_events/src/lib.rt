@@ -1,0 +1,7 @@
+//! Which events are the same, whoever owns their texts.
+#![tactic(auto)]
+
+pub mod event;
+pub mod number;
+mod tag;
+mod text;

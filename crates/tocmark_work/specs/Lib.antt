@@ -1,0 +1,4 @@
+pub mod Ranges
+pub mod Walk
+pub mod Writes
+pub mod WorkView
