@@ -17,18 +17,15 @@
 //! ```
 #![tactic(auto)]
 
-mod laws;
-mod token_count;
-
 ghost use Rattle.std.specs.Prelude.{◌≡◌, ◌∷◌, List, [], Option, ℕ, IfOk, IsOk, IsTrue};
 ghost use Rattle.std.specs.Borrow.{Bor};
 ghost use Rattle.std.specs.Iterator.{IsFinite, DrainsIf};
 ghost use Rattle.std.specs.List.{list_all};
 ghost use Rattle.tocmark_event.specs.Text.{ParserEvent};
 ghost use Rattle.tocmark_options.specs.Options.{default_options, options_view};
-ghost use Rattle.tocmark.specs.PlainLines.{HandsLines, is_line, paragraph_of_lines};
+ghost use Rattle.tocmark_laws.specs.PlainLines.{HandsLines, is_line, paragraph_of_lines};
 ghost use Rattle.tocmark_work.specs.Ranges.{Range};
-ghost use Rattle.tocmark.specs.TextBlocks.{MakesBlocks};
+ghost use Rattle.tocmark_laws.specs.TextBlocks.{MakesBlocks};
 ghost use Rattle.tocmark_work.specs.Walk.{done, nothing_yet, script, walk};
 ghost use Rattle.tocmark_work.specs.Writes.{Makes, TakesAll};
 ghost use Rattle.tocmark_state.specs.StateView.{IsFinished};
@@ -36,16 +33,17 @@ ghost use Rattle.tocmark_work.specs.WorkView.{pairs, ranged_pairs, rendering};
 
 use std::alloc::Global;
 pub use tocmark_core_reader as core_reader;
+pub use tocmark_event::event;
 use tocmark_event::event::{Event, ParserOptions};
-use tocmark_event::reader::Reader;
-pub use tocmark_event::{event, reader};
 pub use tocmark_options::options::{
     DEFAULT_CODE_BLOCK_TOKEN_COUNT, Error, Options, OptionsError, SUPPORTED_PARSER_OPTIONS,
 };
+pub use tocmark_reader as reader;
+use tocmark_reader::Reader;
 pub use tocmark_state::state::State;
+pub use tocmark_token_count::calculate_code_block_token_count;
 pub use tocmark_work::taker::Taker;
 pub use tocmark_work::work::Progress;
-pub use token_count::calculate_code_block_token_count;
 
 /// Writes events with the default options: `cmark_with_options` with `Options::default()`.
 ///

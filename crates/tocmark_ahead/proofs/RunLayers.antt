@@ -3,7 +3,7 @@ use Rattle.std.proofs.Common.{◌≡◌, ℕ, zero, suc, ◌+◌, ◌≤◌, Lis
 use Rattle.std.proofs.lemmas.List.{get_or_past, drop_all}
 use Rattle.std.proofs.lemmas.Str.{chars-nil}
 use Rattle.tocmark_event.specs.View.{TagView, SourcedEvent, Start, End, Leaf}
-use Rattle.tocmark_escape.specs.Leaves.{longest_run}
+use Rattle.tocmark_texts.specs.Leaves.{longest_run}
 use Rattle.tocmark_spelling.specs.Body.{Trees, joined_by, text_of_leaf}
 use Rattle.tocmark_spelling.specs.Machine.{layers, with_node as node_layers, kids_of}
 use Rattle.tocmark_spelling.specs.Scans.{span}

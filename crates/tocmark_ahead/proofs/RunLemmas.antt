@@ -5,10 +5,10 @@ use Rattle.std.specs.List.{list_any}
 use Rattle.std.proofs.lemmas.Bool.{cases_lt, false≢true, ne_eqb, or_parts}
 use Rattle.std.proofs.lemmas.List.{take_more}
 use Rattle.std.proofs.lemmas.Str.{chars-nil, chars-append, encode_ascii, encodes-chars, length-encode, len_utf8_bounds}
-use Rattle.tocmark_escape.proofs.CharacterLemmas.{bytes_past_ascii}
+use Rattle.tocmark_texts.proofs.CharacterLemmas.{bytes_past_ascii}
 use Rattle.tocmark_event.specs.View.{LeafView, Text, Code, InlineMath, DisplayMath, Html, InlineHtml, FootnoteReference, SoftBreak, HardBreak, Rule, TaskListMarker}
 use Rattle.tocmark_event.specs.Forest.{empty, leaf, node}
-use Rattle.tocmark_escape.specs.Leaves.{run_length, longest_run}
+use Rattle.tocmark_texts.specs.Leaves.{run_length, longest_run}
 use Rattle.tocmark_spelling.specs.Body.{Trees, joined_by, text_of_leaf}
 use Rattle.tocmark_ahead.specs.TokenRuns.{no_runs, one_run, joined_runs, runs_in, leaf_runs, runs_of, IsLeafText}
 use Rattle.tocmark_ahead.specs.declared.token_runs.TokenRuns.{TokenRuns}

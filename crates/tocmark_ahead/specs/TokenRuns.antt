@@ -3,7 +3,7 @@ use Rattle.std.specs.Prelude.{◌≡◌, ℕ, ◌+◌, Bool, true, false, ◌&&�
 use Rattle.std.specs.Str.{IsUtf8}
 use Rattle.tocmark_event.specs.View.{LeafView, Text, SourcedEvent, Start, End, Leaf}
 use Rattle.tocmark_event.specs.Forest.{empty, leaf, node}
-use Rattle.tocmark_escape.specs.Leaves.{longest_run}
+use Rattle.tocmark_texts.specs.Leaves.{longest_run}
 use Rattle.tocmark_spelling.specs.Body.{Trees, joined_by, text_of_leaf}
 use Rattle.tocmark_spelling.specs.Machine.{Layers, kids_of}
 use Rattle.tocmark_ahead.specs.declared.token_runs.TokenRuns.{TokenRuns}

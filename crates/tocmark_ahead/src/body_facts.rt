@@ -16,7 +16,7 @@ use tocmark_spelling::buffered::BufferedEvent;
 use tocmark_spelling::kinds::{is_inline_tag, is_item};
 
 /// How many, where only one matters.
-#[derive(Clone, Copy, Debug, PartialEq, Eq)]
+#[derive(Clone, Copy, PartialEq, Eq)]
 pub enum Few {
     Zero,
     One,
@@ -24,7 +24,7 @@ pub enum Few {
 }
 
 /// What the trees of a body are like.
-#[derive(Clone, Copy, Debug, PartialEq, Eq)]
+#[derive(Clone, Copy)]
 pub struct BodyFacts {
     /// Whether there is no tree.
     pub empty: bool,

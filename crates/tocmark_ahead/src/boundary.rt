@@ -3,7 +3,7 @@
 ghost use Rattle.std.specs.Prelude.{◌≡◌, ◌&&◌, ◌||◌, ◌<◌, not, ℕ, List, Some, None, Option, IfOk, map, encode_utf8, codes, ◌++◌, string_bytes};
 ghost use Rattle.std.specs.List.{list_any};
 ghost use Rattle.tocmark_options.specs.Options.{OptionsView};
-ghost use Rattle.tocmark_event.specs.Reading.{reading_view};
+ghost use Rattle.tocmark_reader.specs.Reading.{reading_view};
 ghost use Rattle.tocmark_event.specs.declared.event.flags.ParserOptions.{ParserOptions};
 ghost use Rattle.tocmark_event.specs.Text.{text_of};
 ghost use Rattle.tocmark_event.specs.View.{event_view};
@@ -16,7 +16,7 @@ ghost use Rattle.tocmark_spelling.specs.Runs.{disturbs_at};
 
 use std::alloc::{AllocError, Global};
 use tocmark_event::event::{Event, EventOf, ParserOptions, TagOf};
-use tocmark_event::reader::Reader;
+use tocmark_reader::Reader;
 
 fn starts_emphasis(event: &Event<'static>) -> bool
     ensures { result ≡ starts is_emphasis (event_view text_of event.now) }

@@ -20,7 +20,7 @@ use crate::ends::{body_end, end_at};
 use crate::sides::{Counted, Side, edge, sides_ahead, sides_before};
 use std::alloc::{AllocError, Global};
 use tocmark_event::event::{EventOf, TagOf};
-use tocmark_event::reader::Reader;
+use tocmark_reader::Reader;
 use tocmark_spelling::buffered::BufferedEvent;
 
 /// Whether an asterisk is needed that could close emphasis, given which characters are boundaries.

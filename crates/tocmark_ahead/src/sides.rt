@@ -14,7 +14,7 @@ use tocmark_spelling::buffered::BufferedEvent;
 use tocmark_spelling::kinds::{is_inline_end, is_inline_tag};
 
 /// Which events make up a run.
-#[derive(Clone, Copy, Debug, PartialEq, Eq)]
+#[derive(Clone, Copy, PartialEq, Eq)]
 pub enum Counted {
     /// Starts of emphasis and strong emphasis.
     Starts,
@@ -23,7 +23,7 @@ pub enum Counted {
 }
 
 /// A run of delimiters on one side of a place.
-#[derive(Clone, Copy, Debug, PartialEq, Eq)]
+#[derive(Clone, Copy)]
 pub struct Side {
     /// The character beyond the run, as its neighbours see it.
     pub character: Option<char>,

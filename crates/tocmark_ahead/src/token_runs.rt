@@ -11,7 +11,7 @@ use tocmark_event::event::EventOf;
 use tocmark_spelling::buffered::BufferedEvent;
 
 /// The runs of a token in a text, in characters.
-#[derive(Clone, Copy, Debug, PartialEq, Eq)]
+#[derive(Clone, Copy)]
 pub struct TokenRuns {
     /// How many tokens stand at its front.
     pub front: usize,

@@ -13,8 +13,8 @@ use crate::trail::{set_open_html, set_raw_end};
 use std::alloc::AllocError;
 use tocmark_containers::content::Content;
 use tocmark_event::event::TagEnd;
+use tocmark_fences::fences;
 use tocmark_options::options::Options;
-use tocmark_pieces::fences;
 use tocmark_renderer::renderer::Renderer;
 use tocmark_spelling::trail::Last;
 

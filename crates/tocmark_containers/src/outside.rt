@@ -12,7 +12,7 @@ use tocmark_event::event::TagOf;
 use tocmark_spelling::kinds::{is_heading, is_item, is_list, is_raw_tag, is_table};
 
 /// Which containers are open at a place, and what they chose.
-#[derive(Clone, Copy, PartialEq, Eq)]
+#[derive(Clone, Copy)]
 pub struct Outside {
     pub in_list: bool,
     pub in_two_lists: bool,

@@ -12,7 +12,7 @@ use tocmark_core_scan::basic::{minus, plus, set};
 use tocmark_event::event::HeadingLevel;
 
 /// What a block is.
-#[derive(Clone, Copy, Debug, PartialEq, Eq)]
+#[derive(Clone, Copy)]
 pub enum BlockKind {
     Quote,
     /// A list with its first number, or none for bullets.

@@ -10,7 +10,7 @@ use tocmark_core_scan::basic::{byte_at, piece};
 use tocmark_core_tokens::word::{Definition, definition_at};
 
 /// A line of a leaf, without the prefixes of its containers. Places are bytes of the text.
-#[derive(Clone, Copy, PartialEq, Eq)]
+#[derive(Clone, Copy)]
 pub struct Piece {
     /// How many columns of spaces are left of a partly used tab just before it.
     pub spaces: usize,

@@ -12,7 +12,7 @@ use tocmark_core_scan::basic::{byte_at, minus, piece, plus, rest};
 
 /// A column of a line: its byte and the place of that. A tab is one to four columns of spaces, up to
 /// the next column that is a multiple of four.
-#[derive(Clone, Copy, PartialEq, Eq)]
+#[derive(Clone, Copy)]
 pub struct Cell {
     /// The byte; a space in each column of a tab.
     pub byte: u8,

@@ -7,7 +7,7 @@ use std::alloc::{AllocError, Global};
 use tocmark_core_scan::basic::{byte_at, minus, plus};
 
 /// A line of a text. Places are bytes of the text.
-#[derive(Clone, Copy, PartialEq, Eq)]
+#[derive(Clone, Copy)]
 pub struct Line {
     /// Its number, from 1 on.
     pub number: usize,

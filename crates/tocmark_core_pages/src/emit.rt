@@ -86,6 +86,13 @@ fn source_text(
     Ok(CowStr::Owned(cleaned_part(alloc, text, range.0, range.1, false)?))
 }
 
+/// Adds an item to a list.
+fn add<T: Drop>(list: &mut Vec<T>, item: T) -> Result<(), AllocError>
+    ensures { OnOk result (list.new.items ≡ list.old.items ++ item ∷ []) }
+{
+    Ok(list.push(item)?)
+}
+
 fn push(
     out: &mut Vec<Marked>,
     event: Event<'static>,
@@ -94,8 +101,7 @@ fn push(
     ensures { OnOk result (map shown out.new.items
         ≡ map shown out.old.items ++ (event_view text_of event.entry, range) ∷ []) }
 {
-    out.push((event, range))?;
-    Ok(())
+    add(out, (event, range))
 }
 
 impl Emission {
@@ -138,21 +144,18 @@ impl Emission {
         ensures { OnOk result (emission_view self.new
             ≡ put text.now (item_view item) range (emission_view self.old)) }
     {
-        match item {
-            Item::Container(tag) => self.begin(text, tag, range),
-            Item::Source => push(
-                &mut self.events,
-                Event::Text(source_text(alloc, text, range)?),
-                range,
-            ),
-            Item::Text(words) => push(&mut self.events, Event::Text(words), range),
-            Item::Code(words) => push(&mut self.events, Event::Code(words), range),
-            Item::Html(words) => push(&mut self.events, Event::Html(words), range),
-            Item::InlineHtml(words) => push(&mut self.events, Event::InlineHtml(words), range),
-            Item::SoftBreak => push(&mut self.events, Event::SoftBreak, range),
-            Item::HardBreak => push(&mut self.events, Event::HardBreak, range),
-            Item::Rule => push(&mut self.events, Event::Rule, range),
-        }
+        let event = match item {
+            Item::Container(tag) => return self.begin(text, tag, range),
+            Item::Source => Event::Text(source_text(alloc, text, range)?),
+            Item::Text(words) => Event::Text(words),
+            Item::Code(words) => Event::Code(words),
+            Item::Html(words) => Event::Html(words),
+            Item::InlineHtml(words) => Event::InlineHtml(words),
+            Item::SoftBreak => Event::SoftBreak,
+            Item::HardBreak => Event::HardBreak,
+            Item::Rule => Event::Rule,
+        };
+        push(&mut self.events, event, range)
     }
 
     /// Writes one node. Its range is that of the event if it is in order, within the text and on
@@ -161,7 +164,11 @@ impl Emission {
         ensures { OnOk result (emission_view self.new
             ≡ step text.now (emission_view self.old) (node_view node)) }
     {
-        self.close_to(node.depth)?;
+        let closed = self.close_to(node.depth);
+        if closed.is_err() {
+            drop(node);
+            return closed;
+        }
         let range = snapped(text, node.start, node.end);
         self.put(alloc, text, node.item, range)
     }

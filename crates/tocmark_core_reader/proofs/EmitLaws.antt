@@ -10,8 +10,8 @@ use Rattle.std.specs.Str.{IsUtf8, IsCharBoundary}
 use Rattle.std.proofs.lemmas.Str.{IsCharBoundary-start}
 use Rattle.tocmark_event.specs.Text.{ParserEvent, text_of}
 use Rattle.tocmark_event.specs.View.{EventView, Start, End, Leaf, TagView, LeafView, event_view, end_of}
-use Rattle.tocmark_event.specs.Reading.{ReadingView, reading_view}
-use Rattle.tocmark_event.specs.declared.reader.Reading.{Reading}
+use Rattle.tocmark_reader.specs.Reading.{ReadingView, reading_view}
+use Rattle.tocmark_reader.specs.declared.Reading.{Reading}
 use Rattle.tocmark_event.specs.Forest.{Forest, empty, leaf, node, flat_onto, flat, IsBalanced}
 use Rattle.tocmark_event.specs.declared.event.TagEnd.{TagEnd}
 use Rattle.tocmark_core_pages.specs.Emitted.{ItemView, Container, Source, Given, NodeView, shown, end_event, closings, step, put, closed, emitted, Writing}

@@ -3,7 +3,7 @@ use Rattle.std.proofs.Common.{◌≡◌, ℕ, suc, ◌+◌, ◌^◌, ◌<◌, �
 use Rattle.std.proofs.lemmas.Bool.Decides.{nat_tests}
 use Rattle.std.specs.List.{AllByRecursion}
 use Rattle.tocmark_event.specs.Merged.{merged, after_text}
-use Rattle.tocmark_event.specs.Reading.{ReadingView}
+use Rattle.tocmark_reader.specs.Reading.{ReadingView}
 use Rattle.tocmark_event.specs.View.{EventView, Start, End, Leaf, Text, SoftBreak, Paragraph}
 use Rattle.tocmark_event.specs.declared.event.TagEnd.{TagEnd}
 use Rattle.tocmark_event.specs.declared.event.TagEnd.TheVariants as end

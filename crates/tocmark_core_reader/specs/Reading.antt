@@ -1,7 +1,7 @@
 -- The reading of a text.
 use Rattle.std.specs.Prelude.{ℕ, List, Option}
 use Rattle.std.specs.List.{fold}
-use Rattle.tocmark_event.specs.Reading.{ReadingView}
+use Rattle.tocmark_reader.specs.Reading.{ReadingView}
 use Rattle.tocmark_core_tokens.specs.Label.{first_place}
 use Rattle.tocmark_core_blocks.specs.Blocks.{blocks_of}
 use Rattle.tocmark_core_leaves.specs.Definitions.{DefinitionView}

@@ -8,7 +8,7 @@ use Rattle.tocmark_spelling.specs.Body.{Trees}
 use Rattle.tocmark_spelling.specs.Page.{Page, Site}
 use Rattle.tocmark_spelling.specs.Plan.{Setting}
 use Rattle.tocmark_render.specs.Choice.{choice, document_after}
-use Rattle.tocmark_labels.specs.Document.{DocumentView}
+use Rattle.tocmark_label_sets.specs.Document.{DocumentView}
 use Rattle.tocmark_render.specs.Chosen.{choice_of, chosen}
 use Rattle.tocmark_render.specs.TrialOf.{or_no_trees}
 use Rattle.tocmark_labels.specs.Units.{labelled, trees_of}

@@ -2,7 +2,7 @@
 use Rattle.std.specs.Prelude.{◌≡◌, ◌≤◌, ◌+◌, ◌++◌, ℕ, true, length, vec_capacity, List, Option, Some, None, Result, Ok, Err, map, string_bytes, String}
 use Rattle.std.specs.Global.{Global}
 use Rattle.tocmark_event.specs.View.{EventView, event_view}
-use Rattle.tocmark_event.specs.Reading.{ReadingView}
+use Rattle.tocmark_reader.specs.Reading.{ReadingView}
 use Rattle.tocmark_event.specs.declared.event.EventOf.{EventOf}
 use Rattle.tocmark_event.specs.declared.event.flags.ParserOptions.{ParserOptions}
 use Rattle.tocmark_options.specs.declared.options.Error.{Error}
@@ -14,8 +14,8 @@ use Rattle.tocmark_render.specs.Choice.{Chosen, definitions_of, known_after, lit
 use Rattle.tocmark_render.specs.TrialOf.{Refuses, WritesChoice, asked_of}
 use Rattle.tocmark_render.specs.declared.trial.Trial.{Trial}
 use Rattle.tocmark_renderer.specs.WriterOf.{Rendering, reference_view, site_of}
-use Rattle.tocmark_labels.specs.Document.{DocumentView}
-use Rattle.tocmark_labels.specs.LabelsOf.{labels_of}
+use Rattle.tocmark_label_sets.specs.Document.{DocumentView}
+use Rattle.tocmark_label_sets.specs.LabelsOf.{labels_of}
 use Rattle.tocmark_document.specs.declared.document.Document.{Document}
 
 -- a document's fields as plain values

@@ -3,7 +3,7 @@
 ghost use Rattle.std.specs.Prelude.{◌≡◌, ◌==◌, ℕ, List, [], string_bytes, IfOk, IfSome, OnErr, OnOk, map, option_map, is_some, None, true};
 ghost use Rattle.std.specs.List.{list_any};
 ghost use Rattle.tocmark_options.specs.Options.{options_view};
-ghost use Rattle.tocmark_event.specs.Reading.{ReadingView};
+ghost use Rattle.tocmark_reader.specs.Reading.{ReadingView};
 ghost use Rattle.tocmark_spelling.specs.Buffered.{buffered_view, following_view, next_view};
 ghost use Rattle.tocmark_spelling.specs.Plan.{Setting};
 ghost use Rattle.tocmark_spelling.specs.PlanOf.{setting_of};
@@ -11,8 +11,8 @@ ghost use Rattle.tocmark_renderer.specs.WriterOf.{page_of, sheet_of, site_of};
 ghost use Rattle.tocmark_render.specs.Choice.{choice};
 ghost use Rattle.tocmark_render.specs.Chosen.{chosen};
 ghost use Rattle.tocmark_labels.specs.Definitions.{definitions_text};
-ghost use Rattle.tocmark_labels.specs.Document.{first_document, known_in, literal_in};
-ghost use Rattle.tocmark_labels.specs.LabelsOf.{label_now, labels_of, Begins};
+ghost use Rattle.tocmark_label_sets.specs.Document.{first_document, known_in, literal_in};
+ghost use Rattle.tocmark_label_sets.specs.LabelsOf.{label_now, labels_of, Begins};
 ghost use Rattle.tocmark_render.specs.ReadsBack.{flags_at, whole_text};
 ghost use Rattle.tocmark_render.specs.TrialOf.{IsFront, IsKnown, IsReady, asked_of, or_no_trees, unresolved_in};
 ghost use Rattle.tocmark_labels.specs.Units.{label_for, trees_of};
@@ -21,13 +21,13 @@ ghost use Rattle.tocmark_document.specs.DocumentOf.{document_at, document_view, 
 use std::alloc::{AllocError, Global};
 use std::mem;
 use tocmark_event::event::{Event, OwnedEvent, ParserOptions};
-use tocmark_event::reader::Reader;
+use tocmark_label_sets::labels::Labels;
+use tocmark_label_sets::reserved_label::reserve_list_label;
 use tocmark_labels::definitions::{copied_references, definitions_text};
-use tocmark_labels::labels::Labels;
 use tocmark_labels::pending::Pending;
 use tocmark_labels::placeholder::needs_list_placeholder;
-use tocmark_labels::reserved_label::reserve_list_label;
 use tocmark_options::options::{Error, Options};
+use tocmark_reader::Reader;
 use tocmark_render::earlier::{Earlier, reading_flags};
 use tocmark_render::read_back::ReadBack;
 use tocmark_render::search::choose;
@@ -474,6 +474,33 @@ impl Document {
         self.write_unit(&trial)
     }
 
+    /// Writes a unit whose events are balanced, before this event if one follows. An `Err` is as in `block`.
+    fn chosen_before<R: Reader>(
+        &mut self,
+        alloc: Global,
+        reader: &R,
+        unit: &Pending,
+        next: Option<&Event<'_>>,
+        label: Option<&str>,
+        options: &Options<'_>,
+    ) -> Result<String, Error>
+        requires balanced { is_some (trees_of unit.now.events) ≡ true }
+        ensures chosen { let flags = document_flags self.old in
+            let label = label_now label.entry in
+            let s = setting_of (options_view options.now) flags (R.reading reader.now) label in
+            let f = or_no_trees (trees_of unit.now.events) in
+            Spells (document_view self.new) result
+            (choice s (document_view self.old) f (next_view next.entry)) }
+        ensures stays { OnErr result (document_view self.new ≡ document_view self.old) }
+        ensures flags { document_flags self.new ≡ document_flags self.old }
+    {
+        let next = kept_event(alloc, next)?;
+        let events = unit.events();
+        let text = self.chosen(alloc, reader, events, lent_event(&next), label, options);
+        drop(next);
+        text
+    }
+
     /// Writes a unit and gives its text.
     ///
     /// `next` is the event after the unit, if there is one. Where the options have markers that Markdown
@@ -506,16 +533,9 @@ impl Document {
             return Err(Error::UnexpectedEvent);
         }
         let label = self.label_for(alloc, unit, next)?;
-        let next = kept_event(alloc, next)?;
-        let events = unit.events();
-        self.chosen(
-            alloc,
-            reader,
-            events,
-            lent_event(&next),
-            lent_label(&label),
-            options,
-        )
+        let text = self.chosen_before(alloc, reader, unit, next, lent_label(&label), options);
+        drop(label);
+        text
     }
 
     /// The definitions that are left: of each unit so far those that it needs, each once, one a line,

@@ -9,7 +9,7 @@ use crate::widths::opening_widths;
 use std::alloc::{AllocError, Global};
 use tocmark_ahead::marks::preferences;
 use tocmark_ahead::sides::{Counted, Side, sides_ahead, sides_before};
-use tocmark_event::reader::Reader;
+use tocmark_reader::Reader;
 use tocmark_spelling::buffered::BufferedEvent;
 
 /// For each event of a unit what emphasis and strong emphasis ask of it.

@@ -1,9 +1,3 @@
-pub mod CharacterLemmas
 pub mod EscapeLemmas
 pub mod Bare
 pub mod Runs
-pub mod SpanLemmas
-pub mod ReadBack
-pub mod SpanReads
-pub mod TextLaws
-mod Rows

@@ -17,7 +17,7 @@ use ucd_category::{GeneralCategory, GeneralCategoryGroup};
 use ucd_derived::is_alphabetic;
 
 /// Where a stretch of text stands, and what stands round it.
-#[derive(Clone, Copy, Debug)]
+#[derive(Clone, Copy)]
 pub struct EscapePlace<'a> {
     /// The extensions that are read.
     pub flags: ParserOptions,
@@ -41,16 +41,16 @@ pub struct EscapePlace<'a> {
 
 /// A character of a stretch, and what stands round it there.
 #[derive(Clone, Copy)]
-struct Spot {
-    character: char,
+pub struct Spot {
+    pub character: char,
     /// The character before it; none at the first.
-    before: Option<char>,
+    pub before: Option<char>,
     /// Whether ASCII digits, one or more, and nothing else stand before it.
-    after_digits: bool,
+    pub after_digits: bool,
     /// The character after it; none at the last.
-    after: Option<char>,
+    pub after: Option<char>,
     /// Whether at most one character stands after it.
-    before_last: bool,
+    pub before_last: bool,
 }
 
 /// Whether a character is an ASCII letter or digit, or past ASCII alphabetic or a number.

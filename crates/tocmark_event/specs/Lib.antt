@@ -3,5 +3,4 @@ pub mod View
 pub mod Ends
 pub mod Merged
 pub mod Forest
-pub mod Reading
 pub mod Flags

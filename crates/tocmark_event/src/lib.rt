@@ -1,5 +1,4 @@
-//! Markdown events, and the interface of what reads them.
+//! Markdown events.
 #![tactic(auto)]
 
 pub mod event;
-pub mod reader;

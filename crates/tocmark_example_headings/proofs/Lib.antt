@@ -1,1 +1,1 @@
-pub mod LoweredPairs
+pub mod Fronts

@@ -6,7 +6,7 @@ ghost use Rattle.tocmark_event.specs.Text.{text_of};
 ghost use Rattle.tocmark_event.specs.View.{event_view};
 ghost use Rattle.tocmark_example_headings.specs.Headings.{below, lowered, IsLowered};
 
-use std::alloc::{AllocError, Global};
+use std::alloc::Global;
 use std::io::Read;
 use tocmark::core_reader::CoreReader;
 use tocmark::event::{Event, HeadingLevel, ParserOptions, Tag, TagEnd};
@@ -26,43 +26,25 @@ fn below(level: HeadingLevel) -> HeadingLevel
     }
 }
 
-/// The event, one level down if it begins or ends a heading.
-fn lowered(event: Event<'static>) -> Event<'static>
-    ensures { event_view text_of result ≡ lowered (event_view text_of event.entry) }
+/// Moves an event one level down if it begins or ends a heading.
+fn lower(event: &mut Event<'static>)
+    ensures { event_view text_of event.new ≡ lowered (event_view text_of event.old) }
 {
     match event {
-        Event::Start(
-            Tag::Heading {
-                level,
-                id,
-                classes,
-                attrs,
-            },
-        ) => Event::Start(Tag::Heading {
-            level: below(level),
-            id,
-            classes,
-            attrs,
-        }),
-        Event::End(TagEnd::Heading(level)) => Event::End(TagEnd::Heading(below(level))),
-        event => event,
+        Event::Start(Tag::Heading { level, .. }) => *level = below(*level),
+        Event::End(TagEnd::Heading(level)) => *level = below(*level),
+        _ => {}
     }
 }
 
-/// The events without their ranges, each heading one level down.
-fn all_lowered(
-    alloc: Global,
-    events: Vec<(Event<'static>, (usize, usize))>,
-) -> Result<Vec<Event<'static>>, AllocError>
-    ensures { IfOk result (λ all.
-        map (event_view text_of) all.items
-        ≡ map (λ e. lowered (event_view text_of e.0)) events.entry.items) }
+/// Moves each heading one level down.
+fn lower_all(events: &mut [(Event<'static>, (usize, usize))])
+    ensures { map (λ e. event_view text_of e.0) events.new
+        ≡ map (λ e. lowered (event_view text_of e.0)) events.old }
 {
-    let mut all = Vec::new(alloc);
-    for (event, _range) in events {
-        all.push(lowered(event))?;
+    for (event, _range) in events.iter_mut() {
+        lower(event);
     }
-    Ok(all)
 }
 
 /// The text, with each heading one level down.
@@ -70,11 +52,10 @@ fn rewritten(alloc: Global, text: &str) -> Result<String, Error>
     ensures { IfOk result (λ output. IsLowered text.now (string_bytes output)) }
 {
     let flags = ParserOptions::empty();
-    let reading = CoreReader.read(alloc, text, flags)?;
-    let events = all_lowered(alloc, reading.events)?;
+    let mut reading = CoreReader.read(alloc, text, flags)?;
+    lower_all(&mut reading.events);
     let mut output = String::new(alloc);
-    let state = cmark(alloc, events.iter(), &mut output, CoreReader, flags)?;
-    drop(state);
+    cmark(alloc, reading.events(), &mut output, CoreReader, flags)?;
     Ok(output)
 }
 

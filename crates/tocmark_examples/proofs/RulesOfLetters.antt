@@ -13,8 +13,8 @@ use Rattle.ucd_case.specs.CaseFolding.{full_folding}
 use Rattle.caseless.specs.Caseless.{default_case_fold}
 use Rattle.tocmark_escape.specs.Characters.{is_alphanumeric}
 use Rattle.tocmark_escape.specs.Escape.{coded, reference, ends_line, is_marker, doubles_backslash, opens_label, is_read_as_marker, needs_backslash, with_backslash, written, escaped}
-use Rattle.tocmark_escape.specs.Destination.{destination, title}
-use Rattle.tocmark_escape.specs.Leaves.{padding, span, code_span}
+use Rattle.tocmark_texts.specs.Destination.{destination, title}
+use Rattle.tocmark_texts.specs.Leaves.{padding, span, code_span}
 use Rattle.tocmark_spelling.specs.ById.{by_id}
 use Rattle.tocmark_spelling.specs.Edges.{is_boundary}
 use Rattle.tocmark_spelling.specs.Runs.{prefers_underscore}
@@ -26,7 +26,8 @@ use Rattle.tocmark_spelling.specs.Spelling.{is_misplaced, spelling}
 use Rattle.tocmark_labels.specs.Definitions.{definitions_text}
 use Rattle.tocmark_render.specs.Candidates.{candidates}
 use Rattle.tocmark_render.specs.ReadsBack.{reads_back}
-use Rattle.tocmark_labels.specs.Placeholder.{needs_placeholder, reserved_label}
+use Rattle.tocmark_labels.specs.Placeholder.{needs_placeholder}
+use Rattle.tocmark_label_sets.specs.Reserved.{reserved_label}
 use Rattle.tocmark_render.specs.Choice.{spelled, first_that_reads_back, document_after, choice}
 use Rattle.tocmark_examples.specs.Script.{AreWritten}
 use Rattle.tocmark_examples.specs.RulesOfLetters.{rules_of_letters}

@@ -9,7 +9,7 @@ use Rattle.tocmark_spelling.specs.Plan.{Manner}
 use Rattle.tocmark_spelling.specs.declared.plan.Layout.TheVariants.{Preferred, Runs, Uniform, Shared, RuleThree}
 use Rattle.tocmark_spelling.specs.declared.plan.TextSpelling.TheVariants.{Escaped, Literal, Entities, LiteralEntities}
 use Rattle.tocmark_render.specs.Choice.{spelled}
-use Rattle.tocmark_labels.specs.Document.{first_document}
+use Rattle.tocmark_label_sets.specs.Document.{first_document}
 use Rattle.tocmark_examples.specs.Script.{text, setting, Readings}
 
 -- an example: flags, a table of readings, a manner, trees, and the text that they are spelled as

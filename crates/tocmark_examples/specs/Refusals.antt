@@ -7,7 +7,7 @@ use Rattle.tocmark_event.specs.declared.event.HeadingLevel.TheVariants as level
 use Rattle.tocmark_spelling.specs.Body.{Trees}
 use Rattle.tocmark_render.specs.Candidates.{preferred_manner}
 use Rattle.tocmark_render.specs.Choice.{spelled}
-use Rattle.tocmark_labels.specs.Document.{first_document}
+use Rattle.tocmark_label_sets.specs.Document.{first_document}
 use Rattle.tocmark_examples.specs.Script.{text, setting}
 
 -- the preferred manner has no spelling for it

@@ -2,7 +2,7 @@
 use Rattle.std.specs.Prelude.{◌≡◌, ℕ, Bool, true, false, ◌&&◌, ◌||◌, ◌==◌, if◌then◌else◌, Option, Some, None, Ok, Err, List, [], ◌∷◌, bytes_eq, map}
 use Rattle.tocmark_event.specs.Forest.{empty, leaf, node, flat}
 use Rattle.tocmark_options.specs.Options.{OptionsView}
-use Rattle.tocmark_event.specs.Reading.{ReadingView}
+use Rattle.tocmark_reader.specs.Reading.{ReadingView}
 use Rattle.tocmark_event.specs.View.{LeafView, Text, EventView}
 use Rattle.tocmark_options.specs.declared.options.Error.{Error}
 use Rattle.tocmark_event.specs.declared.event.flags.ParserOptions.{ParserOptions}
@@ -13,8 +13,9 @@ use Rattle.tocmark_render.specs.Candidates.{some_tag}
 use Rattle.tocmark_render.specs.Choice.{Chosen, choice}
 use Rattle.tocmark_labels.specs.Definitions.{definitions_text}
 use Rattle.tocmark_labels.specs.Ending.{is_raw_block, last_texts}
-use Rattle.tocmark_labels.specs.Document.{DocumentView, first_document}
-use Rattle.tocmark_labels.specs.Placeholder.{needs_placeholder, reserved_label}
+use Rattle.tocmark_label_sets.specs.Document.{DocumentView, first_document}
+use Rattle.tocmark_labels.specs.Placeholder.{needs_placeholder}
+use Rattle.tocmark_label_sets.specs.Reserved.{reserved_label}
 
 -- the texts that are written, and the error that ends them, if one does
 pub record Outcome : Type 0 where

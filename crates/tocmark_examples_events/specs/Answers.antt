@@ -4,7 +4,7 @@ use Rattle.tocmark_event.specs.declared.event.flags.ParserOptions.{ParserOptions
 use Rattle.tocmark_options.specs.declared.options.Error.{Error}
 use Rattle.tocmark_spelling.specs.Plan.{Setting}
 use Rattle.tocmark_labels.specs.Definitions.{definitions_text}
-use Rattle.tocmark_labels.specs.Document.{DocumentView}
+use Rattle.tocmark_label_sets.specs.Document.{DocumentView}
 use Rattle.tocmark_labels.specs.Ending.{holds_raw_block}
 use Rattle.tocmark_labels.specs.Units.{waits}
 use Rattle.tocmark_render.specs.Chosen.{chosen}

@@ -5,7 +5,7 @@ use Rattle.tocmark_spelling.specs.Page.{Page}
 use Rattle.tocmark_spelling.specs.Plan.{Setting}
 use Rattle.tocmark_render.specs.Candidates.{candidates}
 use Rattle.tocmark_render.specs.Choice.{spelled}
-use Rattle.tocmark_labels.specs.Document.{first_document}
+use Rattle.tocmark_label_sets.specs.Document.{first_document}
 
 -- an example: a setting, a unit, and its spelling by each candidate, each with a line feed behind it
 pub record Tried : Type 0 where

@@ -4,8 +4,9 @@ use Rattle.tocmark_event.specs.Ends.{same_end, end_code}
 use Rattle.tocmark_event.specs.Forest.{empty, leaf, node, flat_onto, flat, joined, Opened, closed_if, then_read, read_all}
 use Rattle.tocmark_event.specs.View.{SourcedEvent, SourcedLeaf, TagView, EventView, end_of}
 use Rattle.tocmark_spelling.specs.Body.{Trees}
-use Rattle.tocmark_labels.specs.Document.{DocumentView}
-use Rattle.tocmark_labels.specs.Placeholder.{needs_placeholder, reserved_label}
+use Rattle.tocmark_label_sets.specs.Document.{DocumentView}
+use Rattle.tocmark_labels.specs.Placeholder.{needs_placeholder}
+use Rattle.tocmark_label_sets.specs.Reserved.{reserved_label}
 use Rattle.tocmark_labels.specs.Units.{label_for, placeholder_in, trees_of, trees_read, waits}
 
 same_end-itself : (t : TagView) → same_end (end_of t) (end_of t) ≡ true

@@ -1,8 +1,6 @@
 pub mod Forests
-pub mod LabelLemmas
 pub mod Balanced
 pub mod Joined
 pub mod Ambiguous
 pub mod DefinitionTexts
 pub mod Feeds
-pub mod ReservedLabels

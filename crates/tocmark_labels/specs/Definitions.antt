@@ -2,7 +2,7 @@
 use Rattle.std.specs.Prelude.{ℕ, ◌-◌, Bool, ◌&&◌, if◌then◌else◌, List, [], ◌∷◌, ◌++◌, bytes_eq, codes, replicate}
 use Rattle.std.specs.List.{list_any}
 use Rattle.tocmark_spelling.specs.Page.{Reference}
-use Rattle.tocmark_escape.specs.Destination.{definition_closing}
+use Rattle.tocmark_texts.specs.Destination.{definition_closing}
 
 -- two definitions of links have the same label, destination and title
 abbrev pub same_reference : Reference → Reference → Bool

@@ -1,8 +1,6 @@
 pub mod Definitions
 pub mod DefinitionsOf
 pub mod Ending
-pub mod Document
-pub mod LabelsOf
 pub mod Pending
 pub mod PendingOf
 pub mod Placeholder

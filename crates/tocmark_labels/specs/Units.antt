@@ -4,8 +4,9 @@ use Rattle.tocmark_event.specs.Forest.{Opened, Grown, read_all, nothing_read}
 use Rattle.tocmark_event.specs.View.{EventView, SourcedLeaf, SourcedEvent}
 use Rattle.tocmark_spelling.specs.Plan.{Setting}
 use Rattle.tocmark_spelling.specs.Body.{Trees}
-use Rattle.tocmark_labels.specs.Document.{DocumentView}
-use Rattle.tocmark_labels.specs.Placeholder.{needs_placeholder, reserved_label}
+use Rattle.tocmark_label_sets.specs.Document.{DocumentView}
+use Rattle.tocmark_labels.specs.Placeholder.{needs_placeholder}
+use Rattle.tocmark_label_sets.specs.Reserved.{reserved_label}
 
 -- the forest, if no container is open
 abbrev pub if_closed : List (Opened SourcedLeaf) → Trees → Option Trees

@@ -1,16 +1,16 @@
 //! The definitions of the links that are written by labels.
 
 ghost use Rattle.std.specs.Prelude.{◌≡◌, ℕ, ◌-◌, ◌++◌, if◌then◌else◌, List, [], ◌∷◌, map, codes, replicate, string_bytes, IfOk, OnOk};
-ghost use Rattle.tocmark_escape.specs.Destination.{definition_closing};
+ghost use Rattle.tocmark_texts.specs.Destination.{definition_closing};
 ghost use Rattle.tocmark_renderer.specs.WriterOf.{reference_view};
 ghost use Rattle.tocmark_labels.specs.Definitions.{definition, definitions_text, lines_of, distinct};
 ghost use Rattle.tocmark_labels.specs.DefinitionsOf.{key_view};
 
 use indexmap::IndexSet;
 use std::alloc::{AllocError, Global};
-use tocmark_escape::text_modifications::close_link;
 use tocmark_event::event::LinkType;
 use tocmark_renderer::parts::Reference;
+use tocmark_texts::text_modifications::close_link;
 
 fn copied_reference(alloc: Global, reference: &Reference) -> Result<Reference, AllocError>
     ensures { IfOk result (λ copy. reference_view copy ≡ reference_view reference.now) }
@@ -38,7 +38,7 @@ pub fn copied_references(
 }
 
 /// What tells a definition from others.
-#[derive(Clone, Copy, Debug, PartialEq, Eq, Hash)]
+#[derive(Clone, Copy, PartialEq, Eq, Hash)]
 struct Key<'a> {
     label: &'a str,
     destination: &'a str,

@@ -4,7 +4,7 @@ ghost use Rattle.std.specs.Prelude.{◌≡◌, ◌++◌, is_some, true, false, L
 ghost use Rattle.tocmark_event.specs.Forest.{flat};
 ghost use Rattle.tocmark_event.specs.View.{EventView, SourcedEvent};
 ghost use Rattle.tocmark_spelling.specs.Body.{Trees};
-ghost use Rattle.tocmark_labels.specs.Document.{DocumentView};
+ghost use Rattle.tocmark_label_sets.specs.Document.{DocumentView};
 ghost use Rattle.tocmark_labels.specs.Placeholder.{needs_placeholder};
 ghost use Rattle.tocmark_labels.specs.Units.{label_for, trees_of, waits};
 

@@ -1,8 +1,8 @@
 -- What a writer that keeps what it takes holds behind a call that handed exactly one text.
 use Rattle.std.proofs.Common.{◌≡◌, ℕ, List, ◌++◌, ap, ◌∙◌, append-nil}
 use Rattle.std.specs.List.{FoldsTo, concat}
-use Rattle.tocmark.proofs.Handed.{kept_in_parts}
-use Rattle.tocmark.specs.Paragraphs.{Keeps}
+use Rattle.tocmark_laws.proofs.Handed.{kept_in_parts}
+use Rattle.tocmark_laws.specs.Paragraphs.{Keeps}
 use Rattle.tocmark_work.specs.Walk.{Walk, Done}
 use Rattle.tocmark_laws.specs.Links.{one_text_walk}
 

@@ -6,7 +6,7 @@ use Rattle.std.specs.Prelude.{slice_index}
 use Rattle.std.specs.List.{concat}
 use Rattle.tocmark_event.specs.Forest.{empty, leaf, node, flat, flat_onto}
 use Rattle.tocmark_options.specs.Options.{OptionsView}
-use Rattle.tocmark_event.specs.Reading.{ReadingView}
+use Rattle.tocmark_reader.specs.Reading.{ReadingView}
 use Rattle.tocmark_event.specs.View.{EventView, Start, End, Leaf, Text, CodeBlock, Fenced, SourcedEvent}
 use Rattle.tocmark_event.specs.declared.event.TagEnd.TheVariants as end
 use Rattle.tocmark_event.specs.declared.event.flags.ParserOptions.{ParserOptions}
@@ -29,11 +29,11 @@ use Rattle.tocmark_render.specs.Candidates.{preferred_manner, has_source, is_del
 use Rattle.tocmark_render.specs.Choice as choice
 use Rattle.tocmark_render.specs.Choice.{preferred, spelled, accepted_if, document_after}
 use Rattle.tocmark_labels.specs.Definitions.{definitions_text}
-use Rattle.tocmark_labels.specs.Document.{DocumentView, first_document}
+use Rattle.tocmark_label_sets.specs.Document.{DocumentView, first_document}
 use Rattle.tocmark_labels.specs.Ending.{last_texts, holds_raw_block}
 use Rattle.tocmark_labels.specs.Placeholder.{whole, needs_placeholder, needs_placeholder_at}
-use Rattle.tocmark.proofs.BlockSpelling.{text_leaf, text_trees, page_of, blank}
-use Rattle.tocmark.proofs.Paragraphs.{laid-plain}
+use Rattle.tocmark_laws.proofs.BlockSpelling.{text_leaf, text_trees, page_of, blank}
+use Rattle.tocmark_laws.proofs.Paragraphs.{laid-plain}
 use Rattle.tocmark_work.specs.Ranges.{Pair, unranged}
 use Rattle.tocmark_work.specs.WorkView.{keeping, rendering}
 use Rattle.tocmark_work.specs.Walk.{Walk, Done, done, Kept, Rendering, Standing, beginning, finished_of, go_on, stay, nothing_yet, script, walk, joins, flushed_before, advance, step, ended}

@@ -1,7 +1,25 @@
+pub mod Handed
+pub mod Trees
+pub mod Reading
+pub mod Paragraphs
+pub mod Causes
+pub mod Calls
+pub mod PlainCharacters
+pub mod PlainEscapes
+pub mod PlainEscapedLines
+pub mod PlainEscapedTexts
+pub mod PlainEscapedBytes
+pub mod PlainSpelling
+pub mod PlainParagraph
+pub mod PlainDocument
+pub mod BlockEscapes
+pub mod BlockSpelling
+pub mod BlockWalks
+mod BlockExample
 pub mod Alone
 pub mod Appended
 pub mod Links
 pub mod Fences
 pub mod CodeBlocks
 pub mod Unexpected
-pub mod Causes
+pub mod UnexpectedCauses

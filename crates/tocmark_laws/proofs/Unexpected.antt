@@ -3,7 +3,7 @@ use Rattle.std.proofs.Common.{◌≡◌, Bool, true, false, ℕ, Option, Some, N
 use Rattle.std.specs.Prelude.{◌&&◌}
 use Rattle.tocmark_event.specs.Forest.{IsBalanced, flat}
 use Rattle.tocmark_options.specs.Options.{OptionsView}
-use Rattle.tocmark_event.specs.Reading.{ReadingView}
+use Rattle.tocmark_reader.specs.Reading.{ReadingView}
 use Rattle.tocmark_event.specs.View.{EventView, SourcedEvent}
 use Rattle.tocmark_event.specs.declared.event.flags.ParserOptions.{ParserOptions}
 use Rattle.tocmark_options.specs.declared.options.Error.TheVariants.{UnexpectedEvent, Unrepresentable}
@@ -17,7 +17,7 @@ use Rattle.tocmark_causes.proofs.Misplaced.{misplaced-start}
 use Rattle.tocmark_causes.specs.Misplaced.{HasMisplacedStart}
 use Rattle.tocmark_render.specs.Candidates.{candidates, is_delimiter_block, preferred_manner}
 use Rattle.tocmark_render.specs.Choice.{Chosen, accepted_if, by_markers, choice, first_or, first_that_reads_back, has_standard_markers, page_in, page_of, preferred, spelled, unless_misplaced}
-use Rattle.tocmark_labels.specs.Document.{DocumentView}
+use Rattle.tocmark_label_sets.specs.Document.{DocumentView}
 use Rattle.tocmark_labels.specs.Placeholder.{whole}
 use Rattle.tocmark_labels.specs.Units.{labelled}
 use Rattle.tocmark_render.specs.Chosen.{choice_of, chosen}

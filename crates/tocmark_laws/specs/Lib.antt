@@ -1,3 +1,9 @@
+pub mod Trees
+pub mod Paragraphs
+pub mod Causes
+pub mod Calls
+pub mod PlainLines
+pub mod TextBlocks
 pub mod CodeBlocks
 pub mod Links
 pub mod Unexpected

@@ -3,7 +3,7 @@ use Rattle.std.specs.Prelude.{◌≡◌, ◌≢◌, ◌++◌, ℕ, List, [], ◌
 use Rattle.tocmark_event.specs.Forest.{IsBalanced}
 use Rattle.tocmark_event.specs.View.{EventView, SourcedEvent}
 use Rattle.tocmark_options.specs.declared.options.Error.TheVariants.{UnexpectedEvent}
-use Rattle.tocmark.specs.Causes.{HasWrongEnd}
+use Rattle.tocmark_laws.specs.Causes.{HasWrongEnd}
 use Rattle.tocmark_work.specs.Ranges.{Pair}
 use Rattle.tocmark_work.specs.Walk.{Kept, Rendering, Standing, walk}
 use Rattle.tocmark_causes.specs.Misplaced.{HasMisplacedStart}

@@ -3,7 +3,7 @@ use Rattle.std.specs.Prelude.{◌+◌, ◌&&◌, ◌||◌, Bool, if◌then◌els
 use Rattle.tocmark_options.specs.Options.{OptionsView}
 use Rattle.tocmark_event.specs.View.{EventView}
 use Rattle.tocmark_event.specs.declared.event.flags.ParserOptions.{ParserOptions}
-use Rattle.tocmark_escape.specs.Leaves.{code_span}
+use Rattle.tocmark_texts.specs.Leaves.{code_span}
 use Rattle.tocmark_spelling.specs.Kinds.{is_table}
 use Rattle.tocmark_spelling.specs.Gap.{gap, is_inline, is_item_opening}
 use Rattle.tocmark_spelling.specs.Page.{Held, Path, Page, Site, with_last, with_owed, written}

@@ -4,7 +4,7 @@
 ghost use Rattle.std.specs.Prelude.{◌≡◌, ◌+◌, string_bytes, chars, length, IfOk, OnOk};
 ghost use Rattle.tocmark_event.specs.View.{event_view};
 ghost use Rattle.tocmark_escape.specs.Escape.{escaped, place_of};
-ghost use Rattle.tocmark_escape.specs.Leaves.{code_span, inline_math, display_math, task_marker, footnote_reference};
+ghost use Rattle.tocmark_texts.specs.Leaves.{code_span, inline_math, display_math, task_marker, footnote_reference};
 ghost use Rattle.tocmark_spelling.specs.Kinds.{is_table};
 ghost use Rattle.tocmark_spelling.specs.Page.{with_last, written};
 ghost use Rattle.tocmark_spelling.specs.Places.{is_in, widened};
@@ -14,11 +14,11 @@ ghost use Rattle.tocmark_leaves.specs.Led.{code_led, spelled_on, StandsAt};
 
 use std::alloc::{AllocError, Global};
 use tocmark_escape::escape::EscapePlace;
-use tocmark_escape::text_modifications::code_span;
 use tocmark_event::event::OwnedEvent;
 use tocmark_pieces::notes::{display_math, footnote_reference, inline_math, task_marker};
 use tocmark_renderer::renderer::Renderer;
 use tocmark_spelling::trail::Last;
+use tocmark_texts::text_modifications::code_span;
 
 /// Writes inline content, which stands behind its gap. An `Err` says that memory ran out.
 pub fn write_inline(renderer: &mut Renderer<'_>, text: &str) -> Result<(), AllocError>

@@ -5,12 +5,12 @@ use Rattle.std.specs.List.{list_any}
 use Rattle.std.proofs.lemmas.Bool.{false≢true}
 use Rattle.std.proofs.lemmas.List.{drop_all, drop_more, drop-map, take-map}
 use Rattle.tocmark_event.specs.Merged.{after_text, merged}
-use Rattle.tocmark_event.specs.Reading.{ReadingView, reading_view}
+use Rattle.tocmark_reader.specs.Reading.{ReadingView, reading_view}
 use Rattle.tocmark_event.specs.Text.{ParserEvent, text_of}
 use Rattle.tocmark_event.specs.View.{LeafView, TagView, Link, Image, Paragraph, EventView, SourcedEvent, Start, End, Leaf, Text, end_of, event_view, unsourced}
 use Rattle.tocmark_event.specs.declared.event.TagEnd.{TagEnd}
 use Rattle.tocmark_event.specs.declared.event.TagEnd.TheVariants as end
-use Rattle.tocmark_event.specs.declared.reader.Reading.{Reading}
+use Rattle.tocmark_reader.specs.declared.Reading.{Reading}
 use Rattle.tocmark_ahead.proofs.Ahead.{place-rest}
 use Rattle.tocmark_ahead.specs.Ahead.{body_in, is_named_by_id, reads_back}
 use Rattle.tocmark_spelling.specs.Buffered.{buffered_view, event_of, sourced}

@@ -4,7 +4,7 @@ ghost use Rattle.std.specs.Prelude.{◌≡◌, ◌++◌, codes, drop, false, str
 ghost use Rattle.std.specs.Str.{IsCharBoundary};
 ghost use Rattle.tocmark_closings.specs.Leads.{is_closed, Closes};
 ghost use Rattle.tocmark_containers.specs.FrameOf.{content_view, level_of};
-ghost use Rattle.tocmark_escape.specs.Destination.{inline_closing};
+ghost use Rattle.tocmark_texts.specs.Destination.{inline_closing};
 ghost use Rattle.tocmark_options.specs.Options.{OptionsView};
 ghost use Rattle.tocmark_renderer.specs.WriterOf.{sheet_of};
 ghost use Rattle.tocmark_spelling.specs.Closing.{close_inline, close_link, close_reference, close_with_body, close_with_id, closing_of, needs_id};
@@ -13,10 +13,10 @@ use std::alloc::{AllocError, Global};
 use tocmark_closings::inline::close_inline;
 use tocmark_containers::content::Content;
 use tocmark_containers::frame::Frame;
-use tocmark_escape::text_modifications;
 use tocmark_event::event::{LinkType, TagOf};
 use tocmark_renderer::parts::Reference;
 use tocmark_renderer::renderer::Renderer;
+use tocmark_texts::text_modifications;
 
 /// Adds what closes an inline link with this destination and title.
 fn push_inline_closing(text: &mut String, destination: &str, title: &str) -> Result<(), AllocError>

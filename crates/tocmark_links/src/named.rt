@@ -20,8 +20,8 @@ use crate::opening::id_of;
 use std::alloc::{AllocError, Global};
 use tocmark_ahead::ends::body_end;
 use tocmark_event::event::{Event, EventOf, LinkType, OwnedEvent, ParserOptions, TagEnd, TagOf};
-use tocmark_event::reader::Reader;
 use tocmark_read_back::alike::alike;
+use tocmark_reader::Reader;
 use tocmark_spelling::buffered::BufferedEvent;
 
 /// Whether the id of a link or image of this type may stand in place of its body.

@@ -8,7 +8,7 @@ ghost use Rattle.tocmark_marker.specs.Facts.{asked_by, asks_runs};
 use tocmark_spelling::plan::{Delimiters, Layout};
 
 /// A run of delimiters in the events of a unit.
-#[derive(Clone, Copy, Debug, PartialEq, Eq)]
+#[derive(Clone, Copy)]
 pub struct Run {
     /// The characters before and after it, as they are seen beside delimiters; none at the border of
     /// a block.
@@ -22,7 +22,7 @@ pub struct Run {
 }
 
 /// What the events of a unit say of a node of emphasis or strong emphasis.
-#[derive(Clone, Copy, Debug, PartialEq, Eq)]
+#[derive(Clone, Copy)]
 pub struct Node {
     /// Whether it is strong emphasis.
     pub strong: bool,
@@ -40,7 +40,7 @@ pub struct Node {
 }
 
 /// The nearest open emphasis or strong emphasis.
-#[derive(Clone, Copy, Debug, PartialEq, Eq)]
+#[derive(Clone, Copy)]
 pub struct Parent {
     /// The first byte of what it opened with.
     pub marker: char,
@@ -54,7 +54,7 @@ pub struct Parent {
 }
 
 /// What the written text and the open containers say of the place where a node opens.
-#[derive(Clone, Copy, Debug, PartialEq, Eq)]
+#[derive(Clone, Copy)]
 pub struct Place {
     pub last_character: Option<char>,
     /// The last byte; 0 where nothing is written.

@@ -14,7 +14,7 @@ use crate::preferred::preferred_marker;
 use crate::runs::marker_by_runs;
 use crate::sharing::shared_marker;
 use std::alloc::{AllocError, Global};
-use tocmark_event::reader::Reader;
+use tocmark_reader::Reader;
 use tocmark_spelling::plan::{Delimiters, Layout};
 
 /// The marker as often as the node is wide.

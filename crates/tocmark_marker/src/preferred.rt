@@ -10,7 +10,7 @@ ghost use Rattle.tocmark_marker.specs.Facts.{IsNode, IsPlace, GivesText};
 use crate::facts::{Node, Place};
 use crate::runs::fits_underscore;
 use std::alloc::{AllocError, Global};
-use tocmark_event::reader::Reader;
+use tocmark_reader::Reader;
 
 /// Whether a marker is `*`.
 fn is_star(marker: char) -> bool

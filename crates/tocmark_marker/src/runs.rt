@@ -12,7 +12,7 @@ ghost use Rattle.tocmark_marker.specs.Facts.{IsNode, IsNearest, IsPlace, Gives};
 use crate::facts::{Node, Parent, Place, other_marker};
 use std::alloc::{AllocError, Global};
 use tocmark_ahead::boundary::is_boundary;
-use tocmark_event::reader::Reader;
+use tocmark_reader::Reader;
 
 /// Whether `_` may stand between these characters. An `Err` says that memory ran out.
 pub fn fits_underscore<R: Reader>(

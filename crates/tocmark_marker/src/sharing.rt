@@ -10,7 +10,7 @@ ghost use Rattle.tocmark_marker.specs.Facts.{tag_at, IsNode, IsParent, IsNearest
 use crate::facts::{Node, Parent, Place, is_divisible, is_marker, other_marker};
 use crate::runs::is_punctuation;
 use std::alloc::{AllocError, Global};
-use tocmark_event::reader::Reader;
+use tocmark_reader::Reader;
 use tocmark_spelling::plan::{Layout, TextSpelling};
 
 /// Whether a node that follows a closing takes the marker written last.

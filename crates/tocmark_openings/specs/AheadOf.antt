@@ -3,7 +3,7 @@ use Rattle.std.specs.Prelude.{◌≡◌, ℕ, Bool, true, false}
 use Rattle.tocmark_ahead.specs.BodyFacts.{IsForeseen}
 use Rattle.tocmark_options.specs.Options.{OptionsView}
 use Rattle.tocmark_event.specs.View.{TagView, Paragraph, BlockQuote, CodeBlock, CodeView, Indented, Fenced, HtmlBlock, FootnoteDefinition, DefinitionList, DefinitionListTitle, Table, TableHead, TableRow, TableCell, Emphasis, Strong, Link, Image, MetadataBlock}
-use Rattle.tocmark_pieces.specs.Texts.{IsLongest}
+use Rattle.tocmark_fences.specs.Texts.{IsLongest}
 use Rattle.tocmark_spelling.specs.Buffered.{following_view}
 use Rattle.tocmark_spelling.specs.Html.{is_blank_terminated, is_html_closed}
 use Rattle.tocmark_spelling.specs.Look.{Look}

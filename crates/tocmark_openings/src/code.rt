@@ -4,7 +4,7 @@ ghost use Rattle.std.specs.Prelude.{◌≡◌, codes, if◌then◌else◌, strin
 ghost use Rattle.tocmark_options.specs.Options.{options_view};
 ghost use Rattle.tocmark_event.specs.View.{code_view, tag_view, CodeBlock, Fenced, Indented};
 ghost use Rattle.tocmark_openings.specs.AheadOf.{IsRunAhead};
-ghost use Rattle.tocmark_pieces.specs.Texts.{IsLongest};
+ghost use Rattle.tocmark_fences.specs.Texts.{IsLongest};
 ghost use Rattle.tocmark_spelling.specs.Look.{Look};
 ghost use Rattle.tocmark_spelling.specs.Opening.{fence_token, on_new_line, open_code, open_fenced, open_indented};
 ghost use Rattle.tocmark_spelling.specs.Page.{written};
@@ -16,8 +16,8 @@ use crate::new_line::begin_new_line;
 use std::alloc::{AllocError, Global};
 use tocmark_containers::content::Content;
 use tocmark_event::event::{CodeBlockKindOf, TagOf};
+use tocmark_fences::fences::{fence, fence_line};
 use tocmark_options::options::Options;
-use tocmark_pieces::fences::{fence, fence_line};
 use tocmark_renderer::job::Job;
 use tocmark_renderer::renderer::Renderer;
 

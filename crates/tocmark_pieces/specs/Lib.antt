@@ -1,5 +1,5 @@
 -- Definitions.
+pub mod Headings
 pub mod Lists
 pub mod Delimiters
 pub mod Html
-pub mod Texts

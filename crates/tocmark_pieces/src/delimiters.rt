@@ -14,7 +14,7 @@ use tocmark_options::options::Options;
 use tocmark_spelling::plan::Layout;
 
 /// What stands before and after the body of a container.
-#[derive(Clone, Copy, Debug, PartialEq, Eq)]
+#[derive(Clone, Copy)]
 pub struct Delimiter {
     pub before: &'static str,
     pub after: &'static str,

@@ -4,7 +4,8 @@ ghost use Rattle.std.specs.Prelude.{◌≡◌, ◌++◌, map, codes, flat_map, s
 ghost use Rattle.std.specs.Option.{option_map};
 ghost use Rattle.tocmark_event.specs.View.{attribute_view};
 ghost use Rattle.tocmark_spelling.specs.Closing.{id_text, value_text, attribute_text};
-ghost use Rattle.tocmark_pieces.specs.Texts.{Grows, attributes_of};
+ghost use Rattle.tocmark_pieces.specs.Headings.{attributes_of};
+ghost use Rattle.tocmark_fences.specs.Texts.{Grows};
 
 use std::alloc::{AllocError, Global};
 

@@ -2,11 +2,9 @@
 #![tactic(auto)]
 
 pub mod delimiters;
-pub mod fences;
 pub mod headings;
 pub mod html;
 pub mod lists;
 pub mod notes;
 pub mod quotes;
-pub mod repeated;
 pub mod tables;

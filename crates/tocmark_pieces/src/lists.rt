@@ -10,13 +10,13 @@ ghost use Rattle.tocmark_spelling.specs.declared.list_choice.ListChoice.{ListCho
 ghost use Rattle.tocmark_spelling.specs.Words.{same_truth};
 ghost use Rattle.tocmark_pieces.specs.Lists.{IsListPlace, IsMarked};
 
-use crate::repeated::spaces;
 use std::alloc::{AllocError, Global};
+use tocmark_fences::repeated::spaces;
 use tocmark_options::options::Options;
 use tocmark_spelling::trail::{Last, LastList, Tail};
 
 /// What the written text and the open containers say of the place where a list begins.
-#[derive(Clone, Copy, Debug, PartialEq, Eq)]
+#[derive(Clone, Copy)]
 pub struct ListPlace {
     /// Whether nothing but openings stands between an item's marker and this place.
     pub at_item_start: bool,
@@ -29,7 +29,7 @@ pub struct ListPlace {
 }
 
 /// What an item's marker is made of.
-#[derive(Clone, Copy, Debug, PartialEq, Eq)]
+#[derive(Clone, Copy)]
 pub struct Marker {
     /// The item's number, if its list is ordered.
     pub number: Option<u64>,

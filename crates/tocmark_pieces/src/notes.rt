@@ -1,12 +1,12 @@
 //! What stands before footnotes, definitions and metadata, and leaves with a text of their own.
 
 ghost use Rattle.std.specs.Prelude.{◌≡◌, ◌++◌, codes, string_bytes, IfOk};
-ghost use Rattle.tocmark_escape.specs.Leaves.{task_marker, footnote_reference, inline_math, display_math};
+ghost use Rattle.tocmark_texts.specs.Leaves.{task_marker, footnote_reference, inline_math, display_math};
 ghost use Rattle.tocmark_spelling.specs.Opening.{metadata_fence, link_mark};
 
 use std::alloc::{AllocError, Global};
-use tocmark_escape::text_modifications::math_text;
 use tocmark_event::event::{LinkType, MetadataBlockKind};
+use tocmark_texts::text_modifications::math_text;
 
 /// What stands before the definition of the footnote with this label.
 ///

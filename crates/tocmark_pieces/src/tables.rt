@@ -3,7 +3,7 @@
 ghost use Rattle.std.specs.Prelude.{◌≡◌, ◌++◌, max, codes, length, string_bytes, replicate, IfOk, IfSome};
 ghost use Rattle.tocmark_spelling.specs.Closing.{least_dashes, dashes, alignment_cells};
 ghost use Rattle.tocmark_spelling.specs.Words.{hyphen};
-ghost use Rattle.tocmark_pieces.specs.Texts.{Grows};
+ghost use Rattle.tocmark_fences.specs.Texts.{Grows};
 
 use std::alloc::{AllocError, Global};
 use tocmark_event::event::Alignment;

@@ -9,7 +9,7 @@ use Rattle.std.proofs.lemmas.Bool.{cases_lt, false≢true, ne_eqb}
 use Rattle.std.proofs.lemmas.Bool.Decides.{nat_tests}
 use Rattle.std.proofs.lemmas.List.Folds.{list_any-append}
 use Rattle.std.proofs.lemmas.Str.{chars-nil, encode_ascii, encodes-append, encodes-chars, chars-append, length-encode, len_utf8_bounds}
-use Rattle.tocmark_escape.proofs.CharacterLemmas.{bytes_past_ascii}
+use Rattle.tocmark_texts.proofs.CharacterLemmas.{bytes_past_ascii}
 use Rattle.tocmark_spelling.specs.Words.{begins_with}
 use Rattle.tocmark_raw.specs.BlockEnds.{left_from, last_of}
 use Rattle.tocmark_raw.specs.HtmlAhead.{visible_with}

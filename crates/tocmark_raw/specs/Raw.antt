@@ -2,7 +2,7 @@
 use Rattle.std.specs.Prelude.{◌≡◌, ℕ, ◌==◌, Bool, false, not, if◌then◌else◌, List, ◌∷◌, chars, drop, slice_index_or}
 use Rattle.tocmark_ahead.specs.TokenRuns.{no_runs}
 use Rattle.tocmark_ahead.specs.declared.token_runs.TokenRuns.{TokenRuns}
-use Rattle.tocmark_escape.specs.Leaves.{longest_run}
+use Rattle.tocmark_texts.specs.Leaves.{longest_run}
 use Rattle.tocmark_options.specs.Options.{OptionsView}
 use Rattle.tocmark_event.specs.View.{TagView, CodeBlock, HtmlBlock, Fenced, SourcedEvent, Start}
 use Rattle.tocmark_spelling.specs.Body.{Trees, first_html, html_of_leaf, joined_by, text_of_leaf}

@@ -14,13 +14,13 @@ use crate::kinds::kinds_in;
 use std::alloc::{AllocError, Global};
 use tocmark_ahead::token_runs::{TokenRuns, longest_at, token_runs};
 use tocmark_event::event::{CodeBlockKindOf, EventOf, TagOf};
+use tocmark_fences::fences::fence_token;
 use tocmark_options::options::Options;
-use tocmark_pieces::fences::fence_token;
 use tocmark_spelling::buffered::BufferedEvent;
 
 /// What the opening of a code or HTML block asks of the texts in it. Of any other container it says
 /// nothing.
-#[derive(Clone, Copy, Debug, PartialEq, Eq)]
+#[derive(Clone, Copy)]
 pub struct RawFacts {
     /// Of fenced code: the length of the longest run of the fence's token in it, in characters.
     pub longest: usize,

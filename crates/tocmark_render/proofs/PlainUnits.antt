@@ -5,7 +5,7 @@ use Rattle.tocmark_spelling.specs.Body.{Trees}
 use Rattle.tocmark_spelling.specs.Plan.{Setting}
 use Rattle.tocmark_render.specs.Candidates.{candidates, has_source, is_delimiter_block}
 use Rattle.tocmark_render.specs.Choice.{choice, preferred, has_standard_markers}
-use Rattle.tocmark_labels.specs.Document.{DocumentView}
+use Rattle.tocmark_label_sets.specs.Document.{DocumentView}
 use Rattle.tocmark_render.specs.Tries.{Asked, first}
 use Rattle.tocmark_render.specs.Validates.{validates}
 use Rattle.tocmark_render.proofs.Trials.{candidates-are, choice-lost, choice-unsearched, first-none}

@@ -6,7 +6,7 @@ use Rattle.std.proofs.lemmas.Bool.{false≢true, true≢false}
 use Rattle.std.proofs.lemmas.Bool.Decides.{nat_tests}
 use Rattle.tocmark_event.specs.Forest.{flat}
 use Rattle.tocmark_event.specs.Merged.{merged}
-use Rattle.tocmark_event.specs.Reading.{ReadingView}
+use Rattle.tocmark_reader.specs.Reading.{ReadingView}
 use Rattle.tocmark_event.specs.View.{SourcedEvent, unsourced}
 use Rattle.tocmark_event.specs.declared.event.flags.ParserOptions.{ParserOptions}
 use Rattle.tocmark_options.specs.declared.options.Error.{Error}
@@ -24,7 +24,7 @@ use Rattle.tocmark_spelling.proofs.Refusals.{none-misplaced}
 use Rattle.tocmark_read_back.specs.InParagraph.{in_paragraph}
 use Rattle.tocmark_render.specs.Candidates.{has_source, is_delimiter_block, preferred_manner}
 use Rattle.tocmark_render.specs.Choice.{Chosen, accepted_if, first_that_reads_back, if_read_back, page_in, page_of, page_read_back, preferred, spelled}
-use Rattle.tocmark_labels.specs.Document.{DocumentView}
+use Rattle.tocmark_label_sets.specs.Document.{DocumentView}
 use Rattle.tocmark_labels.specs.Placeholder.{whole}
 use Rattle.tocmark_render.specs.ReadsBack.{flags_at, found_in, is_taken, reads_back, whole_text}
 use Rattle.tocmark_render.specs.TrialOf.{Came, ComesOrBack, IsLow, IsReady, Refuses, WentBack, Writes, asked_of, events_in, or_no_trees, read_of, reads_back_in, spelled_at}

@@ -21,7 +21,7 @@ use Rattle.tocmark_render.specs.Choice.{Chosen, choice, preferred, accepted, acc
 use Rattle.tocmark_labels.specs.Placeholder.{whole}
 use Rattle.tocmark_render.specs.ReadsBack.{reads_back}
 use Rattle.tocmark_render.specs.Validates.{validates}
-use Rattle.tocmark_labels.specs.Document.{DocumentView, first_document}
+use Rattle.tocmark_label_sets.specs.Document.{DocumentView, first_document}
 use Rattle.tocmark_render.specs.TrialOf.{IsLeft, IsWritten, Refuses, Writes}
 use Rattle.tocmark_render.specs.Tries.{if_delimiters, if_source, manners_for, plan_view, Asked, Found, Lost, PlacedIfTried, Stopped, StopsTrial, Tries, first, misplaced}
 

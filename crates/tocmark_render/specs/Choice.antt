@@ -9,7 +9,7 @@ use Rattle.tocmark_spelling.specs.Body.{Trees}
 use Rattle.tocmark_spelling.specs.Page.{Page, Site}
 use Rattle.tocmark_spelling.specs.Spelling.{spelling, is_misplaced}
 use Rattle.tocmark_labels.specs.Definitions.{definitions_text}
-use Rattle.tocmark_labels.specs.Document.{DocumentView, known_in, literal_in}
+use Rattle.tocmark_label_sets.specs.Document.{DocumentView, known_in, literal_in}
 use Rattle.tocmark_render.specs.Candidates.{candidates, preferred_manner, is_delimiter_block}
 use Rattle.tocmark_render.specs.ReadsBack.{reads_back}
 use Rattle.tocmark_labels.specs.Placeholder.{whole}

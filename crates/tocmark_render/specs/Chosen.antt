@@ -4,7 +4,7 @@ use Rattle.tocmark_event.specs.View.{EventView, SourcedEvent}
 use Rattle.tocmark_options.specs.declared.options.Error.TheVariants.{UnexpectedEvent}
 use Rattle.tocmark_spelling.specs.Plan.{Setting}
 use Rattle.tocmark_spelling.specs.Body.{Trees}
-use Rattle.tocmark_labels.specs.Document.{DocumentView}
+use Rattle.tocmark_label_sets.specs.Document.{DocumentView}
 use Rattle.tocmark_labels.specs.Units.{labelled, trees_of}
 use Rattle.tocmark_render.specs.Choice.{Chosen, choice}
 

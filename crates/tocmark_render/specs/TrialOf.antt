@@ -6,7 +6,7 @@ use Rattle.indexmap.specs.IndexSet.{IndexSet}
 use Rattle.tocmark_emphasis.specs.Low.{chooses_bytes}
 use Rattle.tocmark_event.specs.Forest.{empty}
 use Rattle.tocmark_options.specs.Options.{OptionsView, options_view}
-use Rattle.tocmark_event.specs.Reading.{ReadingView}
+use Rattle.tocmark_reader.specs.Reading.{ReadingView}
 use Rattle.tocmark_event.specs.View.{SourcedEvent}
 use Rattle.tocmark_event.specs.declared.event.flags.ParserOptions.{ParserOptions}
 use Rattle.tocmark_options.specs.declared.options.Error.{Error}
@@ -20,8 +20,8 @@ use Rattle.tocmark_spelling.specs.Spelling.{spelling}
 use Rattle.tocmark_unit.specs.FindingsOf.{AreFindings}
 use Rattle.tocmark_renderer.specs.WriterOf.{Arrives, IsRefusal, Rendering, blank, page_of, site_of}
 use Rattle.tocmark_render.specs.Choice.{Chosen, accepted, choice, definitions_of}
-use Rattle.tocmark_labels.specs.Document.{DocumentView, first_document}
-use Rattle.tocmark_labels.specs.LabelsOf.{label_now, labels_of}
+use Rattle.tocmark_label_sets.specs.Document.{DocumentView, first_document}
+use Rattle.tocmark_label_sets.specs.LabelsOf.{label_now, labels_of}
 use Rattle.tocmark_labels.specs.Placeholder.{whole}
 use Rattle.tocmark_render.specs.ReadsBack.{flags_at, is_read_back, whole_text}
 use Rattle.tocmark_render.specs.Tries.{Asked, Tries}

@@ -15,7 +15,7 @@ use Rattle.tocmark_spelling.specs.declared.plan.TextSpelling.TheVariants.{Escape
 use Rattle.tocmark_render.specs.Candidates.{delimiter_manners, in_manner, is_delimiter_tag, is_math, is_sourced, pairs_from, preferred_manner, source_manners}
 use Rattle.tocmark_renderer.specs.WriterOf.{Rendering, page_of, site_of}
 use Rattle.tocmark_render.specs.Choice.{first_that_reads_back}
-use Rattle.tocmark_labels.specs.Document.{DocumentView}
+use Rattle.tocmark_label_sets.specs.Document.{DocumentView}
 
 -- what stays the same while spellings of a unit are tried: the setting, the unit, and the event behind it
 pub record Asked : Type 0 where

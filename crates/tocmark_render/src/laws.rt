@@ -7,7 +7,7 @@ ghost use Rattle.tocmark_spelling.specs.Body.{Trees};
 ghost use Rattle.tocmark_spelling.specs.Plan.{Setting};
 ghost use Rattle.tocmark_render.specs.Candidates.{has_source, is_delimiter_block};
 ghost use Rattle.tocmark_render.specs.Choice.{choice, has_standard_markers, preferred};
-ghost use Rattle.tocmark_labels.specs.Document.{DocumentView};
+ghost use Rattle.tocmark_label_sets.specs.Document.{DocumentView};
 ghost use Rattle.tocmark_render.specs.Chosen.{chosen};
 ghost use Rattle.tocmark_labels.specs.Units.{labelled};
 

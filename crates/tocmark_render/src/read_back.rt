@@ -3,16 +3,16 @@
 ghost use Rattle.std.specs.Prelude.{◌≡◌, ◌++◌, codes, is_some, map, string_bytes, IfOk, IfSome};
 ghost use Rattle.tocmark_event.specs.Merged.{merged};
 ghost use Rattle.tocmark_event.specs.View.{unsourced};
-ghost use Rattle.tocmark_labels.specs.LabelsOf.{is_taken_in};
+ghost use Rattle.tocmark_label_sets.specs.LabelsOf.{is_taken_in};
 ghost use Rattle.tocmark_read_back.specs.InParagraph.{in_paragraph};
 ghost use Rattle.tocmark_render.specs.ReadsBack.{found_in};
 ghost use Rattle.tocmark_spelling.specs.Buffered.{buffered_view};
 
 use std::alloc::{AllocError, Global};
 use tocmark_event::event::ParserOptions;
-use tocmark_event::reader::{Reader, Reading};
-use tocmark_labels::taken::Taken;
+use tocmark_label_sets::taken::Taken;
 use tocmark_read_back::agrees::agrees;
+use tocmark_reader::{Reader, Reading};
 use tocmark_spelling::buffered::BufferedEvent;
 
 /// What is known of a spelling that is read back.

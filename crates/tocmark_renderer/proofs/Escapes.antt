@@ -10,8 +10,8 @@ use Rattle.std.proofs.lemmas.Fmt.{decimal_is_IsNumeral}
 use Rattle.std.proofs.lemmas.Str.{chars-nil, encode_ascii, encodes-chars, length-le-encodes, scalars-chars}
 use lib.Utf8.{scalar, scalar_fits}
 use Rattle.tocmark_escape.specs.Escape.{Place, is_literal, is_encoded, is_first, needs_backslash, coded, reference, with_backslash, written, spot, escape_after, escaped}
-use Rattle.tocmark_escape.proofs.CharacterLemmas.{bytes_past_ascii}
-use Rattle.tocmark_escape.proofs.ReadBack.{pick, pick_some}
+use Rattle.tocmark_texts.proofs.CharacterLemmas.{bytes_past_ascii}
+use Rattle.tocmark_texts.proofs.ReadBack.{pick, pick_some}
 use Rattle.tocmark_spelling.specs.Page.{Site, laid}
 use Rattle.tocmark_renderer.specs.Changes.{on_sheet}
 use Rattle.tocmark_renderer.specs.WriterOf.{HasNoFeed}

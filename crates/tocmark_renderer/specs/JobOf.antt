@@ -2,7 +2,7 @@
 use Rattle.std.specs.Prelude.{ℕ, List, Option}
 use Rattle.std.specs.Option.{option_map}
 use Rattle.tocmark_options.specs.Options.{options_view, OptionsView}
-use Rattle.tocmark_event.specs.Reading.{ReadingView}
+use Rattle.tocmark_reader.specs.Reading.{ReadingView}
 use Rattle.tocmark_event.specs.declared.event.flags.ParserOptions.{ParserOptions}
 use Rattle.tocmark_spelling.specs.Plan as plan
 use Rattle.tocmark_spelling.specs.Plan.{Setting}

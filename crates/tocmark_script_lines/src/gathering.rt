@@ -1,6 +1,6 @@
 //! Scripts whose lines are being read.
 
-use crate::script::{Call, Question, Script, Setting};
+use crate::script::{Call, Question, Script, Setting, put};
 use crate::statement::{Other, Statement};
 use std::alloc::{AllocError, Global};
 use std::mem;
@@ -112,7 +112,7 @@ fn add_reading(
         Some(text) => {
             table.readings.insert(text, events)?;
         }
-        None => table.otherwise = events,
+        None => put(&mut table.otherwise, events),
     }
     Ok(())
 }
@@ -192,11 +192,12 @@ impl Gathering<'static> {
     }
 
     fn open_reading(&mut self, line: usize, text: Option<String>) -> Result<(), LineFault> {
-        self.reading = Some(OpenReading {
+        let reading = OpenReading {
             line,
             text,
             events: Vec::new(self.alloc),
-        });
+        };
+        put(&mut self.reading, Some(reading));
         Ok(())
     }
 
@@ -274,7 +275,7 @@ impl Gathering<'static> {
         mem::swap(&mut self.script.calls, &mut self.calls.made);
         if self.has_table {
             let table = mem::replace(&mut self.table, Table::new(self.alloc));
-            self.script.reader = ScriptReader::Table(table);
+            put(&mut self.script.reader, ScriptReader::Table(table));
         }
     }
 

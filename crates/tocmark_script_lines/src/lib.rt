@@ -1,8 +1,8 @@
 //! Reads the lines of scripts of events. The lines stand in `docs/SCRIPTS.md`.
 #![tactic(auto)]
 
-pub mod gathering;
+mod gathering;
 pub mod lines;
 mod option;
 pub mod script;
-pub mod statement;
+mod statement;

@@ -105,8 +105,9 @@ impl ScriptLines {
     pub fn end(&mut self) -> Result<Option<Script<'static>>, NumberedFault<'static>> {
         let gathering = mem::replace(&mut self.gathering, Gathering::new(self.alloc));
         if mem::replace(&mut self.is_faulty, false) {
+            drop(gathering);
             return Ok(None);
         }
-        Ok(Some(whole(gathering, self.line)?))
+        whole(gathering, self.line).map(Some)
     }
 }

@@ -59,6 +59,8 @@ pub enum Question {
         text: String,
     },
     ErrorTexts,
+    /// Whether the core reader reads the text as it stands.
+    Plain(String),
     Read(String),
     ReadMerged(String),
     CountRead(String),
@@ -105,6 +107,11 @@ pub struct Script<'a> {
     pub questions: Vec<Question>,
 }
 
+/// Puts a value in another one's place.
+pub(crate) fn put<T: Drop>(place: &mut T, value: T) {
+    *place = value;
+}
+
 impl<'a> Script<'a> {
     /// No event, and nothing set.
     pub fn new(alloc: Global) -> Script<'a> {
@@ -133,12 +140,12 @@ impl<'a> Script<'a> {
                 self.has_options = true;
                 set_option(&mut self.options, &mut self.strong_token, option);
             }
-            Setting::Source(source) => self.source = Some(source),
+            Setting::Source(source) => put(&mut self.source, Some(source)),
             Setting::Calls => self.shows_calls = true,
             Setting::Cuts => self.compares_cuts = true,
             Setting::FailAt(place) => self.refused_text = Some(place),
             Setting::ReadFailAt(place) => self.refused_reading = Some(place),
-            Setting::Unresolved(label) => self.reader = ScriptReader::Labelled(label),
+            Setting::Unresolved(label) => put(&mut self.reader, ScriptReader::Labelled(label)),
         }
     }
 

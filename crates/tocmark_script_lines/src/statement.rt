@@ -28,6 +28,7 @@ enum TextQuestion {
     Fault,
     EscapeDestination,
     EscapeTitle,
+    Plain,
     Read,
     ReadMerged,
     CountRead,
@@ -76,7 +77,7 @@ enum OtherName {
     Ask(QuestionName),
 }
 
-const OTHERS: [(&str, OtherName); 30] = [
+const OTHERS: [(&str, OtherName); 31] = [
     ("Cut", OtherName::Cut),
     ("Finish", OtherName::Finish),
     ("Clone", OtherName::Clone),
@@ -111,6 +112,10 @@ const OTHERS: [(&str, OtherName); 30] = [
     (
         "Fault",
         OtherName::Ask(QuestionName::OfString(TextQuestion::Fault)),
+    ),
+    (
+        "Plain",
+        OtherName::Ask(QuestionName::OfString(TextQuestion::Plain)),
     ),
     (
         "Read",
@@ -181,7 +186,7 @@ fn expect_bits(cursor: &mut Cursor<'_>) -> Result<u32, LineFault> {
 }
 
 /// Flags with `|` between them. Each takes some bytes of the line.
-fn flags(cursor: &mut Cursor<'_>) -> Result<Setting, LineFault> {
+fn flags(cursor: &mut Cursor<'_>) -> Result<ParserOptions, LineFault> {
     let mut all = expect_bits(cursor)?;
     for _ in 0..cursor.len() {
         if cursor.is_at_end() {
@@ -190,7 +195,7 @@ fn flags(cursor: &mut Cursor<'_>) -> Result<Setting, LineFault> {
         cursor.expect_known(&[("|", ())], "| and another flag")?;
         all |= expect_bits(cursor)?;
     }
-    Ok(Setting::Flags(ParserOptions(all)))
+    Ok(ParserOptions(all))
 }
 
 fn number(cursor: &mut Cursor<'_>, expected: &'static str) -> Result<usize, LineFault> {
@@ -221,17 +226,21 @@ fn repeat(alloc: Global, cursor: &mut Cursor<'_>) -> Result<Statement, LineFault
     repeated_event(alloc, times, cursor)
 }
 
+fn unresolved(alloc: Global, cursor: &mut Cursor<'_>) -> Result<Setting, LineFault> {
+    cursor.string(alloc).map(Setting::Unresolved)
+}
+
 fn reader(alloc: Global, cursor: &mut Cursor<'_>) -> Result<Other, LineFault> {
     let readers = [("nothing", false), ("unresolved", true)];
     if cursor.expect_known(&readers, "nothing, or unresolved and a string")? {
-        return Ok(Other::Set(Setting::Unresolved(cursor.string(alloc)?)));
+        return unresolved(alloc, cursor).map(Other::Set);
     }
     Ok(Other::ReaderNothing)
 }
 
 fn reads(alloc: Global, cursor: &mut Cursor<'_>) -> Result<Other, LineFault> {
     if cursor.is_at_string() {
-        return Ok(Other::Reads(Some(cursor.string(alloc)?)));
+        return cursor.string(alloc).map(Some).map(Other::Reads);
     }
     cursor.expect_known(&[("else", ())], "a string in double quotes, or else")?;
     Ok(Other::Reads(None))
@@ -251,6 +260,7 @@ fn question_of_text(question: TextQuestion, text: String) -> Question {
         TextQuestion::Fault => Question::Fault(text),
         TextQuestion::EscapeDestination => Question::EscapeDestination(text),
         TextQuestion::EscapeTitle => Question::EscapeTitle(text),
+        TextQuestion::Plain => Question::Plain(text),
         TextQuestion::Read => Question::Read(text),
         TextQuestion::ReadMerged => Question::ReadMerged(text),
         TextQuestion::CountRead => Question::CountRead(text),
@@ -291,15 +301,30 @@ fn longest(alloc: Global, cursor: &mut Cursor<'_>) -> Result<Question, LineFault
     Ok(Question::LongestRun { search, text })
 }
 
-/// The strings up to the end of the line, joined. Each takes some bytes of the line.
-fn joined_strings(alloc: Global, cursor: &mut Cursor<'_>) -> Result<String, LineFault> {
-    let mut text = cursor.string(alloc)?;
+fn push_string(text: &mut String, alloc: Global, cursor: &mut Cursor<'_>) -> Result<(), LineFault> {
+    let string = cursor.string(alloc)?;
+    Ok(text.push_str(string.as_str())?)
+}
+
+/// Puts the strings up to the end of the line behind a text. Each takes some bytes of the line.
+fn push_strings(
+    text: &mut String,
+    alloc: Global,
+    cursor: &mut Cursor<'_>,
+) -> Result<(), LineFault> {
     for _ in 0..cursor.len() {
         if cursor.is_at_end() {
-            break;
+            return Ok(());
         }
-        text.push_str(cursor.string(alloc)?.as_str())?;
+        push_string(text, alloc, cursor)?;
     }
+    Ok(())
+}
+
+/// The strings up to the end of the line, joined.
+fn joined_strings(alloc: Global, cursor: &mut Cursor<'_>) -> Result<String, LineFault> {
+    let mut text = cursor.string(alloc)?;
+    push_strings(&mut text, alloc, cursor)?;
     Ok(text)
 }
 
@@ -340,7 +365,7 @@ fn setting(
     cursor: &mut Cursor<'_>,
 ) -> Result<Setting, LineFault> {
     match name {
-        SettingName::Flags => flags(cursor),
+        SettingName::Flags => flags(cursor).map(Setting::Flags),
         SettingName::Option => option_setting(alloc, cursor).map(Setting::Option),
         SettingName::Source => cursor.string(alloc).map(Setting::Source),
         SettingName::Calls => Ok(Setting::Calls),

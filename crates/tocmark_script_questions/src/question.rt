@@ -7,13 +7,14 @@ use crate::readings::{write_read, write_read_count, write_read_merged, write_rou
 use crate::valid::write_valid_count;
 use std::alloc::{AllocError, Global};
 use std::fmt;
+use tocmark::core_reader::is_plain;
 use tocmark::event::LinkType;
 use tocmark::{Error, OptionsError};
-use tocmark_escape::text_modifications::{
-    EscapeDestination, EscapeLinkTitle, close_link, max_consecutive_chars,
-};
 use tocmark_script_lines::script::{Question, Script};
 use tocmark_script_words::string::Quoted;
+use tocmark_texts::text_modifications::{
+    EscapeDestination, EscapeLinkTitle, close_link, max_consecutive_chars,
+};
 
 /// The name of what is wrong with options, and what it speaks of.
 #[derive(Clone, Copy)]
@@ -119,6 +120,12 @@ fn write_error_texts(alloc: Global, answer: &mut String) -> Result<(), AllocErro
     Ok(())
 }
 
+/// Writes whether the core reader reads a text as it stands.
+fn write_plain(answer: &mut String, text: &str) -> Result<(), AllocError> {
+    let plain = is_plain(text);
+    writeln!(answer, "{plain}")
+}
+
 /// Writes the answer to a question.
 fn write_answer(
     alloc: Global,
@@ -148,6 +155,7 @@ fn write_answer(
         } => write_closing(alloc, answer, *link_type, dest_url.as_str(), title.as_str()),
         Question::LongestRun { search, text } => write_longest_run(answer, *search, text.as_str()),
         Question::ErrorTexts => write_error_texts(alloc, answer),
+        Question::Plain(text) => write_plain(answer, text.as_str()),
         Question::Read(text) => write_read(alloc, answer, script, text.as_str()),
         Question::ReadMerged(text) => write_read_merged(alloc, answer, script, text.as_str()),
         Question::CountRead(text) => write_read_count(alloc, answer, script, text.as_str()),

@@ -4,7 +4,7 @@ use Rattle.std.specs.Option.{unwrap_or}
 use Rattle.std.specs.HashMap.{get_by_text}
 use Rattle.tocmark_event.specs.Text.{ParserEvent, text_of}
 use Rattle.tocmark_event.specs.View.{EventView, event_view}
-use Rattle.tocmark_event.specs.Reading.{ReadingView}
+use Rattle.tocmark_reader.specs.Reading.{ReadingView}
 use Rattle.tocmark_core_reader.specs.Reading.{core_reading}
 use Rattle.tocmark_script_reader.specs.declared.readers.Table.{Table as ReadingTable}
 use Rattle.tocmark_script_reader.specs.declared.readers.ScriptReader.{ScriptReader}

@@ -1,7 +1,7 @@
 //! The reader of a script.
 
 ghost use Rattle.std.specs.Prelude.{◌≡◌, IfOk, map};
-ghost use Rattle.tocmark_event.specs.Reading.{reading_view};
+ghost use Rattle.tocmark_reader.specs.Reading.{reading_view};
 ghost use Rattle.tocmark_script_reader.specs.Readers.{labelled_reading, ranged_view};
 
 use std::alloc::{AllocError, Global};
@@ -9,7 +9,7 @@ use std::cell::Cell;
 use std::collections::HashMap;
 use tocmark_core_reader::CoreReader;
 use tocmark_event::event::{Event, ParserOptions};
-use tocmark_event::reader::{Reader, Reading};
+use tocmark_reader::{Reader, Reading};
 
 /// The events that a text is read as, each with its range in bytes.
 pub type ReadEvents<'a> = Vec<(Event<'a>, (usize, usize))>;

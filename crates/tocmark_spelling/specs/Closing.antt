@@ -9,7 +9,7 @@ use Rattle.tocmark_event.specs.declared.event.HeadingLevel.TheVariants as level
 use Rattle.tocmark_event.specs.declared.event.LinkType.{LinkType}
 use Rattle.tocmark_event.specs.declared.event.LinkType.TheVariants as link
 use Rattle.tocmark_event.specs.declared.event.MetadataBlockKind.{MetadataBlockKind}
-use Rattle.tocmark_escape.specs.Destination.{inline_closing}
+use Rattle.tocmark_texts.specs.Destination.{inline_closing}
 use Rattle.tocmark_spelling.specs.Kinds.{is_item, is_list}
 use Rattle.tocmark_spelling.specs.Page.{Content, Underlined, Fence, HtmlEnds, Listed, Headers, Delimited, Named, Level, Path, Page, Site, written, filled_to, prefix_of, with_trail, with_last, with_owed, raised}
 use Rattle.tocmark_spelling.specs.Words.{hyphen}

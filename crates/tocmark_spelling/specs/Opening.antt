@@ -13,7 +13,7 @@ use Rattle.tocmark_event.specs.declared.event.LinkType.{LinkType}
 use Rattle.tocmark_event.specs.declared.event.flags.ParserOptions.{ParserOptions}
 use Rattle.std.specs.Prelude.{bit_and}
 use Rattle.tocmark_escape.specs.Characters.{hash, space, ampersand, backslash, backtick}
-use Rattle.tocmark_escape.specs.Leaves.{longest_run}
+use Rattle.tocmark_texts.specs.Leaves.{longest_run}
 use Rattle.tocmark_spelling.specs.Words.{asterisk, hyphen, or_else, same_truth}
 use Rattle.tocmark_spelling.specs.Plan.{Setting, Manner}
 use Rattle.tocmark_spelling.specs.declared.plan.Layout.{Layout}

@@ -8,7 +8,7 @@ use Rattle.tocmark_spelling.specs.declared.trail.Last.TheVariants.{Inline}
 use Rattle.tocmark_spelling.specs.Places.{is_in, is_raw}
 use Rattle.tocmark_spelling.specs.Stretch.{is_literal, has_entities, at_front, from_source, or_escaped}
 use Rattle.tocmark_options.specs.Options.{OptionsView}
-use Rattle.tocmark_event.specs.Reading.{ReadingView}
+use Rattle.tocmark_reader.specs.Reading.{ReadingView}
 use Rattle.tocmark_event.specs.declared.event.flags.ParserOptions.{ParserOptions}
 use Rattle.tocmark_spelling.specs.Plan.{Setting, Manner}
 use Rattle.tocmark_spelling.specs.declared.plan.TextSpelling.{TextSpelling}

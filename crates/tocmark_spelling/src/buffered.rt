@@ -3,7 +3,7 @@
 use tocmark_event::event::OwnedEvent;
 
 /// An event that waits until its unit is whole, with its spelling in the source where that is known.
-#[derive(Debug, Drop)]
+#[derive(Drop)]
 pub struct BufferedEvent {
     /// The event.
     pub event: OwnedEvent,

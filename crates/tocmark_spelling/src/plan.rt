@@ -4,7 +4,7 @@ ghost use Rattle.std.specs.Prelude.{◌≡◌};
 ghost use Rattle.tocmark_spelling.specs.Stretch.{is_literal, has_entities};
 
 /// How the markers of emphasis are chosen.
-#[derive(Clone, Copy, Debug, PartialEq, Eq)]
+#[derive(Clone, Copy, PartialEq, Eq)]
 pub enum Layout {
     Preferred,
     Runs,
@@ -18,7 +18,7 @@ pub enum Layout {
 }
 
 /// How texts are written.
-#[derive(Clone, Copy, Debug, PartialEq, Eq)]
+#[derive(Clone, Copy, PartialEq, Eq)]
 pub enum TextSpelling {
     Escaped,
     /// With markers as they are.
@@ -29,7 +29,7 @@ pub enum TextSpelling {
 }
 
 /// How delimiters are chosen, and which markers are asked for.
-#[derive(Clone, Copy, Debug)]
+#[derive(Clone, Copy)]
 pub struct Delimiters<'a> {
     pub layout: Layout,
     pub text: TextSpelling,

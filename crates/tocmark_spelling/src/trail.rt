@@ -15,7 +15,7 @@ use std::alloc::{AllocError, Global};
 use tocmark_event::event::{OwnedEvent, TagEnd};
 
 /// What the last child of an item was.
-#[derive(Clone, Copy, Debug, PartialEq, Eq)]
+#[derive(Clone, Copy, PartialEq, Eq)]
 pub enum Tail {
     Paragraph,
     Empty,
@@ -23,7 +23,7 @@ pub enum Tail {
 }
 
 /// What was written last.
-#[derive(Clone, Copy, Debug, PartialEq, Eq)]
+#[derive(Clone, Copy, PartialEq, Eq)]
 pub enum Last {
     Other,
     Inline,
@@ -35,7 +35,7 @@ pub enum Last {
 }
 
 /// The list that ended last.
-#[derive(Clone, Copy, Debug, PartialEq, Eq)]
+#[derive(Clone, Copy, PartialEq, Eq)]
 pub struct LastList {
     /// How many containers are open around it.
     pub depth: usize,
@@ -44,7 +44,7 @@ pub struct LastList {
 }
 
 /// Of what a finished tree leaves to its right neighbour, all that owns no memory.
-#[derive(Clone, Copy, Debug)]
+#[derive(Clone, Copy)]
 pub struct Carried {
     /// Line feeds that must stand before it.
     pub owed: usize,
@@ -56,7 +56,7 @@ pub struct Carried {
 }
 
 /// What a finished tree leaves to its right neighbour.
-#[derive(Debug, Drop)]
+#[derive(Drop)]
 pub struct Trail {
     pub carried: Carried,
     /// The line that goes on with a quote.

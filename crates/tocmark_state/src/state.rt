@@ -12,8 +12,8 @@ ghost use Rattle.tocmark_work.specs.WorkView.{pairs, ranged_pairs, rendering};
 use std::alloc::{AllocError, Global};
 use std::fmt;
 use tocmark_event::event::{Event, ParserOptions};
-use tocmark_event::reader::Reader;
 use tocmark_options::options::{Error, Options, OptionsOf};
+use tocmark_reader::Reader;
 use tocmark_work::taker::Taker;
 use tocmark_work::work::{Progress, Tools, Work, end, take_all, take_all_ranged};
 

@@ -13,10 +13,10 @@ use tocmark_ahead::ends::matching_ends;
 use tocmark_emphasis::columns::{Columns, columns_of};
 use tocmark_event::event::flags::ParserOptions;
 use tocmark_event::event::{EventOf, TagOf};
-use tocmark_event::reader::Reader;
 use tocmark_links::named::named;
 use tocmark_options::options::Options;
 use tocmark_raw::raw_facts::{RawFacts, raw_facts};
+use tocmark_reader::Reader;
 use tocmark_spelling::buffered::BufferedEvent;
 
 /// What is found out of a unit's events once, before they are written in one manner or another.

@@ -10,7 +10,7 @@ use Rattle.tocmark_options.specs.declared.options.Error.{Error}
 use Rattle.tocmark_options.specs.declared.options.Error.TheVariants as error
 use Rattle.tocmark_spelling.specs.Buffered.{sourced}
 use Rattle.tocmark_event.specs.declared.event.flags.ParserOptions.{ParserOptions}
-use Rattle.tocmark_labels.specs.Document.{DocumentView}
+use Rattle.tocmark_label_sets.specs.Document.{DocumentView}
 use Rattle.tocmark_labels.specs.Ending.{last_texts, leading_feeds, unless_empty, with_definitions_in_front}
 use Rattle.tocmark_labels.specs.Pending.{PendingView, Joins, behind, nested}
 use Rattle.tocmark_labels.proofs.Joined.{unsourced-sourced}

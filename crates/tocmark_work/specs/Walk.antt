@@ -5,7 +5,7 @@ use Rattle.tocmark_event.specs.declared.event.TagEnd.{TagEnd}
 use Rattle.tocmark_event.specs.declared.event.flags.ParserOptions.{ParserOptions}
 use Rattle.tocmark_options.specs.declared.options.Error.{Error}
 use Rattle.tocmark_options.specs.declared.options.Error.TheVariants as error
-use Rattle.tocmark_labels.specs.Document.{DocumentView, first_document}
+use Rattle.tocmark_label_sets.specs.Document.{DocumentView, first_document}
 use Rattle.tocmark_labels.specs.Ending.{unless_empty, last_texts}
 use Rattle.tocmark_labels.specs.Pending.{nested}
 use Rattle.tocmark_work.specs.Ranges.{Pair, resolved}

@@ -18,11 +18,11 @@ use crate::taker::Taker;
 use std::alloc::{AllocError, Global};
 use tocmark_document::document::Document;
 use tocmark_event::event::{Event, ParserOptions};
-use tocmark_event::reader::Reader;
 use tocmark_labels::ending::holds_raw_block;
 use tocmark_labels::pending::Pending;
 use tocmark_labels::placeholder::needs_list_placeholder;
 use tocmark_options::options::{Error, Options};
+use tocmark_reader::Reader;
 
 /// How much a call did. Both counts stop at the greatest `usize`.
 #[derive(Clone, Copy, Debug, PartialEq, Eq, Default)]

@@ -5,7 +5,7 @@ use std::io::{self, Write};
 use std::time::CpuClock;
 use tocmark_core_reader::CoreReader;
 use tocmark_event::event::ParserOptions;
-use tocmark_event::reader::Reader;
+use tocmark_reader::Reader;
 
 /// The number of events of a text.
 fn event_count(alloc: Global, text: &str) -> io::Result<usize> {

@@ -5,7 +5,7 @@ use std::alloc::{AllocError, Global};
 use tocmark::{Error, cmark, cmark_with_source_range};
 use tocmark_core_reader::CoreReader;
 use tocmark_event::event::{OwnedEvent, ParserOptions, merge_all};
-use tocmark_event::reader::{Reader, Reading};
+use tocmark_reader::{Reader, Reading};
 use tocmark_same_events::event::same_events;
 
 /// CommonMark alone.

@@ -8,7 +8,7 @@ use std::io::{self, Write};
 use tocmark::cmark;
 use tocmark_core_reader::CoreReader;
 use tocmark_event::event::{CowStr, Event, Tag, TagEnd};
-use tocmark_event::reader::Reader;
+use tocmark_reader::Reader;
 use tocmark_same_events::event::same_events;
 
 /// Takes texts together, and counts them.

@@ -2,8 +2,8 @@ use Rattle.std.proofs.Common.{◌≡◌, true, codes, [], ap}
 use Rattle.std.specs.Char.{char_set_contains}
 use Rattle.tocmark_options.specs.Options.{OptionsView, default_options, options_view}
 use Rattle.tocmark_work.specs.WorkView.{pairs}
-use Rattle.tocmark.proofs.BlockWalks.{blocks_made}
-use Rattle.tocmark.proofs.PlainDocument.{lines_handed}
+use Rattle.tocmark_laws.proofs.BlockWalks.{blocks_made}
+use Rattle.tocmark_laws.proofs.PlainDocument.{lines_handed}
 use Rattle.tocmark_state.proofs.Runs.{taken_whole}
 use Rattle.tocmark.proofs.cmark.Goals as goal
 

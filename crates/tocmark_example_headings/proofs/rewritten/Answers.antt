@@ -1,24 +1,38 @@
-use Rattle.std.proofs.Common.{◌≡◌, ℕ, List, [], ◌++◌, map, refl, ap, ◌∙◌, subst, string_bytes, Ok}
+use Rattle.std.proofs.Common.{◌≡◌, ℕ, List, [], ◌++◌, map, ap, sym, ◌∙◌, subst, string_bytes, Ok, arith}
+use Rattle.std.proofs.lemmas.List.{with_items_is}
+use mathlib.Core.List.{map-map}
 use Rattle.std.specs.List.{concat}
-use Rattle.std.specs.Slice.Iter.{iter_rest}
 use Rattle.tocmark_options.specs.Options.{default_options}
-use Rattle.tocmark_event.specs.Reading.{ReadingView}
+use Rattle.tocmark_event.specs.Text.{ParserEvent, text_of}
+use Rattle.tocmark_event.specs.View.{EventView, event_view}
+use Rattle.tocmark_reader.specs.Reading.{ReadingView, events_left}
 use Rattle.tocmark_event.specs.declared.event.flags.ParserOptions.{ParserOptions}
 use Rattle.tocmark_core_reader.specs.Reading.{core_reading}
 use Rattle.tocmark_work.specs.Ranges.{Pair, unranged}
 use Rattle.tocmark_work.specs.WorkView.{rendering, pairs}
 use Rattle.tocmark_work.specs.Walk.{Walk, Done, done, nothing_yet, script}
-use Rattle.tocmark.proofs.Handed.{written_in_parts}
+use Rattle.tocmark_laws.proofs.Handed.{pairs_of_events, written_in_parts}
 use Rattle.tocmark_example_headings.specs.Headings.{lowered}
-use Rattle.tocmark_example_headings.proofs.LoweredPairs.{all_lent, lowered_pairs}
 use Rattle.tocmark_example_headings.proofs.rewritten.Goals as goal
+
+-- the events of a reading whose items were moved, without their ranges
+moved : (new old : List (ParserEvent × (ℕ × ℕ))) → map (λ (e : ParserEvent × (ℕ × ℕ)). event_view text_of e.0) new ≡ map (λ (e : ParserEvent × (ℕ × ℕ)). lowered (event_view text_of e.0)) old
+    → map unranged (map (λ (e : EventView × (ℕ × ℕ)). e.0) (map (λ (e : ParserEvent × (ℕ × ℕ)). (event_view text_of e.0, e.1)) new))
+    ≡ map (λ (e : EventView × (ℕ × ℕ)). unranged (lowered e.0)) (map (λ (e : ParserEvent × (ℕ × ℕ)). (event_view text_of e.0, e.1)) old)
+moved new old made =
+    ap (map unranged) (map-map (λ (e : EventView × (ℕ × ℕ)). e.0) (λ (e : ParserEvent × (ℕ × ℕ)). (event_view text_of e.0, e.1)) new ∙ made)
+    ∙ map-map unranged (λ (e : ParserEvent × (ℕ × ℕ)). lowered (event_view text_of e.0)) old
+    ∙ sym (map-map (λ (e : EventView × (ℕ × ℕ)). unranged (lowered e.0)) (λ (e : ParserEvent × (ℕ × ℕ)). (event_view text_of e.0, e.1)) old)
 
 pub returns : goal.returns
 returns c =
-    let h = c.in_ok-state.ensures.made in
-    let lent = all_lent h.1 h.0 (h.3.0, h.3.1, λ _. h.3.2 tt) ∙ ap iter_rest h.2 ∙ c.iter.ensures.rest ∙ c.deref.ensures.value in
+    let h = c.in_ok-cmark.ensures.made in
     let same : pairs h.1 ≡ map (λ e. unranged (lowered e.0)) (core_reading c.args.text.now).events =
-    lowered_pairs h.1 c.in_ok-events.events.items c.in_ok-reading.reading.events.items lent c.in_ok-events.ensures
+    pairs_of_events h.1 h.0 (h.3.0, h.3.1, λ _. h.3.2 tt)
+    ∙ ap (map unranged) (ap events_left h.2 ∙ c.events.ensures)
+    ∙ ap (λ (items : List (ParserEvent × (ℕ × ℕ))). map unranged (map (λ (e : EventView × (ℕ × ℕ)). e.0) (map (λ (e : ParserEvent × (ℕ × ℕ)). (event_view text_of e.0, e.1)) items)))
+    (with_items_is c.in_ok-reading.reading.events c.lower_all.new.events (omega arith))
+    ∙ moved _ c.in_ok-reading.reading.events.items (c.lower_all.ensures ∙ ap (map (λ e. lowered (event_view text_of e.0))) c.deref_mut.ensures.value)
     ∙ ap (λ (r : ReadingView). map (λ e. unranged (lowered e.0)) r.events) c.in_ok-reading.ensures.reading in
     let walk : ParserOptions → List Pair → Walk Done = λ flags q. script (rendering default_options (λ t flags. core_reading t)) [] (nothing_yet flags) q in
     let flags = c.empty-flags.result in

@@ -1,4 +1,4 @@
-use Rattle.tocmark_escape.specs.Destination.{definition_closing}
+use Rattle.tocmark_texts.specs.Destination.{definition_closing}
 use Rattle.tocmark_labels.proofs.DefinitionTexts.{written-text}
 use Rattle.tocmark_labels.proofs.definitions.push_closing.Goals as goal
 

@@ -1,6 +1,6 @@
 use Rattle.std.proofs.Common.{codes, ap, refl, string_bytes, subst, OnOk, List, ℕ}
 use Rattle.std.specs.Option.{option_map}
-use Rattle.tocmark_escape.specs.Leaves.{display_math, footnote_reference, inline_math, task_marker}
+use Rattle.tocmark_texts.specs.Leaves.{display_math, footnote_reference, inline_math, task_marker}
 use Rattle.tocmark_event.specs.View.{Code, DisplayMath, EventView, FootnoteReference, HardBreak, Html, InlineHtml, InlineMath, Leaf, Rule, SoftBreak, TaskListMarker, Text, event_view}
 use Rattle.tocmark_spelling.specs.Buffered.{following_view}
 use Rattle.tocmark_spelling.specs.Kinds.{is_table}

@@ -1,4 +1,4 @@
-use Rattle.tocmark_escape.specs.Destination.{inline_closing}
+use Rattle.tocmark_texts.specs.Destination.{inline_closing}
 use Rattle.tocmark_links.proofs.Written.{written-text}
 use Rattle.tocmark_links.proofs.closing.push_inline_closing.Goals as goal
 

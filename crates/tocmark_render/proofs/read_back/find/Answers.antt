@@ -6,7 +6,7 @@ use Rattle.tocmark_event.specs.View.{event_view, unsourced}
 use Rattle.tocmark_read_back.specs.InParagraph.{in_paragraph}
 use Rattle.tocmark_spelling.specs.Buffered.{buffered_view}
 use Rattle.tocmark_spelling.specs.SameEvents.{same_events}
-use Rattle.tocmark_labels.specs.LabelsOf.{is_taken_in}
+use Rattle.tocmark_label_sets.specs.LabelsOf.{is_taken_in}
 use Rattle.tocmark_render.proofs.ReadBacks.{not-found, found-open}
 use Rattle.tocmark_render.proofs.read_back.find.Goals as goal
 

@@ -1,6 +1,6 @@
 use Rattle.std.proofs.Common.{◌≡◌, ◌∙◌, [], ap, map, refl, string_bytes, sym}
-use Rattle.tocmark_labels.specs.Document.{known_in, literal_in}
-use Rattle.tocmark_labels.specs.LabelsOf.{labels_of}
+use Rattle.tocmark_label_sets.specs.Document.{known_in, literal_in}
+use Rattle.tocmark_label_sets.specs.LabelsOf.{labels_of}
 use Rattle.tocmark_document.specs.DocumentOf.{document_view}
 use Rattle.tocmark_render.specs.ReadsBack.{whole_text}
 use Rattle.tocmark_render.specs.TrialOf.{asked_of, unresolved_in}

@@ -1,6 +1,0 @@
-use Rattle.tocmark.proofs.Paragraphs.{span_read_back}
-use Rattle.tocmark.proofs.laws.a_code_span_is_read_back.Goals as goal
-
-pub returns : goal.returns
-returns c options reading flags source text =
-    span_read_back options reading flags source text (c.code_spans_read_back.ensures text)

@@ -1,5 +1,0 @@
-use Rattle.tocmark.proofs.BlockWalks.{blocks_are_handed}
-use Rattle.tocmark.proofs.laws.blocks_are_escapes.Goals as goal
-
-pub returns : goal.returns
-returns c options reading flags source blocks h = blocks_are_handed options reading flags source blocks h

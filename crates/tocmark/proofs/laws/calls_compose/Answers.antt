@@ -1,8 +1,0 @@
-use Rattle.std.proofs.Common.{[], refl}
-use Rattle.tocmark_work.specs.Walk.{nothing_yet}
-use Rattle.tocmark.proofs.Calls.{calls_make}
-use Rattle.tocmark.proofs.laws.calls_compose.Goals as goal
-
-pub returns : goal.returns
-returns g c how flags source calls w v r h =
-    calls_make g.W.Taker.takes g.W.Taker.refuses how flags source calls [] (nothing_yet flags) w w v r refl refl h

@@ -1,5 +1,0 @@
-use Rattle.tocmark_work.proofs.Walks.{walk_after}
-use Rattle.tocmark.proofs.laws.cuts_are_free.Goals as goal
-
-pub returns : goal.returns
-returns c how source s t p q h = walk_after how source s t p q h

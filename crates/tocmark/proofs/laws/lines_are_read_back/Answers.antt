@@ -1,5 +1,0 @@
-use Rattle.tocmark.proofs.PlainDocument.{plain_read_back}
-use Rattle.tocmark.proofs.laws.lines_are_read_back.Goals as goal
-
-pub returns : goal.returns
-returns c options reading flags source l ms token lines = plain_read_back options reading flags token source l ms lines

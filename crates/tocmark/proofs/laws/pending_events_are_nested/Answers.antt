@@ -1,8 +1,0 @@
-use Rattle.tocmark_labels.proofs.Balanced.{reading-balanced}
-use Rattle.tocmark.proofs.Reading.{nothing_nested}
-use Rattle.tocmark.proofs.laws.pending_events_are_nested.Goals as goal
-
-pub returns : goal.returns
-returns c how source kept s p h =
-    let n = nothing_nested how source kept s p h in
-    (n, λ o. reading-balanced s.pending (rw o at n))

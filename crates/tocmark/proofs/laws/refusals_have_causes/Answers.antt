@@ -1,8 +1,0 @@
-use Rattle.tocmark.proofs.Causes.{walk_cause, script_cause}
-use Rattle.tocmark.proofs.laws.refusals_have_causes.Goals as goal
-
-pub returns-clause-walk : goal.returns-clause-walk
-returns-clause-walk c how source s p e h = walk_cause how source s p e h
-
-pub returns-clause-script : goal.returns-clause-script
-returns-clause-script c how source s p e h = script_cause how source s p e h

@@ -1,5 +1,0 @@
-use Rattle.tocmark_laws.proofs.Links.{handed}
-use Rattle.tocmark_laws.proofs.links_are_closed.Goals as goal
-
-pub returns : goal.returns
-returns c = λ options reading flags source dest title id text. handed options reading flags dest title id text source

@@ -1,8 +1,0 @@
-use Rattle.tocmark_work.specs.WorkView.{rendering}
-use Rattle.tocmark_labels.specs.Document.{first_document}
-use Rattle.tocmark_laws.proofs.Causes.{unexpected-cause}
-use Rattle.tocmark_laws.proofs.Unexpected.{rendering-misplaced}
-use Rattle.tocmark_laws.proofs.unexpected_events_have_causes.Goals as goal
-
-pub returns : goal.returns
-returns c = λ options reading flags source p h. unexpected-cause (rendering options reading) source (record { flags = flags; document = first_document }) (rendering-misplaced options reading) p h

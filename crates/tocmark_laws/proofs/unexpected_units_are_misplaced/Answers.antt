@@ -1,5 +1,0 @@
-use Rattle.tocmark_laws.proofs.Unexpected.{unit-misplaced}
-use Rattle.tocmark_laws.proofs.unexpected_units_are_misplaced.Goals as goal
-
-pub returns : goal.returns
-returns c = unit-misplaced

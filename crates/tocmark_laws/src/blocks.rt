@@ -1,0 +1,87 @@
+//! Laws of what is written for single blocks, each the contract of a function that does nothing.
+
+ghost use Rattle.std.specs.Prelude.{◌≡◌, ◌++◌, ℕ, Err, List, Ok, Option};
+ghost use Rattle.std.specs.List.{concat};
+ghost use Rattle.tocmark_laws.specs.Paragraphs.{Keeps};
+ghost use Rattle.tocmark_work.specs.WorkView.{rendering};
+ghost use Rattle.tocmark_work.specs.Walk.{done, nothing_yet, script};
+ghost use Rattle.tocmark_work.specs.Ranges.{Pair};
+ghost use Rattle.tocmark_work.specs.Writes.{Makes};
+ghost use Rattle.tocmark_work.specs.declared.work.Progress.{Progress};
+ghost use Rattle.tocmark_causes.specs.Misplaced.{HasMisplacedStart};
+ghost use Rattle.tocmark_event.specs.Forest.{IsBalanced};
+ghost use Rattle.tocmark_options.specs.Options.{OptionsView};
+ghost use Rattle.tocmark_reader.specs.Reading.{ReadingView};
+ghost use Rattle.tocmark_event.specs.declared.event.flags.ParserOptions.{ParserOptions};
+ghost use Rattle.tocmark_event.specs.View.{EventView, SourcedEvent};
+ghost use Rattle.tocmark_options.specs.declared.options.Error.TheVariants.{UnexpectedEvent};
+ghost use Rattle.tocmark_laws.specs.CodeBlocks.{CodeIsFenced, IsFence, code_events, code_text};
+ghost use Rattle.tocmark_laws.specs.Links.{LinksAreClosed, link_events, link_text};
+ghost use Rattle.tocmark_laws.specs.Unexpected.{IsUnexpectedIn};
+ghost use Rattle.tocmark_label_sets.specs.Document.{DocumentView};
+ghost use Rattle.tocmark_render.specs.Chosen.{chosen};
+ghost use Rattle.tocmark_spelling.specs.Plan.{Setting};
+
+use tocmark_work::taker::Taker;
+
+/// For one fenced code block alone exactly one text is handed: its fence and its info string on a line of
+/// their own, its texts as they are, and its fence where these end a line. The fence is longer than each
+/// run of its character in the texts, at least three characters long and at least as long as the options
+/// ask for, and of their character, but of tildes where that is a backtick and one stands in the info
+/// string. So it is under all options and flags, whatever reader is given.
+pub fn code_is_fenced()
+    ensures { CodeIsFenced }
+{}
+
+/// A call that succeeds on the events of such a code block, over a writer that keeps what it takes, as a
+/// `String` does, leaves the code block behind what the writer held.
+pub fn a_code_block_is_appended<W: Taker>()
+    ensures { (contents : W → List ℕ) (options : OptionsView)
+        (reading : List ℕ → ParserOptions → ReadingView) (flags : ParserOptions)
+        (source info : List ℕ) (ts : List (List ℕ)) (w v : W) (p : Progress)
+        → Keeps W.takes contents
+        → Makes W.takes W.refuses w v (Ok p) done
+        (script (rendering options reading) source (nothing_yet flags) (code_events info ts))
+        → (fence : List ℕ) × IsFence options info (concat ts) fence
+        × (contents v ≡ contents w ++ code_text fence info (concat ts)) }
+{}
+
+/// For one paragraph with one inline link round one text exactly one text is handed: `[`, the escape of
+/// the text, and what closes a link with its destination and title. So it is under all options and flags,
+/// whatever reader is given.
+pub fn links_are_closed()
+    ensures { LinksAreClosed }
+{}
+
+/// A call that succeeds on the events of such a paragraph, over a writer that keeps what it takes, as a
+/// `String` does, leaves the link behind what the writer held.
+pub fn a_link_is_appended<W: Taker>()
+    ensures { (contents : W → List ℕ) (options : OptionsView)
+        (reading : List ℕ → ParserOptions → ReadingView) (flags : ParserOptions)
+        (source dest title id text : List ℕ) (w v : W) (p : Progress)
+        → Keeps W.takes contents
+        → Makes W.takes W.refuses w v (Ok p) done
+        (script (rendering options reading) source (nothing_yet flags)
+        (link_events dest title id text))
+        → contents v ≡ contents w ++ link_text options flags dest title text }
+{}
+
+/// A unit, the events of a forest, is refused as `UnexpectedEvent` only for an event that may not stand where it
+/// does: an Item that isn't directly in a List, a Heading in a Heading, a TableHead that isn't directly in a Table,
+/// or a TableCell in no Table.
+pub fn unexpected_units_are_misplaced()
+    ensures { (s : Setting) (d : DocumentView) (unit : List SourcedEvent) (next : Option EventView)
+        → IsBalanced unit → chosen s d unit next ≡ Err UnexpectedEvent → HasMisplacedStart unit }
+{}
+
+/// A list of events that is refused as `UnexpectedEvent` has a cause, at the first pair at which it is or at its
+/// end. At a pair: an event of the unit before it may not stand where it does, or it is an End without its Start or
+/// of a container that isn't the innermost one. At the end: a container isn't ended, or an event of the last unit may
+/// not stand where it does.
+pub fn unexpected_events_have_causes()
+    ensures { (options : OptionsView) (reading : List ℕ → ParserOptions → ReadingView)
+        (flags : ParserOptions) (source : List ℕ) (p : List Pair)
+        → (script (rendering options reading) source (nothing_yet flags) p).outcome
+        ≡ Err UnexpectedEvent
+        → IsUnexpectedIn (rendering options reading) source (nothing_yet flags) p }
+{}

@@ -1,0 +1,6 @@
+pub mod CharacterLemmas
+pub mod SpanLemmas
+pub mod ReadBack
+pub mod SpanReads
+pub mod TextLaws
+mod Rows

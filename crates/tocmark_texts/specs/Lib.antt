@@ -1,0 +1,3 @@
+pub mod Unescape
+pub mod Leaves
+pub mod Destination

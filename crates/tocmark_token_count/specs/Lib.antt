@@ -1,0 +1,2 @@
+pub mod TokenCount
+pub mod SeenTokens
