@@ -17,18 +17,19 @@
 //! ```
 #![tactic(auto)]
 
-ghost use Rattle.std.specs.Prelude.{◌≡◌, ◌∷◌, List, [], Option, ℕ, IfOk, IsOk, IsTrue};
+ghost use Rattle.std.specs.Prelude.{◌≡◌, ◌∷◌, List, [], Option, ℕ, IfOk, IsOk, IsTrue, OnOk};
 ghost use Rattle.std.specs.Borrow.{Bor};
 ghost use Rattle.std.specs.Iterator.{IsFinite, DrainsIf};
 ghost use Rattle.std.specs.List.{list_all};
 ghost use Rattle.tocmark_event.specs.Text.{ParserEvent};
+ghost use Rattle.tocmark_event.specs.declared.event.flags.ParserOptions.{ParserOptions};
 ghost use Rattle.tocmark_options.specs.Options.{default_options, options_view};
 ghost use Rattle.tocmark_laws.specs.PlainLines.{HandsLines, is_line, paragraph_of_lines};
 ghost use Rattle.tocmark_work.specs.Ranges.{Range};
 ghost use Rattle.tocmark_laws.specs.TextBlocks.{MakesBlocks};
 ghost use Rattle.tocmark_work.specs.Walk.{done, nothing_yet, script, walk};
 ghost use Rattle.tocmark_work.specs.Writes.{Makes, TakesAll};
-ghost use Rattle.tocmark_state.specs.StateView.{IsFinished};
+ghost use Rattle.tocmark_state.specs.StateView.{IsFinished, Stands, rendering_of};
 ghost use Rattle.tocmark_work.specs.WorkView.{pairs, ranged_pairs, rendering};
 
 use std::alloc::Global;
@@ -128,9 +129,36 @@ where
 {
     let events = events.into_iter();
     let mut state = State::new(alloc, reader, parser_options, options)?;
+    match write_all(&mut state, events, writer) {
+        Ok(()) => Ok(state),
+        Err(error) => {
+            drop(state);
+            Err(error)
+        }
+    }
+}
+
+/// Writes all events of a list: one call of `State::process` and one of `State::finish`. The state is
+/// lent, so that it isn't let go where one of them refuses.
+fn write_all<'a, I, W, R>(state: &mut State<R>, events: I, writer: &mut W) -> Result<(), Error>
+where
+    I: Iterator<Item = &'a Event<'a>>,
+    W: Taker,
+    R: Reader + Drop,
+    requires { I.can_next events × IsFinite (I.remaining events) }
+    ensures made { (flags : ParserOptions)
+        → ((source : List ℕ) → Stands R.reading flags source state.old [])
+        → (xs : List (Bor ParserEvent)) × DrainsIf I.next_gives
+        (TakesAll result
+        (walk (rendering_of R.reading state.old) [] (nothing_yet flags) (pairs xs))) events xs
+        × ((source : List ℕ)
+        → Makes W.takes W.refuses writer.old writer.new result done
+        (script (rendering_of R.reading state.old) source (nothing_yet flags) (pairs xs))) }
+    ensures finished { OnOk result (IsFinished state.new) }
+{
     state.process(events, writer)?;
     state.finish(writer)?;
-    Ok(state)
+    Ok(())
 }
 
 /// Writes events with their ranges in a source, with the default options:
@@ -205,7 +233,39 @@ where
 {
     let pairs = pairs.into_iter();
     let mut ranged = State::new(alloc, reader, parser_options, options)?;
-    ranged.process_with_source_range(pairs, source, writer)?;
-    ranged.finish(writer)?;
-    Ok(ranged)
+    match write_all_ranged(&mut ranged, pairs, source, writer) {
+        Ok(()) => Ok(ranged),
+        Err(cause) => {
+            drop(ranged);
+            Err(cause)
+        }
+    }
+}
+
+/// Writes all events of a list with their ranges in a source, as `write_all` does.
+fn write_all_ranged<'a, I, W, R>(
+    state: &mut State<R>,
+    pairs: I,
+    source: &str,
+    writer: &mut W,
+) -> Result<(), Error>
+where
+    I: Iterator<Item = (&'a Event<'a>, Option<(usize, usize)>)>,
+    W: Taker,
+    R: Reader + Drop,
+    requires { I.can_next pairs × IsFinite (I.remaining pairs) }
+    ensures made { (flags : ParserOptions)
+        → Stands R.reading flags source.now state.old []
+        → (xs : List (Bor ParserEvent × Option Range)) × DrainsIf I.next_gives
+        (TakesAll result
+        (walk (rendering_of R.reading state.old) source.now (nothing_yet flags)
+        (ranged_pairs xs))) pairs xs
+        × Makes W.takes W.refuses writer.old writer.new result done
+        (script (rendering_of R.reading state.old) source.now (nothing_yet flags)
+        (ranged_pairs xs)) }
+    ensures finished { OnOk result (IsFinished state.new) }
+{
+    state.process_with_source_range(pairs, source, writer)?;
+    state.finish(writer)?;
+    Ok(())
 }

@@ -189,6 +189,41 @@ fn try_delimiters<'t, R: Reader>(
 }
 
 /// Tries all candidates of a unit, if it has some, as `try_all` does: first those from the source.
+fn try_candidates<'t, R: Reader>(
+    trial: &Trial<'t, '_, R>,
+    earlier: Earlier<'_>,
+    renderer: &mut Renderer<'t>,
+    refused: &mut Refused,
+    has_source: bool,
+    has_delimiters: bool,
+) -> Result<Option<ReadBack>, Error>
+    requires ready { IsReady R.reading trial.now }
+    requires standard { has_standard_markers (options_in trial.now) ≡ true }
+    requires refused { let q = asked_of R.reading trial.now in
+        AreRefused q (earlier_view earlier) refused.old }
+    requires front { IsFront (site_of renderer.old) }
+    ensures tried { TriesIn R.reading trial.now earlier.entry renderer.old renderer.new
+        (manners_for (options_in trial.now) has_source has_delimiters) result }
+    ensures known { KnowsIn R.reading trial.now earlier.entry renderer.new result }
+{
+    if let Some(known) = try_source(
+        trial,
+        earlier,
+        renderer,
+        refused,
+        has_source,
+        has_delimiters,
+    )? {
+        return Ok(Some(known));
+    }
+    if has_delimiters {
+        try_delimiters(trial, earlier, renderer, refused)
+    } else {
+        Ok(None)
+    }
+}
+
+/// Tries all candidates of a unit, none of which was refused so far, as `try_candidates` does.
 fn search<'t, R: Reader>(
     trial: &Trial<'t, '_, R>,
     earlier: Earlier<'_>,
@@ -204,21 +239,16 @@ fn search<'t, R: Reader>(
     ensures known { KnowsIn R.reading trial.now earlier.entry renderer.new result }
 {
     let mut refused = IndexSet::new(trial.alloc);
-    if let Some(known) = try_source(
+    let found = try_candidates(
         trial,
         earlier,
         renderer,
         &mut refused,
         has_source,
         has_delimiters,
-    )? {
-        return Ok(Some(known));
-    }
-    if has_delimiters {
-        try_delimiters(trial, earlier, renderer, &mut refused)
-    } else {
-        Ok(None)
-    }
+    );
+    drop(refused);
+    found
 }
 
 /// Whether options are accepted with these flags.

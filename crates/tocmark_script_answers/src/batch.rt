@@ -105,7 +105,7 @@ impl Batch {
     }
 
     /// Takes the next line. An `Err` says that the output can't be written.
-    pub fn take<O: Write, F: Write>(
+    fn take<O: Write, F: Write>(
         &mut self,
         line: &str,
         output: &mut O,
@@ -121,16 +121,28 @@ impl Batch {
         Ok(())
     }
 
-    /// Takes the end of the input, where the last script needn't have a line `%`. Returns whether each
-    /// script has its answer.
-    pub fn end<O: Write, F: Write>(self, output: &mut O, faults: &mut F) -> Result<bool, Fault> {
-        let mut batch = self;
-        if batch.lines.is_begun() {
-            batch.end_script("", output, faults)?;
+    /// Takes the end of the input, where the last script needn't have a line `%`.
+    fn end<O: Write, F: Write>(&mut self, output: &mut O, faults: &mut F) -> Result<(), Fault> {
+        if self.lines.is_begun() {
+            self.end_script("", output, faults)?;
         }
         match output.flush() {
-            Ok(()) => Ok(batch.is_right),
+            Ok(()) => Ok(()),
             Err(_) => Err(Fault::Write),
         }
+    }
+
+    /// Takes all lines of a text, and its end. Returns whether each script has its answer.
+    pub fn take_all<O: Write, F: Write>(
+        &mut self,
+        text: &str,
+        output: &mut O,
+        faults: &mut F,
+    ) -> Result<bool, Fault> {
+        for line in text.split('\n') {
+            self.take(line, output, faults)?;
+        }
+        self.end(output, faults)?;
+        Ok(self.is_right)
     }
 }

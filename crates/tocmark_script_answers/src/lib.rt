@@ -38,10 +38,9 @@ pub fn answer_scripts<O: Write, F: Write>(
     faults: &mut F,
 ) -> Result<bool, Fault> {
     let mut batch = Batch::new(alloc);
-    for line in text.split('\n') {
-        batch.take(line, output, faults)?;
-    }
-    batch.end(output, faults)
+    let is_right = batch.take_all(text, output, faults);
+    drop(batch);
+    is_right
 }
 
 /// Writes a fault's line. One that can't be written changes nothing.

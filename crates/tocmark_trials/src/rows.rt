@@ -160,6 +160,23 @@ fn take_line<'l>(lines: &mut ScriptLines, line: &'l str) -> Result<(), NumberedF
     }
 }
 
+/// Takes the lines of rows, and tries each row at its end.
+fn take_lines<'l>(
+    alloc: Global,
+    lines: &mut ScriptLines,
+    text: &'l str,
+    report: &mut Report,
+) -> Result<(), NumberedFault<'l>> {
+    for line in text.split('\n') {
+        if line == "%" {
+            end_row(alloc, lines, report)?;
+        } else {
+            take_line(lines, line)?;
+        }
+    }
+    Ok(())
+}
+
 /// Tries the rows of a text, each of which ends with a line `%`. One that memory can't hold is passed over.
 /// An `Err` says what is wrong with a line.
 pub fn try_rows<'l>(
@@ -168,12 +185,7 @@ pub fn try_rows<'l>(
     report: &mut Report,
 ) -> Result<(), NumberedFault<'l>> {
     let mut lines = ScriptLines::new(alloc);
-    for line in text.split('\n') {
-        if line == "%" {
-            end_row(alloc, &mut lines, report)?;
-        } else {
-            take_line(&mut lines, line)?;
-        }
-    }
-    Ok(())
+    let taken = take_lines(alloc, &mut lines, text, report);
+    drop(lines);
+    taken
 }

@@ -43,7 +43,7 @@ pub fn are_read_alike(alloc: Global, left: &str, right: &str) -> Result<bool, Al
 
 /// Writes the events of a reading.
 fn write(alloc: Global, reading: &Reading, output: &mut String) -> Result<(), Error> {
-    cmark(alloc, reading.events(), output, CoreReader, FLAGS)?;
+    drop(cmark(alloc, reading.events(), output, CoreReader, FLAGS)?);
     Ok(())
 }
 
@@ -68,7 +68,7 @@ fn write_from_source(
     output: &mut String,
 ) -> Result<(), Error> {
     let pairs = reading.pairs();
-    cmark_with_source_range(alloc, pairs, source, output, CoreReader, FLAGS)?;
+    drop(cmark_with_source_range(alloc, pairs, source, output, CoreReader, FLAGS)?);
     Ok(())
 }
 

@@ -1,12 +1,9 @@
-use Rattle.std.proofs.Common.{◌∙◌, [], Result, Err, Ok, refl, subst, sym}
+use Rattle.std.proofs.Common.{[], Ok, Result, refl, subst, sym}
 use Rattle.std.proofs.lemmas.Result.{err_from_is_err_and}
 use Rattle.tocmark_options.specs.declared.options.Error.{Error}
-use Rattle.tocmark_work.specs.declared.work.Progress.{Progress}
 use Rattle.tocmark_work.specs.Walk.{Rendering, done, nothing_yet, script, walk}
 use Rattle.tocmark_work.specs.Writes.{Makes, RefusesAt, TakesAllAt}
-use Rattle.tocmark_state.specs.StateView.{Ends, place_of, rendering_of, Stands}
 use Rattle.tocmark_work.specs.WorkView.{ranged_pairs}
-use Rattle.tocmark_state.proofs.Runs.{Adds-script, Ends-script, taken_front}
 use Rattle.tocmark.proofs.cmark_with_source_range_and_options.Goals as goal
 
 pub returns-in_err-ranged-clause-made : goal.returns-in_err-ranged-clause-made
@@ -14,71 +11,26 @@ returns-in_err-ranged-clause-made g c =
     let p = err_from_is_err_and c.from_residual.result c.from_residual.ensures.1 in
     rw (p.1, p.2, c.in_err-ranged.ensures.refused) (c.into_iter-pairs.result, [], c.into_iter-pairs.ensures.into_iter_gives, (c.into_iter-pairs.result, refl, λ h. absurd h), ([], _, refl, refl))
 
-pub returns-in_err-process_with_source_range-clause-made : goal.returns-in_err-process_with_source_range-clause-made
-returns-in_err-process_with_source_range-clause-made g c =
-    let p = err_from_is_err_and c.from_residual-in_err-process_with_source_range.result c.from_residual-in_err-process_with_source_range.ensures.1 in
-    let a = c.in_err-process_with_source_range.ensures.active (c.in_ok-ranged.ensures.stands []).active in
-    let gives = g.W.Taker.takes in
-    let refuses = g.W.Taker.refuses in
+pub returns-in-Ok-clause-made : goal.returns-in-Ok-clause-made
+returns-in-Ok-clause-made g c =
     let flags = c.args.parser_options in
-    let e = c.in_err-process_with_source_range.field-0.0 in
-    rw (p.1, p.2) (
-      a.0,
-      a.1,
-      rw a.2 c.into_iter-pairs.ensures.into_iter_gives,
-      (
-        a.3.0,
-        a.3.1,
-        λ h.
-            taken_front gives refuses c.args.writer.now c.process_with_source_range.new.writer (rendering_of g.R.Reader.reading c.in_ok-ranged.ranged) flags c.args.source.now e (place_of c.process_with_source_range.new.self) (ranged_pairs a.1) (a.4 flags [] (c.in_ok-ranged.ensures.stands c.args.source.now))
-            (subst (λ (how : Rendering). TakesAllAt e (walk how c.args.source.now (nothing_yet flags) (ranged_pairs a.1))) (sym c.in_ok-ranged.ensures.same) h),
-      ),
-      subst (λ (how : Rendering). RefusesAt gives refuses c.args.writer.now c.process_with_source_range.new.writer e (script how c.args.source.now (nothing_yet flags) (ranged_pairs a.1))) c.in_ok-ranged.ensures.same
-          (Adds-script gives refuses c.args.writer.now c.process_with_source_range.new.writer (rendering_of g.R.Reader.reading c.in_ok-ranged.ranged) flags c.args.source.now e (place_of c.process_with_source_range.new.self) (ranged_pairs a.1) (a.4 flags [] (c.in_ok-ranged.ensures.stands c.args.source.now))),
+    let r : Result (Unit {0}) Error = Ok tt in
+    let m = c.in-Ok.ensures.made flags (c.in_ok-ranged.ensures.stands c.args.source.now) in (
+      c.into_iter-pairs.result,
+      m.0,
+      c.into_iter-pairs.ensures.into_iter_gives,
+      (m.1.0, m.1.1, λ h. m.1.2 h),
+      subst (λ (how : Rendering). Makes g.W.Taker.takes g.W.Taker.refuses c.args.writer.now c.write_all_ranged.new.writer r done (script how c.args.source.now (nothing_yet flags) (ranged_pairs m.0))) c.in_ok-ranged.ensures.same m.2,
     )
 
-pub returns-in_err-finish-clause-made : goal.returns-in_err-finish-clause-made
-returns-in_err-finish-clause-made g c =
-    let p = err_from_is_err_and c.from_residual-in_err-finish.result c.from_residual-in_err-finish.ensures.1 in
-    let a = c.in_ok-process_with_source_range.ensures.active (c.in_ok-ranged.ensures.stands []).active in
-    let gives = g.W.Taker.takes in
-    let refuses = g.W.Taker.refuses in
+pub returns-in-Err-clause-made : goal.returns-in-Err-clause-made
+returns-in-Err-clause-made g c =
     let flags = c.args.parser_options in
-    let r : Result Progress Error = Err c.in_err-finish.field-0.0 in
-    let how = rendering_of g.R.Reader.reading c.in_ok-ranged.ranged in
-    rw (p.1, p.2) (
-      a.0,
-      a.1,
-      rw a.2 c.into_iter-pairs.ensures.into_iter_gives,
-      (a.3.0, a.3.1, λ h. a.3.2 refl),
-      let b = a.4 flags [] (c.in_ok-ranged.ensures.stands c.args.source.now) in
-          let s : Stands g.R.Reader.reading flags c.args.source.now c.process_with_source_range.new.self (ranged_pairs a.1) = record {
-            active = c.in_ok-process_with_source_range.ensures.stands ∙ (c.in_ok-ranged.ensures.stands c.args.source.now).active;
-            standing = rw c.in_ok-process_with_source_range.ensures.same b.made.0;
-          } in
-          subst (λ (x : Rendering). RefusesAt gives refuses c.args.writer.now c.finish.new.writer c.in_err-finish.field-0.0 (script x c.args.source.now (nothing_yet flags) (ranged_pairs a.1))) c.in_ok-ranged.ensures.same
-          (Ends-script gives refuses c.args.writer.now c.process_with_source_range.new.writer c.finish.new.writer how flags c.args.source.now c.in_ok-process_with_source_range.field-0 r (place_of c.process_with_source_range.new.self) (ranged_pairs a.1) b
-          (subst (λ (x : Rendering). Ends gives refuses c.process_with_source_range.new.writer c.finish.new.writer x flags c.args.source.now r (ranged_pairs a.1)) c.in_ok-process_with_source_range.ensures.same (c.in_err-finish.ensures.active flags c.args.source.now (ranged_pairs a.1) s))),
-    )
-
-pub returns-clause-made : goal.returns-clause-made
-returns-clause-made g c =
-    let a = c.in_ok-process_with_source_range.ensures.active (c.in_ok-ranged.ensures.stands []).active in
-    let gives = g.W.Taker.takes in
-    let refuses = g.W.Taker.refuses in
-    let flags = c.args.parser_options in
-    let r : Result Progress Error = Ok c.in_ok-finish.field-0 in
-    let how = rendering_of g.R.Reader.reading c.in_ok-ranged.ranged in (
-      a.0,
-      a.1,
-      rw a.2 c.into_iter-pairs.ensures.into_iter_gives,
-      (a.3.0, a.3.1, λ h. a.3.2 refl),
-      let b = a.4 flags [] (c.in_ok-ranged.ensures.stands c.args.source.now) in
-          let s : Stands g.R.Reader.reading flags c.args.source.now c.process_with_source_range.new.self (ranged_pairs a.1) = record {
-            active = c.in_ok-process_with_source_range.ensures.stands ∙ (c.in_ok-ranged.ensures.stands c.args.source.now).active;
-            standing = rw c.in_ok-process_with_source_range.ensures.same b.made.0;
-          } in
-          subst (λ (x : Rendering). Makes gives refuses c.args.writer.now c.finish.new.writer r done (script x c.args.source.now (nothing_yet flags) (ranged_pairs a.1))) c.in_ok-ranged.ensures.same
-          (Ends-script gives refuses c.args.writer.now c.process_with_source_range.new.writer c.finish.new.writer how flags c.args.source.now c.in_ok-process_with_source_range.field-0 r (place_of c.process_with_source_range.new.self) (ranged_pairs a.1) b
-          (subst (λ (x : Rendering). Ends gives refuses c.process_with_source_range.new.writer c.finish.new.writer x flags c.args.source.now r (ranged_pairs a.1)) c.in_ok-process_with_source_range.ensures.same (c.in_ok-finish.ensures.active flags c.args.source.now (ranged_pairs a.1) s))),
+    let e = c.in-Err.cause in
+    let m = c.in-Err.ensures.made flags (c.in_ok-ranged.ensures.stands c.args.source.now) in (
+      c.into_iter-pairs.result,
+      m.0,
+      c.into_iter-pairs.ensures.into_iter_gives,
+      (m.1.0, m.1.1, λ h. m.1.2 (subst (λ (how : Rendering). TakesAllAt e (walk how c.args.source.now (nothing_yet flags) (ranged_pairs m.0))) (sym c.in_ok-ranged.ensures.same) h)),
+      subst (λ (how : Rendering). RefusesAt g.W.Taker.takes g.W.Taker.refuses c.args.writer.now c.write_all_ranged.new.writer e (script how c.args.source.now (nothing_yet flags) (ranged_pairs m.0))) c.in_ok-ranged.ensures.same m.2,
     )

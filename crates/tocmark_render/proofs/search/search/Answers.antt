@@ -1,28 +1,10 @@
 use Rattle.std.proofs.Common.{false, string_bytes, subst, sym, ◌≡◌}
 use Rattle.std.specs.List.{AllByRecursion}
-use Rattle.tocmark_render.specs.TrialOf.{IsFront, asked_of, earlier_at, earlier_view, options_in, reads_back_in}
-use Rattle.tocmark_render.proofs.Trials.{no-delimiters, none-left, source-found, source-kept, then-delimiters}
+use Rattle.tocmark_render.specs.TrialOf.{asked_of, earlier_view, reads_back_in}
 use Rattle.tocmark_render.proofs.search.search.Goals as goal
 
-pub try_source-requires-clause-refused : goal.try_source-requires-clause-refused
-try_source-requires-clause-refused g c =
+pub try_candidates-found-requires-clause-refused : goal.try_candidates-found-requires-clause-refused
+try_candidates-found-requires-clause-refused g c =
     let q = asked_of g.R.Reader.reading c.args.trial.now in
     let d = earlier_view c.args.earlier in
     subst (AllByRecursion (λ t. reads_back_in q d (string_bytes t) ≡ false)) (sym c.new-refused.ensures.empty) tt
-
-pub returns-in-Some-clause-tried : goal.returns-in-Some-clause-tried
-returns-in-Some-clause-tried g c =
-    source-found (asked_of g.R.Reader.reading c.args.trial.now) (earlier_at c.args.earlier) c.args.renderer.now c.try_source.new.renderer (options_in c.args.trial.now) c.args.has_source c.args.has_delimiters c.in_ok-known.field-0 c.in_ok-known.ensures.tried c.in-Some.known c.in-Some.is
-
-pub try_delimiters-requires-clause-front : goal.try_delimiters-requires-clause-front
-try_delimiters-requires-clause-front g c =
-    subst IsFront (sym (source-kept (asked_of g.R.Reader.reading c.args.trial.now) (earlier_at c.args.earlier) c.args.renderer.now c.try_source.new.renderer (options_in c.args.trial.now) c.args.has_source c.args.has_delimiters c.in_ok-known.field-0 c.in_ok-known.ensures.tried (none-left c.in_ok-known.field-0 c.in_default.not-Some))) c.requires.front
-
-pub returns-then-has_delimiters-clause-tried : goal.returns-then-has_delimiters-clause-tried
-returns-then-has_delimiters-clause-tried g c =
-    then-delimiters (asked_of g.R.Reader.reading c.args.trial.now) (earlier_at c.args.earlier) c.args.renderer.now c.try_source.new.renderer (options_in c.args.trial.now) c.args.has_source c.args.has_delimiters c.in_ok-known.field-0 c.in_ok-known.ensures.tried (none-left c.in_ok-known.field-0 c.in_default.not-Some)
-    c.try_delimiters.new.renderer c.try_delimiters.result c.if-has_delimiters.true c.try_delimiters.ensures.tried
-
-pub returns-clause-tried : goal.returns-clause-tried
-returns-clause-tried g c =
-    no-delimiters (asked_of g.R.Reader.reading c.args.trial.now) (earlier_at c.args.earlier) c.args.renderer.now c.try_source.new.renderer (options_in c.args.trial.now) c.args.has_source c.args.has_delimiters c.in_ok-known.field-0 c.in_ok-known.ensures.tried (none-left c.in_ok-known.field-0 c.in_default.not-Some) c.if-has_delimiters.false

@@ -1,0 +1,61 @@
+use Rattle.std.proofs.Common.{◌∙◌, [], Result, Err, Ok, refl, subst}
+use Rattle.std.proofs.lemmas.Result.{err_from_is_err_and}
+use Rattle.tocmark_options.specs.declared.options.Error.{Error}
+use Rattle.tocmark_work.specs.declared.work.Progress.{Progress}
+use Rattle.tocmark_work.specs.Walk.{Rendering}
+use Rattle.tocmark_state.specs.StateView.{Ends, place_of, rendering_of, Stands}
+use Rattle.tocmark_work.specs.WorkView.{pairs}
+use Rattle.tocmark_state.proofs.Runs.{Adds-script, Ends-script, taken_front}
+use Rattle.tocmark.proofs.write_all.Goals as goal
+
+pub returns-in_err-process-clause-made : goal.returns-in_err-process-clause-made
+returns-in_err-process-clause-made g c flags s =
+    let p = err_from_is_err_and c.from_residual.result c.from_residual.ensures.1 in
+    let a = c.in_err-process.ensures.active (s []).active in
+    let gives = g.W.Taker.takes in
+    let refuses = g.W.Taker.refuses in
+    let how = rendering_of g.R.Reader.reading c.args.state.now in
+    let e = c.in_err-process.field-0.0 in
+    rw (p.1, p.2) (
+      a.1,
+      (a.3.0, rw (← a.2) a.3.1, λ h. taken_front gives refuses c.args.writer.now c.process.new.writer how flags [] e (place_of c.process.new.self) (pairs a.1) (a.4 flags [] [] (s [])) h),
+      λ source. Adds-script gives refuses c.args.writer.now c.process.new.writer how flags source e (place_of c.process.new.self) (pairs a.1) (a.4 flags source [] (s source)),
+    )
+
+pub returns-in_err-finish-clause-made : goal.returns-in_err-finish-clause-made
+returns-in_err-finish-clause-made g c flags s =
+    let p = err_from_is_err_and c.from_residual-in_err-finish.result c.from_residual-in_err-finish.ensures.1 in
+    let a = c.in_ok-process.ensures.active (s []).active in
+    let gives = g.W.Taker.takes in
+    let refuses = g.W.Taker.refuses in
+    let how = rendering_of g.R.Reader.reading c.args.state.now in
+    let r : Result Progress Error = Err c.in_err-finish.field-0.0 in
+    rw (p.1, p.2) (
+      a.1,
+      (a.3.0, rw (← a.2) a.3.1, λ h. a.3.2 refl),
+      λ source. let b = a.4 flags source [] (s source) in
+          let t : Stands g.R.Reader.reading flags source c.process.new.self (pairs a.1) = record {
+            active = c.in_ok-process.ensures.stands ∙ (s source).active;
+            standing = rw c.in_ok-process.ensures.same b.made.0;
+          } in
+          Ends-script gives refuses c.args.writer.now c.process.new.writer c.finish.new.writer how flags source c.in_ok-process.field-0 r (place_of c.process.new.self) (pairs a.1) b
+          (subst (λ (x : Rendering). Ends gives refuses c.process.new.writer c.finish.new.writer x flags source r (pairs a.1)) c.in_ok-process.ensures.same (c.in_err-finish.ensures.active flags source (pairs a.1) t)),
+    )
+
+pub returns-clause-made : goal.returns-clause-made
+returns-clause-made g c flags s =
+    let a = c.in_ok-process.ensures.active (s []).active in
+    let gives = g.W.Taker.takes in
+    let refuses = g.W.Taker.refuses in
+    let how = rendering_of g.R.Reader.reading c.args.state.now in
+    let r : Result Progress Error = Ok c.in_ok-finish.field-0 in (
+      a.1,
+      (a.3.0, rw (← a.2) a.3.1, λ h. a.3.2 refl),
+      λ source. let b = a.4 flags source [] (s source) in
+          let t : Stands g.R.Reader.reading flags source c.process.new.self (pairs a.1) = record {
+            active = c.in_ok-process.ensures.stands ∙ (s source).active;
+            standing = rw c.in_ok-process.ensures.same b.made.0;
+          } in
+          Ends-script gives refuses c.args.writer.now c.process.new.writer c.finish.new.writer how flags source c.in_ok-process.field-0 r (place_of c.process.new.self) (pairs a.1) b
+          (subst (λ (x : Rendering). Ends gives refuses c.process.new.writer c.finish.new.writer x flags source r (pairs a.1)) c.in_ok-process.ensures.same (c.in_ok-finish.ensures.active flags source (pairs a.1) t)),
+    )
