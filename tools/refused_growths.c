@@ -1,7 +1,8 @@
 /* Runs a program on and on: wherever it asks for memory, a copy of it is refused once and runs to its end. What the
    copies write goes to the file that REFUSED_GROWTHS names: before each a line with the byte 1 and the number of the
    request, behind each a line with the byte 2 and the copy's status. The program itself is never refused. Only requests
-   of the program count, and none of the C library's own. */
+   of the program count, and none of the C library's own. With REFUSED_COUNT in place of REFUSED_GROWTHS nothing is
+   refused, and the file that it names gets the number of requests at the end. */
 #define _GNU_SOURCE
 #include <dlfcn.h>
 #include <fcntl.h>
@@ -24,6 +25,16 @@ __attribute__((constructor)) static void begin(void) {
   if (name != NULL) log_file = open(name, O_WRONLY | O_CREAT | O_APPEND, 0600);
 }
 
+__attribute__((destructor)) static void end(void) {
+  const char *name = getenv("REFUSED_COUNT");
+  FILE *file;
+  if (name == NULL) return;
+  file = fopen(name, "w");
+  if (file == NULL) _exit(96);
+  fprintf(file, "%d\n", requests);
+  fclose(file);
+}
+
 static void note(char mark, int number) {
   char line[32];
   int length = snprintf(line, sizeof line, "%c%d\n", mark, number);
@@ -34,8 +45,8 @@ static void note(char mark, int number) {
 static int is_refused(void) {
   int status = 0;
   pid_t copy;
-  if (log_file < 0) return 0;
   requests += 1;
+  if (log_file < 0) return 0;
   copy = fork();
   if (copy < 0) _exit(98);
   if (copy == 0) {

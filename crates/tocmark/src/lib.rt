@@ -25,6 +25,7 @@ ghost use Rattle.tocmark_event.specs.Text.{ParserEvent};
 ghost use Rattle.tocmark_event.specs.declared.event.flags.ParserOptions.{ParserOptions};
 ghost use Rattle.tocmark_options.specs.Options.{default_options, options_view};
 ghost use Rattle.tocmark_laws.specs.PlainLines.{HandsLines, is_line, paragraph_of_lines};
+ghost use Rattle.tocmark_laws.specs.SingleBlocks.{MakesCodeSpan, MakesFencedCode, MakesLink};
 ghost use Rattle.tocmark_work.specs.Ranges.{Range};
 ghost use Rattle.tocmark_laws.specs.TextBlocks.{MakesBlocks};
 ghost use Rattle.tocmark_work.specs.Walk.{done, nothing_yet, script, walk};
@@ -53,6 +54,10 @@ pub use tocmark_work::work::Progress;
 /// and headings that hold texts alone exactly one text each is handed: two line feeds unless it is the first
 /// one, as many `#` as its level and a space if it is a heading, and the escape of its texts (the clause
 /// `blocks`).
+///
+/// A paragraph with one code span alone is handed as one text, the span that is read as its text (the clause
+/// `code`); one with an inline link round one text as the link (`link`); and a fenced code block alone with
+/// a fence that ends no sooner than its texts (`fence`).
 pub fn cmark<'a, I, W, R>(
     alloc: Global,
     events: I,
@@ -83,6 +88,17 @@ where
     ensures blocks { (it : I.IntoIter) × (xs : List (Bor ParserEvent)) × I.into_iter_gives events it
         × DrainsIf I.IntoIter.next_gives (IsOk result) it xs
         × MakesBlocks W.takes W.refuses writer.old writer.new result parser_options (pairs xs) }
+    ensures code { (it : I.IntoIter) × (xs : List (Bor ParserEvent)) × I.into_iter_gives events it
+        × DrainsIf I.IntoIter.next_gives (IsOk result) it xs
+        × MakesCodeSpan W.takes W.refuses writer.old writer.new result (pairs xs) }
+    ensures link { (it : I.IntoIter) × (xs : List (Bor ParserEvent)) × I.into_iter_gives events it
+        × DrainsIf I.IntoIter.next_gives (IsOk result) it xs
+        × MakesLink W.takes W.refuses writer.old writer.new result parser_options (pairs xs) }
+    ensures fence { (it : I.IntoIter) × (xs : List (Bor ParserEvent)) × I.into_iter_gives events it
+        × DrainsIf I.IntoIter.next_gives (IsOk result) it xs
+        × MakesFencedCode W.takes W.refuses writer.old writer.new result (pairs xs) }
+    ensures same { IfOk result (λ state.
+        rendering_of R.reading state ≡ rendering default_options (R.reading reader)) }
     ensures finished { IfOk result (λ state. IsFinished state) }
 {
     cmark_with_options(
@@ -101,7 +117,8 @@ where
 /// `events` is any finite iterable of `&Event`, `parser_options` are the flags under which the events
 /// were read and under which the text is to read back, and `reader` is what reads it. Each unit's text
 /// is handed to `writer` by one `write_str`. An `Err` is the first refusal of those calls; what was
-/// handed before it stays with the writer.
+/// handed before it stays with the writer. The state that is returned is finished, and has the options and
+/// the reader that were given (the clause `same`).
 pub fn cmark_with_options<'a, I, W, R>(
     alloc: Global,
     events: I,
@@ -125,6 +142,9 @@ where
         → Makes W.takes W.refuses writer.old writer.new result done
         (script (rendering (options_view options.entry) (R.reading reader)) source
         (nothing_yet parser_options) (pairs xs))) }
+    ensures same { IfOk result (λ state.
+        rendering_of R.reading state
+        ≡ rendering (options_view options.entry) (R.reading reader)) }
     ensures finished { IfOk result (λ state. IsFinished state) }
 {
     let events = events.into_iter();
@@ -154,6 +174,8 @@ where
         × ((source : List ℕ)
         → Makes W.takes W.refuses writer.old writer.new result done
         (script (rendering_of R.reading state.old) source (nothing_yet flags) (pairs xs))) }
+    ensures same { OnOk result
+        (rendering_of R.reading state.new ≡ rendering_of R.reading state.old) }
     ensures finished { OnOk result (IsFinished state.new) }
 {
     state.process(events, writer)?;
@@ -186,6 +208,8 @@ where
         × Makes W.takes W.refuses writer.old writer.new result done
         (script (rendering default_options (R.reading reader)) source.now
         (nothing_yet parser_options) (ranged_pairs xs)) }
+    ensures same { IfOk result (λ state.
+        rendering_of R.reading state ≡ rendering default_options (R.reading reader)) }
     ensures finished { IfOk result (λ state. IsFinished state) }
 {
     let options = Options::default();
@@ -229,6 +253,9 @@ where
         × Makes W.takes W.refuses writer.old writer.new result done
         (script (rendering (options_view options.entry) (R.reading reader)) source.now
         (nothing_yet parser_options) (ranged_pairs xs)) }
+    ensures same { IfOk result (λ state.
+        rendering_of R.reading state
+        ≡ rendering (options_view options.entry) (R.reading reader)) }
     ensures finished { IfOk result (λ state. IsFinished state) }
 {
     let pairs = pairs.into_iter();
@@ -263,6 +290,8 @@ where
         × Makes W.takes W.refuses writer.old writer.new result done
         (script (rendering_of R.reading state.old) source.now (nothing_yet flags)
         (ranged_pairs xs)) }
+    ensures same { OnOk result
+        (rendering_of R.reading state.new ≡ rendering_of R.reading state.old) }
     ensures finished { OnOk result (IsFinished state.new) }
 {
     state.process_with_source_range(pairs, source, writer)?;

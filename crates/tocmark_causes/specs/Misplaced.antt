@@ -1,7 +1,7 @@
 -- An event that may not stand where it does.
-use Rattle.std.specs.Prelude.{◌≡◌, Bool, true, false, ◌||◌, List, [], ◌∷◌, ◌++◌, drop}
-use Rattle.tocmark_event.specs.Forest.{empty, leaf, node}
-use Rattle.tocmark_event.specs.View.{TagView, SourcedEvent, Start, End, Leaf}
+use Rattle.std.specs.Prelude.{◌≡◌, Bool, true, false, not, ◌&&◌, List, [], ◌∷◌, ◌++◌, drop, map}
+use Rattle.tocmark_event.specs.Forest.{empty, leaf, node, flat}
+use Rattle.tocmark_event.specs.View.{TagView, SourcedEvent, Start, End, Leaf, end_of}
 use Rattle.tocmark_spelling.specs.Body.{Trees}
 use Rattle.tocmark_spelling.specs.ById.{by_id}
 use Rattle.tocmark_spelling.specs.Plan.{Setting}
@@ -14,17 +14,31 @@ open_behind outside (Leaf l ∷ es) = open_behind outside es
 open_behind outside (Start t ∷ es) = open_behind (t ∷ outside) es
 open_behind outside (End k ∷ es) = open_behind (drop 1 outside) es
 
--- a Start among events that may not stand in the containers that are open before it: an Item not directly in a List, a
--- Heading in a Heading, a TableHead not directly in a Table, or a TableCell in no Table
-pub record HasMisplacedStart (es : List SourcedEvent) : Type 0 where
-  pub before : List SourcedEvent
-  pub tag : TagView
-  pub after : List SourcedEvent
-  pub is : es ≡ before ++ Start tag ∷ after
-  pub wrong : is_wrong_in tag (open_behind [] before) ≡ true
+-- an event, and whether it is looked at
+abbrev pub Marked : Type 0
+Marked = SourcedEvent × Bool
 
--- whether some container is a link or image whose id stands in place of its body
-abbrev pub some_by_id : Setting → Trees → Bool
-some_by_id s empty = false
-some_by_id s (leaf l f) = some_by_id s f
-some_by_id s (node t kids f) = by_id s t kids || some_by_id s kids || some_by_id s f
+-- the events of trees, before others; those of a body in whose place its id is written aren't looked at
+abbrev pub marked_onto : Setting → Bool → Trees → List Marked → List Marked
+marked_onto s looked empty rest = rest
+marked_onto s looked (leaf l f) rest = (Leaf l, looked) ∷ marked_onto s looked f rest
+marked_onto s looked (node t kids f) rest =
+    (Start t, looked) ∷ marked_onto s (looked && not (by_id s t kids)) kids ((End (end_of t), looked) ∷ marked_onto s looked f rest)
+
+-- the events of a unit, each with whether it is looked at
+abbrev pub marked : Setting → Trees → List Marked
+marked s f = marked_onto s true f []
+
+-- the events alone
+abbrev pub events_in : List Marked → List SourcedEvent
+events_in es = map (λ e. e.0) es
+
+-- a Start among a unit's events, in no body that its id replaces, that may not stand in the containers that are open before
+-- it: an Item not directly in a List, a Heading in a Heading, a TableHead not directly in a Table, or a TableCell in no Table
+pub record HasMisplacedStart (s : Setting) (f : Trees) : Type 0 where
+  pub before : List Marked
+  pub tag : TagView
+  pub after : List Marked
+  pub is : flat f ≡ events_in before ++ Start tag ∷ events_in after
+  pub looked_at : marked s f ≡ before ++ (Start tag, true) ∷ after
+  pub wrong : is_wrong_in tag (open_behind [] (events_in before)) ≡ true

@@ -1,21 +1,20 @@
 //! Why a unit has no spelling, as an event of it and the containers that are open there.
 #![tactic(auto)]
 
-ghost use Rattle.std.specs.Prelude.{◌≡◌, [], false, None};
-ghost use Rattle.tocmark_event.specs.Forest.{flat};
+ghost use Rattle.std.specs.Prelude.{◌≡◌, [], None};
 ghost use Rattle.tocmark_spelling.specs.Body.{Trees};
 ghost use Rattle.tocmark_spelling.specs.Page.{Around, Page};
 ghost use Rattle.tocmark_spelling.specs.Plan.{Manner, Setting};
 ghost use Rattle.tocmark_spelling.specs.Spelling.{spelling};
-ghost use Rattle.tocmark_causes.specs.Misplaced.{HasMisplacedStart, some_by_id};
+ghost use Rattle.tocmark_causes.specs.Misplaced.{HasMisplacedStart};
 
 /// A unit without a spelling has an event that may not stand where it does (`refused`): an Item that isn't
 /// directly in a List, a Heading in a Heading, a TableHead that isn't directly in a Table, or a TableCell in
-/// no Table. A unit with such an event has no spelling, whatever is asked for (`misplaced`), unless it has a
-/// body that is written by its id, which isn't looked at.
+/// no Table. It stands in no body in whose place an id is written, since such a body isn't looked at. A unit
+/// with such an event has no spelling, whatever is asked for (`misplaced`).
 pub fn misplaced_nodes_are_starts()
     ensures refused { (s : Setting) (m : Manner) (f : Trees) (a : Around) (p : Page)
-        → spelling s m f a [] p ≡ None → HasMisplacedStart (flat f) }
+        → spelling s m f a [] p ≡ None → HasMisplacedStart s f }
     ensures misplaced { (s : Setting) (m : Manner) (f : Trees) (a : Around) (p : Page)
-        → some_by_id s f ≡ false → HasMisplacedStart (flat f) → spelling s m f a [] p ≡ None }
+        → HasMisplacedStart s f → spelling s m f a [] p ≡ None }
 {}

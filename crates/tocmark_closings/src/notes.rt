@@ -96,8 +96,8 @@ pub fn close_definition(renderer: &mut Renderer<'_>) -> Result<(), AllocError>
 
 /// The end of metadata of this kind, with the line that opened it.
 ///
-/// An `Err` says that memory ran out, or that the line feeds behind it would be too many for a
-/// `usize`.
+/// The line feeds that it owes are one more than the options ask for, the greatest `usize` at most. An
+/// `Err` says that memory ran out.
 pub fn close_metadata(
     renderer: &mut Renderer<'_>,
     options: &Options<'_>,
@@ -107,10 +107,7 @@ pub fn close_metadata(
         (close_metadata (options_view options.now) kind) }
     ensures mark { renderer.new.at_mark ≡ renderer.old.at_mark }
 {
-    let owed = options
-        .newlines_after_metadata
-        .checked_add(1)
-        .ok_or(AllocError)?;
+    let owed = options.newlines_after_metadata.saturating_add(1);
     renderer.write(metadata_fence(kind))?;
     end_block(renderer, TagEnd::MetadataBlock(kind), owed);
     Ok(())

@@ -1,7 +1,7 @@
 //! A reader of CommonMark 0.31.2.
 #![tactic(auto)]
 
-mod laws;
+pub mod laws;
 mod plain;
 mod reader;
 

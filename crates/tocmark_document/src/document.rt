@@ -505,15 +505,17 @@ impl Document {
     ///
     /// `next` is the event after the unit, if there is one. Where the options have markers that Markdown
     /// reads, spellings are tried in order, and the first is taken in which the reader finds the unit:
-    /// from the source, where some text is known there, and for a unit with delimiters the preferred
-    /// one and those by other plans and markers. Where none is found, a unit without delimiters is written in the
-    /// preferred spelling, as is one whose options aren't accepted, and any with other markers. The last
-    /// unit, which no event follows, has a label that is reserved for its lists, if one needs a placeholder.
+    /// from the source, where some text is known there, and for a unit that is checked the preferred one,
+    /// with delimiters also those by other plans and markers. A unit with delimiters is checked, and where
+    /// the options ask for it each that has an event. Where none is found, a unit that isn't checked is
+    /// written in the preferred spelling, as is one whose options aren't accepted, and any with other
+    /// markers. The last unit, which no event follows, has a label that is reserved for its lists, if one
+    /// needs a placeholder.
     ///
     /// An `Err` is `UnexpectedEvent` where a container of the unit is open, and where an event
     /// stands where it may not, as a heading in a heading; `Unrepresentable` where no spelling of a
-    /// unit with delimiters is read back, though the options are accepted; and `OutOfMemory` where
-    /// memory ran out or the reader answered it. The document is then as it was.
+    /// unit that is checked is read back, though the options are accepted; and `OutOfMemory` where memory
+    /// ran out or the reader answered it. The document is then as it was.
     pub fn block<R: Reader>(
         &mut self,
         alloc: Global,

@@ -3,6 +3,7 @@ pub mod Tables
 pub mod Links
 pub mod Delimiters
 pub mod Fallbacks
+pub mod Checked
 pub mod EdgesOfLists
 pub mod EdgesOfDelimiters
 pub mod EdgesOfLinks

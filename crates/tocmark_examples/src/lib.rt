@@ -4,6 +4,7 @@
 
 ghost use Rattle.tocmark_examples.specs.Script.{AreWritten};
 ghost use Rattle.tocmark_examples.specs.Blocks.{blocks};
+ghost use Rattle.tocmark_examples.specs.Checked.{checked};
 ghost use Rattle.tocmark_examples.specs.Delimiters.{delimiters};
 ghost use Rattle.tocmark_examples.specs.EdgesOfBlocks.{edges_of_blocks};
 ghost use Rattle.tocmark_examples.specs.EdgesOfDelimiters.{edges_of_delimiters};
@@ -43,6 +44,11 @@ pub fn delimiters_are_written()
 /// Fallbacks.
 pub fn fallbacks_are_written()
     ensures { AreWritten fallbacks }
+{}
+
+/// Units under the option that checks plain blocks.
+pub fn checked_units_are_written()
+    ensures { AreWritten checked }
 {}
 
 /// Lists at the edges of the rules.

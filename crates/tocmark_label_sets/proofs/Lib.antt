@@ -1,2 +1,3 @@
+pub mod FreeLabels
 pub mod LabelLemmas
 pub mod ReservedLabels

@@ -2,5 +2,6 @@
 #![tactic(auto)]
 
 pub mod labels;
+pub mod laws;
 pub mod reserved_label;
 pub mod taken;

@@ -1,4 +1,4 @@
--- What is chosen for the only unit of a document, where it has no delimiters and no sources.
+-- What is chosen for the only unit of a document, where it isn't checked and has no sources.
 use Rattle.std.proofs.Common.{◌≡◌, List, false, None, refl, ap, ◌∙◌, ℕ}
 use Rattle.std.specs.Prelude.{◌&&◌}
 use Rattle.tocmark_event.specs.Forest.{flat}
@@ -17,10 +17,10 @@ use Rattle.tocmark_work.specs.WorkView.{keeping, rendering}
 
 -- it takes its preferred spelling
 pub alone-chosen : (o : OptionsView) (reading : List ℕ → ParserOptions → ReadingView) (flags : ParserOptions) (f : Trees)
-    → needs_placeholder f ≡ false → is_delimiter_block f ≡ false → has_source f ≡ false
+    → o.check_plain_blocks ≡ false → needs_placeholder f ≡ false → is_delimiter_block f ≡ false → has_source f ≡ false
     → (rendering o reading).choice (record { flags = flags; document = first_document }) (flat f) None ≡ keeping flags (preferred (setting_of o flags reading None) first_document f None)
-alone-chosen o reading flags f plain undelimited unsourced =
+alone-chosen o reading flags f off plain undelimited unsourced =
     let s = setting_of o flags reading None in
     ap (λ r. keeping flags r)
     (chosen-unlabelled s first_document f None refl plain
-    ∙ choice-unasked s first_document f None undelimited (ap (λ b. b && has_standard_markers o) unsourced))
+    ∙ choice-unasked s first_document f None undelimited off (ap (λ b. b && has_standard_markers o) unsourced))

@@ -324,12 +324,12 @@ module _ (s : Setting) (d : DocumentView) (b : Block) (next : Option EventView) 
   unasked : (has_source (unit b) && has_standard_markers s.options) ≡ false
   unasked = ap (λ x. (x || false) && has_standard_markers s.options) (no_sources b.texts)
 
-  pub block_chosen : s.label ≡ None → (owed : ℕ) (before : Option Kind) → IsCalm d owed before → HasText b → IsChosen owed
-  block_chosen none owed before h some = record {
+  pub block_chosen : s.options.check_plain_blocks ≡ false → s.label ≡ None → (owed : ℕ) (before : Option Kind) → IsCalm d owed before → HasText b → IsChosen owed
+  block_chosen off none owed before h some = record {
     document = document_after s d (unit_page owed);
     is =
         chosen-unlabelled s d (unit b) next none (block_placed b)
-        ∙ choice-unasked s d (unit b) next (block_undelimited b) unasked
+        ∙ choice-unasked s d (unit b) next (block_undelimited b) off unasked
         ∙ ap (accepted_if s d) (page_spelled owed before h some);
     after = left_calm owed before h;
   }

@@ -82,7 +82,7 @@ one_text : (text : List ℕ) → 0 < length text → unless_empty text ≡ text 
 one_text [] h = absurd (omega arith)
 one_text (b ∷ bs) h = refl
 
-module _ (o : OptionsView) (reading : List ℕ → ParserOptions → ReadingView) (flags : ParserOptions) (source : List ℕ) where
+module _ (o : OptionsView) (reading : List ℕ → ParserOptions → ReadingView) (flags : ParserOptions) (source : List ℕ) (off : o.check_plain_blocks ≡ false) where
   abbrev how : Rendering
   how = rendering o reading
 
@@ -144,9 +144,9 @@ module _ (o : OptionsView) (reading : List ℕ → ParserOptions → ReadingView
 
   -- a block that is pending, and the blocks behind it
   rest_written : (d : DocumentView) (owed : ℕ) (before : Option Kind) (b : Block) (bs : List Block) → IsCalm d owed before → AllByRecursion HasText (b ∷ bs) → at_end (walk how source (behind (kept_of d) (flat (unit b))) (document_of bs)) ≡ record { texts = texts_behind o flags owed (b ∷ bs); outcome = Ok done }
-  rest_written d owed before b [] calm h = last_written d owed b (block_chosen setting d b None refl owed before calm (h.0)) (h.0)
+  rest_written d owed before b [] calm h = last_written d owed b (block_chosen setting d b None off refl owed before calm (h.0)) (h.0)
   rest_written d owed before b (c ∷ cs) calm h =
-      let chosen : IsChosen setting d b (Some (Start (tag_of c.kind))) owed = block_chosen setting d b (Some (Start (tag_of c.kind))) refl owed before calm (h.0) in
+      let chosen : IsChosen setting d b (Some (Start (tag_of c.kind))) owed = block_chosen setting d b (Some (Start (tag_of c.kind))) off refl owed before calm (h.0) in
       ap at_end (step_flushed d owed b (tag_of c.kind) (rest_of c.kind c.texts ++ document_of cs) chosen (h.0))
       ∙ at_end_cons (text_of owed b) (walk how source (beginning (kept_of chosen.document)) (document_of (c ∷ cs)))
       ∙ ap (λ w. cons_walk (text_of owed b) (at_end w)) (block_walked how source (kept_of chosen.document) c (document_of cs))
@@ -169,6 +169,6 @@ blocks_made gives refuses w v r o reading flags p default made =
     λ bs h e.
     let is : script (rendering o reading) [] (nothing_yet flags) p ≡ blocks_walk default_options flags bs =
     ap (λ (q : List Pair). script (rendering o reading) [] (nothing_yet flags) q) e
-    ∙ blocks_are_handed o reading flags [] bs h
+    ∙ blocks_are_handed o reading flags [] (ap (λ (x : OptionsView). x.check_plain_blocks) default) bs h
     ∙ ap (λ (x : OptionsView). blocks_walk x flags bs) default
     in subst (λ (x : Walk Done). Makes gives refuses w v r done x) is made

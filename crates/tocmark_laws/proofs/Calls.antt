@@ -43,15 +43,15 @@ refused_makes gives refuses how flags source p q rest s w w' u e place folds a =
     (subst (λ (x : Walk Done). RefusesAt gives refuses w u e x) (sym (script-append how source (nothing_yet flags) (p ++ q) rest)) longer)
 
 -- calls after pairs at which the state stood
-pub calls_make : {W : Type 0} (gives refuses : W → List ℕ → W → Type 0) (how : Rendering) (flags : ParserOptions) (source : List ℕ) (qs : List (List Pair)) (p : List Pair) (s : Standing) (w w' v : W) (r : Result Progress Error) → (walk how source (nothing_yet flags) p).outcome ≡ Ok s → FoldsTo gives w (walk how source (nothing_yet flags) p).texts w' → AreCalls gives refuses how flags source p qs w' v r → Makes gives refuses w v r done (script how source (nothing_yet flags) (p ++ all_pairs qs))
-calls_make gives refuses how flags source [] p s w w' v r at folds b = ends_make gives refuses how flags source p w w' v r folds b
-calls_make {W} gives refuses how flags source (q ∷ qs) p s w w' v r at folds (c, g) = go (λ t u. calls_make gives refuses how flags source qs (p ++ q) t w u v r) c.answer c.place c.u c.added g
+pub calls_make : {W : Type 0} (gives refuses : W → List ℕ → W → Type 0) (how : Rendering) (flags : ParserOptions) (source : List ℕ) (qs : List (List Pair)) (p : List Pair) (s : Standing) (w w' v : W) (counts : List Progress) (r : Result Progress Error) → (walk how source (nothing_yet flags) p).outcome ≡ Ok s → FoldsTo gives w (walk how source (nothing_yet flags) p).texts w' → AreCalls gives refuses how flags source p qs w' v counts r → Makes gives refuses w v r done (script how source (nothing_yet flags) (p ++ all_pairs qs))
+calls_make gives refuses how flags source [] p s w w' v counts r at folds b = ends_make gives refuses how flags source p w w' v r folds b.1
+calls_make {W} gives refuses how flags source (q ∷ qs) p s w w' v counts r at folds (c, g) = go (λ t u ns. calls_make gives refuses how flags source qs (p ++ q) t w u v ns r) c.answer c.place c.u c.added g
   where
-    go : ((t : Standing) (u : W) → (walk how source (nothing_yet flags) (p ++ q)).outcome ≡ Ok t → FoldsTo gives w (walk how source (nothing_yet flags) (p ++ q)).texts u → AreCalls gives refuses how flags source (p ++ q) qs u v r → Makes gives refuses w v r done (script how source (nothing_yet flags) ((p ++ q) ++ all_pairs qs))) → (answer : Result Progress Error) (place : Standing) (u : W) → Adds gives refuses w' u how flags source answer place p q → GoesOn answer u v r (AreCalls gives refuses how flags source (p ++ q) qs u v r) → Makes gives refuses w v r done (script how source (nothing_yet flags) (p ++ (q ++ all_pairs qs)))
-    go again (Ok n) place u a g =
+    go : ((t : Standing) (u : W) (ns : List Progress) → (walk how source (nothing_yet flags) (p ++ q)).outcome ≡ Ok t → FoldsTo gives w (walk how source (nothing_yet flags) (p ++ q)).texts u → AreCalls gives refuses how flags source (p ++ q) qs u v ns r → Makes gives refuses w v r done (script how source (nothing_yet flags) ((p ++ q) ++ all_pairs qs))) → (answer : Result Progress Error) (place : Standing) (u : W) → Adds gives refuses w' u how flags source answer place p q → GoesOn answer u v counts r (λ ns. AreCalls gives refuses how flags source (p ++ q) qs u v ns r) → Makes gives refuses w v r done (script how source (nothing_yet flags) (p ++ (q ++ all_pairs qs)))
+    go again (Ok n) place u a (ns, is, g) =
         subst (λ (ps : List Pair). Makes gives refuses w v r done (script how source (nothing_yet flags) ps)) (append_assoc p q (all_pairs qs))
-        (again place u a.made.0 (subst (λ (ts : List (List ℕ)). FoldsTo gives w ts u) (sym a.added) (FoldsTo-append gives w (walk how source (nothing_yet flags) p).texts a.more w' u folds a.made.1)) g)
-    go again (Err e) place u a (same, is) =
+        (again place u ns a.made.0 (subst (λ (ts : List (List ℕ)). FoldsTo gives w ts u) (sym a.added) (FoldsTo-append gives w (walk how source (nothing_yet flags) p).texts a.more w' u folds a.made.1)) g)
+    go again (Err e) place u a (none, same, is) =
         subst (λ (x : Result Progress Error). Makes gives refuses w v x done (script how source (nothing_yet flags) (p ++ (q ++ all_pairs qs)))) (sym is)
         (subst (λ (x : W). RefusesAt gives refuses w x e (script how source (nothing_yet flags) (p ++ (q ++ all_pairs qs)))) same
         (refused_makes gives refuses how flags source p q (all_pairs qs) s w w' u e place folds a))

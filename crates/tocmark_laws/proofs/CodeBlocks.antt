@@ -284,7 +284,7 @@ module _ (how : Rendering) (source : List ℕ) (kept : Kept) where
   scripted info ts =
       ap (λ (w : Walk Standing). go_on w.texts w.outcome (λ t. ended how t)) (started info ts ∙ texts-walked (Start (CodeBlock (Fenced info)) ∷ []) ts)
 
-module _ (o : OptionsView) (reading : List ℕ → ParserOptions → ReadingView) (flags : ParserOptions) (info : List ℕ) (ts : List (List ℕ)) where
+module _ (o : OptionsView) (reading : List ℕ → ParserOptions → ReadingView) (flags : ParserOptions) (info : List ℕ) (ts : List (List ℕ)) (off : o.check_plain_blocks ≡ false) where
   abbrev setting : Setting
   setting = setting_of o flags reading None
 
@@ -305,7 +305,7 @@ module _ (o : OptionsView) (reading : List ℕ → ParserOptions → ReadingView
   pub handed : (source : List ℕ) → script (rendering o reading) source (nothing_yet flags) (code_events info ts) ≡ one_text_walk (code_text (fence o info (concat ts)) info (concat ts))
   handed source =
       scripted (rendering o reading) source (record { flags = flags; document = first_document }) info ts
-      ∙ ap (λ r. finished_of (rendering o reading) (flat (unit info ts)) r) (alone-chosen o reading flags (unit info ts) (no-list info ts) (undelimited info ts) (unsourced info ts))
+      ∙ ap (λ r. finished_of (rendering o reading) (flat (unit info ts)) r) (alone-chosen o reading flags (unit info ts) off (no-list info ts) (undelimited info ts) (unsourced info ts))
       ∙ ap ended_as (preferred-is ∙ ap (λ t. Ok (t, document_after setting first_document page)) (closed-text setting info ts))
       ∙ ap (λ (defs : List ℕ). record { texts = last_texts (holds_raw_block (flat (unit info ts))) defs (code_text (fence o info (concat ts)) info (concat ts)); outcome = Ok done }) no-definitions
 

@@ -4,6 +4,7 @@ pub mod Reading
 pub mod Paragraphs
 pub mod Causes
 pub mod Calls
+pub mod Sums
 pub mod PlainCharacters
 pub mod PlainEscapes
 pub mod PlainEscapedLines
@@ -23,3 +24,5 @@ pub mod Fences
 pub mod CodeBlocks
 pub mod Unexpected
 pub mod UnexpectedCauses
+pub mod SingleBlocks
+pub mod WrittenUnits

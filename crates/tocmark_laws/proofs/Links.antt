@@ -38,7 +38,7 @@ no-list : (dest title id text : List ℕ) → needs_placeholder (unit dest title
 unfolding needs_placeholder
 no-list dest title id text = refl
 
-module _ (o : OptionsView) (reading : List ℕ → ParserOptions → ReadingView) (flags : ParserOptions) (dest title id text : List ℕ) where
+module _ (o : OptionsView) (reading : List ℕ → ParserOptions → ReadingView) (flags : ParserOptions) (dest title id text : List ℕ) (off : o.check_plain_blocks ≡ false) where
   -- the sheet before the text, behind it, and at the end
   abbrev opened : Sheet
   opened = laid [] (codes "[") (record { text = []; feeds = 0 })
@@ -76,6 +76,6 @@ module _ (o : OptionsView) (reading : List ℕ → ParserOptions → ReadingView
   handed source =
       let w = written in
       scripted source
-      ∙ ap (λ r. finished_of (rendering o reading) (flat (unit dest title id text)) r) (alone-chosen o reading flags (unit dest title id text) (no-list dest title id text) refl refl)
+      ∙ ap (λ r. finished_of (rendering o reading) (flat (unit dest title id text)) r) (alone-chosen o reading flags (unit dest title id text) off (no-list dest title id text) refl refl)
       ∙ ap ended_as (w.preferred_is ∙ ap (λ t. Ok (t, w.document)) closed-text)
       ∙ ap (λ (defs : List ℕ). record { texts = last_texts (holds_raw_block (flat (unit dest title id text))) defs (link_text o flags dest title text); outcome = Ok done }) w.undefined

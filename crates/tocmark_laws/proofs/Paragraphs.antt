@@ -75,7 +75,7 @@ no-list l = refl
 abbrev blank : Sheet
 blank = record { text = []; feeds = 0 }
 
-module _ (o : OptionsView) (reading : List ℕ → ParserOptions → ReadingView) (flags : ParserOptions) where
+module _ (o : OptionsView) (reading : List ℕ → ParserOptions → ReadingView) (flags : ParserOptions) (off : o.check_plain_blocks ≡ false) where
   -- the place of the text
   abbrev place_in : Place
   place_in = record { flags = flags; token = o.emphasis_token; literal = false; first_encoded = false; last_encoded = false; at_front = true; in_table = false; in_heading = false; next = Some (End end.Paragraph) }
@@ -90,14 +90,14 @@ module _ (o : OptionsView) (reading : List ℕ → ParserOptions → ReadingView
   unfolding spelled spelling opening closing leaf_on document_after definitions_text prefers_underscore by_id marker
   written-text text = record { document = _; undefined = refl; preferred_is = refl }
 
-  written-code : (text : List ℕ) → IsWritten (Code text) (code_span false text)
+  pub written-code : (text : List ℕ) → IsWritten (Code text) (code_span false text)
   unfolding spelled spelling opening closing leaf_on document_after definitions_text prefers_underscore by_id marker
   written-code text = record { document = _; undefined = refl; preferred_is = refl }
 
   chosen-preferred : (l : LeafView) → is_math l ≡ false → chosen (setting_of o flags reading None) first_document (flat (unit l)) None ≡ preferred (setting_of o flags reading None) first_document (unit l) None
   chosen-preferred l h =
       let s = setting_of o flags reading None in
-      chosen-unlabelled s first_document (unit l) None refl (no-list l) ∙ choice-unasked s first_document (unit l) None (undelimited l h) refl
+      chosen-unlabelled s first_document (unit l) None refl (no-list l) ∙ choice-unasked s first_document (unit l) None (undelimited l h) off refl
 
   -- what the end comes to, by what is chosen for the unit
   abbrev ended_as : LeafView → Result (List ℕ × DocumentView) Error → Walk Done
@@ -107,7 +107,8 @@ module _ (o : OptionsView) (reading : List ℕ → ParserOptions → ReadingView
   unfolding joins flushed flushed_before advance step ended
   scripted source l = refl
 
-  made : (source : List ℕ) (l : LeafView) (text : List ℕ) → is_math l ≡ false → IsWritten l text → script (rendering o reading) source (nothing_yet flags) (paragraph_with l) ≡ record { texts = handed_text text; outcome = Ok done }
+  -- the text is handed unless it is empty
+  pub made : (source : List ℕ) (l : LeafView) (text : List ℕ) → is_math l ≡ false → IsWritten l text → script (rendering o reading) source (nothing_yet flags) (paragraph_with l) ≡ record { texts = handed_text text; outcome = Ok done }
   made source l text h w =
       scripted source l
       ∙ ap (ended_as l) (chosen-preferred l h ∙ w.preferred_is ∙ ap (λ t. Ok (t, w.document)) (laid-plain text blank))

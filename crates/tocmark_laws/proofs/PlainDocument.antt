@@ -148,7 +148,7 @@ accepted s page text e n = record {
   none = ap (λ (refs : List Reference). definitions_text refs page.sheet.feeds) n;
 }
 
-module _ (o : OptionsView) (reading : List ℕ → ParserOptions → ReadingView) (flags : ParserOptions) (token : char_set_contains (codes "*_") o.emphasis_token ≡ true) where
+module _ (o : OptionsView) (reading : List ℕ → ParserOptions → ReadingView) (flags : ParserOptions) (off : o.check_plain_blocks ≡ false) (token : char_set_contains (codes "*_") o.emphasis_token ≡ true) where
   abbrev setting : Setting
   setting = setting_of o flags reading None
 
@@ -183,7 +183,7 @@ module _ (o : OptionsView) (reading : List ℕ → ParserOptions → ReadingView
   chosen-preferred : (l : List ℕ) (ms : List (List ℕ)) → chosen setting first_document (flat (unit l ms)) None ≡ preferred setting first_document (unit l ms) None
   chosen-preferred l ms =
       chosen-unlabelled setting first_document (unit l ms) None refl (unit_placed l ms)
-      ∙ choice-unasked setting first_document (unit l ms) None (unit_undelimited l ms) (no_source setting l ms)
+      ∙ choice-unasked setting first_document (unit l ms) None (unit_undelimited l ms) off (no_source setting l ms)
 
   abbrev ended_as : List ℕ → List (List ℕ) → Result (List ℕ × DocumentView) Error → Walk Done
   ended_as l ms r = finished_of (rendering o reading) (flat (unit l ms)) (keeping flags r)
@@ -218,9 +218,9 @@ module _ (o : OptionsView) (reading : List ℕ → ParserOptions → ReadingView
   plain_read_back source l ms h = lines_read_back source l ms (all_from is_line IsLineText (l ∷ ms) line_from h)
 
 -- a call that made the walk of a paragraph of lines handed one text, which is read back
-pub lines_handed : {W X : Type 0} (gives refuses : W → List ℕ → W → Type 0) (w v : W) (r : Result X Error) (o : OptionsView) (reading : List ℕ → ParserOptions → ReadingView) (flags : ParserOptions) (p : List Pair) (l : List ℕ) (ms : List (List ℕ)) → char_set_contains (codes "*_") o.emphasis_token ≡ true → list_all is_line (l ∷ ms) ≡ true → p ≡ paragraph_of_lines l ms → Makes gives refuses w v r done (script (rendering o reading) [] (nothing_yet flags) p) → HandsLines gives refuses w v r l ms
-lines_handed gives refuses w v r o reading flags p l ms token lines e made =
-    let read = plain_read_back o reading flags token [] l ms lines in
+pub lines_handed : {W X : Type 0} (gives refuses : W → List ℕ → W → Type 0) (w v : W) (r : Result X Error) (o : OptionsView) (reading : List ℕ → ParserOptions → ReadingView) (flags : ParserOptions) (p : List Pair) (l : List ℕ) (ms : List (List ℕ)) → o.check_plain_blocks ≡ false → char_set_contains (codes "*_") o.emphasis_token ≡ true → list_all is_line (l ∷ ms) ≡ true → p ≡ paragraph_of_lines l ms → Makes gives refuses w v r done (script (rendering o reading) [] (nothing_yet flags) p) → HandsLines gives refuses w v r l ms
+lines_handed gives refuses w v r o reading flags p l ms off token lines e made =
+    let read = plain_read_back o reading flags off token [] l ms lines in
     let walk : Walk Done = script (rendering o reading) [] (nothing_yet flags) (paragraph_of_lines l ms) in
     let with_texts : List (List ℕ) → Walk Done = λ ts. record { texts = ts; outcome = walk.outcome } in
     let with_end : Result Done Error → Walk Done = λ k. record { texts = read.text ∷ []; outcome = k } in

@@ -1,4 +1,5 @@
--- A unit that is refused as unexpected has an event that may not stand where it does.
+-- A unit that is refused as unexpected has an event that may not stand where it does; one that can't be represented has no
+-- candidate that reads back.
 use Rattle.std.proofs.Common.{◌≡◌, Bool, true, false, ℕ, Option, Some, None, Ok, Err, List, [], refl, sym, ap, ◌∙◌, subst}
 use Rattle.std.specs.Prelude.{◌&&◌}
 use Rattle.tocmark_event.specs.Forest.{IsBalanced, flat}
@@ -6,25 +7,28 @@ use Rattle.tocmark_options.specs.Options.{OptionsView}
 use Rattle.tocmark_reader.specs.Reading.{ReadingView}
 use Rattle.tocmark_event.specs.View.{EventView, SourcedEvent}
 use Rattle.tocmark_event.specs.declared.event.flags.ParserOptions.{ParserOptions}
+use Rattle.tocmark_options.specs.declared.options.Error.{Error}
 use Rattle.tocmark_options.specs.declared.options.Error.TheVariants.{UnexpectedEvent, Unrepresentable}
 use Rattle.tocmark_spelling.specs.Body.{Trees}
 use Rattle.tocmark_spelling.specs.Page.{Page, Site}
 use Rattle.tocmark_spelling.specs.Plan.{Setting, Manner}
-use Rattle.tocmark_spelling.specs.PlanOf.{setting_of}
 use Rattle.tocmark_spelling.specs.Spelling.{is_misplaced, spelling}
 use Rattle.tocmark_spelling.proofs.Refusals.{none-misplaced}
-use Rattle.tocmark_causes.proofs.Misplaced.{misplaced-start}
-use Rattle.tocmark_causes.specs.Misplaced.{HasMisplacedStart}
-use Rattle.tocmark_render.specs.Candidates.{candidates, is_delimiter_block, preferred_manner}
+use Rattle.tocmark_causes.proofs.Misplaced.{labelled-start, start-labelled}
+use Rattle.tocmark_render.specs.Candidates.{candidates, is_checked, preferred_manner}
 use Rattle.tocmark_render.specs.Choice.{Chosen, accepted_if, by_markers, choice, first_or, first_that_reads_back, has_standard_markers, page_in, page_of, preferred, spelled, unless_misplaced}
 use Rattle.tocmark_label_sets.specs.Document.{DocumentView}
 use Rattle.tocmark_labels.specs.Placeholder.{whole}
-use Rattle.tocmark_labels.specs.Units.{labelled}
-use Rattle.tocmark_render.specs.Chosen.{choice_of, chosen}
+use Rattle.tocmark_labels.specs.Units.{label_for, labelled}
+use Rattle.tocmark_render.specs.Chosen.{chosen}
+use Rattle.tocmark_render.specs.Unrepresentable.{IsUnrepresentable}
+use Rattle.tocmark_render.proofs.Chosen.{chosen-flat}
+use Rattle.tocmark_render.proofs.Unrepresentable.{unrepresentable-causes}
 use Rattle.tocmark_render.specs.Validates.{validates}
-use Rattle.tocmark_labels.proofs.Forests.{trees-flat}
+use Rattle.tocmark_work.specs.Walk.{Kept, Standing}
 use Rattle.tocmark_work.specs.WorkView.{keeping, rendering}
-use Rattle.tocmark_laws.specs.Unexpected.{RefusesMisplaced}
+use Rattle.tocmark_laws.specs.Unexpected.{IsMisplacedUnit, setting_at}
+use Rattle.tocmark_laws.specs.UnrepresentableLists.{IsUnrepresentableUnit}
 
 no-page : (o : Option Site) → page_of o ≡ None → o ≡ None
 no-page None h = refl
@@ -51,7 +55,7 @@ module _ (s : Setting) (d : DocumentView) (f : Trees) (next : Option EventView) 
   unfound false h = unpreferred h
 
   none-first : (o : Option Page) → first_or s d f next o ≡ Err UnexpectedEvent → IsMisplaced
-  none-first None h = unfound (is_delimiter_block f && validates s.options s.flags) h
+  none-first None h = unfound (is_checked s.options f && validates s.options s.flags) h
   none-first (Some p) h = absurd (cc)
 
   by-markers : (b : Bool) → by_markers b s d f next ≡ Err UnexpectedEvent → IsMisplaced
@@ -66,25 +70,51 @@ module _ (s : Setting) (d : DocumentView) (f : Trees) (next : Option EventView) 
   unfolding choice
   choice-misplaced h = by-misplaced (is_misplaced s [] f) refl h
 
-chosen-misplaced : (s : Setting) (d : DocumentView) (f : Trees) (next : Option EventView) → chosen s d (flat f) next ≡ Err UnexpectedEvent → HasMisplacedStart (flat f)
-unfolding chosen
-chosen-misplaced s d f next h =
-    let labelled_setting = labelled s d (flat f) next in
-    misplaced-start labelled_setting f (choice-misplaced labelled_setting d f next (ap (λ o. choice_of labelled_setting d o next) (sym (trees-flat f)) ∙ h))
+  pub misplaced-choice : IsMisplaced → choice s d f next ≡ Err UnexpectedEvent
+  unfolding choice
+  misplaced-choice h = ap (λ b. unless_misplaced b s d f next) h
+
+-- what is chosen for the events of a forest
+pub flat-choice : (s : Setting) (d : DocumentView) (f : Trees) (unit : List SourcedEvent) (next : Option EventView) → flat f ≡ unit → chosen s d unit next ≡ choice (labelled s d unit next) d f next
+flat-choice s d f unit next same =
+    subst (λ es. chosen s d es next ≡ choice (labelled s d es next) d f next) same (chosen-flat s d f next)
 
 -- a unit is refused as unexpected only for an event that may not stand where it does
-pub unit-misplaced : (s : Setting) (d : DocumentView) (unit : List SourcedEvent) (next : Option EventView) → IsBalanced unit → chosen s d unit next ≡ Err UnexpectedEvent → HasMisplacedStart unit
+pub unit-misplaced : (s : Setting) (d : DocumentView) (unit : List SourcedEvent) (next : Option EventView) → IsBalanced unit → chosen s d unit next ≡ Err UnexpectedEvent → IsMisplacedUnit s unit
 unit-misplaced s d unit next balanced h =
-    let same : flat balanced.0 ≡ unit = balanced.1 in
-    subst HasMisplacedStart same (chosen-misplaced s d balanced.0 next (ap (λ es. chosen s d es next) same ∙ h))
+    let is_misplaced_there = choice-misplaced (labelled s d unit next) d balanced.0 next (sym (flat-choice s d balanced.0 unit next balanced.1) ∙ h) in
+    record { forest = balanced.0; is = balanced.1; start = start-labelled s (label_for d unit next) balanced.0 is_misplaced_there }
+
+-- and it is refused where one stands so
+pub misplaced-unit : (s : Setting) (d : DocumentView) (unit : List SourcedEvent) (next : Option EventView) → IsMisplacedUnit s unit → chosen s d unit next ≡ Err UnexpectedEvent
+misplaced-unit s d unit next h =
+    flat-choice s d h.forest unit next h.is
+    ∙ misplaced-choice (labelled s d unit next) d h.forest next (labelled-start s (label_for d unit next) h.forest h.start)
+
+-- a unit can't be represented only where none of its candidates reads back
+unit-unrepresentable : (s : Setting) (d : DocumentView) (unit : List SourcedEvent) (next : Option EventView) (f : Trees) → flat f ≡ unit → chosen s d unit next ≡ Err Unrepresentable → IsUnrepresentable (labelled s d unit next) d f next
+unit-unrepresentable s d unit next f same h =
+    unrepresentable-causes (labelled s d unit next) d f next (sym (flat-choice s d f unit next same) ∙ h)
 
 -- a document with its flags is left where a unit is chosen
-not-kept : (flags : ParserOptions) (r : Chosen) → keeping flags r ≡ Err UnexpectedEvent → r ≡ Err UnexpectedEvent
-not-kept flags (Ok x) h = absurd (cc)
-not-kept flags (Err e) h = let same : e ≡ UnexpectedEvent = cc in ap (λ x. Err x) same
+not-kept : (flags : ParserOptions) (r : Chosen) (e : Error) → keeping flags r ≡ Err e → r ≡ Err e
+not-kept flags (Ok x) e h = absurd (cc)
+not-kept flags (Err x) e h = let same : x ≡ e = cc in ap (λ y. Err y) same
 
 -- so it is of the units of each call
-pub rendering-misplaced : (o : OptionsView) (reading : List ℕ → ParserOptions → ReadingView) → RefusesMisplaced (rendering o reading)
+pub rendering-misplaced : (o : OptionsView) (reading : List ℕ → ParserOptions → ReadingView) (kept : Kept) (unit : List SourcedEvent) (next : Option EventView)
+    → IsBalanced unit → (rendering o reading).choice kept unit next ≡ Err UnexpectedEvent → IsMisplacedUnit (setting_at o reading kept) unit
 rendering-misplaced o reading kept unit next balanced h =
-    let s = setting_of o kept.flags reading None in
-    unit-misplaced s kept.document unit next balanced (not-kept kept.flags (chosen s kept.document unit next) h)
+    let s = setting_at o reading kept in
+    unit-misplaced s kept.document unit next balanced (not-kept kept.flags (chosen s kept.document unit next) UnexpectedEvent h)
+
+pub rendering-unrepresentable : (o : OptionsView) (reading : List ℕ → ParserOptions → ReadingView) (at : Standing) (next : Option EventView)
+    → IsBalanced at.pending → (rendering o reading).choice at.document at.pending next ≡ Err Unrepresentable → IsUnrepresentableUnit (setting_at o reading at.document) at next
+rendering-unrepresentable o reading at next balanced h =
+    let s = setting_at o reading at.document in
+    let d = at.document.document in
+    record {
+      forest = balanced.0;
+      is = balanced.1;
+      cause = unit-unrepresentable s d at.pending next balanced.0 balanced.1 (not-kept at.document.flags (chosen s d at.pending next) Unrepresentable h);
+    }

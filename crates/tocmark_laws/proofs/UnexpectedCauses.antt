@@ -1,19 +1,28 @@
--- A list that is refused as unexpected has an event that is, or a container that isn't ended.
-use Rattle.std.proofs.Common.{◌≡◌, ℕ, Bool, true, false, List, [], ◌∷◌, Ok, Err, refl}
+-- A list that is refused as unexpected has an event that is, or a container that isn't ended; one that can't be represented
+-- has a unit that can't.
+use Rattle.std.proofs.Common.{◌≡◌, ℕ, Bool, true, false, List, [], ◌∷◌, Option, Some, None, Result, Ok, Err, refl, sym, ap, ◌∙◌, ◌++◌}
 use Rattle.std.proofs.lemmas.Bool.{false≢true}
 use Rattle.std.specs.Prelude.{not, ◌&&◌}
 use Rattle.tocmark_event.specs.Forest.{IsBalanced}
 use Rattle.tocmark_event.specs.View.{SourcedEvent}
 use Rattle.tocmark_event.specs.declared.event.TagEnd.{TagEnd}
-use Rattle.tocmark_options.specs.declared.options.Error.TheVariants.{UnexpectedEvent}
+use Rattle.tocmark_options.specs.declared.options.Error.TheVariants.{UnexpectedEvent, Unrepresentable}
+use Rattle.tocmark_options.specs.declared.options.Error.{Error}
+use Rattle.tocmark_options.specs.Options.{OptionsView}
+use Rattle.tocmark_reader.specs.Reading.{ReadingView}
+use Rattle.tocmark_event.specs.declared.event.flags.ParserOptions.{ParserOptions}
 use Rattle.tocmark_laws.specs.Causes.{Cause, BadRange, RefusedUnit, WrongEnd, EndCause, OpenContainer, RefusedLastUnit, IsRefusedIn}
 use Rattle.tocmark_laws.specs.Causes as refused
 use Rattle.tocmark_work.specs.Ranges.{Pair}
-use Rattle.tocmark_work.specs.Walk.{Kept, Rendering, Standing, beginning, is_whole, script, walk}
+use Rattle.tocmark_work.specs.Walk.{Done, Kept, Rendering, Standing, beginning, ended, ended_at, go_on, is_due, is_whole, script, walk}
+use Rattle.tocmark_work.specs.WorkView.{rendering}
 use Rattle.tocmark_laws.proofs.Causes.{script_cause}
 use Rattle.tocmark_labels.proofs.Balanced.{reading-balanced}
 use Rattle.tocmark_laws.proofs.Reading.{nothing_nested}
-use Rattle.tocmark_laws.specs.Unexpected.{RefusesMisplaced, IsUnexpected, InUnit, ItsEnd, IsUnexpectedEnd, IsOpen, InLastUnit, IsUnexpectedIn, AtPair, AtEnd}
+use Rattle.tocmark_laws.proofs.Unexpected.{rendering-misplaced, rendering-unrepresentable}
+use Rattle.tocmark_laws.specs.UnrepresentableLists.{HasUnrepresentableEnd, HasUnrepresentableUnit, IsUnrepresentableIn}
+use Rattle.tocmark_laws.specs.UnrepresentableLists as unrepresentable
+use Rattle.tocmark_laws.specs.Unexpected.{setting_at, IsUnexpected, InUnit, ItsEnd, IsUnexpectedEnd, IsOpen, InLastUnit, IsUnexpectedIn, AtPair, AtEnd}
 
 -- a unit is due only where no container is open
 none-open : (deferred : Bool) (os : List TagEnd) (es : List SourcedEvent) → (not deferred && is_whole os es) ≡ true → os ≡ []
@@ -21,28 +30,86 @@ none-open deferred [] es h = refl
 none-open true (o ∷ os) es h = absurd (false≢true h)
 none-open false (o ∷ os) es h = absurd (false≢true h)
 
-module _ (how : Rendering) (source : List ℕ) (kept : Kept) (only : RefusesMisplaced how) where
+cons-nil : (o : TagEnd) (os : List TagEnd) → o ∷ os ≡ [] → ⊥
+cons-nil o os n = cc
+
+-- a script that goes on to its end
+end-outcome : (how : Rendering) (source : List ℕ) (s at : Standing) (p : List Pair) → (walk how source s p).outcome ≡ Ok at → (script how source s p).outcome ≡ (ended how at).outcome
+end-outcome how source s at p h = ap (λ o. (go_on (walk how source s p).texts o (λ t. ended how t)).outcome) h
+
+-- an open container is unexpected at the end
+open-end : (how : Rendering) (at : Standing) (o : TagEnd) (os : List TagEnd) → at.open_tags ≡ o ∷ os → (ended how at).outcome ≡ Err UnexpectedEvent
+unfolding ended
+open-end how at o os h = ap (λ tags. (ended_at how tags at).outcome) h
+
+other-error : (r : Result Done Error) → r ≡ Err UnexpectedEvent → r ≡ Err Unrepresentable → ⊥
+other-error r h k = absurd (cc)
+
+module _ (options : OptionsView) (reading : List ℕ → ParserOptions → ReadingView) (source : List ℕ) (kept : Kept) where
+  abbrev how : Rendering
+  how = rendering options reading
+
+  abbrev Stands : List Pair → Standing → Type 0
+  Stands p at = (walk how source (beginning kept) p).outcome ≡ Ok at
+
   -- what is pending is the events of a forest where no container is open
-  balanced : (p : List Pair) (at : Standing) → (walk how source (beginning kept) p).outcome ≡ Ok at → at.open_tags ≡ [] → IsBalanced at.pending
+  balanced : (p : List Pair) (at : Standing) → Stands p at → at.open_tags ≡ [] → IsBalanced at.pending
   balanced p at stands o = let nested = nothing_nested how source kept at p stands in reading-balanced at.pending (rw o at nested)
 
-  pair-cause : (p : List Pair) (at : Standing) (pair : Pair) → (walk how source (beginning kept) p).outcome ≡ Ok at → Cause how source at pair UnexpectedEvent → IsUnexpected at pair
+  due-balanced : (p : List Pair) (at : Standing) → Stands p at → is_due at ≡ true → IsBalanced at.pending
+  due-balanced p at stands due = balanced p at stands (none-open at.is_deferred at.open_tags at.pending due)
+
+  pair-cause : (p : List Pair) (at : Standing) (pair : Pair) → Stands p at → Cause how source at pair UnexpectedEvent → IsUnexpected (setting_at options reading at.document) at pair
   pair-cause p at pair stands (BadRange bad) = absurd (let is = bad.error_is in cc)
   pair-cause p at pair stands (RefusedUnit unit) =
-      InUnit (only at.document at.pending _ (balanced p at stands (none-open at.is_deferred at.open_tags at.pending unit.due)) unit.refused)
+      InUnit (rendering-misplaced options reading at.document at.pending (Some pair.0) (due-balanced p at stands unit.due) unit.refused)
   pair-cause p at pair stands (WrongEnd wrong) = ItsEnd wrong
 
-  end-cause : (p : List Pair) (at : Standing) → (walk how source (beginning kept) p).outcome ≡ Ok at → EndCause how at UnexpectedEvent → IsUnexpectedEnd at
+  end-cause : (p : List Pair) (at : Standing) → Stands p at → EndCause how at UnexpectedEvent → IsUnexpectedEnd (setting_at options reading at.document) at
   end-cause p at stands (OpenContainer o) = IsOpen o.opened
   end-cause p at stands (RefusedLastUnit unit) = by_tags at.open_tags refl
     where
-      by_tags : (os : List TagEnd) → at.open_tags ≡ os → IsUnexpectedEnd at
-      by_tags [] e = InLastUnit (only at.document at.pending _ (balanced p at stands e) unit.refused)
-      by_tags (o ∷ os) e = IsOpen (λ n. absurd (cc))
+      by_tags : (os : List TagEnd) → at.open_tags ≡ os → IsUnexpectedEnd (setting_at options reading at.document) at
+      by_tags [] e = InLastUnit (rendering-misplaced options reading at.document at.pending None (balanced p at stands e) unit.refused)
+      by_tags (o ∷ os) e = IsOpen (λ n. cons-nil o os (sym e ∙ n))
 
-  pub unexpected-cause : (p : List Pair) → (script how source (beginning kept) p).outcome ≡ Err UnexpectedEvent → IsUnexpectedIn how source (beginning kept) p
+  pub unexpected-cause : (p : List Pair) → (script how source (beginning kept) p).outcome ≡ Err UnexpectedEvent → IsUnexpectedIn options reading source (beginning kept) p
   unexpected-cause p h = by_place (script_cause how source (beginning kept) p UnexpectedEvent h)
     where
-      by_place : IsRefusedIn how source (beginning kept) p UnexpectedEvent → IsUnexpectedIn how source (beginning kept) p
+      by_place : IsRefusedIn how source (beginning kept) p UnexpectedEvent → IsUnexpectedIn options reading source (beginning kept) p
       by_place (refused.AtPair r) = AtPair (record { before = r.before; pair = r.pair; after = r.after; is = r.is; at = r.at; stands = r.stands; cause = pair-cause r.before r.at r.pair r.stands r.cause })
       by_place (refused.AtEnd r) = AtEnd (record { at = r.at; stands = r.stands; cause = end-cause p r.at r.stands r.cause })
+
+  -- at a pair, a unit can't be represented
+  pair-unit : (before : List Pair) (pair : Pair) (after p : List Pair) (at : Standing) → p ≡ before ++ pair ∷ after → Stands before at → Cause how source at pair Unrepresentable
+      → HasUnrepresentableUnit options reading source (beginning kept) p
+  pair-unit before pair after p at is stands (BadRange bad) = absurd (let is = bad.error_is in cc)
+  pair-unit before pair after p at is stands (WrongEnd wrong) = absurd (let is = wrong.error_is in cc)
+  pair-unit before pair after p at is stands (RefusedUnit unit) = record {
+    before = before;
+    pair = pair;
+    after = after;
+    is = is;
+    at = at;
+    stands = stands;
+    due = unit.due;
+    writable = unit.writable;
+    cause = rendering-unrepresentable options reading at (Some pair.0) (due-balanced before at stands unit.due) unit.refused;
+  }
+
+  -- at the end, the last unit can't be represented
+  end-unit : (p : List Pair) (at : Standing) → Stands p at → (script how source (beginning kept) p).outcome ≡ Err Unrepresentable → EndCause how at Unrepresentable
+      → HasUnrepresentableEnd options reading source (beginning kept) p
+  end-unit p at stands h (OpenContainer o) = absurd (let is = o.error_is in cc)
+  end-unit p at stands h (RefusedLastUnit unit) = by_tags at.open_tags refl
+    where
+      by_tags : (os : List TagEnd) → at.open_tags ≡ os → HasUnrepresentableEnd options reading source (beginning kept) p
+      by_tags [] e = record { at = at; stands = stands; closed = e; cause = rendering-unrepresentable options reading at None (balanced p at stands e) unit.refused }
+      by_tags (o ∷ os) e = absurd (other-error (ended how at).outcome (open-end how at o os e) (sym (end-outcome how source (beginning kept) at p stands) ∙ h))
+
+  pub unrepresentable-cause : (p : List Pair) → (script how source (beginning kept) p).outcome ≡ Err Unrepresentable → IsUnrepresentableIn options reading source (beginning kept) p
+  unrepresentable-cause p h = by_place (script_cause how source (beginning kept) p Unrepresentable h)
+    where
+      by_place : IsRefusedIn how source (beginning kept) p Unrepresentable → IsUnrepresentableIn options reading source (beginning kept) p
+      by_place (refused.AtPair r) = unrepresentable.AtPair (pair-unit r.before r.pair r.after p r.at r.is r.stands r.cause)
+      by_place (refused.AtEnd r) = unrepresentable.AtEnd (end-unit p r.at r.stands h r.cause)

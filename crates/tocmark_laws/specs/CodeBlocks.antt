@@ -49,10 +49,11 @@ abbrev pub code_text : List ℕ → List ℕ → List ℕ → List ℕ
 code_text fence info text =
     opened_code fence info text ++ (if last_byte (opened_code fence info text) == 10 then fence else [])
 
--- exactly the code block is handed and nothing is refused: under all options and flags, over each reader
+-- exactly the code block is handed and nothing is refused: under all flags, over each reader, and under all options that
+-- don't ask that plain blocks be checked
 abbrev pub CodeIsFenced : Type 0
 CodeIsFenced =
     (options : OptionsView) (reading : List ℕ → ParserOptions → ReadingView) (flags : ParserOptions) (source info : List ℕ) (ts : List (List ℕ)) →
-    (fence : List ℕ) × IsFence options info (concat ts) fence
+    options.check_plain_blocks ≡ false → (fence : List ℕ) × IsFence options info (concat ts) fence
     × (script (rendering options reading) source (nothing_yet flags) (code_events info ts)
     ≡ one_text_walk (code_text fence info (concat ts)))

@@ -7,3 +7,6 @@ pub mod TextBlocks
 pub mod CodeBlocks
 pub mod Links
 pub mod Unexpected
+pub mod SingleBlocks
+pub mod UnrepresentableLists
+pub mod Written

@@ -40,9 +40,10 @@ link_text o flags dest title text = codes "[" ++ escaped (place_in_link o flags)
 abbrev pub one_text_walk : List ℕ → Walk Done
 one_text_walk text = record { texts = text ∷ []; outcome = Ok done }
 
--- exactly the link is handed and nothing is refused: under all options and flags, over each reader
+-- exactly the link is handed and nothing is refused: under all flags, over each reader, and under all options that don't
+-- ask that plain blocks be checked
 abbrev pub LinksAreClosed : Type 0
 LinksAreClosed =
     (options : OptionsView) (reading : List ℕ → ParserOptions → ReadingView) (flags : ParserOptions) (source dest title id text : List ℕ) →
-    script (rendering options reading) source (nothing_yet flags) (link_events dest title id text)
+    options.check_plain_blocks ≡ false → script (rendering options reading) source (nothing_yet flags) (link_events dest title id text)
     ≡ one_text_walk (link_text options flags dest title text)

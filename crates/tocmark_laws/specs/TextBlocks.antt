@@ -83,11 +83,12 @@ HasText b = chars (concat b.texts) ≢ []
 abbrev pub blocks_walk : OptionsView → ParserOptions → List Block → Walk Done
 blocks_walk o flags bs = record { texts = texts_behind o flags 0 bs; outcome = Ok done }
 
--- for blocks with text, exactly a text for each is handed and nothing is refused: under all options and flags, over each reader
+-- for blocks with text, exactly a text for each is handed and nothing is refused: under all flags, over each reader, and
+-- under all options that don't ask that plain blocks be checked
 abbrev pub BlocksAreEscapes : Type 0
 BlocksAreEscapes =
     (options : OptionsView) (reading : List ℕ → ParserOptions → ReadingView) (flags : ParserOptions) (source : List ℕ) (bs : List Block) →
-    AllByRecursion HasText bs → script (rendering options reading) source (nothing_yet flags) (document_of bs) ≡ blocks_walk options flags bs
+    options.check_plain_blocks ≡ false → AllByRecursion HasText bs → script (rendering options reading) source (nothing_yet flags) (document_of bs) ≡ blocks_walk options flags bs
 
 -- if the events are those of blocks with text, a call with the default options handed a text for each where it succeeded, and
 -- else failed at one or for want of memory, behind a front of them

@@ -1,47 +1,59 @@
 -- Why a list of events is refused as unexpected, down to the event.
-use Rattle.std.specs.Prelude.{◌≡◌, ◌≢◌, ◌++◌, ℕ, List, [], ◌∷◌, Ok, Err, Option}
-use Rattle.tocmark_event.specs.Forest.{IsBalanced}
-use Rattle.tocmark_event.specs.View.{EventView, SourcedEvent}
+use Rattle.std.specs.Prelude.{◌≡◌, ◌≢◌, ◌++◌, ℕ, List, [], ◌∷◌, Ok, None}
+use Rattle.tocmark_event.specs.Forest.{flat}
+use Rattle.tocmark_event.specs.View.{SourcedEvent}
+use Rattle.tocmark_event.specs.declared.event.flags.ParserOptions.{ParserOptions}
+use Rattle.tocmark_options.specs.Options.{OptionsView}
 use Rattle.tocmark_options.specs.declared.options.Error.TheVariants.{UnexpectedEvent}
+use Rattle.tocmark_reader.specs.Reading.{ReadingView}
+use Rattle.tocmark_spelling.specs.Body.{Trees}
+use Rattle.tocmark_spelling.specs.Plan.{Setting}
+use Rattle.tocmark_spelling.specs.PlanOf.{setting_of}
 use Rattle.tocmark_laws.specs.Causes.{HasWrongEnd}
 use Rattle.tocmark_work.specs.Ranges.{Pair}
-use Rattle.tocmark_work.specs.Walk.{Kept, Rendering, Standing, walk}
+use Rattle.tocmark_work.specs.Walk.{Kept, Standing, walk}
+use Rattle.tocmark_work.specs.WorkView.{rendering}
 use Rattle.tocmark_causes.specs.Misplaced.{HasMisplacedStart}
 
--- a unit, the events of a forest, is refused as unexpected only for an event that may not stand where it does
-abbrev pub RefusesMisplaced : Rendering → Type 0
-RefusesMisplaced how =
-    (kept : Kept) (unit : List SourcedEvent) (next : Option EventView) → IsBalanced unit → how.choice kept unit next ≡ Err UnexpectedEvent → HasMisplacedStart unit
+-- what units are written with behind a document, but for the label of one
+abbrev pub setting_at : OptionsView → (List ℕ → ParserOptions → ReadingView) → Kept → Setting
+setting_at options reading kept = setting_of options kept.flags reading None
+
+-- these events are a forest's, and one of them may not stand where it does
+pub record IsMisplacedUnit (s : Setting) (unit : List SourcedEvent) : Type 0 where
+  pub forest : Trees
+  pub is : flat forest ≡ unit
+  pub start : HasMisplacedStart s forest
 
 -- why a pair is unexpected, where the pairs before it stand: an event of the unit that it makes due may not stand where it
 -- does, or it is an End without its Start or of a container that isn't the innermost
-pub data IsUnexpected (at : Standing) (pair : Pair) : Type 0 where
-  InUnit : HasMisplacedStart at.pending → IsUnexpected at pair
-  ItsEnd : HasWrongEnd at pair UnexpectedEvent → IsUnexpected at pair
+pub data IsUnexpected (s : Setting) (at : Standing) (pair : Pair) : Type 0 where
+  InUnit : IsMisplacedUnit s at.pending → IsUnexpected s at pair
+  ItsEnd : HasWrongEnd at pair UnexpectedEvent → IsUnexpected s at pair
 
 -- why the end of the events is unexpected, where all pairs stand: a container isn't ended, or an event of the last unit may
 -- not stand where it does
-pub data IsUnexpectedEnd (at : Standing) : Type 0 where
-  IsOpen : at.open_tags ≢ [] → IsUnexpectedEnd at
-  InLastUnit : HasMisplacedStart at.pending → IsUnexpectedEnd at
+pub data IsUnexpectedEnd (s : Setting) (at : Standing) : Type 0 where
+  IsOpen : at.open_tags ≢ [] → IsUnexpectedEnd s at
+  InLastUnit : IsMisplacedUnit s at.pending → IsUnexpectedEnd s at
 
 -- the first pair that is unexpected, and why
-pub record HasUnexpectedPair (how : Rendering) (source : List ℕ) (from : Standing) (p : List Pair) : Type 0 where
+pub record HasUnexpectedPair (options : OptionsView) (reading : List ℕ → ParserOptions → ReadingView) (source : List ℕ) (from : Standing) (p : List Pair) : Type 0 where
   pub before : List Pair
   pub pair : Pair
   pub after : List Pair
   pub is : p ≡ before ++ pair ∷ after
   pub at : Standing
-  pub stands : (walk how source from before).outcome ≡ Ok at
-  pub cause : IsUnexpected at pair
+  pub stands : (walk (rendering options reading) source from before).outcome ≡ Ok at
+  pub cause : IsUnexpected (setting_at options reading at.document) at pair
 
 -- all pairs are taken, and the end is unexpected
-pub record HasUnexpectedEnd (how : Rendering) (source : List ℕ) (from : Standing) (p : List Pair) : Type 0 where
+pub record HasUnexpectedEnd (options : OptionsView) (reading : List ℕ → ParserOptions → ReadingView) (source : List ℕ) (from : Standing) (p : List Pair) : Type 0 where
   pub at : Standing
-  pub stands : (walk how source from p).outcome ≡ Ok at
-  pub cause : IsUnexpectedEnd at
+  pub stands : (walk (rendering options reading) source from p).outcome ≡ Ok at
+  pub cause : IsUnexpectedEnd (setting_at options reading at.document) at
 
 -- where a list of pairs is unexpected, and why
-pub data IsUnexpectedIn (how : Rendering) (source : List ℕ) (from : Standing) (p : List Pair) : Type 0 where
-  AtPair : HasUnexpectedPair how source from p → IsUnexpectedIn how source from p
-  AtEnd : HasUnexpectedEnd how source from p → IsUnexpectedIn how source from p
+pub data IsUnexpectedIn (options : OptionsView) (reading : List ℕ → ParserOptions → ReadingView) (source : List ℕ) (from : Standing) (p : List Pair) : Type 0 where
+  AtPair : HasUnexpectedPair options reading source from p → IsUnexpectedIn options reading source from p
+  AtEnd : HasUnexpectedEnd options reading source from p → IsUnexpectedIn options reading source from p

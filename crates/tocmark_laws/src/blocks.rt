@@ -1,6 +1,6 @@
 //! Laws of what is written for single blocks, each the contract of a function that does nothing.
 
-ghost use Rattle.std.specs.Prelude.{◌≡◌, ◌++◌, ℕ, Err, List, Ok, Option};
+ghost use Rattle.std.specs.Prelude.{◌≡◌, ◌++◌, ℕ, Err, List, Ok, Option, false};
 ghost use Rattle.std.specs.List.{concat};
 ghost use Rattle.tocmark_laws.specs.Paragraphs.{Keeps};
 ghost use Rattle.tocmark_work.specs.WorkView.{rendering};
@@ -8,16 +8,16 @@ ghost use Rattle.tocmark_work.specs.Walk.{done, nothing_yet, script};
 ghost use Rattle.tocmark_work.specs.Ranges.{Pair};
 ghost use Rattle.tocmark_work.specs.Writes.{Makes};
 ghost use Rattle.tocmark_work.specs.declared.work.Progress.{Progress};
-ghost use Rattle.tocmark_causes.specs.Misplaced.{HasMisplacedStart};
 ghost use Rattle.tocmark_event.specs.Forest.{IsBalanced};
 ghost use Rattle.tocmark_options.specs.Options.{OptionsView};
 ghost use Rattle.tocmark_reader.specs.Reading.{ReadingView};
 ghost use Rattle.tocmark_event.specs.declared.event.flags.ParserOptions.{ParserOptions};
 ghost use Rattle.tocmark_event.specs.View.{EventView, SourcedEvent};
-ghost use Rattle.tocmark_options.specs.declared.options.Error.TheVariants.{UnexpectedEvent};
+ghost use Rattle.tocmark_options.specs.declared.options.Error.TheVariants.{UnexpectedEvent, Unrepresentable};
 ghost use Rattle.tocmark_laws.specs.CodeBlocks.{CodeIsFenced, IsFence, code_events, code_text};
 ghost use Rattle.tocmark_laws.specs.Links.{LinksAreClosed, link_events, link_text};
-ghost use Rattle.tocmark_laws.specs.Unexpected.{IsUnexpectedIn};
+ghost use Rattle.tocmark_laws.specs.Unexpected.{IsMisplacedUnit, IsUnexpectedIn};
+ghost use Rattle.tocmark_laws.specs.UnrepresentableLists.{IsUnrepresentableIn};
 ghost use Rattle.tocmark_label_sets.specs.Document.{DocumentView};
 ghost use Rattle.tocmark_render.specs.Chosen.{chosen};
 ghost use Rattle.tocmark_spelling.specs.Plan.{Setting};
@@ -28,7 +28,8 @@ use tocmark_work::taker::Taker;
 /// their own, its texts as they are, and its fence where these end a line. The fence is longer than each
 /// run of its character in the texts, at least three characters long and at least as long as the options
 /// ask for, and of their character, but of tildes where that is a backtick and one stands in the info
-/// string. So it is under all options and flags, whatever reader is given.
+/// string. So it is under all flags, whatever reader is given, and under all options that don't ask that
+/// plain blocks be checked.
 pub fn code_is_fenced()
     ensures { CodeIsFenced }
 {}
@@ -39,7 +40,7 @@ pub fn a_code_block_is_appended<W: Taker>()
     ensures { (contents : W → List ℕ) (options : OptionsView)
         (reading : List ℕ → ParserOptions → ReadingView) (flags : ParserOptions)
         (source info : List ℕ) (ts : List (List ℕ)) (w v : W) (p : Progress)
-        → Keeps W.takes contents
+        → options.check_plain_blocks ≡ false → Keeps W.takes contents
         → Makes W.takes W.refuses w v (Ok p) done
         (script (rendering options reading) source (nothing_yet flags) (code_events info ts))
         → (fence : List ℕ) × IsFence options info (concat ts) fence
@@ -47,8 +48,8 @@ pub fn a_code_block_is_appended<W: Taker>()
 {}
 
 /// For one paragraph with one inline link round one text exactly one text is handed: `[`, the escape of
-/// the text, and what closes a link with its destination and title. So it is under all options and flags,
-/// whatever reader is given.
+/// the text, and what closes a link with its destination and title. So it is under all flags, whatever reader
+/// is given, and under all options that don't ask that plain blocks be checked.
 pub fn links_are_closed()
     ensures { LinksAreClosed }
 {}
@@ -59,7 +60,7 @@ pub fn a_link_is_appended<W: Taker>()
     ensures { (contents : W → List ℕ) (options : OptionsView)
         (reading : List ℕ → ParserOptions → ReadingView) (flags : ParserOptions)
         (source dest title id text : List ℕ) (w v : W) (p : Progress)
-        → Keeps W.takes contents
+        → options.check_plain_blocks ≡ false → Keeps W.takes contents
         → Makes W.takes W.refuses w v (Ok p) done
         (script (rendering options reading) source (nothing_yet flags)
         (link_events dest title id text))
@@ -67,11 +68,14 @@ pub fn a_link_is_appended<W: Taker>()
 {}
 
 /// A unit, the events of a forest, is refused as `UnexpectedEvent` only for an event that may not stand where it
-/// does: an Item that isn't directly in a List, a Heading in a Heading, a TableHead that isn't directly in a Table,
-/// or a TableCell in no Table.
+/// does (`causes`): an Item that isn't directly in a List, a Heading in a Heading, a TableHead that isn't directly
+/// in a Table, or a TableCell in no Table. It stands in no body in whose place an id is written. A unit with such an
+/// event is refused so (`exact`).
 pub fn unexpected_units_are_misplaced()
-    ensures { (s : Setting) (d : DocumentView) (unit : List SourcedEvent) (next : Option EventView)
-        → IsBalanced unit → chosen s d unit next ≡ Err UnexpectedEvent → HasMisplacedStart unit }
+    ensures causes { (s : Setting) (d : DocumentView) (unit : List SourcedEvent) (next : Option EventView)
+        → IsBalanced unit → chosen s d unit next ≡ Err UnexpectedEvent → IsMisplacedUnit s unit }
+    ensures exact { (s : Setting) (d : DocumentView) (unit : List SourcedEvent) (next : Option EventView)
+        → IsMisplacedUnit s unit → chosen s d unit next ≡ Err UnexpectedEvent }
 {}
 
 /// A list of events that is refused as `UnexpectedEvent` has a cause, at the first pair at which it is or at its
@@ -83,5 +87,15 @@ pub fn unexpected_events_have_causes()
         (flags : ParserOptions) (source : List ℕ) (p : List Pair)
         → (script (rendering options reading) source (nothing_yet flags) p).outcome
         ≡ Err UnexpectedEvent
-        → IsUnexpectedIn (rendering options reading) source (nothing_yet flags) p }
+        → IsUnexpectedIn options reading source (nothing_yet flags) p }
+{}
+
+/// A list of events that is refused as `Unrepresentable` has a unit that can't be represented: one that is due at
+/// the first pair at which the list is refused, or the last one, where all pairs are taken and no container is open.
+pub fn unrepresentable_lists_have_causes()
+    ensures { (options : OptionsView) (reading : List ℕ → ParserOptions → ReadingView)
+        (flags : ParserOptions) (source : List ℕ) (p : List Pair)
+        → (script (rendering options reading) source (nothing_yet flags) p).outcome
+        ≡ Err Unrepresentable
+        → IsUnrepresentableIn options reading source (nothing_yet flags) p }
 {}

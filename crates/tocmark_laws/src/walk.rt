@@ -1,6 +1,6 @@
 //! Laws of the walk, and of what is handed for paragraphs and headings that hold texts alone.
 
-ghost use Rattle.std.specs.Prelude.{◌≡◌, ◌≢◌, ◌++◌, All, IsTrue, IsUtf8, List, [], ℕ, Result, Ok, Err, chars, codes, ◌∷◌};
+ghost use Rattle.std.specs.Prelude.{◌≡◌, ◌≢◌, ◌++◌, All, IsTrue, IsUtf8, List, [], ℕ, Result, Ok, Err, chars, codes, false, ◌∷◌};
 ghost use Rattle.std.specs.Char.{char_set_contains};
 ghost use Rattle.std.specs.List.{AllByRecursion, list_all};
 ghost use Rattle.tocmark_core_reader.specs.PlainTexts.{lines_paragraph};
@@ -68,17 +68,18 @@ pub fn refusals_have_causes()
 /// makes no difference.
 pub fn calls_compose<W: Taker>()
     ensures { (how : Rendering) (flags : ParserOptions) (source : List ℕ)
-        (calls : List (List Pair)) (w v : W) (r : Result Progress Error)
-        → AreCalls W.takes W.refuses how flags source [] calls w v r
+        (calls : List (List Pair)) (w v : W) (counts : List Progress) (r : Result Progress Error)
+        → AreCalls W.takes W.refuses how flags source [] calls w v counts r
         → Makes W.takes W.refuses w v r done
         (script how source (nothing_yet flags) (all_pairs calls)) }
 {}
 
 /// For one paragraph with one text, without NUL, texts are handed that join to an escape of the text, and
-/// an escape is read as the text: under all flags, over each reader, with `*` or `_` for emphasis.
+/// an escape is read as the text: under all flags, over each reader, with `*` or `_` for emphasis, where the
+/// options don't ask that plain blocks be checked.
 pub fn a_paragraph_is_read_back()
     ensures { (options : OptionsView) (reading : List ℕ → ParserOptions → ReadingView)
-        (flags : ParserOptions) (source text : List ℕ)
+        (flags : ParserOptions) (source text : List ℕ) → options.check_plain_blocks ≡ false
         → IsTrue (char_set_contains (codes "*_") options.emphasis_token) → IsUtf8 text
         → All (λ c. c ≢ 0) (chars text)
         → ReadsAs text
@@ -93,6 +94,7 @@ pub fn what_is_appended_is_read_back<W: Taker>()
     ensures { (contents : W → List ℕ) (options : OptionsView)
         (reading : List ℕ → ParserOptions → ReadingView) (flags : ParserOptions)
         (source text : List ℕ) (w v : W) (p : Progress) → Keeps W.takes contents
+        → options.check_plain_blocks ≡ false
         → IsTrue (char_set_contains (codes "*_") options.emphasis_token) → IsUtf8 text
         → All (λ c. c ≢ 0) (chars text)
         → Makes W.takes W.refuses w v (Ok p) done
@@ -103,10 +105,11 @@ pub fn what_is_appended_is_read_back<W: Taker>()
 }
 
 /// For one paragraph with one code span, texts are handed that join to the span of its text, which is read
-/// as the text if that isn't empty: under all options and flags, over each reader.
+/// as the text if that isn't empty: under all flags, over each reader, and under all options that don't ask
+/// that plain blocks be checked.
 pub fn a_code_span_is_read_back()
     ensures { (options : OptionsView) (reading : List ℕ → ParserOptions → ReadingView)
-        (flags : ParserOptions) (source text : List ℕ)
+        (flags : ParserOptions) (source text : List ℕ) → options.check_plain_blocks ≡ false
         → ReadsAsSpan text
         (script (rendering options reading) source (nothing_yet flags)
         (paragraph_with (Code text))) }
@@ -116,11 +119,12 @@ pub fn a_code_span_is_read_back()
 
 /// For a paragraph of lines, a text for each with a soft break between two, exactly one text is handed, and
 /// the core reader's reading of it is, merged, exactly that paragraph, with no labels: under all flags,
-/// whatever reader is given, with `*` or `_` for emphasis. A line has at least one character, each from
-/// U+0020 to U+007E, and doesn't end with a space.
+/// whatever reader is given, with `*` or `_` for emphasis, where the options don't ask that plain blocks be
+/// checked. A line has at least one character, each from U+0020 to U+007E, and doesn't end with a space.
 pub fn lines_are_read_back()
     ensures { (options : OptionsView) (reading : List ℕ → ParserOptions → ReadingView)
         (flags : ParserOptions) (source l : List ℕ) (ms : List (List ℕ))
+        → options.check_plain_blocks ≡ false
         → IsTrue (char_set_contains (codes "*_") options.emphasis_token)
         → IsTrue (list_all is_line (l ∷ ms))
         → IsReadBack
@@ -138,7 +142,7 @@ pub fn escapes_of_lines_are_plain()
 /// For paragraphs and headings without id, classes and attributes, each with one or more texts in which some
 /// character stands, exactly one text is handed for each: the line feeds that set it apart from the one before,
 /// as many `#` as its level and a space if it is a heading, and the escape of its texts as one. So it is under
-/// all options and flags, whatever reader is given.
+/// all flags, whatever reader is given, and under all options that don't ask that plain blocks be checked.
 pub fn blocks_are_escapes()
     ensures { BlocksAreEscapes }
 {}

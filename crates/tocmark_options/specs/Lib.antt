@@ -2,3 +2,4 @@ pub mod ErrorText
 pub mod Options
 pub mod Validation
 pub mod Special
+pub mod Order

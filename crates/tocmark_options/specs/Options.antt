@@ -29,6 +29,7 @@ with_token token o = record {
   emphasis_token = o.emphasis_token;
   strong_token = token;
   use_html_for_super_sub_script = o.use_html_for_super_sub_script;
+  check_plain_blocks = o.check_plain_blocks;
 }
 
 -- options as plain values
@@ -60,8 +61,10 @@ default_options = record {
   emphasis_token = 42;
   strong_token = codes "**";
   use_html_for_super_sub_script = false;
+  check_plain_blocks = false;
 }
 
--- two line feeds behind most blocks, fences of four backticks, and `*` wherever there is a choice
+-- two line feeds behind most blocks, fences of four backticks, `*` wherever there is a choice, and only units with
+-- delimiters are checked
 abbrev pub IsDefault : OptionsOf (Bor (List ℕ)) → Type 0
 IsDefault o = options_view o ≡ default_options

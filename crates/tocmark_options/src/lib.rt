@@ -1,4 +1,5 @@
 //! The options of what writes Markdown events, and its errors.
 #![tactic(auto)]
 
+pub mod laws;
 pub mod options;

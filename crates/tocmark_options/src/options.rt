@@ -79,6 +79,8 @@ pub struct OptionsOf<T> {
     pub strong_token: T,
     /// Whether superscripts and subscripts are written as HTML.
     pub use_html_for_super_sub_script: bool,
+    /// Whether a unit without delimiters is read back, too, before it is written.
+    pub check_plain_blocks: bool,
 }
 
 /// How events are written. `Options { list_token: '-', ..Options::default() }` changes one field.
@@ -109,6 +111,7 @@ impl<'a> Default for Options<'a> {
             emphasis_token: '*',
             strong_token: "**",
             use_html_for_super_sub_script: false,
+            check_plain_blocks: false,
         }
     }
 }
@@ -137,6 +140,7 @@ impl<T> OptionsOf<T> {
             emphasis_token: self.emphasis_token,
             strong_token,
             use_html_for_super_sub_script: self.use_html_for_super_sub_script,
+            check_plain_blocks: self.check_plain_blocks,
         }
     }
 }

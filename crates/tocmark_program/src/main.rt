@@ -38,6 +38,17 @@ fn rewritten(alloc: Global, spelling: Spelling, text: &str) -> Result<String, Er
     Ok(output)
 }
 
+/// The fault where reading the input ends with an error of this kind.
+fn read_fault(kind: io::ErrorKind) -> Fault
+    ensures { (status_of result ≡ 1) × ¬ (IsWriteFault result) }
+{
+    if kind == io::ErrorKind::OutOfMemory {
+        Fault::Markdown(Error::OutOfMemory)
+    } else {
+        Fault::Read
+    }
+}
+
 /// The input, read and written back. Nothing of it is written yet.
 fn converted<I: Read>(alloc: Global, spelling: Spelling, input: &mut I) -> Result<String, Fault>
     ensures fault { IfErr result (λ fault. (status_of fault ≡ 1) × ¬ (IsWriteFault fault)) }
@@ -46,8 +57,8 @@ fn converted<I: Read>(alloc: Global, spelling: Spelling, input: &mut I) -> Resul
         IfOk result (λ output. IsRewritten spelling bytes (string_bytes output))) }
 {
     let mut bytes = Vec::new(alloc);
-    if input.read_to_end(&mut bytes).is_err() {
-        return Err(Fault::Read);
+    if let Err(error) = input.read_to_end(&mut bytes) {
+        return Err(read_fault(error.kind()));
     }
     let Ok(text) = std::str::from_utf8(&bytes) else {
         return Err(Fault::NotUtf8);

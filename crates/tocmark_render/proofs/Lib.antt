@@ -1,5 +1,6 @@
 pub mod Chosen
 pub mod PlainUnits
+pub mod EqualEvents
 pub mod ReadBacks
 pub mod UnitEvents
 pub mod Trials
@@ -7,3 +8,5 @@ pub mod TrialUnits
 pub mod Refused
 pub mod LowManners
 pub mod CandidateLists
+pub mod FirstReadBack
+pub mod Unrepresentable

@@ -1,9 +1,10 @@
--- What is chosen for a unit without delimiters of which no source is asked: its preferred spelling.
-use Rattle.std.proofs.Common.{◌≡◌, Bool, true, false, ◌&&◌, Option, None, refl, sym, ap, ◌∙◌, subst}
+-- What is chosen for a unit that isn't checked and of which no source is asked: its preferred spelling.
+use Rattle.std.proofs.Common.{◌≡◌, Bool, true, false, ◌&&◌, ◌||◌, Option, None, refl, sym, ap, ◌∙◌, subst}
 use Rattle.tocmark_event.specs.View.{EventView}
+use Rattle.tocmark_options.specs.Options.{OptionsView}
 use Rattle.tocmark_spelling.specs.Body.{Trees}
 use Rattle.tocmark_spelling.specs.Plan.{Setting}
-use Rattle.tocmark_render.specs.Candidates.{candidates, has_source, is_delimiter_block}
+use Rattle.tocmark_render.specs.Candidates.{candidates, has_event, has_source, is_checked, is_delimiter_block}
 use Rattle.tocmark_render.specs.Choice.{choice, preferred, has_standard_markers}
 use Rattle.tocmark_label_sets.specs.Document.{DocumentView}
 use Rattle.tocmark_render.specs.Tries.{Asked, first}
@@ -15,19 +16,23 @@ unasked : (source markers : Bool) → markers ≡ true → (source && markers) �
 unasked true markers m h = sym m ∙ h
 unasked false markers m h = refl
 
+-- a unit without delimiters isn't checked where the options don't ask for it
+pub unchecked : (o : OptionsView) (f : Trees) → is_delimiter_block f ≡ false → o.check_plain_blocks ≡ false → is_checked o f ≡ false
+unchecked o f plain off = λ j. plain j || (off j && has_event f)
+
 module _ (s : Setting) (d : DocumentView) (f : Trees) (next : Option EventView) where
   abbrev q : Asked
   q = record { setting = s; unit = f; next = next }
 
-  none-tried : is_delimiter_block f ≡ false → has_source f ≡ false → first q d (candidates s.options f) ≡ None
-  none-tried plain source =
-      subst (λ ms. first q d ms ≡ None) (candidates-are s.options s.options f false false refl (sym source) (sym plain)) (first-none q d)
+  none-tried : is_delimiter_block f ≡ false → is_checked s.options f ≡ false → has_source f ≡ false → first q d (candidates s.options f) ≡ None
+  none-tried plain off source =
+      subst (λ ms. first q d ms ≡ None) (candidates-are s.options s.options f false false false refl (sym source) (sym plain) (sym off)) (first-none q d)
 
-  by-markers : (b : Bool) → has_standard_markers s.options ≡ b → is_delimiter_block f ≡ false → (has_source f && has_standard_markers s.options) ≡ false → choice s d f next ≡ preferred s d f next
-  by-markers false m plain h = choice-unsearched q d m
-  by-markers true m plain h =
-      choice-lost q d m (none-tried plain (unasked (has_source f) (has_standard_markers s.options) m h)) (ap (λ b. b && validates s.options s.flags) plain)
+  by-markers : (b : Bool) → has_standard_markers s.options ≡ b → is_delimiter_block f ≡ false → is_checked s.options f ≡ false → (has_source f && has_standard_markers s.options) ≡ false → choice s d f next ≡ preferred s d f next
+  by-markers false m plain off h = choice-unsearched q d m
+  by-markers true m plain off h =
+      choice-lost q d m (none-tried plain off (unasked (has_source f) (has_standard_markers s.options) m h)) (ap (λ b. b && validates s.options s.flags) off)
 
   -- nothing is searched where the source isn't asked
-  pub choice-unasked : is_delimiter_block f ≡ false → (has_source f && has_standard_markers s.options) ≡ false → choice s d f next ≡ preferred s d f next
-  choice-unasked plain a = by-markers (has_standard_markers s.options) refl plain a
+  pub choice-unasked : is_delimiter_block f ≡ false → s.options.check_plain_blocks ≡ false → (has_source f && has_standard_markers s.options) ≡ false → choice s d f next ≡ preferred s d f next
+  choice-unasked plain off a = by-markers (has_standard_markers s.options) refl plain (unchecked s.options f plain off) a

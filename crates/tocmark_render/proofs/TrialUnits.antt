@@ -1,6 +1,6 @@
 -- What one trial of a unit comes to, and that its unit is that of the definitions.
 use Rattle.std.proofs.Common.{◌≡◌, ◌∙◌, sym, ap, refl, subst, ℕ, Bool, true, false, Option, Some, None, Result, Ok, Err, List, [], ◌∷◌, ◌++◌, arith, codes, length, map, unwrap_or}
-use Rattle.std.specs.Prelude.{◌==◌, is_err, is_none, is_some}
+use Rattle.std.specs.Prelude.{◌==◌, ◌&&◌, ◌||◌, is_err, is_none, is_some, not}
 use Rattle.std.specs.List.{list_any}
 use Rattle.std.proofs.lemmas.Bool.{false≢true, true≢false}
 use Rattle.std.proofs.lemmas.Bool.Decides.{nat_tests}
@@ -22,17 +22,17 @@ use Rattle.tocmark_renderer.specs.WriterOf.{Arrives, Comes, IsRefusal, Rendering
 use Rattle.tocmark_renderer.specs.declared.job.Manner as declared
 use Rattle.tocmark_spelling.proofs.Refusals.{none-misplaced}
 use Rattle.tocmark_read_back.specs.InParagraph.{in_paragraph}
-use Rattle.tocmark_render.specs.Candidates.{has_source, is_delimiter_block, preferred_manner}
+use Rattle.tocmark_render.specs.Candidates.{has_source, is_checked, is_delimiter_block, preferred_manner}
 use Rattle.tocmark_render.specs.Choice.{Chosen, accepted_if, first_that_reads_back, if_read_back, page_in, page_of, page_read_back, preferred, spelled}
 use Rattle.tocmark_label_sets.specs.Document.{DocumentView}
 use Rattle.tocmark_labels.specs.Placeholder.{whole}
 use Rattle.tocmark_render.specs.ReadsBack.{flags_at, found_in, is_taken, reads_back, whole_text}
-use Rattle.tocmark_render.specs.TrialOf.{Came, ComesOrBack, IsLow, IsReady, Refuses, WentBack, Writes, asked_of, events_in, or_no_trees, read_of, reads_back_in, spelled_at}
+use Rattle.tocmark_render.specs.TrialOf.{Came, ComesOrBack, IsLow, IsReady, Refuses, WentBack, Writes, asked_of, events_in, options_in, or_no_trees, read_of, reads_back_in, spelled_at}
 use Rattle.tocmark_render.specs.Tries.{Asked, Found, Lost, Stopped, StopsTrial, first, is_delimiter_event, is_sourced_event, misplaced}
 use Rattle.tocmark_labels.specs.Units.{trees_of}
 use Rattle.tocmark_render.specs.declared.trial.Trial.{Trial}
 use Rattle.tocmark_labels.proofs.Balanced.{flat-of-trees}
-use Rattle.tocmark_render.proofs.UnitEvents.{delimiters-flat, source-flat}
+use Rattle.tocmark_render.proofs.UnitEvents.{delimiters-flat, event-flat, source-flat}
 use Rattle.tocmark_render.proofs.Trials.{none-test}
 
 flat-or-none : (es : List SourcedEvent) (o : Option Trees) → trees_of es ≡ o → is_some o ≡ true → flat (or_no_trees o) ≡ es
@@ -53,6 +53,10 @@ module _ {R : Type 0} (reading : R → List ℕ → ParserOptions → ReadingVie
 
   pub trial-delimiters : (b : Bool) → b ≡ list_any is_delimiter_event (events_in t) → b ≡ is_delimiter_block trees
   trial-delimiters b e = e ∙ sym (delimiters-flat (events_in t) trees trial-flat)
+
+  pub trial-checked : (del b : Bool) → del ≡ list_any is_delimiter_event (events_in t) → b ≡ (del || ((options_in t).check_plain_blocks && not (length (events_in t) == 0))) → b ≡ is_checked (options_in t) trees
+  trial-checked del b d e =
+      e ∙ (λ j. trial-delimiters del d j || ((options_in t).check_plain_blocks && sym (event-flat (events_in t) trees trial-flat) j))
 
   -- what the renderer says of every forest with these events, it says of the unit's
   pub trial-written : (P : Trees → Type 0) → ((f : Trees) → flat f ≡ events_in t → P f) → P trees

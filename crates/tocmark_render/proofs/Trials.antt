@@ -14,7 +14,7 @@ use Rattle.tocmark_spelling.specs.Body.{Trees}
 use Rattle.tocmark_spelling.specs.Page.{Site}
 use Rattle.tocmark_spelling.specs.Spelling.{spelling}
 use Rattle.tocmark_spelling.proofs.Refusals.{none-misplaced}
-use Rattle.tocmark_render.specs.Candidates.{candidates, fallback_manners, fallbacks, has_source, is_delimiter_block, preferred_manner, source_manners, delimiter_manners}
+use Rattle.tocmark_render.specs.Candidates.{candidates, escaped_manners, fallback_manners, fallbacks, has_source, is_checked, is_delimiter_block, preferred_manner, source_manners, delimiter_manners}
 use Rattle.tocmark_renderer.specs.WriterOf as renderer
 use Rattle.tocmark_renderer.specs.WriterOf.{Rendering, site_of}
 use Rattle.tocmark_render.specs.Choice.{Chosen, choice, preferred, accepted, accepted_if, page_of, page_in, by_markers, unless_misplaced, first_or, has_standard_markers, first_that_reads_back, page_read_back, spelled}
@@ -23,7 +23,7 @@ use Rattle.tocmark_render.specs.ReadsBack.{reads_back}
 use Rattle.tocmark_render.specs.Validates.{validates}
 use Rattle.tocmark_label_sets.specs.Document.{DocumentView, first_document}
 use Rattle.tocmark_render.specs.TrialOf.{IsLeft, IsWritten, Refuses, Writes}
-use Rattle.tocmark_render.specs.Tries.{if_delimiters, if_source, manners_for, plan_view, Asked, Found, Lost, PlacedIfTried, Stopped, StopsTrial, Tries, first, misplaced}
+use Rattle.tocmark_render.specs.Tries.{if_source, manners_for, plan_view, Asked, Found, Lost, PlacedIfTried, Stopped, StopsTrial, Tries, first, misplaced}
 
 -- two truths, each by itself
 pub both_true : (a b : Bool) → (a && b) ≡ true → (a ≡ true) × (b ≡ true)
@@ -253,31 +253,34 @@ pub source-tried : {X : Type 0} (q : Asked) (d : DocumentView) (old : Site) (new
 source-tried q d old new o src del x ms r s e is h =
     tries-same q d old new ms (if_source src o del) r (is ∙ ap (source_manners o) (sym e) ∙ ap (λ b. if_source b o del) (sym s)) h
 
--- the candidates from the source were tried, and then those of a unit with delimiters
-module _ {X : Type 0} (q : Asked) (d : Site → DocumentView) (now mid : Rendering) (o : OptionsView) (src del : Bool) (answer : Option X) (tried : Tries q (d (site_of now)) (site_of now) mid (if_source src o del) (Ok answer)) where
-  abbrev whole_list : List Manner
-  whole_list = manners_for o src del
+-- nothing else is tried of a unit that isn't checked
+pub none-escaped : (q : Asked) (d : DocumentView) (now : Rendering) (o : OptionsView) (del chk : Bool) → del ≡ false → chk ≡ false → Lost q d (site_of now) now (escaped_manners o del chk)
+none-escaped q d now o del chk e h =
+    lost-all q d (site_of now) now (escaped_manners o del chk) (escaped_manners o del chk) (goes-on-all q d now (escaped_manners o del chk)) (λ j. escaped_manners o (e j) (h j))
 
-  begin : GoesOn q (d (site_of now)) (site_of now) now whole_list (if_source src o del ++ if_delimiters del o)
+-- the candidates from the source were tried, and then those with escaped texts
+module _ {X : Type 0} (q : Asked) (d : Site → DocumentView) (now mid : Rendering) (o : OptionsView) (src del chk : Bool) (answer : Option X) (tried : Tries q (d (site_of now)) (site_of now) mid (if_source src o del) (Ok answer)) where
+  abbrev whole_list : List Manner
+  whole_list = manners_for o src del chk
+
+  abbrev rest_list : List Manner
+  rest_list = escaped_manners o del chk
+
+  begin : GoesOn q (d (site_of now)) (site_of now) now whole_list (if_source src o del ++ rest_list)
   begin = goes-on-all q (d (site_of now)) now whole_list
 
   pub source-found : (x : X) → answer ≡ Some x → Found q (d (site_of now)) (site_of now) mid whole_list
-  source-found x e = next-found q d (site_of now) now mid whole_list (if_source src o del) (if_delimiters del o) begin answer tried x e
+  source-found x e = next-found q d (site_of now) now mid whole_list (if_source src o del) rest_list begin answer tried x e
 
   module _ (e : answer ≡ None) where
-    source-lost : GoesOn q (d (site_of now)) (site_of now) mid whole_list (if_delimiters del o)
-    source-lost = next-lost q d (site_of now) now mid whole_list (if_source src o del) (if_delimiters del o) begin answer tried e
+    source-lost : GoesOn q (d (site_of now)) (site_of now) mid whole_list rest_list
+    source-lost = next-lost q d (site_of now) now mid whole_list (if_source src o del) rest_list begin answer tried e
 
     pub source-kept : site_of mid ≡ site_of now
     source-kept = source-lost.kept
 
-    pub then-delimiters : {Y : Type 0} (new : Rendering) (r : Result (Option Y) Error) → del ≡ true → Tries q (d (site_of mid)) (site_of mid) new (delimiter_manners o) r → Tries q (d (site_of now)) (site_of now) new whole_list r
-    then-delimiters new r h t =
-        rest-tried q d (site_of now) mid new whole_list (if_delimiters del o) r source-lost
-        (tries-same q (d (site_of mid)) (site_of mid) new (delimiter_manners o) (if_delimiters del o) r (ap (λ b. if_delimiters b o) (sym h)) t)
-
-    pub no-delimiters : del ≡ false → Lost q (d (site_of now)) (site_of now) mid whole_list
-    no-delimiters h = lost-all q (d (site_of now)) (site_of now) mid whole_list (if_delimiters del o) source-lost (ap (λ b. if_delimiters b o) h)
+    pub then-escaped : {Y : Type 0} (new : Rendering) (r : Result (Option Y) Error) → Tries q (d (site_of mid)) (site_of mid) new rest_list r → Tries q (d (site_of now)) (site_of now) new whole_list r
+    then-escaped new r t = rest-tried q d (site_of now) mid new whole_list rest_list r source-lost t
 
 -- the manners by runs were tried, and then the fallbacks
 module _ {X : Type 0} (q : Asked) (d : Site → DocumentView) (now mid : Rendering) (runs later : List Manner) (answer : Option X) (tried : Tries q (d (site_of now)) (site_of now) mid runs (Ok answer)) where
@@ -346,11 +349,11 @@ module _ (q : Asked) (d : DocumentView) where
 
     module _ (h : first q d (candidates q.setting.options q.unit) ≡ None) where
       -- none does, and the unit takes the preferred spelling
-      pub choice-lost : (is_delimiter_block q.unit && validates q.setting.options q.setting.flags) ≡ false → chosen ≡ plain
+      pub choice-lost : (is_checked q.setting.options q.unit && validates q.setting.options q.setting.flags) ≡ false → chosen ≡ plain
       choice-lost n = by-place (misplaced q) refl (λ e. searched-first None e h ∙ ap (λ b. elim b as (λ _. Chosen) [ true ↦ Err error.Unrepresentable | false ↦ plain ]) n)
 
       -- none does, and the unit can't be represented
-      pub choice-unrepresentable : misplaced q ≡ false → (is_delimiter_block q.unit && validates q.setting.options q.setting.flags) ≡ true → chosen ≡ Err error.Unrepresentable
+      pub choice-unrepresentable : misplaced q ≡ false → (is_checked q.setting.options q.unit && validates q.setting.options q.setting.flags) ≡ true → chosen ≡ Err error.Unrepresentable
       choice-unrepresentable e n = searched-first None e h ∙ ap (λ b. elim b as (λ _. Chosen) [ true ↦ Err error.Unrepresentable | false ↦ plain ]) n
 
   -- what stops a trial is what is chosen
@@ -359,21 +362,24 @@ module _ (q : Asked) (d : DocumentView) where
   stop-refuses error.UnexpectedEvent h = choice-misplaced h
   stop-refuses e h = absurd h
 
--- a unit with delimiters is tried
-pub placed-delimiters : (q : Asked) (o : OptionsView) (src : Bool) → PlacedIfTried q ((if src then source_manners o true else []) ++ delimiter_manners o) → misplaced q ≡ false
-placed-delimiters q o true h = h
-placed-delimiters q o false h = h
+-- a unit that is checked is tried
+pub placed-checked : (q : Asked) (o : OptionsView) (src del chk : Bool) → chk ≡ true → PlacedIfTried q ((if src then source_manners o del else []) ++ escaped_manners o del chk) → misplaced q ≡ false
+placed-checked q o true del chk e h = h
+placed-checked q o false true chk e h = h
+placed-checked q o false false true e h = h
+placed-checked q o false false false e h = absurd (false≢true e)
 
-pub candidates-are : (o p : OptionsView) (f : Trees) (src del : Bool) → p ≡ o → src ≡ has_source f → del ≡ is_delimiter_block f → (if src then source_manners o del else []) ++ (if del then delimiter_manners o else []) ≡ candidates p f
+pub candidates-are : (o p : OptionsView) (f : Trees) (src del chk : Bool) → p ≡ o → src ≡ has_source f → del ≡ is_delimiter_block f → chk ≡ is_checked p f → (if src then source_manners o del else []) ++ escaped_manners o del chk ≡ candidates p f
 unfolding candidates
-candidates-are o p f src del e a b = λ j. (if a j then source_manners (sym e j) (b j) else []) ++ (if b j then delimiter_manners (sym e j) else [])
+candidates-are o p f src del chk e a b c = λ j. (if a j then source_manners (sym e j) (b j) else []) ++ escaped_manners (sym e j) (b j) (c j)
 
-module _ (q : Asked) (d : DocumentView) (o : OptionsView) (src del acc : Bool) (is_options : q.setting.options ≡ o) (is_src : src ≡ has_source q.unit) (is_del : del ≡ is_delimiter_block q.unit) (is_acc : acc ≡ validates q.setting.options q.setting.flags) where
+module _ (q : Asked) (d : DocumentView) (o : OptionsView) (src del chk acc : Bool) (is_options : q.setting.options ≡ o) (is_src : src ≡ has_source q.unit) (is_del : del ≡ is_delimiter_block q.unit) (is_chk : chk ≡ is_checked q.setting.options q.unit)
+    (is_acc : acc ≡ validates q.setting.options q.setting.flags) where
   abbrev tried_list : List Manner
-  tried_list = (if src then source_manners o del else []) ++ (if del then delimiter_manners o else [])
+  tried_list = (if src then source_manners o del else []) ++ escaped_manners o del chk
 
   lists : tried_list ≡ candidates q.setting.options q.unit
-  lists = candidates-are o q.setting.options q.unit src del is_options is_src is_del
+  lists = candidates-are o q.setting.options q.unit src del chk is_options is_src is_del is_chk
 
   standard : (b : Bool) → has_standard_markers o ≡ b → has_standard_markers q.setting.options ≡ b
   standard b e = ap has_standard_markers is_options ∙ e
@@ -399,23 +405,22 @@ module _ (q : Asked) (d : DocumentView) (o : OptionsView) (src del acc : Bool) (
     all-lost : first q d (candidates q.setting.options q.unit) ≡ None
     all-lost = subst (λ ms. first q d ms ≡ None) lists lost.none
 
-    delimited : (del && acc) ≡ (is_delimiter_block q.unit && validates q.setting.options q.setting.flags)
-    delimited = λ j. is_del j && is_acc j
+    checked : (chk && acc) ≡ (is_checked q.setting.options q.unit && validates q.setting.options q.setting.flags)
+    checked = λ j. is_chk j && is_acc j
 
     -- where the renderer stands again
     pub stands-again : site_of mid ≡ old
     stands-again = lost.kept
 
     -- no spelling was found, and the unit can't be represented
-    pub left-unrepresentable : del ≡ true → acc ≡ true → IsLeft old mid error.Unrepresentable (choice q.setting d q.unit q.next)
+    pub left-unrepresentable : chk ≡ true → acc ≡ true → IsLeft old mid error.Unrepresentable (choice q.setting d q.unit q.next)
     left-unrepresentable td ta = record {
       refused =
-          choice-unrepresentable q d (standard true m) all-lost
-          (placed-delimiters q o src (subst (PlacedIfTried q) (λ j. (if src then source_manners o (td j) else []) ++ (if td j then delimiter_manners o else [])) lost.placed))
-          (sym delimited ∙ (λ j. td j && ta j));
+          choice-unrepresentable q d (standard true m) all-lost (placed-checked q o src del chk td lost.placed)
+          (sym checked ∙ (λ j. td j && ta j));
       kept = lost.kept;
     }
 
     -- no spelling was found, and the unit is written in the preferred one
-    pub writes-lost : {Y : Type 0} (new : Rendering) (r : Result Y Error) → (del && acc) ≡ false → Writes r q.setting d old new (preferred q.setting d q.unit q.next) → Writes r q.setting d old new (choice q.setting d q.unit q.next)
-    writes-lost new r n h = subst (Writes r q.setting d old new) (sym (choice-lost q d (standard true m) all-lost (sym delimited ∙ n))) h
+    pub writes-lost : {Y : Type 0} (new : Rendering) (r : Result Y Error) → (chk && acc) ≡ false → Writes r q.setting d old new (preferred q.setting d q.unit q.next) → Writes r q.setting d old new (choice q.setting d q.unit q.next)
+    writes-lost new r n h = subst (Writes r q.setting d old new) (sym (choice-lost q d (standard true m) all-lost (sym checked ∙ n))) h

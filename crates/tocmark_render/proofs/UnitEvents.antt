@@ -1,11 +1,12 @@
 -- What a forest's events say of the forest: whether it has delimiters, and texts whose source is known.
-use Rattle.std.proofs.Common.{◌≡◌, Bool, true, false, List, [], ◌∷◌, refl, sym, ap, ◌∙◌}
-use Rattle.std.specs.Prelude.{◌||◌}
+use Rattle.std.proofs.Common.{◌≡◌, ℕ, suc, arith, Bool, true, false, not, List, [], ◌∷◌, length, refl, sym, ap, ◌∙◌}
+use Rattle.std.specs.Prelude.{◌||◌, ◌==◌}
 use Rattle.std.specs.List.{list_any}
+use Rattle.std.proofs.lemmas.Bool.Decides.{nat_tests}
 use Rattle.tocmark_event.specs.Forest.{empty, leaf, node, flat, flat_onto}
 use Rattle.tocmark_event.specs.View.{SourcedEvent, End, end_of}
 use Rattle.tocmark_spelling.specs.Body.{Trees, some_leaf}
-use Rattle.tocmark_render.specs.Candidates.{has_source, is_delimiter_block, is_delimiter_tag, is_math, is_sourced, some_tag}
+use Rattle.tocmark_render.specs.Candidates.{has_event, has_source, is_delimiter_block, is_delimiter_tag, is_math, is_sourced, some_tag}
 use Rattle.tocmark_render.specs.Tries.{is_delimiter_event, is_sourced_event}
 
 or-assoc : (a b c : Bool) → (a || b) || c ≡ a || (b || c)
@@ -56,3 +57,15 @@ delimiters-onto (node t kids f) r =
 -- a forest has delimiters just where one of its events is written by some
 pub delimiters-flat : (es : List SourcedEvent) (f : Trees) → flat f ≡ es → is_delimiter_block f ≡ list_any is_delimiter_event es
 delimiters-flat es f e = sym (or-false (is_delimiter_block f)) ∙ sym (delimiters-onto f []) ∙ ap (list_any is_delimiter_event) e
+
+some-length : (n : ℕ) → true ≡ not (suc n == 0)
+some-length n = grind (arith, nat_tests)
+
+event-onto : (f : Trees) → has_event f ≡ not (length (flat_onto f []) == 0)
+event-onto empty = refl
+event-onto (leaf l f) = some-length (length (flat_onto f []))
+event-onto (node t kids f) = some-length (length (flat_onto kids (End (end_of t) ∷ flat_onto f [])))
+
+-- a forest has an event just where its list of events does
+pub event-flat : (es : List SourcedEvent) (f : Trees) → flat f ≡ es → has_event f ≡ not (length es == 0)
+event-flat es f e = event-onto f ∙ ap (λ (xs : List SourcedEvent). not (length xs == 0)) e

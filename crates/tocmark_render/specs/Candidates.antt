@@ -1,5 +1,5 @@
 -- The spellings that are tried for a unit, in order.
-use Rattle.std.specs.Prelude.{ℕ, Bool, true, false, ◌||◌, if◌then◌else◌, ◌==◌, is_some, List, [], ◌∷◌, ◌++◌, bytes_eq, codes, flat_map, map}
+use Rattle.std.specs.Prelude.{ℕ, Bool, true, false, ◌&&◌, ◌||◌, if◌then◌else◌, ◌==◌, is_some, List, [], ◌∷◌, ◌++◌, bytes_eq, codes, flat_map, map}
 use Rattle.tocmark_options.specs.Options.{OptionsView}
 use Rattle.tocmark_event.specs.Forest.{empty, leaf, node}
 use Rattle.tocmark_event.specs.View.{TagView, Emphasis, Strong, Strikethrough, Superscript, Subscript, LeafView, InlineMath, DisplayMath, SourcedLeaf}
@@ -35,6 +35,16 @@ some_tag test (node t kids f) = test t || some_tag test kids || some_tag test f
 -- a unit with an event that is written by delimiters
 abbrev pub is_delimiter_block : Trees → Bool
 is_delimiter_block f = some_tag is_delimiter_tag f || some_leaf is_math f
+
+-- whether a unit has an event
+abbrev pub has_event : Trees → Bool
+has_event empty = false
+has_event (leaf l f) = true
+has_event (node t kids f) = true
+
+-- a unit that is written only as it reads back: one with delimiters, and where the options ask for it each that has an event
+abbrev pub is_checked : OptionsView → Trees → Bool
+is_checked o f = is_delimiter_block f || (o.check_plain_blocks && has_event f)
 
 -- whether a leaf's spelling in the source is known
 abbrev pub is_sourced : SourcedLeaf → Bool
@@ -112,8 +122,12 @@ delimiter_manners o =
     preferred_manner o ∷ map (λ m. in_manner Runs Escaped m false) (pairs_from o.emphasis_token o.strong_token)
     ++ flat_map fallback_manners fallbacks
 
--- the spellings that are tried: from the source where some text has one, and escaped for a delimiter block
+-- escaped: all of them for a delimiter block, and the preferred one for any other unit that is checked
+abbrev pub escaped_manners : OptionsView → Bool → Bool → List Manner
+escaped_manners o delimiters checked = if delimiters then delimiter_manners o else (if checked then preferred_manner o ∷ [] else [])
+
+-- the spellings that are tried: from the source where some text has one, and escaped for a unit that is checked
 unfoldable pub candidates : OptionsView → Trees → List Manner
 candidates o f =
     (if has_source f then source_manners o (is_delimiter_block f) else [])
-    ++ (if is_delimiter_block f then delimiter_manners o else [])
+    ++ escaped_manners o (is_delimiter_block f) (is_checked o f)

@@ -10,7 +10,7 @@ use Rattle.tocmark_spelling.specs.Page.{Page, Site}
 use Rattle.tocmark_spelling.specs.Spelling.{spelling, is_misplaced}
 use Rattle.tocmark_labels.specs.Definitions.{definitions_text}
 use Rattle.tocmark_label_sets.specs.Document.{DocumentView, known_in, literal_in}
-use Rattle.tocmark_render.specs.Candidates.{candidates, preferred_manner, is_delimiter_block}
+use Rattle.tocmark_render.specs.Candidates.{candidates, is_checked, preferred_manner}
 use Rattle.tocmark_render.specs.ReadsBack.{reads_back}
 use Rattle.tocmark_labels.specs.Placeholder.{whole}
 use Rattle.tocmark_render.specs.Validates.{validates}
@@ -89,10 +89,10 @@ abbrev pub has_standard_markers : OptionsView → Bool
 has_standard_markers o =
     ((o.emphasis_token == 42) || (o.emphasis_token == 95)) && (bytes_eq o.strong_token (codes "**") || bytes_eq o.strong_token (codes "__"))
 
--- where no spelling reads back: a unit without delimiters, or options that aren't accepted, still get the preferred one
+-- where no spelling reads back: a unit that isn't checked, or options that aren't accepted, still get the preferred one
 abbrev pub without_spelling : Setting → DocumentView → Trees → Option EventView → Chosen
 without_spelling s d f next =
-    elim (is_delimiter_block f && validates s.options s.flags) as (λ _. Chosen) [ true ↦ Err Unrepresentable | false ↦ preferred s d f next ]
+    elim (is_checked s.options f && validates s.options s.flags) as (λ _. Chosen) [ true ↦ Err Unrepresentable | false ↦ preferred s d f next ]
 
 -- the spelling that was found, or what is done where none reads back
 abbrev pub first_or : Setting → DocumentView → Trees → Option EventView → Option Page → Chosen
@@ -114,7 +114,7 @@ unless_misplaced true s d f next = Err UnexpectedEvent
 unless_misplaced false s d f next = by_markers (has_standard_markers s.options) s d f next
 
 -- what is written for a unit, which this event follows: a unit with a misplaced node is refused; with other markers than
--- Markdown's it takes the preferred spelling; else the first candidate that reads back; if none does, a unit without
--- delimiters takes the preferred spelling, as one does whose options aren't accepted, and any other can't be represented
+-- Markdown's it takes the preferred spelling; else the first candidate that reads back; if none does, a unit that isn't
+-- checked takes the preferred spelling, as one does whose options aren't accepted, and any other can't be represented
 unfoldable pub choice : Setting → DocumentView → Trees → Option EventView → Chosen
 choice s d f next = unless_misplaced (is_misplaced s [] f) s d f next

@@ -2,6 +2,9 @@ pub mod Validates
 pub mod Candidates
 pub mod ReadsBack
 pub mod Choice
+pub mod EqualEvents
+pub mod FirstReadBack
 pub mod Chosen
 pub mod Tries
 pub mod TrialOf
+pub mod Unrepresentable

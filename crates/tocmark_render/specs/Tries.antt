@@ -12,7 +12,7 @@ use Rattle.tocmark_spelling.specs.declared.plan.Layout.{Layout}
 use Rattle.tocmark_spelling.specs.declared.plan.Layout.TheVariants.{Runs}
 use Rattle.tocmark_spelling.specs.declared.plan.TextSpelling.{TextSpelling}
 use Rattle.tocmark_spelling.specs.declared.plan.TextSpelling.TheVariants.{Escaped}
-use Rattle.tocmark_render.specs.Candidates.{delimiter_manners, in_manner, is_delimiter_tag, is_math, is_sourced, pairs_from, preferred_manner, source_manners}
+use Rattle.tocmark_render.specs.Candidates.{escaped_manners, in_manner, is_delimiter_tag, is_math, is_sourced, pairs_from, preferred_manner, source_manners}
 use Rattle.tocmark_renderer.specs.WriterOf.{Rendering, page_of, site_of}
 use Rattle.tocmark_render.specs.Choice.{first_that_reads_back}
 use Rattle.tocmark_label_sets.specs.Document.{DocumentView}
@@ -46,13 +46,9 @@ run_manners o = preferred_manner o ∷ map (λ m. in_manner Runs Escaped m false
 abbrev pub if_source : Bool → OptionsView → Bool → List Manner
 if_source has_source o delimiters = if has_source then source_manners o delimiters else []
 
--- those of a unit with delimiters, if it has some
-abbrev pub if_delimiters : Bool → OptionsView → List Manner
-if_delimiters delimiters o = if delimiters then delimiter_manners o else []
-
--- the spellings that are tried: from the source, and escaped for a unit with delimiters
-abbrev pub manners_for : OptionsView → Bool → Bool → List Manner
-manners_for o has_source delimiters = if_source has_source o delimiters ++ if_delimiters delimiters o
+-- the spellings that are tried: from the source, and escaped for a unit that is checked
+abbrev pub manners_for : OptionsView → Bool → Bool → Bool → List Manner
+manners_for o has_source delimiters checked = if_source has_source o delimiters ++ escaped_manners o delimiters checked
 
 -- the first of these spellings that reads back
 abbrev pub first : Asked → DocumentView → List Manner → Option Page

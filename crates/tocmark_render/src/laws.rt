@@ -1,22 +1,28 @@
 //! Laws of the definitions: calls that do nothing, whose contracts are the laws.
 
-ghost use Rattle.std.specs.Prelude.{◌≡◌, ◌&&◌, false, Option};
+ghost use Rattle.std.specs.Prelude.{◌≡◌, ◌≤◌, ◌&&◌, [], false, true, Err, Option, length};
 ghost use Rattle.tocmark_event.specs.Forest.{flat};
 ghost use Rattle.tocmark_event.specs.View.{EventView};
 ghost use Rattle.tocmark_spelling.specs.Body.{Trees};
 ghost use Rattle.tocmark_spelling.specs.Plan.{Setting};
-ghost use Rattle.tocmark_render.specs.Candidates.{has_source, is_delimiter_block};
+ghost use Rattle.tocmark_spelling.specs.Spelling.{is_misplaced};
+ghost use Rattle.tocmark_render.specs.Candidates.{candidates, has_source, is_checked, is_delimiter_block};
 ghost use Rattle.tocmark_render.specs.Choice.{choice, has_standard_markers, preferred};
 ghost use Rattle.tocmark_label_sets.specs.Document.{DocumentView};
 ghost use Rattle.tocmark_render.specs.Chosen.{chosen};
+ghost use Rattle.tocmark_render.specs.FirstReadBack.{IsChosenAmong};
+ghost use Rattle.tocmark_render.specs.Unrepresentable.{IsUnrepresentable};
+ghost use Rattle.tocmark_render.specs.Validates.{validates};
+ghost use Rattle.tocmark_options.specs.Options.{OptionsView};
+ghost use Rattle.tocmark_options.specs.declared.options.Error.TheVariants.{Unrepresentable};
 ghost use Rattle.tocmark_labels.specs.Units.{labelled};
 
-/// For a unit without delimiters the source is all that there is to choose from: where none of its
-/// texts is known there, or the options have markers that Markdown doesn't read, it takes its preferred
-/// spelling.
+/// For a unit without delimiters the source is all that there is to choose from, unless the options ask
+/// that it be checked: where none of its texts is known there, or the options have markers that Markdown
+/// doesn't read, it takes its preferred spelling.
 pub fn units_without_delimiters_are_preferred()
     ensures { (s : Setting) (d : DocumentView) (f : Trees) (next : Option EventView) →
-        is_delimiter_block f ≡ false → (has_source f && has_standard_markers s.options) ≡ false →
+        is_delimiter_block f ≡ false → s.options.check_plain_blocks ≡ false → (has_source f && has_standard_markers s.options) ≡ false →
         choice s d f next ≡ preferred s d f next }
 {}
 
@@ -25,4 +31,41 @@ pub fn units_without_delimiters_are_preferred()
 pub fn events_are_chosen_as_forests()
     ensures { (s : Setting) (d : DocumentView) (f : Trees) (next : Option EventView) →
         chosen s d (flat f) next ≡ choice (labelled s d (flat f) next) d f next }
+{}
+
+/// A unit can't be represented just where it is checked, under options that are accepted with the flags
+/// and with markers that Markdown reads, and in none of its candidates its spelling reads back. A unit
+/// with delimiters is checked, and where the options ask for it each that has an event.
+pub fn units_that_cannot_be_represented()
+    ensures causes { (s : Setting) (d : DocumentView) (f : Trees) (next : Option EventView) →
+        choice s d f next ≡ Err Unrepresentable → IsUnrepresentable s d f next }
+    ensures exact { (s : Setting) (d : DocumentView) (f : Trees) (next : Option EventView) →
+        IsUnrepresentable s d f next → choice s d f next ≡ Err Unrepresentable }
+{}
+
+/// Under options that are accepted with the flags, with markers that Markdown reads, a unit with delimiters
+/// of which no node is misplaced is chosen among its candidates (`chosen`): it is the text of the first in
+/// which its spelling reads back, with the document that this leaves, or `Unrepresentable`, where in none
+/// its spelling does. No unit has more than 63 candidates (`few`).
+pub fn delimiter_blocks_are_the_first_read_back()
+    ensures chosen { (s : Setting) (d : DocumentView) (f : Trees) (next : Option EventView)
+        → has_standard_markers s.options ≡ true → validates s.options s.flags ≡ true
+        → is_delimiter_block f ≡ true → is_misplaced s [] f ≡ false
+        → IsChosenAmong s d f next (candidates s.options f) (choice s d f next) }
+    ensures few { (o : OptionsView) (f : Trees) → length (candidates o f) ≤ 63 }
+{}
+
+/// The same holds of each unit that is checked: of one with delimiters, and of any other with an event, where
+/// the options ask for it.
+pub fn checked_units_are_the_first_read_back()
+    ensures { (s : Setting) (d : DocumentView) (f : Trees) (next : Option EventView)
+        → has_standard_markers s.options ≡ true → validates s.options s.flags ≡ true
+        → is_checked s.options f ≡ true → is_misplaced s [] f ≡ false
+        → IsChosenAmong s d f next (candidates s.options f) (choice s d f next) }
+{}
+
+/// A unit without delimiters has at most two candidates.
+pub fn plain_units_have_two_candidates()
+    ensures { (o : OptionsView) (f : Trees) → is_delimiter_block f ≡ false →
+        length (candidates o f) ≤ 2 }
 {}

@@ -5,6 +5,7 @@ pub mod earlier;
 pub mod laws;
 mod manners;
 pub mod read_back;
+pub mod read_back_laws;
 pub mod search;
 pub mod trial;
 

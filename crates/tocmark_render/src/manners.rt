@@ -5,7 +5,7 @@ ghost use Rattle.tocmark_options.specs.Options.{options_view};
 ghost use Rattle.tocmark_renderer.specs.JobOf.{manner_view};
 ghost use Rattle.tocmark_spelling.specs.declared.plan.Layout.TheVariants as layout;
 ghost use Rattle.tocmark_spelling.specs.declared.plan.TextSpelling.TheVariants as text_spelling;
-ghost use Rattle.tocmark_render.specs.Candidates.{fallback_manners, fallbacks, in_manner, other_emphasis, other_strong, own_markers, pair, source_manners};
+ghost use Rattle.tocmark_render.specs.Candidates.{escaped_manners, fallback_manners, fallbacks, in_manner, other_emphasis, other_strong, own_markers, pair, source_manners};
 ghost use Rattle.tocmark_render.specs.Choice.{has_standard_markers};
 ghost use Rattle.tocmark_render.specs.Tries.{manners_for, plan_view, run_manners};
 
@@ -176,24 +176,43 @@ fn push_fallbacks(manners: &mut Vec<Manner<'_>>) -> Result<(), AllocError>
     Ok(())
 }
 
+/// Adds the manners of a unit whose texts are escaped.
+fn push_escaped<'a>(
+    manners: &mut Vec<Manner<'a>>,
+    options: &Options<'a>,
+    has_delimiters: bool,
+    is_checked: bool,
+) -> Result<(), AllocError>
+    ensures { OnOk result (map manner_view manners.new.items ≡ map manner_view manners.old.items
+        ++ escaped_manners (options_view options.now) has_delimiters is_checked) }
+{
+    if has_delimiters {
+        manners.extend_from_slice(&run_manners(options))?;
+        push_fallbacks(manners)
+    } else if is_checked {
+        manners.extend_from_slice(&[preferred_manner(options, false)])
+    } else {
+        Ok(())
+    }
+}
+
 /// The manners in which a unit is tried, in order and as one list: from the source, where some text
-/// is known there, and escaped for a unit with delimiters. An `Err` says that memory ran out.
+/// is known there, and escaped for a unit that is checked, as one with delimiters is. An `Err` says that
+/// memory ran out.
 pub fn candidates<'a>(
     alloc: Global,
     options: &Options<'a>,
     has_source: bool,
     has_delimiters: bool,
+    is_checked: bool,
 ) -> Result<Vec<Manner<'a>>, AllocError>
     ensures { IfOk result (λ manners. map manner_view manners.items
-        ≡ manners_for (options_view options.now) has_source has_delimiters) }
+        ≡ manners_for (options_view options.now) has_source has_delimiters is_checked) }
 {
     let mut manners = Vec::new(alloc);
     if has_source {
         push_from_source(&mut manners, options, has_delimiters)?;
     }
-    if has_delimiters {
-        manners.extend_from_slice(&run_manners(options))?;
-        push_fallbacks(&mut manners)?;
-    }
+    push_escaped(&mut manners, options, has_delimiters, is_checked)?;
     Ok(manners)
 }

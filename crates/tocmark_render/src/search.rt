@@ -1,12 +1,12 @@
 //! The search for a spelling that is read back.
 
-ghost use Rattle.std.specs.Prelude.{◌≡◌, None, flat_map, map, true, IfOk, OnOk};
+ghost use Rattle.std.specs.Prelude.{◌≡◌, ◌==◌, ◌&&◌, ◌∷◌, ◌||◌, None, [], flat_map, length, map, not, true, IfOk, OnOk};
 ghost use Rattle.std.specs.List.{AllByRecursion, list_any};
 ghost use Rattle.tocmark_options.specs.Options.{options_view};
 ghost use Rattle.tocmark_spelling.specs.Buffered.{buffered_view};
 ghost use Rattle.tocmark_renderer.specs.JobOf.{manner_view};
 ghost use Rattle.tocmark_renderer.specs.WriterOf.{site_of};
-ghost use Rattle.tocmark_render.specs.Candidates.{delimiter_manners, fallback_manners, fallbacks, preferred_manner};
+ghost use Rattle.tocmark_render.specs.Candidates.{delimiter_manners, escaped_manners, fallback_manners, fallbacks, preferred_manner};
 ghost use Rattle.tocmark_render.specs.Choice.{has_standard_markers};
 ghost use Rattle.tocmark_render.specs.Tries.{if_source, is_delimiter_event, is_sourced_event, manners_for};
 ghost use Rattle.tocmark_render.specs.TrialOf.{AreRefused, Chooses, IsFront, IsLow, IsReady, KnowsIn, TriesIn, WritesIn, asked_of, earlier_view, options_in};
@@ -76,6 +76,16 @@ fn has_delimiters(unit: &[BufferedEvent]) -> bool
         }
     }
     false
+}
+
+/// Whether a unit is written only as it is read back: one with delimiters, and where the options ask
+/// for it each that has an event.
+fn is_checked(options: &Options<'_>, unit: &[BufferedEvent], has_delimiters: bool) -> bool
+    ensures { let o = options_view options.now in
+        result ≡ (has_delimiters
+        || (o.check_plain_blocks && not (length (map buffered_view unit.now) == 0))) }
+{
+    has_delimiters || (options.check_plain_blocks && !unit.is_empty())
 }
 
 /// Tries manners in order, up to the first in which the unit is read back: the renderer has written
@@ -188,6 +198,53 @@ fn try_delimiters<'t, R: Reader>(
     try_fallbacks(trial, earlier, renderer, refused)
 }
 
+/// Tries the preferred manner, as `try_all` does.
+fn try_preferred<'t, R: Reader>(
+    trial: &Trial<'t, '_, R>,
+    earlier: Earlier<'_>,
+    renderer: &mut Renderer<'t>,
+    refused: &mut Refused,
+) -> Result<Option<ReadBack>, Error>
+    requires ready { IsReady R.reading trial.now }
+    requires refused { let q = asked_of R.reading trial.now in
+        AreRefused q (earlier_view earlier) refused.old }
+    requires front { IsFront (site_of renderer.old) }
+    ensures tried { TriesIn R.reading trial.now earlier.entry renderer.old renderer.new
+        (preferred_manner (options_in trial.now) ∷ []) result }
+    ensures known { KnowsIn R.reading trial.now earlier.entry renderer.new result }
+{
+    let manners = [preferred_manner(trial.options, false)];
+    try_all(trial, earlier, renderer, refused, &manners)
+}
+
+/// Tries the manners of a unit whose texts are escaped, if it has some, as `try_all` does: those of a
+/// unit with delimiters, or the preferred one of any other that is checked.
+fn try_escaped<'t, R: Reader>(
+    trial: &Trial<'t, '_, R>,
+    earlier: Earlier<'_>,
+    renderer: &mut Renderer<'t>,
+    refused: &mut Refused,
+    has_delimiters: bool,
+    is_checked: bool,
+) -> Result<Option<ReadBack>, Error>
+    requires ready { IsReady R.reading trial.now }
+    requires standard { has_standard_markers (options_in trial.now) ≡ true }
+    requires refused { let q = asked_of R.reading trial.now in
+        AreRefused q (earlier_view earlier) refused.old }
+    requires front { IsFront (site_of renderer.old) }
+    ensures tried { TriesIn R.reading trial.now earlier.entry renderer.old renderer.new
+        (escaped_manners (options_in trial.now) has_delimiters is_checked) result }
+    ensures known { KnowsIn R.reading trial.now earlier.entry renderer.new result }
+{
+    if has_delimiters {
+        try_delimiters(trial, earlier, renderer, refused)
+    } else if is_checked {
+        try_preferred(trial, earlier, renderer, refused)
+    } else {
+        Ok(None)
+    }
+}
+
 /// Tries all candidates of a unit, if it has some, as `try_all` does: first those from the source.
 fn try_candidates<'t, R: Reader>(
     trial: &Trial<'t, '_, R>,
@@ -196,6 +253,7 @@ fn try_candidates<'t, R: Reader>(
     refused: &mut Refused,
     has_source: bool,
     has_delimiters: bool,
+    is_checked: bool,
 ) -> Result<Option<ReadBack>, Error>
     requires ready { IsReady R.reading trial.now }
     requires standard { has_standard_markers (options_in trial.now) ≡ true }
@@ -203,7 +261,7 @@ fn try_candidates<'t, R: Reader>(
         AreRefused q (earlier_view earlier) refused.old }
     requires front { IsFront (site_of renderer.old) }
     ensures tried { TriesIn R.reading trial.now earlier.entry renderer.old renderer.new
-        (manners_for (options_in trial.now) has_source has_delimiters) result }
+        (manners_for (options_in trial.now) has_source has_delimiters is_checked) result }
     ensures known { KnowsIn R.reading trial.now earlier.entry renderer.new result }
 {
     if let Some(known) = try_source(
@@ -216,11 +274,14 @@ fn try_candidates<'t, R: Reader>(
     )? {
         return Ok(Some(known));
     }
-    if has_delimiters {
-        try_delimiters(trial, earlier, renderer, refused)
-    } else {
-        Ok(None)
-    }
+    try_escaped(
+        trial,
+        earlier,
+        renderer,
+        refused,
+        has_delimiters,
+        is_checked,
+    )
 }
 
 /// Tries all candidates of a unit, none of which was refused so far, as `try_candidates` does.
@@ -230,12 +291,13 @@ fn search<'t, R: Reader>(
     renderer: &mut Renderer<'t>,
     has_source: bool,
     has_delimiters: bool,
+    is_checked: bool,
 ) -> Result<Option<ReadBack>, Error>
     requires ready { IsReady R.reading trial.now }
     requires standard { has_standard_markers (options_in trial.now) ≡ true }
     requires front { IsFront (site_of renderer.old) }
     ensures tried { TriesIn R.reading trial.now earlier.entry renderer.old renderer.new
-        (manners_for (options_in trial.now) has_source has_delimiters) result }
+        (manners_for (options_in trial.now) has_source has_delimiters is_checked) result }
     ensures known { KnowsIn R.reading trial.now earlier.entry renderer.new result }
 {
     let mut refused = IndexSet::new(trial.alloc);
@@ -246,6 +308,7 @@ fn search<'t, R: Reader>(
         &mut refused,
         has_source,
         has_delimiters,
+        is_checked,
     );
     drop(refused);
     found
@@ -276,11 +339,12 @@ fn write_unread<'t, R: Reader>(
 /// Writes a unit in the first of its candidates that is read back, behind a mark, and hands on what
 /// is known of that.
 ///
-/// Where none is, a unit without delimiters is written in the preferred spelling, as one is whose
-/// options aren't accepted; and one with other markers than Markdown's at once. An `Err` is
-/// `UnexpectedEvent` where a node of the unit is misplaced, `Unrepresentable` where no spelling of a
-/// unit with delimiters is read back, and `OutOfMemory` where memory ran out or the reader answered it;
-/// the renderer has gone back then.
+/// Where none is, a unit that isn't checked is written in the preferred spelling, as one is whose
+/// options aren't accepted; and one with other markers than Markdown's at once. A unit with delimiters is
+/// checked, and where the options ask for it each that has an event. An `Err` is `UnexpectedEvent` where
+/// a node of the unit is misplaced, `Unrepresentable` where no spelling of a unit that is checked is read
+/// back, and `OutOfMemory` where memory ran out or the reader answered it; the renderer has gone back
+/// then.
 pub fn choose<'t, R: Reader>(
     trial: &Trial<'t, '_, R>,
     earlier: Earlier<'_>,
@@ -296,10 +360,18 @@ pub fn choose<'t, R: Reader>(
     }
     let has_delimiters = has_delimiters(trial.unit);
     let has_source = has_source(trial.unit);
-    if let Some(known) = search(trial, earlier, renderer, has_source, has_delimiters)? {
+    let is_checked = is_checked(trial.options, trial.unit, has_delimiters);
+    if let Some(known) = search(
+        trial,
+        earlier,
+        renderer,
+        has_source,
+        has_delimiters,
+        is_checked,
+    )? {
         return Ok(Some(known));
     }
-    if has_delimiters && accepts(trial.options, trial.flags) {
+    if is_checked && accepts(trial.options, trial.flags) {
         return Err(Error::Unrepresentable);
     }
     write_unread(trial, renderer)

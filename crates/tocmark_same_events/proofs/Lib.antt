@@ -1,1 +1,2 @@
+pub mod SameIsEqual
 pub mod SameKeys

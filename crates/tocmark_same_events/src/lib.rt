@@ -2,6 +2,7 @@
 #![tactic(auto)]
 
 pub mod event;
+pub mod laws;
 pub mod number;
 mod tag;
 mod text;

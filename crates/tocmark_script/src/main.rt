@@ -1,8 +1,9 @@
 //! Runs scripts of events: reads them on standard input, and writes on standard output what each one is
 //! answered. The lines of scripts and of answers stand in `docs/SCRIPTS.md`.
 //!
-//! With the argument `--rows` a line of an answer of more than 4,000 bytes is told by its length and digest, and behind
-//! the answers stands what `tocmark_trials` has counted: whether the scripts' units are written alike by renderers
+//! With the argument `--rows` a line of an answer of more than 4,000 bytes is told by its length and digest, and each
+//! script without questions is run again, with clones of the state and with writers and readers that fail. Behind the
+//! answers stands how many such runs there were, and what `tocmark_trials` has counted: whether the scripts' units are written alike by renderers
 //! that go back and by others.
 #![tactic(auto)]
 
@@ -13,7 +14,7 @@ use std::env;
 use std::io::Write;
 use std::process::ExitCode;
 use tocmark_script_answers::fault::Fault;
-use tocmark_script_answers::{answer_scripts, complain, scripts};
+use tocmark_script_answers::{answer_scripts, answer_scripts_again, complain, scripts};
 use tocmark_trials::write_trials;
 
 /// Whether the argument `--rows` stands there. An `Err` says that something else does.
@@ -56,7 +57,7 @@ fn answer_rows(rt: &HostRuntime) -> Result<bool, Fault> {
     let text = scripts(rt.alloc(), &mut rt.stdin())?;
     let mut output = rt.stdout();
     let mut lines = ShortLines::new(&mut output, Vec::new(rt.alloc()));
-    let is_right = answer_scripts(rt.alloc(), text.as_str(), &mut lines, &mut rt.stderr())?;
+    let is_right = answer_scripts_again(rt.alloc(), text.as_str(), &mut lines, &mut rt.stderr())?;
     Ok(try_units(rt, text.as_str(), &mut lines)? && is_right)
 }
 

@@ -1,5 +1,6 @@
 //! Batches of scripts.
 
+use crate::again::Again;
 use crate::cuts::write_cuts;
 use crate::fault::Fault;
 use crate::runs::run;
@@ -17,16 +18,31 @@ pub struct Batch {
     lines: ScriptLines,
     /// Whether each script so far has its answer.
     is_right: bool,
+    /// What the runs of scripts again were, where they are run again.
+    again: Option<Again>,
 }
 
-/// The answer of a whole script.
-fn answer(alloc: Global, script: &Script<'static>) -> Result<String, AllocError> {
+/// The answer of a whole script, which isn't run again.
+fn answer_once(alloc: Global, script: &Script<'static>) -> Result<String, AllocError> {
     if !script.questions.is_empty() {
         return answers(alloc, script);
     }
     let mut answer = run(alloc, script, &script.calls, script.shows_calls)?;
     if script.compares_cuts {
         write_cuts(alloc, &mut answer, script)?;
+    }
+    Ok(answer)
+}
+
+/// The answer of a whole script, which is run again where that is asked for.
+fn answer(
+    alloc: Global,
+    script: &Script<'static>,
+    again: &mut Option<Again>,
+) -> Result<String, AllocError> {
+    let mut answer = answer_once(alloc, script)?;
+    if let Some(again) = again {
+        again.run(alloc, script, &mut answer)?;
     }
     Ok(answer)
 }
@@ -45,12 +61,13 @@ fn write_answer<O: Write>(output: &mut O, answer: &str, last: &str) -> Result<()
 }
 
 impl Batch {
-    /// No line yet.
-    pub fn new(alloc: Global) -> Batch {
+    /// No line yet. Each script is run again where there is a place to count that.
+    pub fn new(alloc: Global, again: Option<Again>) -> Batch {
         Batch {
             alloc,
             lines: ScriptLines::new(alloc),
             is_right: true,
+            again,
         }
     }
 
@@ -78,7 +95,7 @@ impl Batch {
         output: &mut O,
         faults: &mut F,
     ) -> Result<(), Fault> {
-        match answer(self.alloc, script) {
+        match answer(self.alloc, script, &mut self.again) {
             Ok(answer) => write_answer(output, answer.as_str(), last),
             Err(_) => {
                 self.refuse_answer(faults);
@@ -144,5 +161,16 @@ impl Batch {
         }
         self.end(output, faults)?;
         Ok(self.is_right)
+    }
+
+    /// Writes what the runs of scripts again were.
+    pub fn write_again<O: Write>(&self, output: &mut O) -> Result<(), Fault> {
+        let Some(again) = &self.again else {
+            return Ok(());
+        };
+        match again.write(output) {
+            Ok(()) => Ok(()),
+            Err(_) => Err(Fault::Write),
+        }
     }
 }

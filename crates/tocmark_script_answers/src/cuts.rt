@@ -1,25 +1,9 @@
 //! Runs of one script in other calls.
 
 use crate::runs::run;
+use crate::tally::Tally;
 use std::alloc::{AllocError, Global};
 use tocmark_script_lines::script::{Call, Script};
-
-/// How many cuts had the answer of one call over all events, and how many hadn't.
-#[derive(Clone, Copy)]
-struct Cuts {
-    same: usize,
-    different: usize,
-}
-
-impl Cuts {
-    fn count(&mut self, is_same: bool) {
-        if is_same {
-            self.same = self.same.saturating_add(1);
-        } else {
-            self.different = self.different.saturating_add(1);
-        }
-    }
-}
 
 /// The answer where the events are cut in two.
 fn in_two(alloc: Global, script: &Script<'static>, place: usize) -> Result<String, AllocError> {
@@ -56,16 +40,13 @@ pub fn write_cuts(
 ) -> Result<(), AllocError> {
     let events = script.events.len();
     let whole = in_parts(alloc, script, events)?;
-    let mut cuts = Cuts {
-        same: 0,
-        different: 0,
-    };
+    let mut cuts = Tally::NONE;
     for place in 0..events.saturating_add(1) {
         cuts.count(in_two(alloc, script, place)? == whole);
     }
     for size in 1..events {
         cuts.count(in_parts(alloc, script, size)? == whole);
     }
-    let Cuts { same, different } = cuts;
+    let Tally { same, different } = cuts;
     writeln!(answer, "Cuts same={same} different={different}")
 }

@@ -1,11 +1,15 @@
 //! Answers scripts of events. The lines of scripts and of answers stand in `docs/SCRIPTS.md`.
 #![tactic(auto)]
 
+mod again;
 mod batch;
+mod counting;
 mod cuts;
 pub mod fault;
 mod runs;
+mod tally;
 
+use crate::again::Again;
 use crate::batch::Batch;
 use crate::fault::Fault;
 use std::alloc::Global;
@@ -37,8 +41,40 @@ pub fn answer_scripts<O: Write, F: Write>(
     output: &mut O,
     faults: &mut F,
 ) -> Result<bool, Fault> {
-    let mut batch = Batch::new(alloc);
+    let mut batch = Batch::new(alloc, None);
     let is_right = batch.take_all(text, output, faults);
+    drop(batch);
+    is_right
+}
+
+/// Takes all lines of a text, and writes what the runs of its scripts again were.
+fn take_and_count<O: Write, F: Write>(
+    batch: &mut Batch,
+    text: &str,
+    output: &mut O,
+    faults: &mut F,
+) -> Result<bool, Fault> {
+    let is_right = batch.take_all(text, output, faults)?;
+    batch.write_again(output)?;
+    Ok(is_right)
+}
+
+/// Answers each script of a text in turn, as `answer_scripts` does, and runs each one without questions again: with a
+/// clone of the state behind each event, with a writer that refuses one of its texts, and with a reader that finds no
+/// memory for one of its readings. A line in its answer says where such a run isn't as it should be, and behind all
+/// answers stands how many there were.
+///
+/// # Errors
+///
+/// `Write` where the output can't be written.
+pub fn answer_scripts_again<O: Write, F: Write>(
+    alloc: Global,
+    text: &str,
+    output: &mut O,
+    faults: &mut F,
+) -> Result<bool, Fault> {
+    let mut batch = Batch::new(alloc, Some(Again::NONE));
+    let is_right = take_and_count(&mut batch, text, output, faults);
     drop(batch);
     is_right
 }

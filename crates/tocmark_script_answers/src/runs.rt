@@ -1,16 +1,34 @@
 //! Runs of a script.
 
+use crate::counting::CountingReader;
 use std::alloc::{AllocError, Global};
 use std::fmt;
 use tocmark::{Error, Progress, State};
 use tocmark_script_events::event::{Events, RangedEvent, RangedEvents};
 use tocmark_script_lines::script::{Call, Script};
 use tocmark_script_questions::errors::error_name;
-use tocmark_script_reader::readers::{CountedReader, ScriptReader};
+use tocmark_script_reader::readers::CountedReader;
 use tocmark_script_words::string::Quoted;
 
 /// The reader of one run.
-type RunReader<'r> = CountedReader<'r, ScriptReader<'static>>;
+type RunReader<'r> = CountedReader<'r, CountingReader<'r>>;
+
+/// Which text and which reading are refused, each counted from 1.
+#[derive(Clone, Copy)]
+pub struct Refusals {
+    pub text: Option<usize>,
+    pub reading: Option<usize>,
+}
+
+/// What a run came to.
+#[derive(Drop)]
+pub struct RunAnswer {
+    pub answer: String,
+    /// How many texts the writer was handed, with the one that it refused.
+    pub texts: usize,
+    /// How many readings there were, without the one for which there was no memory.
+    pub readings: usize,
+}
 
 /// Writes each text that it takes as a line of an answer, and refuses one.
 #[derive(Drop)]
@@ -158,19 +176,74 @@ fn answer_calls(
     }
 }
 
-/// Makes a state and its calls, and writes their lines.
+/// Makes a state and its calls, and writes their lines. Returns how many readings there were.
 fn answer_script(
     alloc: Global,
     script: &Script<'static>,
     calls: &[Call],
     shows_calls: bool,
+    refused_reading: Option<usize>,
     tape: &mut Tape,
-) -> Result<(), AllocError> {
-    let reader = CountedReader::new(&script.reader, script.refused_reading);
+) -> Result<usize, AllocError> {
+    let counting = CountingReader::new(&script.reader);
+    let reader = CountedReader::new(&counting, refused_reading);
     match State::new(alloc, &reader, script.flags, script.options()) {
-        Ok(mut state) => answer_calls(&mut state, script, calls, shows_calls, tape),
-        Err(error) => write_outcome(&mut tape.answer, &Err(error)),
+        Ok(mut state) => answer_calls(&mut state, script, calls, shows_calls, tape)?,
+        Err(error) => write_outcome(&mut tape.answer, &Err(error))?,
     }
+    Ok(counting.readings())
+}
+
+/// What these calls come to where a text and a reading are refused, with a line for each call or one at the end. An
+/// `Err` says that memory ran out for the answer.
+fn run_refused(
+    alloc: Global,
+    script: &Script<'static>,
+    calls: &[Call],
+    shows_calls: bool,
+    refusals: Refusals,
+) -> Result<RunAnswer, AllocError> {
+    let mut tape = Tape {
+        answer: String::new(alloc),
+        texts: 0,
+        refused_text: refusals.text,
+        is_full: false,
+    };
+    let readings = answer_script(
+        alloc,
+        script,
+        calls,
+        shows_calls,
+        refusals.reading,
+        &mut tape,
+    )?;
+    if tape.is_full {
+        return Err(AllocError);
+    }
+    Ok(RunAnswer {
+        answer: tape.answer,
+        texts: tape.texts,
+        readings,
+    })
+}
+
+/// The text and the reading that a script refuses.
+pub fn refusals_of(script: &Script<'_>) -> Refusals {
+    Refusals {
+        text: script.refused_text,
+        reading: script.refused_reading,
+    }
+}
+
+/// What these calls come to where a text and a reading are refused, with one line at the end. An `Err` says that memory
+/// ran out for the answer.
+pub fn run_with(
+    alloc: Global,
+    script: &Script<'static>,
+    calls: &[Call],
+    refusals: Refusals,
+) -> Result<RunAnswer, AllocError> {
+    run_refused(alloc, script, calls, false, refusals)
 }
 
 /// What a script without questions is answered where these calls are made, with a line for each call or
@@ -181,15 +254,5 @@ pub fn run(
     calls: &[Call],
     shows_calls: bool,
 ) -> Result<String, AllocError> {
-    let mut tape = Tape {
-        answer: String::new(alloc),
-        texts: 0,
-        refused_text: script.refused_text,
-        is_full: false,
-    };
-    answer_script(alloc, script, calls, shows_calls, &mut tape)?;
-    if tape.is_full {
-        return Err(AllocError);
-    }
-    Ok(tape.answer)
+    Ok(run_refused(alloc, script, calls, shows_calls, refusals_of(script))?.answer)
 }

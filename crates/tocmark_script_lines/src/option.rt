@@ -30,6 +30,7 @@ pub enum SizeOption {
 pub enum ChoiceOption {
     IncrementBullets,
     HtmlScripts,
+    PlainBlocks,
 }
 
 /// An option that is one character.
@@ -59,7 +60,7 @@ pub enum OptionSetting {
     StrongToken(String),
 }
 
-const OPTIONS: [(&str, OptionName); 18] = [
+const OPTIONS: [(&str, OptionName); 19] = [
     (
         "newlines_after_headline",
         OptionName::Size(SizeOption::Headline),
@@ -99,6 +100,10 @@ const OPTIONS: [(&str, OptionName); 18] = [
     (
         "use_html_for_super_sub_script",
         OptionName::Choice(ChoiceOption::HtmlScripts),
+    ),
+    (
+        "check_plain_blocks",
+        OptionName::Choice(ChoiceOption::PlainBlocks),
     ),
     (
         "code_block_token",
@@ -182,6 +187,7 @@ fn set_choice(options: &mut Options<'_>, option: ChoiceOption, choice: bool) {
     match option {
         ChoiceOption::IncrementBullets => options.increment_ordered_list_bullets = choice,
         ChoiceOption::HtmlScripts => options.use_html_for_super_sub_script = choice,
+        ChoiceOption::PlainBlocks => options.check_plain_blocks = choice,
     }
 }
 

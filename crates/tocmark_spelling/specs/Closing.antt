@@ -1,5 +1,5 @@
 -- What each container's closing writes, and what it leaves to the container's right neighbour.
-use Rattle.std.specs.Prelude.{ℕ, ◌+◌, ◌-◌, Bool, true, false, not, ◌&&◌, ◌==◌, if◌then◌else◌, nat_lt, Option, Some, None, is_some, List, [], ◌∷◌, ◌++◌, length, max, replicate, flat_map, drop, codes}
+use Rattle.std.specs.Prelude.{◌^◌, min, ℕ, ◌+◌, ◌-◌, Bool, true, false, not, ◌&&◌, ◌==◌, if◌then◌else◌, nat_lt, Option, Some, None, is_some, List, [], ◌∷◌, ◌++◌, length, max, replicate, flat_map, drop, codes}
 use Rattle.tocmark_event.specs.View.{TagView, Paragraph, Heading, BlockQuote, CodeBlock, HtmlBlock, ListOf, Item, Table, TableHead, TableRow, TableCell, DefinitionList, DefinitionListTitle, DefinitionListDefinition, Emphasis, Strong, Strikethrough, Superscript, Subscript, Link, Image, MetadataBlock, end_of}
 use Rattle.tocmark_options.specs.Options.{OptionsView}
 use Rattle.tocmark_event.specs.declared.event.Alignment.{Alignment}
@@ -207,9 +207,13 @@ close_definition path p =
     let shown = with_line_end path (with_quote_end path p) in
     left path (with_trail (record shown.trail { owed = 1; last = DefinitionEnd; quote_line = None }) shown)
 
+-- one line feed more than the options ask for; a count stops at the greatest `usize`
+abbrev pub metadata_owes : OptionsView → ℕ
+metadata_owes o = min (o.newlines_after_metadata + 1) (2 ^ 64 - 1)
+
 -- metadata ends with the same line that opened it
 abbrev pub close_metadata : OptionsView → MetadataBlockKind → Path → Page → Site
-close_metadata o kind path p = close_block (MetadataBlock kind) (o.newlines_after_metadata + 1) path (written path (metadata_fence kind) p)
+close_metadata o kind path p = close_block (MetadataBlock kind) (metadata_owes o) path (written path (metadata_fence kind) p)
 
 -- inline content that ends with this text
 abbrev pub close_inline : List ℕ → Path → Page → Site

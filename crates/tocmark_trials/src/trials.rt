@@ -154,7 +154,7 @@ fn try_behind<'u>(
 
 /// The manners in which units are tried, and the first one again.
 fn manners<'a>(alloc: Global, options: &Options<'a>) -> Result<Vec<Manner<'a>>, AllocError> {
-    let mut manners = candidates(alloc, options, true, true)?;
+    let mut manners = candidates(alloc, options, true, true, true)?;
     if let Some(first) = manners.first() {
         let first = *first;
         manners.push(first)?;

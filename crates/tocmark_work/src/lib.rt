@@ -2,6 +2,7 @@
 #![tactic(auto)]
 
 mod hand;
+pub mod laws;
 mod ranges;
 pub mod taker;
 pub mod work;

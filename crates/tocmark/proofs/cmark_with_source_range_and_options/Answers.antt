@@ -1,4 +1,4 @@
-use Rattle.std.proofs.Common.{[], Ok, Result, refl, subst, sym}
+use Rattle.std.proofs.Common.{◌∙◌, [], Ok, Result, refl, subst, sym}
 use Rattle.std.proofs.lemmas.Result.{err_from_is_err_and}
 use Rattle.tocmark_options.specs.declared.options.Error.{Error}
 use Rattle.tocmark_work.specs.Walk.{Rendering, done, nothing_yet, script, walk}
@@ -34,3 +34,6 @@ returns-in-Err-clause-made g c =
       (m.1.0, m.1.1, λ h. m.1.2 (subst (λ (how : Rendering). TakesAllAt e (walk how c.args.source.now (nothing_yet flags) (ranged_pairs m.0))) (sym c.in_ok-ranged.ensures.same) h)),
       subst (λ (how : Rendering). RefusesAt g.W.Taker.takes g.W.Taker.refuses c.args.writer.now c.write_all_ranged.new.writer e (script how c.args.source.now (nothing_yet flags) (ranged_pairs m.0))) c.in_ok-ranged.ensures.same m.2,
     )
+
+pub returns-in-Ok-clause-same : goal.returns-in-Ok-clause-same
+returns-in-Ok-clause-same g c = c.in-Ok.ensures.same ∙ c.in_ok-ranged.ensures.same

@@ -59,3 +59,6 @@ returns-clause-made g c flags s =
           Ends-script gives refuses c.args.writer.now c.process.new.writer c.finish.new.writer how flags source c.in_ok-process.field-0 r (place_of c.process.new.self) (pairs a.1) b
           (subst (λ (x : Rendering). Ends gives refuses c.process.new.writer c.finish.new.writer x flags source r (pairs a.1)) c.in_ok-process.ensures.same (c.in_ok-finish.ensures.active flags source (pairs a.1) t)),
     )
+
+pub returns-clause-same : goal.returns-clause-same
+returns-clause-same g c = c.in_ok-finish.ensures.same ∙ c.in_ok-process.ensures.same

@@ -59,3 +59,6 @@ returns-clause-made g c flags s =
           Ends-script gives refuses c.args.writer.now c.process_with_source_range.new.writer c.finish.new.writer how flags c.args.source.now c.in_ok-process_with_source_range.field-0 r (place_of c.process_with_source_range.new.self) (ranged_pairs a.1) b
           (subst (λ (x : Rendering). Ends gives refuses c.process_with_source_range.new.writer c.finish.new.writer x flags c.args.source.now r (ranged_pairs a.1)) c.in_ok-process_with_source_range.ensures.same (c.in_ok-finish.ensures.active flags c.args.source.now (ranged_pairs a.1) t)),
     )
+
+pub returns-clause-same : goal.returns-clause-same
+returns-clause-same g c = c.in_ok-finish.ensures.same ∙ c.in_ok-process_with_source_range.ensures.same

@@ -1,8 +1,6 @@
-use Rattle.tocmark_work.specs.WorkView.{rendering}
 use Rattle.tocmark_label_sets.specs.Document.{first_document}
 use Rattle.tocmark_laws.proofs.UnexpectedCauses.{unexpected-cause}
-use Rattle.tocmark_laws.proofs.Unexpected.{rendering-misplaced}
 use Rattle.tocmark_laws.proofs.blocks.unexpected_events_have_causes.Goals as goal
 
 pub returns : goal.returns
-returns c = λ options reading flags source p h. unexpected-cause (rendering options reading) source (record { flags = flags; document = first_document }) (rendering-misplaced options reading) p h
+returns c = λ options reading flags source p h. unexpected-cause options reading source (record { flags = flags; document = first_document }) p h

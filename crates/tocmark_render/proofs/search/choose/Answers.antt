@@ -7,9 +7,9 @@ use Rattle.tocmark_render.specs.TrialOf.{ComesOrBack, Writes, asked_of, left_by,
 use Rattle.tocmark_render.specs.Tries.{manners_for}
 use Rattle.tocmark_render.specs.Validates.{validates}
 use Rattle.tocmark_render.proofs.Trials.{choice-unsearched, left-stopped, none-left, left-unrepresentable, stands-again, tries-bare, writes-lost, written-found}
-use Rattle.tocmark_render.proofs.TrialUnits.{preferred-written, trial-delimiters, trial-source}
+use Rattle.tocmark_render.proofs.TrialUnits.{preferred-written, trial-checked, trial-delimiters, trial-source}
 use Rattle.tocmark_render.proofs.search.choose.Goals as goal
-use Rattle.tocmark_render.proofs.search.choose.Goals.{else-has_delimiters-via-then-has_delimiters+else-accepts, else-has_delimiters-via-else-has_delimiters}
+use Rattle.tocmark_render.proofs.search.choose.Goals.{else-is_checked-via-then-is_checked+else-accepts, else-is_checked-via-else-is_checked}
 
 pub returns-then-not-has_standard_markers-clause-chosen : goal.returns-then-not-has_standard_markers-clause-chosen
 returns-then-not-has_standard_markers-clause-chosen g c other =
@@ -31,7 +31,7 @@ returns-in_err-known-clause-chosen g c other =
     let old = site_of c.args.renderer.now in
     let d = left_by other c.args.earlier old in
     rw (p.1, p.2)
-    (left-stopped q d q.setting.options c.has_source-has_source.result c.has_delimiters-has_delimiters.result acc refl (trial-source reading t c.requires.ready c.has_source-has_source.result c.has_source-has_source.ensures) (trial-delimiters reading t c.requires.ready c.has_delimiters-has_delimiters.result c.has_delimiters-has_delimiters.ensures) refl
+    (left-stopped q d q.setting.options c.has_source-has_source.result c.has_delimiters-has_delimiters.result c.is_checked-is_checked.result acc refl (trial-source reading t c.requires.ready c.has_source-has_source.result c.has_source-has_source.ensures) (trial-delimiters reading t c.requires.ready c.has_delimiters-has_delimiters.result c.has_delimiters-has_delimiters.ensures) (trial-checked reading t c.requires.ready c.has_delimiters-has_delimiters.result c.is_checked-is_checked.result c.has_delimiters-has_delimiters.ensures c.is_checked-is_checked.ensures) refl
     old c.search.new.renderer c.in_err-known.field-0.0 c.in_err-known.ensures.tried)
 
 pub returns-in-Some-clause-chosen : goal.returns-in-Some-clause-chosen
@@ -42,8 +42,8 @@ returns-in-Some-clause-chosen g c other =
     let acc = validates q.setting.options q.setting.flags in
     let old = site_of c.args.renderer.now in
     let d = left_by other c.args.earlier old in
-    let tried = tries-bare q d old c.search.new.renderer (manners_for q.setting.options c.has_source-has_source.result c.has_delimiters-has_delimiters.result) (Ok c.in_ok-known.field-0) c.in_ok-known.ensures.tried in
-    written-found q d q.setting.options c.has_source-has_source.result c.has_delimiters-has_delimiters.result acc refl (trial-source reading t c.requires.ready c.has_source-has_source.result c.has_source-has_source.ensures) (trial-delimiters reading t c.requires.ready c.has_delimiters-has_delimiters.result c.has_delimiters-has_delimiters.ensures) refl
+    let tried = tries-bare q d old c.search.new.renderer (manners_for q.setting.options c.has_source-has_source.result c.has_delimiters-has_delimiters.result c.is_checked-is_checked.result) (Ok c.in_ok-known.field-0) c.in_ok-known.ensures.tried in
+    written-found q d q.setting.options c.has_source-has_source.result c.has_delimiters-has_delimiters.result c.is_checked-is_checked.result acc refl (trial-source reading t c.requires.ready c.has_source-has_source.result c.has_source-has_source.ensures) (trial-delimiters reading t c.requires.ready c.has_delimiters-has_delimiters.result c.has_delimiters-has_delimiters.ensures) (trial-checked reading t c.requires.ready c.has_delimiters-has_delimiters.result c.is_checked-is_checked.result c.has_delimiters-has_delimiters.ensures c.is_checked-is_checked.ensures) refl
     old c.search.new.renderer c.in_ok-known.field-0 c.in-Some.known (sym c.has_standard_markers.ensures ∙ c.if-not-has_standard_markers.false) tried c.in-Some.is
 
 pub returns-then-accepts-clause-chosen : goal.returns-then-accepts-clause-chosen
@@ -54,9 +54,9 @@ returns-then-accepts-clause-chosen g c other =
     let acc = validates q.setting.options q.setting.flags in
     let old = site_of c.args.renderer.now in
     let d = left_by other c.args.earlier old in
-    let tried = tries-bare q d old c.search.new.renderer (manners_for q.setting.options c.has_source-has_source.result c.has_delimiters-has_delimiters.result) (Ok c.in_ok-known.field-0) c.in_ok-known.ensures.tried in
-    left-unrepresentable q d q.setting.options c.has_source-has_source.result c.has_delimiters-has_delimiters.result acc refl (trial-source reading t c.requires.ready c.has_source-has_source.result c.has_source-has_source.ensures) (trial-delimiters reading t c.requires.ready c.has_delimiters-has_delimiters.result c.has_delimiters-has_delimiters.ensures) refl
-    old c.search.new.renderer c.in_ok-known.field-0 (sym c.has_standard_markers.ensures ∙ c.if-not-has_standard_markers.false) tried (none-left c.in_ok-known.field-0 c.in_default.not-Some) c.if-has_delimiters.true (sym c.accepts.ensures ∙ c.if-accepts.true)
+    let tried = tries-bare q d old c.search.new.renderer (manners_for q.setting.options c.has_source-has_source.result c.has_delimiters-has_delimiters.result c.is_checked-is_checked.result) (Ok c.in_ok-known.field-0) c.in_ok-known.ensures.tried in
+    left-unrepresentable q d q.setting.options c.has_source-has_source.result c.has_delimiters-has_delimiters.result c.is_checked-is_checked.result acc refl (trial-source reading t c.requires.ready c.has_source-has_source.result c.has_source-has_source.ensures) (trial-delimiters reading t c.requires.ready c.has_delimiters-has_delimiters.result c.has_delimiters-has_delimiters.ensures) (trial-checked reading t c.requires.ready c.has_delimiters-has_delimiters.result c.is_checked-is_checked.result c.has_delimiters-has_delimiters.ensures c.is_checked-is_checked.ensures) refl
+    old c.search.new.renderer c.in_ok-known.field-0 (sym c.has_standard_markers.ensures ∙ c.if-not-has_standard_markers.false) tried (none-left c.in_ok-known.field-0 c.in_default.not-Some) c.if-is_checked.true (sym c.accepts.ensures ∙ c.if-accepts.true)
 
 pub returns-clause-chosen : goal.returns-clause-chosen
 returns-clause-chosen g c other =
@@ -66,16 +66,16 @@ returns-clause-chosen g c other =
     let acc = validates q.setting.options q.setting.flags in
     let old = site_of c.args.renderer.now in
     let d = left_by other c.args.earlier old in
-    let tried = tries-bare q d old c.search.new.renderer (manners_for q.setting.options c.has_source-has_source.result c.has_delimiters-has_delimiters.result) (Ok c.in_ok-known.field-0) c.in_ok-known.ensures.tried in
+    let tried = tries-bare q d old c.search.new.renderer (manners_for q.setting.options c.has_source-has_source.result c.has_delimiters-has_delimiters.result c.is_checked-is_checked.result) (Ok c.in_ok-known.field-0) c.in_ok-known.ensures.tried in
     let w = c.write_unread-2 in
-    let undelimited : (c.has_delimiters-has_delimiters.result && acc) ≡ false = elim c.else-has_delimiters.branch [
-      | else-has_delimiters-via-then-has_delimiters+else-accepts w ↦ (λ j. w.if-has_delimiters.true j && (sym w.accepts.ensures ∙ w.if-accepts.false) j)
-      | else-has_delimiters-via-else-has_delimiters w ↦ ap (λ b. b && acc) w.if-has_delimiters.false
+    let unchecked : (c.is_checked-is_checked.result && acc) ≡ false = elim c.else-is_checked.branch [
+      | else-is_checked-via-then-is_checked+else-accepts w ↦ (λ j. w.if-is_checked.true j && (sym w.accepts.ensures ∙ w.if-accepts.false) j)
+      | else-is_checked-via-else-is_checked w ↦ ap (λ b. b && acc) w.if-is_checked.false
     ] in
-    let again = stands-again q d q.setting.options c.has_source-has_source.result c.has_delimiters-has_delimiters.result acc refl (trial-source reading t c.requires.ready c.has_source-has_source.result c.has_source-has_source.ensures) (trial-delimiters reading t c.requires.ready c.has_delimiters-has_delimiters.result c.has_delimiters-has_delimiters.ensures) refl
+    let again = stands-again q d q.setting.options c.has_source-has_source.result c.has_delimiters-has_delimiters.result c.is_checked-is_checked.result acc refl (trial-source reading t c.requires.ready c.has_source-has_source.result c.has_source-has_source.ensures) (trial-delimiters reading t c.requires.ready c.has_delimiters-has_delimiters.result c.has_delimiters-has_delimiters.ensures) (trial-checked reading t c.requires.ready c.has_delimiters-has_delimiters.result c.is_checked-is_checked.result c.has_delimiters-has_delimiters.ensures c.is_checked-is_checked.ensures) refl
     old c.search.new.renderer c.in_ok-known.field-0 (sym c.has_standard_markers.ensures ∙ c.if-not-has_standard_markers.false) tried (none-left c.in_ok-known.field-0 c.in_default.not-Some) in
     let P : Site → Type 0 = λ x. ComesOrBack w.result x w.new.renderer (spelled_at q x (preferred_manner q.setting.options)) in
-    writes-lost q d q.setting.options c.has_source-has_source.result c.has_delimiters-has_delimiters.result acc refl (trial-source reading t c.requires.ready c.has_source-has_source.result c.has_source-has_source.ensures) (trial-delimiters reading t c.requires.ready c.has_delimiters-has_delimiters.result c.has_delimiters-has_delimiters.ensures) refl
+    writes-lost q d q.setting.options c.has_source-has_source.result c.has_delimiters-has_delimiters.result c.is_checked-is_checked.result acc refl (trial-source reading t c.requires.ready c.has_source-has_source.result c.has_source-has_source.ensures) (trial-delimiters reading t c.requires.ready c.has_delimiters-has_delimiters.result c.has_delimiters-has_delimiters.ensures) (trial-checked reading t c.requires.ready c.has_delimiters-has_delimiters.result c.is_checked-is_checked.result c.has_delimiters-has_delimiters.ensures c.is_checked-is_checked.ensures) refl
     old c.search.new.renderer c.in_ok-known.field-0 (sym c.has_standard_markers.ensures ∙ c.if-not-has_standard_markers.false) tried (none-left c.in_ok-known.field-0 c.in_default.not-Some)
-    w.new.renderer w.result undelimited
+    w.new.renderer w.result unchecked
     (preferred-written q d old w.new.renderer w.result c.requires.front (subst P again w.ensures.written))

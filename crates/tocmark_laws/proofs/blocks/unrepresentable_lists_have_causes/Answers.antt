@@ -1,0 +1,6 @@
+use Rattle.tocmark_label_sets.specs.Document.{first_document}
+use Rattle.tocmark_laws.proofs.UnexpectedCauses.{unrepresentable-cause}
+use Rattle.tocmark_laws.proofs.blocks.unrepresentable_lists_have_causes.Goals as goal
+
+pub returns : goal.returns
+returns c = λ options reading flags source p h. unrepresentable-cause options reading source (record { flags = flags; document = first_document }) p h

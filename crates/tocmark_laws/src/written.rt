@@ -1,0 +1,52 @@
+//! Laws of the units that are written: that those with delimiters read back.
+
+ghost use Rattle.std.specs.Prelude.{◌≡◌, List, Ok, Option, true, ℕ};
+ghost use Rattle.std.specs.List.{AllByRecursion};
+ghost use Rattle.tocmark_event.specs.Forest.{flat};
+ghost use Rattle.tocmark_event.specs.View.{EventView, SourcedEvent};
+ghost use Rattle.tocmark_event.specs.declared.event.flags.ParserOptions.{ParserOptions};
+ghost use Rattle.tocmark_options.specs.Options.{OptionsView};
+ghost use Rattle.tocmark_reader.specs.Reading.{ReadingView};
+ghost use Rattle.tocmark_spelling.specs.Body.{Trees};
+ghost use Rattle.tocmark_spelling.specs.Page.{Page};
+ghost use Rattle.tocmark_spelling.specs.Plan.{Setting};
+ghost use Rattle.tocmark_label_sets.specs.Document.{DocumentView};
+ghost use Rattle.tocmark_labels.specs.Units.{labelled};
+ghost use Rattle.tocmark_render.specs.Candidates.{candidates, is_delimiter_block};
+ghost use Rattle.tocmark_render.specs.Choice.{document_after, has_standard_markers};
+ghost use Rattle.tocmark_render.specs.Chosen.{chosen};
+ghost use Rattle.tocmark_render.specs.FirstReadBack.{IsFirstReadBack};
+ghost use Rattle.tocmark_render.specs.Validates.{validates};
+ghost use Rattle.tocmark_laws.specs.Written.{AreWritten, ReadsBackIfDelimited, Written, last_written};
+ghost use Rattle.tocmark_work.specs.Ranges.{Pair};
+ghost use Rattle.tocmark_work.specs.Walk.{Kept, Standing, beginning, walk};
+ghost use Rattle.tocmark_work.specs.WorkView.{rendering};
+
+/// Under options that are accepted with the flags, with markers that Markdown reads, a unit with delimiters
+/// that is written has the text of a page that reads back as the unit: the first of its candidates that does.
+pub fn chosen_units_read_back()
+    ensures { (s : Setting) (d : DocumentView) (unit : List SourcedEvent)
+        (next : Option EventView) (f : Trees) (x : List ℕ × DocumentView)
+        → has_standard_markers s.options ≡ true → validates s.options s.flags ≡ true
+        → flat f ≡ unit → is_delimiter_block f ≡ true → chosen s d unit next ≡ Ok x
+        → (p : Page) × (x ≡ (p.sheet.text, document_after (labelled s d unit next) d p))
+        × IsFirstReadBack (labelled s d unit next) d f next (candidates s.options f) p }
+{}
+
+/// Under such options the texts that a list of events hands are those of whole trees, in order, of which each
+/// with delimiters reads back in its document (`handed`); and so does the last unit, which is written at the
+/// end, if it has delimiters (`last`).
+pub fn what_is_written_reads_back()
+    ensures handed { (options : OptionsView) (reading : List ℕ → ParserOptions → ReadingView)
+        (source : List ℕ) (kept : Kept) (p : List Pair)
+        → has_standard_markers options ≡ true → validates options kept.flags ≡ true
+        → (units : List Written)
+        × AreWritten (rendering options reading) source kept p units
+        × AllByRecursion (ReadsBackIfDelimited options reading) units }
+    ensures last { (options : OptionsView) (reading : List ℕ → ParserOptions → ReadingView)
+        (source : List ℕ) (kept : Kept) (p : List Pair) (at : Standing)
+        → has_standard_markers options ≡ true → validates options kept.flags ≡ true
+        → (walk (rendering options reading) source (beginning kept) p).outcome ≡ Ok at
+        → AllByRecursion (ReadsBackIfDelimited options reading)
+        (last_written (rendering options reading) at.open_tags at) }
+{}
