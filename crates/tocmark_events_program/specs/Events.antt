@@ -1,0 +1,82 @@
+-- What the program reads and writes.
+use Rattle.std.specs.Prelude.{◌≡◌, ◌⊎◌, ℕ, List, map, Ok, Option, Some}
+use Rattle.std.specs.Io.KnownBytes.{Appends}
+use Rattle.std.specs.List.{concat}
+use Rattle.std.specs.Slice.Iter.{iter_rest}
+use Rattle.serde_json.specs.Data.{Data}
+use Rattle.serde_json.specs.Read.{read}
+use Rattle.serde_json.specs.Written.{IsInOrder}
+use Rattle.tocmark_core_reader.specs.Reading.{core_reading}
+use Rattle.tocmark_event.specs.Text.{text_of}
+use Rattle.tocmark_event.specs.View.{EventView}
+use Rattle.tocmark_json.specs.Json.{events_json, pair_view, pairs_json}
+use Rattle.tocmark_options.specs.Options.{OptionsView, options_view}
+use Rattle.tocmark_work.specs.Ranges.{Pair, unranged}
+use Rattle.tocmark_work.specs.WorkView.{rendering}
+use Rattle.tocmark_work.specs.Walk.{Walk, Done, done, nothing_yet, script}
+use Rattle.tocmark_events_program.specs.declared.arguments.Job.{Job}
+use Rattle.tocmark_events_program.specs.declared.arguments.Job.TheVariants as job
+use Rattle.tocmark_events_program.specs.declared.pairs.EventPairs.{EventPairs}
+use Rattle.tocmark_events_program.specs.declared.fault.Fault.{Fault}
+use Rattle.tocmark_events_program.specs.declared.fault.Fault.TheVariants as fault
+
+-- the events that are still to come, each with its range, if it has one
+abbrev pub places_left : EventPairs → List Pair
+places_left s = map (pair_view text_of) (iter_rest s.0)
+
+-- the JSON of what the core reader finds in a text
+abbrev pub reading_json : List ℕ → Data
+reading_json text = pairs_json (map (λ e. (e.0, Some e.1)) (core_reading text).events)
+
+-- what events with ranges come to over a source, under these options
+abbrev pub writing : OptionsView → List ℕ → List Pair → Walk Done
+writing options source pairs =
+    script (rendering options (λ t flags. core_reading t)) source (nothing_yet (record { 0 = 0 })) pairs
+
+-- the events, written over the source, are this text
+pub record IsWritten (options : OptionsView) (source : List ℕ) (pairs : List Pair) (output : List ℕ) : Type 0 where
+  pub ends_well : (writing options source pairs).outcome ≡ Ok done
+  pub joined : output ≡ concat (writing options source pairs).texts
+
+-- a value is that of these events, with their ranges or, where none has one, without
+abbrev pub IsJsonOf : Data → List Pair → Type 0
+IsJsonOf value pairs = (value ≡ pairs_json pairs) ⊎ ((es : List EventView) × (value ≡ events_json es) × (pairs ≡ map unranged es))
+
+-- the events that a text has as JSON, written over the source, are this text
+pub record IsWrittenFrom (options : OptionsView) (source input output : List ℕ) : Type 0 where
+  pub value : Data
+  pub pairs : List Pair
+  pub is_read : read input ≡ Some value
+  pub is_json : IsJsonOf value pairs
+  pub is_written : IsWritten options source pairs output
+
+-- the JSON of some events, written again: each item and member once and in order
+pub record IsWrittenAgain (input output : List ℕ) : Type 0 where
+  pub value : Data
+  pub pairs : List Pair
+  pub is_read : read input ≡ Some value
+  pub is_json : IsJsonOf value pairs
+  pub is_again : IsInOrder output value
+
+-- what a job makes of its input
+abbrev pub IsAnswer : Job → List ℕ → List ℕ → List ℕ → Type 0
+IsAnswer job.Read source input output = IsInOrder output (reading_json input)
+IsAnswer job.Check source input output = IsWrittenAgain input output
+IsAnswer (job.Write options file) source input output = IsWrittenFrom (options_view options) source input output
+
+-- the output could not be written whole
+abbrev pub IsWriteFault : Fault → Type 0
+IsWriteFault fault.Read = ⊥
+IsWriteFault fault.Source = ⊥
+IsWriteFault fault.NotUtf8 = ⊥
+IsWriteFault (fault.NotJson e) = ⊥
+IsWriteFault (fault.NotEvents e) = ⊥
+IsWriteFault (fault.Markdown e) = ⊥
+IsWriteFault fault.OutOfMemory = ⊥
+IsWriteFault fault.Write = Unit {0}
+
+-- an answer stands behind what the output held
+pub record IsAnswered (j : Job) (source input : List ℕ) (old new : Option (List ℕ)) : Type 0 where
+  pub output : List ℕ
+  pub answers : IsAnswer j source input output
+  pub appended : Appends old new output

@@ -1,0 +1,46 @@
+//! Why the program ends without output.
+
+ghost use Rattle.std.specs.Prelude.{◌≡◌};
+ghost use Rattle.tocmark_events_program.specs.declared.fault.Fault.TheVariants.{OutOfMemory};
+
+use std::alloc::{AllocError, AllocFailed};
+use thiserror::Error;
+use tocmark::Error as MarkdownError;
+use tocmark_json::fault::JsonError;
+
+/// A fault, shown as one line on standard error.
+#[derive(Debug, Drop, Error)]
+pub enum Fault {
+    #[error("tocmark-events: cannot read standard input")]
+    Read,
+    #[error("tocmark-events: cannot read the source, or it is not UTF-8")]
+    Source,
+    #[error("tocmark-events: standard input is not UTF-8")]
+    NotUtf8,
+    #[error("tocmark-events: standard input is no JSON: {0}")]
+    NotJson(serde_json::Error),
+    #[error("tocmark-events: {0}")]
+    NotEvents(JsonError),
+    #[error("tocmark-events: {0}")]
+    Markdown(MarkdownError),
+    #[error("tocmark-events: out of memory")]
+    OutOfMemory,
+    #[error("tocmark-events: cannot write standard output")]
+    Write,
+}
+
+impl From<AllocError> for Fault {
+    ghost from_gives = { λ _ e. e ≡ OutOfMemory };
+
+    fn from(_fault: AllocError) -> Fault {
+        Fault::OutOfMemory
+    }
+}
+
+impl<T: Drop> From<AllocFailed<T>> for Fault {
+    ghost from_gives = { λ _ e. e ≡ OutOfMemory };
+
+    fn from(_fault: AllocFailed<T>) -> Fault {
+        Fault::OutOfMemory
+    }
+}

@@ -1,0 +1,103 @@
+//! What stands in a value: the members of an object, the items of an array.
+
+ghost use Rattle.std.specs.Prelude.{◌≡◌, IfSome};
+ghost use Rattle.serde_json.specs.Data.{object, member, no_members, number, unsigned};
+ghost use Rattle.serde_json.specs.View.{view};
+ghost use Rattle.tocmark_json.specs.Json.{both, tagged};
+
+use serde_json::Value;
+
+/// The name and the value of an object that has one member.
+pub fn only_member(value: &Value) -> Option<(&str, &Value)>
+    ensures { IfSome result (λ found. view value.now ≡ tagged found.0.now (view found.1.now)) }
+{
+    let Value::Object(map) = value else {
+        return None;
+    };
+    let mut members = map.iter();
+    let (name, content) = members.next()?;
+    if members.next().is_some() {
+        return None;
+    }
+    Some((name.as_str(), content))
+}
+
+/// The names and the values of an object that has two members, in the order of their names.
+pub fn two_members(value: &Value) -> Option<((&str, &Value), (&str, &Value))>
+    ensures { IfSome result (λ found. view value.now
+        ≡ object (member found.0.0.now (view found.0.1.now)
+        (member found.1.0.now (view found.1.1.now) no_members))) }
+{
+    let Value::Object(map) = value else {
+        return None;
+    };
+    let mut members = map.iter();
+    let first = members.next()?;
+    let second = members.next()?;
+    if members.next().is_some() {
+        return None;
+    }
+    Some(((first.0.as_str(), first.1), (second.0.as_str(), second.1)))
+}
+
+/// The names and the values of four members of an object, in the order of their names.
+#[derive(Clone, Copy)]
+pub struct Four<'a> {
+    /// The first one's name and value.
+    pub first: (&'a str, &'a Value),
+    /// The second one's name and value.
+    pub second: (&'a str, &'a Value),
+    /// The third one's name and value.
+    pub third: (&'a str, &'a Value),
+    /// The last one's name and value.
+    pub fourth: (&'a str, &'a Value),
+}
+
+/// The members of an object that has four of them.
+pub fn four_members(value: &Value) -> Option<Four<'_>>
+    ensures { IfSome result (λ found. view value.now
+        ≡ object (member found.first.0.now (view found.first.1.now)
+        (member found.second.0.now (view found.second.1.now)
+        (member found.third.0.now (view found.third.1.now)
+        (member found.fourth.0.now (view found.fourth.1.now) no_members))))) }
+{
+    let Value::Object(map) = value else {
+        return None;
+    };
+    let mut members = map.iter();
+    let first = members.next()?;
+    let second = members.next()?;
+    let third = members.next()?;
+    let fourth = members.next()?;
+    if members.next().is_some() {
+        return None;
+    }
+    Some(Four {
+        first: (first.0.as_str(), first.1),
+        second: (second.0.as_str(), second.1),
+        third: (third.0.as_str(), third.1),
+        fourth: (fourth.0.as_str(), fourth.1),
+    })
+}
+
+/// The items of an array that has two.
+pub fn two_items(value: &Value) -> Option<(&Value, &Value)>
+    ensures { IfSome result (λ found. view value.now
+        ≡ both (view found.0.now) (view found.1.now)) }
+{
+    let Value::Array(items) = value else {
+        return None;
+    };
+    match items.as_slice() {
+        [first, second] => Some((first, second)),
+        _ => None,
+    }
+}
+
+/// The number of a value that is a whole number from 0 to 2^64 - 1.
+#[tactic(auto, using(crate::proofs::Numbers::is_number))]
+pub fn number_in(value: &Value) -> Option<u64>
+    ensures { IfSome result (λ n. view value.now ≡ number (unsigned n)) }
+{
+    value.as_u64()
+}

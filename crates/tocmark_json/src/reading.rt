@@ -1,0 +1,676 @@
+//! Events from their JSON value.
+
+ghost use Rattle.std.specs.Prelude.{◌≡◌, IfOk, IfSome, codes, map};
+ghost use Rattle.std.specs.Option.{option_map};
+ghost use Rattle.serde_json.specs.Data.{array, boolean, string};
+ghost use Rattle.serde_json.specs.View.{items_view, view};
+ghost use Rattle.tocmark_event.specs.View.{attribute_view, code_view, event_view, tag_view};
+ghost use Rattle.tocmark_json.specs.Json.{alignment_json, attribute_json, code_json, end_json, event_json, events_json, heading_json, level_json, link_json, link_type_json, listed, metadata_json, optional, pair_json, pair_view, pairs_json, quote_json, range_json, size_json, tag_json, tagged};
+
+use crate::fault::{Fault, JsonError};
+use crate::names::{alignment_named, level_named, link_type_named, metadata_named, quote_named};
+use crate::parts::{four_members, number_in, only_member, two_items, two_members};
+use serde_json::Value;
+use std::alloc::Global;
+use tocmark_event::event::{
+    Alignment, BlockQuoteKind, CodeBlockKindOf, EventOf, HeadingLevel, LinkType, MetadataBlockKind,
+    OwnedWords, TagEnd, TagOf, Words,
+};
+
+fn wanted(key: &'static str, wanted: &'static str) -> Fault {
+    Fault::Wanted { key, wanted }
+}
+
+const A_LEVEL: &str = "a level, H1 to H6";
+
+const A_QUOTE: &str = "null, Note, Tip, Important, Warning or Caution";
+
+const AN_ALIGNMENT: &str = "an array of None, Left, Center and Right";
+
+const A_KIND_OF_METADATA: &str = "YamlStyle or PlusesStyle";
+
+const A_LINK_TYPE: &str = "a type of link, as Inline";
+
+const A_KIND_OF_CODE: &str = "Indented, or an object with the key Fenced alone";
+
+const A_HEADING: &str = "an object with the keys level, id, classes and attrs alone";
+
+const A_LINK: &str = "an object with the keys link_type, dest_url, title and id alone";
+
+const AN_ATTRIBUTE: &str = "an array of two, a string and a string or null";
+
+const A_TAG: &str = "a container, by its name or as an object with its name as the only key";
+
+const AN_END: &str = "a container's end, by its name or as an object with its name as the only key";
+
+const AN_EVENT: &str = "an event, by its name or as an object with its name as the only key";
+
+const A_RANGE: &str = "null, or an object with the keys start and end alone";
+
+const A_PAIR: &str = "an array of two, an event and its range";
+
+const A_NUMBER: &str = "a whole number from 0 to 18446744073709551615";
+
+fn text_from<U: OwnedWords>(alloc: Global, value: &Value, key: &'static str) -> Result<U, Fault>
+    ensures { IfOk result (λ text. view value.now ≡ string (U.Words.bytes text)) }
+{
+    match value {
+        Value::String(text) => Ok(U::from_text(alloc, text.as_str())?),
+        _ => Err(wanted(key, "a string")),
+    }
+}
+
+fn optional_text_from<U: OwnedWords>(
+    alloc: Global,
+    value: &Value,
+    key: &'static str,
+) -> Result<Option<U>, Fault>
+    ensures { IfOk result (λ text. view value.now
+        ≡ optional string (option_map U.Words.bytes text)) }
+{
+    match value {
+        Value::Null => Ok(None),
+        Value::String(text) => Ok(Some(U::from_text(alloc, text.as_str())?)),
+        _ => Err(wanted(key, "a string or null")),
+    }
+}
+
+fn truth_from(value: &Value, key: &'static str) -> Result<bool, Fault>
+    ensures { IfOk result (λ b. view value.now ≡ boolean b) }
+{
+    match value {
+        Value::Bool(truth) => Ok(*truth),
+        _ => Err(wanted(key, "true or false")),
+    }
+}
+
+fn level_from(value: &Value, key: &'static str) -> Result<HeadingLevel, Fault>
+    ensures { IfOk result (λ level. view value.now ≡ level_json level) }
+{
+    let Value::String(name) = value else {
+        return Err(wanted(key, A_LEVEL));
+    };
+    match level_named(name.as_str()) {
+        Some(level) => Ok(level),
+        None => Err(wanted(key, A_LEVEL)),
+    }
+}
+
+fn quote_from(value: &Value) -> Result<Option<BlockQuoteKind>, Fault>
+    ensures { IfOk result (λ kind. view value.now ≡ optional quote_json kind) }
+{
+    let name = match value {
+        Value::Null => return Ok(None),
+        Value::String(name) => name,
+        _ => return Err(wanted("BlockQuote", A_QUOTE)),
+    };
+    match quote_named(name.as_str()) {
+        Some(kind) => Ok(Some(kind)),
+        None => Err(wanted("BlockQuote", A_QUOTE)),
+    }
+}
+
+fn alignment_from(value: &Value) -> Result<Alignment, Fault>
+    ensures { IfOk result (λ alignment. view value.now ≡ alignment_json alignment) }
+{
+    let Value::String(name) = value else {
+        return Err(wanted("Table", AN_ALIGNMENT));
+    };
+    match alignment_named(name.as_str()) {
+        Some(alignment) => Ok(alignment),
+        None => Err(wanted("Table", AN_ALIGNMENT)),
+    }
+}
+
+fn metadata_from(value: &Value) -> Result<MetadataBlockKind, Fault>
+    ensures { IfOk result (λ kind. view value.now ≡ metadata_json kind) }
+{
+    let Value::String(name) = value else {
+        return Err(wanted("MetadataBlock", A_KIND_OF_METADATA));
+    };
+    match metadata_named(name.as_str()) {
+        Some(kind) => Ok(kind),
+        None => Err(wanted("MetadataBlock", A_KIND_OF_METADATA)),
+    }
+}
+
+fn wiki_link_from(value: &Value) -> Result<LinkType, Fault>
+    ensures { IfOk result (λ link_type. view value.now ≡ link_type_json link_type) }
+{
+    let Some(("WikiLink", content)) = only_member(value) else {
+        return Err(wanted("link_type", A_LINK_TYPE));
+    };
+    let Some(("has_pothole", truth)) = only_member(content) else {
+        return Err(wanted("WikiLink", "an object with the key has_pothole alone"));
+    };
+    let has_pothole = truth_from(truth, "has_pothole")?;
+    Ok(LinkType::WikiLink { has_pothole })
+}
+
+fn link_type_from(value: &Value) -> Result<LinkType, Fault>
+    ensures { IfOk result (λ link_type. view value.now ≡ link_type_json link_type) }
+{
+    let Value::String(name) = value else {
+        return wiki_link_from(value);
+    };
+    match link_type_named(name.as_str()) {
+        Some(link_type) => Ok(link_type),
+        None => Err(wanted("link_type", A_LINK_TYPE)),
+    }
+}
+
+fn fenced_from<U: OwnedWords>(alloc: Global, value: &Value) -> Result<CodeBlockKindOf<U>, Fault>
+    ensures { IfOk result (λ kind. view value.now ≡ code_json (code_view U.Words.bytes kind)) }
+{
+    match only_member(value) {
+        Some(("Fenced", info)) => Ok(CodeBlockKindOf::Fenced(text_from(alloc, info, "Fenced")?)),
+        _ => Err(wanted("CodeBlock", A_KIND_OF_CODE)),
+    }
+}
+
+fn code_from<U: OwnedWords>(alloc: Global, value: &Value) -> Result<CodeBlockKindOf<U>, Fault>
+    ensures { IfOk result (λ kind. view value.now ≡ code_json (code_view U.Words.bytes kind)) }
+{
+    match value {
+        Value::String(name) if name.as_str() == "Indented" => Ok(CodeBlockKindOf::Indented),
+        _ => fenced_from(alloc, value),
+    }
+}
+
+fn classes_in<U: OwnedWords + Drop>(alloc: Global, items: &[Value]) -> Result<Vec<U>, Fault>
+    ensures { IfOk result (λ classes. array (items_view items.now)
+        ≡ listed string (map U.Words.bytes classes.items)) }
+{
+    let mut classes = Vec::new(alloc);
+    for item in items {
+        classes.push(text_from(alloc, item, "classes")?)?;
+    }
+    Ok(classes)
+}
+
+fn classes_from<U: OwnedWords + Drop>(alloc: Global, value: &Value) -> Result<Vec<U>, Fault>
+    ensures { IfOk result (λ classes. view value.now
+        ≡ listed string (map U.Words.bytes classes.items)) }
+{
+    match value {
+        Value::Array(items) => classes_in(alloc, items),
+        _ => Err(wanted("classes", "an array of strings")),
+    }
+}
+
+fn attribute_from<U: OwnedWords + Drop>(
+    alloc: Global,
+    value: &Value,
+) -> Result<(U, Option<U>), Fault>
+    ensures { IfOk result (λ attribute. view value.now
+        ≡ attribute_json (attribute_view U.Words.bytes attribute)) }
+{
+    let Some((key, content)) = two_items(value) else {
+        return Err(wanted("attrs", AN_ATTRIBUTE));
+    };
+    let key = text_from(alloc, key, "attrs")?;
+    Ok((key, optional_text_from(alloc, content, "attrs")?))
+}
+
+fn attributes_in<U: OwnedWords + Drop>(
+    alloc: Global,
+    items: &[Value],
+) -> Result<Vec<(U, Option<U>)>, Fault>
+    ensures { IfOk result (λ attributes. array (items_view items.now)
+        ≡ listed attribute_json (map (attribute_view U.Words.bytes) attributes.items)) }
+{
+    let mut attributes = Vec::new(alloc);
+    for item in items {
+        attributes.push(attribute_from(alloc, item)?)?;
+    }
+    Ok(attributes)
+}
+
+fn attributes_from<U: OwnedWords + Drop>(
+    alloc: Global,
+    value: &Value,
+) -> Result<Vec<(U, Option<U>)>, Fault>
+    ensures { IfOk result (λ attributes. view value.now
+        ≡ listed attribute_json (map (attribute_view U.Words.bytes) attributes.items)) }
+{
+    match value {
+        Value::Array(items) => attributes_in(alloc, items),
+        _ => Err(wanted("attrs", "an array of attributes")),
+    }
+}
+
+fn alignments_in(alloc: Global, items: &[Value]) -> Result<Vec<Alignment>, Fault>
+    ensures { IfOk result (λ alignments. array (items_view items.now)
+        ≡ listed alignment_json alignments.items) }
+{
+    let mut alignments = Vec::new(alloc);
+    for item in items {
+        alignments.push(alignment_from(item)?)?;
+    }
+    Ok(alignments)
+}
+
+fn alignments_from(alloc: Global, value: &Value) -> Result<Vec<Alignment>, Fault>
+    ensures { IfOk result (λ alignments. view value.now
+        ≡ listed alignment_json alignments.items) }
+{
+    match value {
+        Value::Array(items) => alignments_in(alloc, items),
+        _ => Err(wanted("Table", AN_ALIGNMENT)),
+    }
+}
+
+fn heading_from<U: OwnedWords + Drop>(alloc: Global, value: &Value) -> Result<TagOf<U>, Fault>
+    ensures { IfOk result (λ tag. tagged (codes "Heading") (view value.now)
+        ≡ tag_json (tag_view U.Words.bytes tag)) }
+{
+    let Some(found) = four_members(value) else {
+        return Err(wanted("Heading", A_HEADING));
+    };
+    let (("attrs", attrs), ("classes", classes)) = (found.first, found.second) else {
+        return Err(wanted("Heading", A_HEADING));
+    };
+    let (("id", id), ("level", level)) = (found.third, found.fourth) else {
+        return Err(wanted("Heading", A_HEADING));
+    };
+    let level = level_from(level, "level")?;
+    let id = optional_text_from(alloc, id, "id")?;
+    let classes = classes_from(alloc, classes)?;
+    Ok(TagOf::Heading {
+        level,
+        id,
+        classes,
+        attrs: attributes_from(alloc, attrs)?,
+    })
+}
+
+/// What a link and an image say of where they lead.
+#[derive(Drop)]
+struct Target<U> {
+    link_type: LinkType,
+    dest_url: U,
+    title: U,
+    id: U,
+}
+
+fn target_from<U: OwnedWords + Drop>(
+    alloc: Global,
+    value: &Value,
+    key: &'static str,
+) -> Result<Target<U>, Fault>
+    ensures { IfOk result (λ target. view value.now
+        ≡ link_json target.link_type (U.Words.bytes target.dest_url)
+        (U.Words.bytes target.title) (U.Words.bytes target.id)) }
+{
+    let Some(found) = four_members(value) else {
+        return Err(wanted(key, A_LINK));
+    };
+    let (("dest_url", dest_url), ("id", id)) = (found.first, found.second) else {
+        return Err(wanted(key, A_LINK));
+    };
+    let (("link_type", link_type), ("title", title)) = (found.third, found.fourth) else {
+        return Err(wanted(key, A_LINK));
+    };
+    let link_type = link_type_from(link_type)?;
+    let dest_url = text_from(alloc, dest_url, "dest_url")?;
+    let title = text_from(alloc, title, "title")?;
+    Ok(Target {
+        link_type,
+        dest_url,
+        title,
+        id: text_from(alloc, id, "id")?,
+    })
+}
+
+fn link_from<U: OwnedWords + Drop>(alloc: Global, value: &Value) -> Result<TagOf<U>, Fault>
+    ensures { IfOk result (λ tag. tagged (codes "Link") (view value.now)
+        ≡ tag_json (tag_view U.Words.bytes tag)) }
+{
+    let Target {
+        link_type,
+        dest_url,
+        title,
+        id,
+    } = target_from(alloc, value, "Link")?;
+    Ok(TagOf::Link {
+        link_type,
+        dest_url,
+        title,
+        id,
+    })
+}
+
+fn image_from<U: OwnedWords + Drop>(alloc: Global, value: &Value) -> Result<TagOf<U>, Fault>
+    ensures { IfOk result (λ tag. tagged (codes "Image") (view value.now)
+        ≡ tag_json (tag_view U.Words.bytes tag)) }
+{
+    let Target {
+        link_type,
+        dest_url,
+        title,
+        id,
+    } = target_from(alloc, value, "Image")?;
+    Ok(TagOf::Image {
+        link_type,
+        dest_url,
+        title,
+        id,
+    })
+}
+
+fn start_from(value: &Value) -> Result<Option<u64>, Fault>
+    ensures { IfOk result (λ start. view value.now ≡ optional size_json start) }
+{
+    if let Value::Null = value {
+        return Ok(None);
+    }
+    match number_in(value) {
+        Some(start) => Ok(Some(start)),
+        None => Err(wanted(
+            "List",
+            "null, or a whole number from 0 to 18446744073709551615",
+        )),
+    }
+}
+
+fn plain_tag<U: Words>(name: &str) -> Option<TagOf<U>>
+    ensures { IfSome result (λ tag. string name.now ≡ tag_json (tag_view U.bytes tag)) }
+{
+    match name {
+        "Paragraph" => Some(TagOf::Paragraph),
+        "HtmlBlock" => Some(TagOf::HtmlBlock),
+        "Item" => Some(TagOf::Item),
+        "DefinitionList" => Some(TagOf::DefinitionList),
+        "DefinitionListTitle" => Some(TagOf::DefinitionListTitle),
+        "DefinitionListDefinition" => Some(TagOf::DefinitionListDefinition),
+        "TableHead" => Some(TagOf::TableHead),
+        "TableRow" => Some(TagOf::TableRow),
+        "TableCell" => Some(TagOf::TableCell),
+        "Emphasis" => Some(TagOf::Emphasis),
+        "Strong" => Some(TagOf::Strong),
+        "Strikethrough" => Some(TagOf::Strikethrough),
+        "Superscript" => Some(TagOf::Superscript),
+        "Subscript" => Some(TagOf::Subscript),
+        _ => None,
+    }
+}
+
+fn tag_with<U: OwnedWords + Drop>(
+    alloc: Global,
+    name: &str,
+    content: &Value,
+) -> Result<TagOf<U>, Fault>
+    ensures { IfOk result (λ tag. tagged name.now (view content.now)
+        ≡ tag_json (tag_view U.Words.bytes tag)) }
+{
+    match name {
+        "Heading" => heading_from(alloc, content),
+        "BlockQuote" => Ok(TagOf::BlockQuote(quote_from(content)?)),
+        "CodeBlock" => Ok(TagOf::CodeBlock(code_from(alloc, content)?)),
+        "List" => Ok(TagOf::List(start_from(content)?)),
+        "FootnoteDefinition" => Ok(TagOf::FootnoteDefinition(text_from(
+            alloc,
+            content,
+            "FootnoteDefinition",
+        )?)),
+        "Table" => Ok(TagOf::Table(alignments_from(alloc, content)?)),
+        "Link" => link_from(alloc, content),
+        "Image" => image_from(alloc, content),
+        "MetadataBlock" => Ok(TagOf::MetadataBlock(metadata_from(content)?)),
+        _ => Err(wanted("Start", A_TAG)),
+    }
+}
+
+fn tag_from<U: OwnedWords + Drop>(alloc: Global, value: &Value) -> Result<TagOf<U>, Fault>
+    ensures { IfOk result (λ tag. view value.now ≡ tag_json (tag_view U.Words.bytes tag)) }
+{
+    if let Value::String(name) = value {
+        return match plain_tag(name.as_str()) {
+            Some(tag) => Ok(tag),
+            None => Err(wanted("Start", A_TAG)),
+        };
+    }
+    match only_member(value) {
+        Some((name, content)) => tag_with(alloc, name, content),
+        None => Err(wanted("Start", A_TAG)),
+    }
+}
+
+fn plain_end(name: &str) -> Option<TagEnd>
+    ensures { IfSome result (λ end. string name.now ≡ end_json end) }
+{
+    match name {
+        "Paragraph" => Some(TagEnd::Paragraph),
+        "CodeBlock" => Some(TagEnd::CodeBlock),
+        "HtmlBlock" => Some(TagEnd::HtmlBlock),
+        "Item" => Some(TagEnd::Item),
+        "FootnoteDefinition" => Some(TagEnd::FootnoteDefinition),
+        "DefinitionList" => Some(TagEnd::DefinitionList),
+        "DefinitionListTitle" => Some(TagEnd::DefinitionListTitle),
+        "DefinitionListDefinition" => Some(TagEnd::DefinitionListDefinition),
+        "Table" => Some(TagEnd::Table),
+        "TableHead" => Some(TagEnd::TableHead),
+        "TableRow" => Some(TagEnd::TableRow),
+        "TableCell" => Some(TagEnd::TableCell),
+        "Emphasis" => Some(TagEnd::Emphasis),
+        "Strong" => Some(TagEnd::Strong),
+        "Strikethrough" => Some(TagEnd::Strikethrough),
+        "Superscript" => Some(TagEnd::Superscript),
+        "Subscript" => Some(TagEnd::Subscript),
+        "Link" => Some(TagEnd::Link),
+        "Image" => Some(TagEnd::Image),
+        _ => None,
+    }
+}
+
+fn end_with(name: &str, content: &Value) -> Result<TagEnd, Fault>
+    ensures { IfOk result (λ end. tagged name.now (view content.now) ≡ end_json end) }
+{
+    match name {
+        "Heading" => Ok(TagEnd::Heading(level_from(content, "Heading")?)),
+        "BlockQuote" => Ok(TagEnd::BlockQuote(quote_from(content)?)),
+        "List" => Ok(TagEnd::List(truth_from(content, "List")?)),
+        "MetadataBlock" => Ok(TagEnd::MetadataBlock(metadata_from(content)?)),
+        _ => Err(wanted("End", AN_END)),
+    }
+}
+
+fn end_from(value: &Value) -> Result<TagEnd, Fault>
+    ensures { IfOk result (λ end. view value.now ≡ end_json end) }
+{
+    if let Value::String(name) = value {
+        return match plain_end(name.as_str()) {
+            Some(end) => Ok(end),
+            None => Err(wanted("End", AN_END)),
+        };
+    }
+    match only_member(value) {
+        Some((name, content)) => end_with(name, content),
+        None => Err(wanted("End", AN_END)),
+    }
+}
+
+fn plain_event<U: Words>(name: &str) -> Option<EventOf<U>>
+    ensures { IfSome result (λ event. string name.now ≡ event_json (event_view U.bytes event)) }
+{
+    match name {
+        "SoftBreak" => Some(EventOf::SoftBreak),
+        "HardBreak" => Some(EventOf::HardBreak),
+        "Rule" => Some(EventOf::Rule),
+        _ => None,
+    }
+}
+
+fn event_with<U: OwnedWords + Drop>(
+    alloc: Global,
+    name: &str,
+    content: &Value,
+) -> Result<EventOf<U>, Fault>
+    ensures { IfOk result (λ event. tagged name.now (view content.now)
+        ≡ event_json (event_view U.Words.bytes event)) }
+{
+    match name {
+        "Start" => Ok(EventOf::Start(tag_from(alloc, content)?)),
+        "End" => Ok(EventOf::End(end_from(content)?)),
+        "Text" => Ok(EventOf::Text(text_from(alloc, content, "Text")?)),
+        "Code" => Ok(EventOf::Code(text_from(alloc, content, "Code")?)),
+        "InlineMath" => Ok(EventOf::InlineMath(text_from(alloc, content, "InlineMath")?)),
+        "DisplayMath" => Ok(EventOf::DisplayMath(text_from(alloc, content, "DisplayMath")?)),
+        "Html" => Ok(EventOf::Html(text_from(alloc, content, "Html")?)),
+        "InlineHtml" => Ok(EventOf::InlineHtml(text_from(alloc, content, "InlineHtml")?)),
+        "FootnoteReference" => Ok(EventOf::FootnoteReference(text_from(
+            alloc,
+            content,
+            "FootnoteReference",
+        )?)),
+        "TaskListMarker" => Ok(EventOf::TaskListMarker(truth_from(content, "TaskListMarker")?)),
+        _ => Err(wanted("event", AN_EVENT)),
+    }
+}
+
+/// The event of a JSON value, which is then exactly the event's. Any other value is refused, with the
+/// nearest key and what is wanted there; so are unknown and missing keys.
+pub fn event_from_json<U: OwnedWords + Drop>(
+    alloc: Global,
+    value: &Value,
+) -> Result<EventOf<U>, Fault>
+    ensures { IfOk result (λ event. view value.now
+        ≡ event_json (event_view U.Words.bytes event)) }
+{
+    if let Value::String(name) = value {
+        return match plain_event(name.as_str()) {
+            Some(event) => Ok(event),
+            None => Err(wanted("event", AN_EVENT)),
+        };
+    }
+    match only_member(value) {
+        Some((name, content)) => event_with(alloc, name, content),
+        None => Err(wanted("event", AN_EVENT)),
+    }
+}
+
+fn place_in(value: &Value, key: &'static str) -> Result<usize, Fault>
+    ensures { IfOk result (λ place. view value.now ≡ size_json place) }
+{
+    let Some(number) = number_in(value) else {
+        return Err(wanted(key, A_NUMBER));
+    };
+    match usize::try_from(number) {
+        Ok(place) => Ok(place),
+        Err(_) => Err(wanted(key, A_NUMBER)),
+    }
+}
+
+fn range_from(value: &Value) -> Result<Option<(usize, usize)>, Fault>
+    ensures { IfOk result (λ range. view value.now ≡ optional range_json range) }
+{
+    if let Value::Null = value {
+        return Ok(None);
+    }
+    let Some((("end", end), ("start", start))) = two_members(value) else {
+        return Err(wanted("range", A_RANGE));
+    };
+    let start = place_in(start, "start")?;
+    Ok(Some((start, place_in(end, "end")?)))
+}
+
+fn pair_from<U: OwnedWords + Drop>(
+    alloc: Global,
+    value: &Value,
+) -> Result<(EventOf<U>, Option<(usize, usize)>), Fault>
+    ensures { IfOk result (λ pair. view value.now
+        ≡ pair_json (pair_view U.Words.bytes pair)) }
+{
+    let Some((event, range)) = two_items(value) else {
+        return Err(wanted("pair", A_PAIR));
+    };
+    let range = range_from(range)?;
+    Ok((event_from_json(alloc, event)?, range))
+}
+
+fn event_at<U: OwnedWords + Drop>(
+    alloc: Global,
+    value: &Value,
+    index: usize,
+) -> Result<EventOf<U>, JsonError>
+    ensures { IfOk result (λ event. view value.now
+        ≡ event_json (event_view U.Words.bytes event)) }
+{
+    match event_from_json(alloc, value) {
+        Ok(event) => Ok(event),
+        Err(fault) => Err(fault.at(index)),
+    }
+}
+
+fn pair_at<U: OwnedWords + Drop>(
+    alloc: Global,
+    value: &Value,
+    index: usize,
+) -> Result<(EventOf<U>, Option<(usize, usize)>), JsonError>
+    ensures { IfOk result (λ pair. view value.now ≡ pair_json (pair_view U.Words.bytes pair)) }
+{
+    match pair_from(alloc, value) {
+        Ok(pair) => Ok(pair),
+        Err(fault) => Err(fault.at(index)),
+    }
+}
+
+fn events_in<U: OwnedWords + Drop>(
+    alloc: Global,
+    items: &[Value],
+) -> Result<Vec<EventOf<U>>, JsonError>
+    ensures { IfOk result (λ events. array (items_view items.now)
+        ≡ events_json (map (event_view U.Words.bytes) events.items)) }
+{
+    let mut events = Vec::new(alloc);
+    for item in items {
+        let index = events.len();
+        events.push(event_at(alloc, item, index)?)?;
+    }
+    Ok(events)
+}
+
+fn pairs_in<U: OwnedWords + Drop>(
+    alloc: Global,
+    items: &[Value],
+) -> Result<Vec<(EventOf<U>, Option<(usize, usize)>)>, JsonError>
+    ensures { IfOk result (λ pairs. array (items_view items.now)
+        ≡ pairs_json (map (pair_view U.Words.bytes) pairs.items)) }
+{
+    let mut pairs = Vec::new(alloc);
+    for item in items {
+        let index = pairs.len();
+        pairs.push(pair_at(alloc, item, index)?)?;
+    }
+    Ok(pairs)
+}
+
+/// The events of a JSON value, which is then exactly that of these events. Any other value is refused,
+/// with the number of the first element that is no event, the nearest key and what is wanted there.
+pub fn events_from_json<U: OwnedWords + Drop>(
+    alloc: Global,
+    value: &Value,
+) -> Result<Vec<EventOf<U>>, JsonError>
+    ensures { IfOk result (λ events. view value.now
+        ≡ events_json (map (event_view U.Words.bytes) events.items)) }
+{
+    match value {
+        Value::Array(items) => events_in(alloc, items),
+        _ => Err(JsonError::NotAnArray),
+    }
+}
+
+/// The events of a JSON value with their ranges, where they have one. The value is then exactly that of
+/// these events and ranges; any other one is refused as by `events_from_json`.
+pub fn pairs_from_json<U: OwnedWords + Drop>(
+    alloc: Global,
+    value: &Value,
+) -> Result<Vec<(EventOf<U>, Option<(usize, usize)>)>, JsonError>
+    ensures { IfOk result (λ pairs. view value.now
+        ≡ pairs_json (map (pair_view U.Words.bytes) pairs.items)) }
+{
+    match value {
+        Value::Array(items) => pairs_in(alloc, items),
+        _ => Err(JsonError::NotAnArray),
+    }
+}
