@@ -1,5 +1,8 @@
 //! Turns Markdown events back into Markdown text that reads back as those events.
 //!
+//! It hands on what its users need of the crates below: `event`, `reader`, `core_reader`, and the `State` of
+//! `tocmark_state`. Programs stand on it. Enter at `cmark`; `token_count` says how long a fence has to be.
+//!
 //! `cmark` writes a whole list, and `State` takes a list in parts; both have a form for events with
 //! ranges in a source, whose texts are then written as they stand in it. A unit, a tree at the top of
 //! the list, is written as a whole, or refused: as `UnexpectedEvent` where an event stands in it that
@@ -17,35 +20,36 @@
 //! ```
 #![tactic(auto)]
 
+pub mod token_count;
+
 ghost use Rattle.std.specs.Prelude.{◌≡◌, ◌∷◌, List, [], Option, ℕ, IfOk, IsOk, IsTrue, OnOk};
 ghost use Rattle.std.specs.Borrow.{Bor};
 ghost use Rattle.std.specs.Iterator.{IsFinite, DrainsIf};
 ghost use Rattle.std.specs.List.{list_all};
 ghost use Rattle.tocmark_event.specs.Text.{ParserEvent};
 ghost use Rattle.tocmark_event.specs.declared.event.flags.ParserOptions.{ParserOptions};
-ghost use Rattle.tocmark_options.specs.Options.{default_options, options_view};
+ghost use Rattle.tocmark_event.specs.Options.{default_options, options_view};
 ghost use Rattle.tocmark_laws.specs.PlainLines.{HandsLines, is_line, paragraph_of_lines};
 ghost use Rattle.tocmark_laws.specs.SingleBlocks.{MakesCodeSpan, MakesFencedCode, MakesLink};
-ghost use Rattle.tocmark_work.specs.Ranges.{Range};
+ghost use Rattle.tocmark_state.specs.Ranges.{Range};
 ghost use Rattle.tocmark_laws.specs.TextBlocks.{MakesBlocks};
-ghost use Rattle.tocmark_work.specs.Walk.{done, nothing_yet, script, walk};
-ghost use Rattle.tocmark_work.specs.Writes.{Makes, TakesAll};
-ghost use Rattle.tocmark_state.specs.StateView.{IsFinished, Stands, rendering_of};
-ghost use Rattle.tocmark_work.specs.WorkView.{pairs, ranged_pairs, rendering};
+ghost use Rattle.tocmark_state.specs.Walk.{done, nothing_yet, script, walk};
+ghost use Rattle.tocmark_state.specs.Writes.{Makes, TakesAll};
+ghost use Rattle.tocmark_state.specs.StateView.{IsFinished, Stands, rendering_of, state_flags};
+ghost use Rattle.tocmark_state.specs.WorkView.{pairs, ranged_pairs, rendering};
 
+pub use crate::token_count::calculate_code_block_token_count;
 use std::alloc::Global;
 pub use tocmark_core_reader as core_reader;
-pub use tocmark_event::event;
 use tocmark_event::event::{Event, ParserOptions};
-pub use tocmark_options::options::{
+pub use tocmark_event::options::{
     DEFAULT_CODE_BLOCK_TOKEN_COUNT, Error, Options, OptionsError, SUPPORTED_PARSER_OPTIONS,
 };
-pub use tocmark_reader as reader;
-use tocmark_reader::Reader;
+use tocmark_event::reader::Reader;
+pub use tocmark_event::{event, reader};
 pub use tocmark_state::state::State;
-pub use tocmark_token_count::calculate_code_block_token_count;
-pub use tocmark_work::taker::Taker;
-pub use tocmark_work::work::Progress;
+pub use tocmark_state::taker::Taker;
+pub use tocmark_state::work::Progress;
 
 /// Writes events with the default options: `cmark_with_options` with `Options::default()`.
 ///
@@ -99,6 +103,7 @@ where
         × MakesFencedCode W.takes W.refuses writer.old writer.new result (pairs xs) }
     ensures same { IfOk result (λ state.
         rendering_of R.reading state ≡ rendering default_options (R.reading reader)) }
+    ensures flags { IfOk result (λ state. state_flags state ≡ parser_options) }
     ensures finished { IfOk result (λ state. IsFinished state) }
 {
     cmark_with_options(
@@ -117,8 +122,8 @@ where
 /// `events` is any finite iterable of `&Event`, `parser_options` are the flags under which the events
 /// were read and under which the text is to read back, and `reader` is what reads it. Each unit's text
 /// is handed to `writer` by one `write_str`. An `Err` is the first refusal of those calls; what was
-/// handed before it stays with the writer. The state that is returned is finished, and has the options and
-/// the reader that were given (the clause `same`).
+/// handed before it stays with the writer. The state that is returned is finished, and has the options, the
+/// reader (the clause `same`) and the flags (`flags`) that were given.
 pub fn cmark_with_options<'a, I, W, R>(
     alloc: Global,
     events: I,
@@ -145,6 +150,7 @@ where
     ensures same { IfOk result (λ state.
         rendering_of R.reading state
         ≡ rendering (options_view options.entry) (R.reading reader)) }
+    ensures flags { IfOk result (λ state. state_flags state ≡ parser_options) }
     ensures finished { IfOk result (λ state. IsFinished state) }
 {
     let events = events.into_iter();
@@ -176,6 +182,7 @@ where
         (script (rendering_of R.reading state.old) source (nothing_yet flags) (pairs xs))) }
     ensures same { OnOk result
         (rendering_of R.reading state.new ≡ rendering_of R.reading state.old) }
+    ensures flags { OnOk result (state_flags state.new ≡ state_flags state.old) }
     ensures finished { OnOk result (IsFinished state.new) }
 {
     state.process(events, writer)?;
@@ -210,6 +217,7 @@ where
         (nothing_yet parser_options) (ranged_pairs xs)) }
     ensures same { IfOk result (λ state.
         rendering_of R.reading state ≡ rendering default_options (R.reading reader)) }
+    ensures flags { IfOk result (λ state. state_flags state ≡ parser_options) }
     ensures finished { IfOk result (λ state. IsFinished state) }
 {
     let options = Options::default();
@@ -256,6 +264,7 @@ where
     ensures same { IfOk result (λ state.
         rendering_of R.reading state
         ≡ rendering (options_view options.entry) (R.reading reader)) }
+    ensures flags { IfOk result (λ state. state_flags state ≡ parser_options) }
     ensures finished { IfOk result (λ state. IsFinished state) }
 {
     let pairs = pairs.into_iter();
@@ -292,6 +301,7 @@ where
         (ranged_pairs xs)) }
     ensures same { OnOk result
         (rendering_of R.reading state.new ≡ rendering_of R.reading state.old) }
+    ensures flags { OnOk result (state_flags state.new ≡ state_flags state.old) }
     ensures finished { OnOk result (IsFinished state.new) }
 {
     state.process_with_source_range(pairs, source, writer)?;

@@ -10,14 +10,14 @@ use Rattle.std.specs.Str.{IsUtf8, IsCharBoundary}
 use Rattle.std.proofs.lemmas.Str.{IsCharBoundary-start}
 use Rattle.tocmark_event.specs.Text.{ParserEvent, text_of}
 use Rattle.tocmark_event.specs.View.{EventView, Start, End, Leaf, TagView, LeafView, event_view, end_of}
-use Rattle.tocmark_reader.specs.Reading.{ReadingView, reading_view}
-use Rattle.tocmark_reader.specs.declared.Reading.{Reading}
+use Rattle.tocmark_event.specs.Reading.{ReadingView, reading_view}
+use Rattle.tocmark_event.specs.declared.reader.Reading.{Reading}
 use Rattle.tocmark_event.specs.Forest.{Forest, empty, leaf, node, flat_onto, flat, IsBalanced}
 use Rattle.tocmark_event.specs.declared.event.TagEnd.{TagEnd}
-use Rattle.tocmark_core_pages.specs.Emitted.{ItemView, Container, Source, Given, NodeView, shown, end_event, closings, step, put, closed, emitted, Writing}
+use Rattle.tocmark_core_reader.specs.Emitted.{ItemView, Container, Source, Given, NodeView, shown, end_event, closings, step, put, closed, emitted, Writing}
 use Rattle.tocmark_core_reader.specs.Reading.{core_reading, found_in}
-use Rattle.tocmark_core_pages.specs.Range.{is_cut, snapped, IsGoodRange, HasGoodRanges}
-use Rattle.tocmark_core_pages.specs.declared.emit.Open.{Open}
+use Rattle.tocmark_core_reader.specs.Range.{is_cut, snapped, IsGoodRange, HasGoodRanges}
+use Rattle.tocmark_core_reader.specs.declared.emit.Open.{Open}
 
 abbrev Marked : Type 0
 Marked = EventView × (ℕ × ℕ)

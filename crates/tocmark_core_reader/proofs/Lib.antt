@@ -1,3 +1,5 @@
+pub mod Behind
+pub mod Zeros
 pub mod EmitLaws
 pub mod Finding
 pub mod PlainEvents

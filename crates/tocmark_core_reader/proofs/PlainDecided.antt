@@ -5,10 +5,10 @@ use Rattle.std.proofs.lemmas.Slice.Eq.{bytes_eq-Decides}
 use Rattle.std.specs.Bool.{Decides}
 use Rattle.std.specs.Char.{is_ascii_punctuation}
 use Rattle.std.specs.List.{AllByRecursion, list_all}
-use Rattle.tocmark_core_scan.specs.Basic.{byte_at}
-use Rattle.tocmark_core_scan.specs.PlainParts.{Part, Bare, Escaped, Referred, Feed, spelled, spelled_part, last_byte, are_plain_parts}
-use Rattle.tocmark_core_scan.proofs.PlainTests.{eq_of, both_true, all_from}
-use Rattle.tocmark_core_inlines.proofs.PlainNeighbours.{IsPlainPart, ArePlainParts}
+use Rattle.tocmark_read_scan.specs.Basic.{byte_at}
+use Rattle.tocmark_read_scan.specs.PlainParts.{Part, Bare, Escaped, Referred, Feed, spelled, spelled_part, last_byte, are_plain_parts}
+use Rattle.tocmark_read_scan.proofs.PlainTests.{eq_of, both_true, all_from}
+use Rattle.tocmark_read_inlines.proofs.PlainNeighbours.{IsPlainPart, ArePlainParts}
 use Rattle.tocmark_core_reader.specs.PlainTexts.{text_parts, part_at, bytes_behind, parts_from, first_line, further_lines, is_plain_line, is_plain_text, is_plain, IsPlain}
 use Rattle.tocmark_core_reader.proofs.PlainReading.{AreNoFeeds, no_feeds}
 use Rattle.tocmark_core_reader.proofs.PlainTests.{line_from, parts_tested}

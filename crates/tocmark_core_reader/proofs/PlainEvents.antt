@@ -6,15 +6,15 @@ use Rattle.std.proofs.lemmas.List.Sums.{fold-append}
 use Rattle.tocmark_event.proofs.Merging.{after_text-twice}
 use Rattle.tocmark_event.specs.Merged.{merged, after_text, with_text}
 use Rattle.tocmark_event.specs.View.{EventView, Leaf, LeafView, Text, SoftBreak}
-use Rattle.tocmark_core_spans.specs.declared.role.Leaf.TheVariants as leaf
-use Rattle.tocmark_core_inlines.specs.declared.write.Node.{Node}
-use Rattle.tocmark_core_inlines.specs.declared.write.Item.TheVariants as item
-use Rattle.tocmark_core_inlines.proofs.PlainNodes.{node, nodes_of, text_until, begun}
-use Rattle.tocmark_core_pages.specs.Emitted.{NodeView, Given, Writing, step, source_text}
-use Rattle.tocmark_core_pages.specs.Inlines.{inline_node, inline_item, leaf_item}
-use Rattle.tocmark_core_pages.specs.Range.{snapped}
-use Rattle.tocmark_core_pages.specs.declared.emit.Open.{Open}
-use Rattle.tocmark_core_scan.specs.PlainParts.{Part, Bare, Escaped, Referred, Feed}
+use Rattle.tocmark_read_spans.specs.declared.role.Leaf.TheVariants as leaf
+use Rattle.tocmark_read_inlines.specs.declared.write.Node.{Node}
+use Rattle.tocmark_read_inlines.specs.declared.write.Item.TheVariants as item
+use Rattle.tocmark_read_inlines.proofs.PlainNodes.{node, nodes_of, text_until, begun}
+use Rattle.tocmark_core_reader.specs.Emitted.{NodeView, Given, Writing, step, source_text}
+use Rattle.tocmark_core_reader.specs.Inlines.{inline_node, inline_item, leaf_item}
+use Rattle.tocmark_core_reader.specs.Range.{snapped}
+use Rattle.tocmark_core_reader.specs.declared.emit.Open.{Open}
+use Rattle.tocmark_read_scan.specs.PlainParts.{Part, Bare, Escaped, Referred, Feed}
 
 abbrev pub Marked : Type 0
 Marked = EventView × (ℕ × ℕ)

@@ -3,34 +3,34 @@ use Rattle.std.proofs.Common.{◌≡◌, ℕ, suc, ◌+◌, ◌-◌, ◌^◌, �
 use Rattle.std.proofs.Math.Seq.{take-length}
 use Rattle.std.proofs.lemmas.Bool.Decides.{nat_tests}
 use Rattle.std.specs.List.{AllByRecursion, fold}
-use Rattle.tocmark_reader.specs.Reading.{ReadingView}
+use Rattle.tocmark_event.specs.Reading.{ReadingView}
 use Rattle.tocmark_event.specs.View.{Start, End, Paragraph}
 use Rattle.tocmark_event.specs.declared.event.TagEnd.TheVariants as end
-use Rattle.tocmark_core_scan.specs.Basic.{byte_at}
-use Rattle.tocmark_core_scan.specs.Class.{is_in}
-use Rattle.tocmark_core_scan.specs.Content as content
-use Rattle.tocmark_core_scan.specs.declared.class.Class.TheVariants.{White}
-use Rattle.tocmark_core_scan.specs.declared.content.Line.{Line as ContentLine}
-use Rattle.tocmark_core_scan.proofs.PlainContent.{places_of}
-use Rattle.tocmark_core_scan.proofs.PlainPieces.{feed_joined, line_places, AreNoZeros, content_of_lines}
-use Rattle.tocmark_core_blocks.specs.Blocks.{BlocksView, blocks_of}
-use Rattle.tocmark_core_leaves.specs.declared.definition.Piece.{Piece}
-use Rattle.tocmark_core_blocks.specs.declared.page.Block.{Block}
-use Rattle.tocmark_core_blocks.specs.declared.page.BlockKind.TheVariants as kind
-use Rattle.tocmark_core_blocks.proofs.PlainSteps.{line_piece}
-use Rattle.tocmark_core_blocks.proofs.PlainPages.{last_end, plain_blocks}
-use Rattle.tocmark_core_blocks.proofs.PlainTexts.{IsTextLine, line_list, lines_joined, lines_plain}
-use Rattle.tocmark_core_spans.specs.Definitions as defs
-use Rattle.tocmark_core_inlines.specs.Inlines as inlines
-use Rattle.tocmark_core_inlines.proofs.PlainPasses.{AreRead}
-use Rattle.tocmark_core_inlines.proofs.PlainLeaf.{known, parts_inlines}
-use Rattle.tocmark_core_inlines.proofs.PlainNodes.{nodes_of}
-use Rattle.tocmark_core_pages.specs.Emitted.{NodeView, Container, Writing, step, closed, emitted}
-use Rattle.tocmark_core_pages.specs.Pages.{State, start_state, pieces_of, assembled, is_unwrapped, block_taken, paragraph_taken, wrapped, with_block, leaf_inlines, with_inlines, content_line, block_tag}
+use Rattle.tocmark_read_scan.specs.Basic.{byte_at}
+use Rattle.tocmark_read_scan.specs.Class.{is_in}
+use Rattle.tocmark_read_scan.specs.Content as content
+use Rattle.tocmark_read_scan.specs.declared.class.Class.TheVariants.{White}
+use Rattle.tocmark_read_scan.specs.declared.content.Line.{Line as ContentLine}
+use Rattle.tocmark_read_scan.proofs.PlainContent.{places_of}
+use Rattle.tocmark_read_scan.proofs.PlainPieces.{feed_joined, line_places, AreNoZeros, content_of_lines}
+use Rattle.tocmark_read_blocks.specs.Blocks.{BlocksView, blocks_of}
+use Rattle.tocmark_read_blocks.specs.declared.definition.Piece.{Piece}
+use Rattle.tocmark_read_blocks.specs.declared.page.Block.{Block}
+use Rattle.tocmark_read_blocks.specs.declared.page.BlockKind.TheVariants as kind
+use Rattle.tocmark_read_blocks.proofs.PlainSteps.{line_piece}
+use Rattle.tocmark_read_blocks.proofs.PlainPages.{last_end, plain_blocks}
+use Rattle.tocmark_read_blocks.proofs.PlainTexts.{IsTextLine, line_list, lines_joined, lines_plain}
+use Rattle.tocmark_read_spans.specs.Definitions as defs
+use Rattle.tocmark_read_inlines.specs.Inlines as inlines
+use Rattle.tocmark_read_inlines.proofs.PlainPasses.{AreRead}
+use Rattle.tocmark_read_inlines.proofs.PlainLeaf.{known, parts_inlines}
+use Rattle.tocmark_read_inlines.proofs.PlainNodes.{nodes_of}
+use Rattle.tocmark_core_reader.specs.Emitted.{NodeView, Container, Writing, step, closed, emitted}
+use Rattle.tocmark_core_reader.specs.Pages.{State, start_state, pieces_of, assembled, is_unwrapped, block_taken, paragraph_taken, wrapped, with_block, leaf_inlines, with_inlines, content_line, block_tag}
 use Rattle.tocmark_core_reader.specs.Reading.{core_reading, found_in, FoundView, collected, first_entry}
 use Rattle.tocmark_core_reader.proofs.PlainEvents.{Marked, viewed, at, events_of, emit_parts}
 use Rattle.tocmark_core_reader.proofs.PlainSources.{IsClean, AreClean, snapped_clean, all_implied}
-use Rattle.tocmark_core_scan.specs.PlainParts.{Part, spelled}
+use Rattle.tocmark_read_scan.specs.PlainParts.{Part, spelled}
 
 -- the nodes and labels of a text with these blocks
 abbrev found_from : List ℕ → BlocksView → FoundView

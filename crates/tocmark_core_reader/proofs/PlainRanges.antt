@@ -1,13 +1,13 @@
 -- The nodes that are found in a plain text have ranges that their events keep.
 use Rattle.std.proofs.Common.{◌≡◌, ℕ, suc, ◌+◌, ◌^◌, ◌<◌, ◌≤◌, true, List, [], ◌∷◌, ◌++◌, length, map, sym, subst, arith, length-append, Option, Some, None}
 use Rattle.std.specs.List.{AllByRecursion}
-use Rattle.tocmark_core_scan.specs.PlainParts.{Part, Bare, Escaped, Referred, Feed, spelled}
-use Rattle.tocmark_core_scan.proofs.PlainPieces.{feed_joined}
-use Rattle.tocmark_core_inlines.specs.declared.write.Node.{Node}
-use Rattle.tocmark_core_inlines.proofs.PlainNodes.{nodes_of, text_until, begun}
-use Rattle.tocmark_core_pages.specs.Inlines.{inline_node}
+use Rattle.tocmark_read_scan.specs.PlainParts.{Part, Bare, Escaped, Referred, Feed, spelled}
+use Rattle.tocmark_read_scan.proofs.PlainPieces.{feed_joined}
+use Rattle.tocmark_read_inlines.specs.declared.write.Node.{Node}
+use Rattle.tocmark_read_inlines.proofs.PlainNodes.{nodes_of, text_until, begun}
+use Rattle.tocmark_core_reader.specs.Inlines.{inline_node}
 use Rattle.tocmark_core_reader.specs.PlainTexts.{text_parts, is_plain_text, AreKept}
-use Rattle.tocmark_core_pages.specs.Range.{snapped}
+use Rattle.tocmark_core_reader.specs.Range.{snapped}
 use Rattle.tocmark_core_reader.specs.Reading.{found_in, FoundView}
 use Rattle.tocmark_core_reader.proofs.PlainEvents.{viewed}
 use Rattle.tocmark_core_reader.proofs.PlainLeaves.{found_parts, found_text}

@@ -3,24 +3,24 @@ use Rattle.std.proofs.Common.{◌≡◌, ℕ, suc, ◌+◌, ◌^◌, ◌<◌, �
 use Rattle.std.proofs.lemmas.Bool.Decides.{nat_tests}
 use Rattle.std.specs.List.{AllByRecursion}
 use Rattle.tocmark_event.specs.Merged.{merged, after_text}
-use Rattle.tocmark_reader.specs.Reading.{ReadingView}
+use Rattle.tocmark_event.specs.Reading.{ReadingView}
 use Rattle.tocmark_event.specs.View.{EventView, Start, End, Leaf, Text, SoftBreak, Paragraph}
 use Rattle.tocmark_event.specs.declared.event.TagEnd.{TagEnd}
 use Rattle.tocmark_event.specs.declared.event.TagEnd.TheVariants as end
-use Rattle.tocmark_core_scan.specs.Basic.{byte_at}
-use Rattle.tocmark_core_scan.specs.Class.{is_in}
-use Rattle.tocmark_core_scan.specs.declared.class.Class.TheVariants.{White}
-use Rattle.tocmark_core_scan.proofs.PlainPieces.{feed_joined, AreNoZeros}
-use Rattle.tocmark_core_blocks.proofs.PlainFronts.{BeginsPlainly, plainly_begins_nothing}
-use Rattle.tocmark_core_blocks.proofs.PlainLines.{IsWithin}
-use Rattle.tocmark_core_blocks.proofs.PlainTexts.{IsTextLine}
-use Rattle.tocmark_core_inlines.proofs.PlainLeaf.{known}
-use Rattle.tocmark_core_inlines.proofs.PlainNeighbours.{ArePlainParts, plain_parts_are_read}
+use Rattle.tocmark_read_scan.specs.Basic.{byte_at}
+use Rattle.tocmark_read_scan.specs.Class.{is_in}
+use Rattle.tocmark_read_scan.specs.declared.class.Class.TheVariants.{White}
+use Rattle.tocmark_read_scan.proofs.PlainPieces.{feed_joined, AreNoZeros}
+use Rattle.tocmark_read_blocks.proofs.PlainFronts.{BeginsPlainly, plainly_begins_nothing}
+use Rattle.tocmark_read_blocks.proofs.PlainLines.{IsWithin}
+use Rattle.tocmark_read_blocks.proofs.PlainTexts.{IsTextLine}
+use Rattle.tocmark_read_inlines.proofs.PlainLeaf.{known}
+use Rattle.tocmark_read_inlines.proofs.PlainNeighbours.{ArePlainParts, plain_parts_are_read}
 use Rattle.tocmark_core_reader.specs.Reading.{core_reading, first_entry}
 use Rattle.tocmark_core_reader.proofs.PlainEvents.{Marked, unplaced, events_of, said, merged_parts}
 use Rattle.tocmark_core_reader.proofs.PlainLeaves.{IsReadText, parts_reading, text_is_read}
 use Rattle.tocmark_core_reader.proofs.PlainSources.{IsClean, AreClean, all_behind, all_implied, sourced_parts}
-use Rattle.tocmark_core_scan.specs.PlainParts.{Part, Bare, Escaped, Referred, Feed, spelled_part, spelled, meant, last_byte}
+use Rattle.tocmark_read_scan.specs.PlainParts.{Part, Bare, Escaped, Referred, Feed, spelled_part, spelled, meant, last_byte}
 use Rattle.tocmark_core_reader.specs.PlainTexts.{text_parts, line_events, lines_paragraph, IsReadAs}
 
 -- a byte that is printed, or a space

@@ -6,9 +6,9 @@ use Rattle.std.specs.Bool.{⊤, Decides}
 use Rattle.std.specs.Char.{is_ascii_punctuation}
 use Rattle.std.specs.List.{AllByRecursion, list_all, onto_first, slice_get, slice_split}
 use Rattle.std.specs.Option.{unwrap_or}
-use Rattle.tocmark_core_scan.specs.Basic.{byte_at}
-use Rattle.tocmark_core_scan.specs.PlainParts.{Part, Bare, Escaped, Referred, Feed, spelled, spelled_part, is_plain_part, last_byte, are_plain_parts}
-use Rattle.tocmark_core_scan.proofs.PlainTests.{not_char}
+use Rattle.tocmark_read_scan.specs.Basic.{byte_at}
+use Rattle.tocmark_read_scan.specs.PlainParts.{Part, Bare, Escaped, Referred, Feed, spelled, spelled_part, is_plain_part, last_byte, are_plain_parts}
+use Rattle.tocmark_read_scan.proofs.PlainTests.{not_char}
 use Rattle.tocmark_core_reader.specs.PlainTexts.{part_at, bytes_behind, parts_from, plain_front, first_line, further_lines, has_plain_bytes, is_plain_line, is_plain, IsPlain}
 use Rattle.tocmark_core_reader.proofs.PlainDecided.{parts_spell, lines_join, plain_decided}
 

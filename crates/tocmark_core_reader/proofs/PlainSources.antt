@@ -4,13 +4,13 @@ use Rattle.std.proofs.lemmas.Bool.Decides.{nat_tests}
 use Rattle.std.proofs.lemmas.Str.{IsUtf8-from_ascii, utf8_lossy-IsUtf8}
 use Rattle.std.specs.List.{AllByRecursion}
 use Rattle.std.specs.Str.Lossy.{utf8_lossy}
-use Rattle.tocmark_core_scan.specs.Basic.{piece}
-use Rattle.tocmark_core_scan.proofs.PlainPieces.{piece_between}
-use Rattle.tocmark_core_leaves.specs.Definitions.{replaced}
-use Rattle.tocmark_core_pages.specs.Range.{snapped, is_cut}
-use Rattle.tocmark_core_pages.specs.Words.{cleaned}
+use Rattle.tocmark_read_scan.specs.Basic.{piece}
+use Rattle.tocmark_read_scan.proofs.PlainPieces.{piece_between}
+use Rattle.tocmark_read_blocks.specs.Definitions.{replaced}
+use Rattle.tocmark_core_reader.specs.Range.{snapped, is_cut}
+use Rattle.tocmark_core_reader.specs.Words.{cleaned}
 use Rattle.tocmark_core_reader.proofs.PlainEvents.{source_of, AreSourced}
-use Rattle.tocmark_core_scan.specs.PlainParts.{Part, Bare, Escaped, Referred, Feed, spelled}
+use Rattle.tocmark_read_scan.specs.PlainParts.{Part, Bare, Escaped, Referred, Feed, spelled}
 
 -- a byte of ASCII, neither U+0000 nor a carriage return
 pub record IsClean (b : ℕ) : Type 0 where

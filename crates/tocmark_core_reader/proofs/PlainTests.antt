@@ -4,14 +4,14 @@ use Rattle.std.proofs.lemmas.Bool.Decides.{nat_tests}
 use Rattle.std.proofs.lemmas.Slice.Eq.{bytes_eq-Decides}
 use Rattle.std.specs.Char.{char_set_contains, is_ascii_alphanumeric, is_ascii_digit, is_ascii_punctuation}
 use Rattle.std.specs.List.{AllByRecursion, list_all}
-use Rattle.tocmark_reader.specs.Reading.{ReadingView}
-use Rattle.tocmark_core_scan.specs.Basic.{byte_at}
-use Rattle.tocmark_core_scan.specs.PlainParts.{Part, Bare, Escaped, Referred, Feed, spelled, spelled_part, meant, is_inert, is_plain_byte, is_plain_reference, is_plain_part, last_byte, are_plain_parts, is_quiet, ends_number, goes_on, begins_plainly}
-use Rattle.tocmark_core_scan.proofs.PlainTests.{eq_of, differs, both_true, all_true, is_not, one_of_two, one_of_three, one_of_four, or_first, or_second, none_of, all_from, all_to}
-use Rattle.tocmark_core_blocks.proofs.PlainFronts.{BeginsPlainly, GoesOn}
-use Rattle.tocmark_core_blocks.proofs.PlainStarts.{IsQuiet}
-use Rattle.tocmark_core_inlines.proofs.PlainInlines.{IsInert}
-use Rattle.tocmark_core_inlines.proofs.PlainNeighbours.{IsPlainByte, IsPlainPart, ArePlainParts}
+use Rattle.tocmark_event.specs.Reading.{ReadingView}
+use Rattle.tocmark_read_scan.specs.Basic.{byte_at}
+use Rattle.tocmark_read_scan.specs.PlainParts.{Part, Bare, Escaped, Referred, Feed, spelled, spelled_part, meant, is_inert, is_plain_byte, is_plain_reference, is_plain_part, last_byte, are_plain_parts, is_quiet, ends_number, goes_on, begins_plainly}
+use Rattle.tocmark_read_scan.proofs.PlainTests.{eq_of, differs, both_true, all_true, is_not, one_of_two, one_of_three, one_of_four, or_first, or_second, none_of, all_from, all_to}
+use Rattle.tocmark_read_blocks.proofs.PlainFronts.{BeginsPlainly, GoesOn}
+use Rattle.tocmark_read_blocks.proofs.PlainStarts.{IsQuiet}
+use Rattle.tocmark_read_inlines.proofs.PlainInlines.{IsInert}
+use Rattle.tocmark_read_inlines.proofs.PlainNeighbours.{IsPlainByte, IsPlainPart, ArePlainParts}
 use Rattle.tocmark_core_reader.specs.PlainTexts.{text_parts, is_printable, is_plain_line, is_plain_text, lines_paragraph, IsReadAs}
 use Rattle.tocmark_core_reader.specs.Reading.{core_reading}
 use Rattle.tocmark_core_reader.proofs.PlainReading.{IsPrintable, IsPlainLine, IsPlainText, plain_text_is_meant}

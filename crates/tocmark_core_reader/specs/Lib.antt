@@ -1,2 +1,7 @@
+pub mod Range
+pub mod Emitted
+pub mod Words
+pub mod Inlines
+pub mod Pages
 pub mod Reading
 pub mod PlainTexts

@@ -3,13 +3,13 @@ use Rattle.std.specs.Prelude.{◌≡◌, ℕ, zero, suc, Bool, true, not, ◌==�
 use Rattle.std.specs.Char.{is_ascii_punctuation}
 use Rattle.std.specs.List.{AllByRecursion, list_all}
 use Rattle.tocmark_event.specs.Merged.{merged}
-use Rattle.tocmark_reader.specs.Reading.{ReadingView}
+use Rattle.tocmark_event.specs.Reading.{ReadingView}
 use Rattle.tocmark_event.specs.View.{EventView, Start, End, Leaf, Paragraph, SoftBreak, Text}
 use Rattle.tocmark_event.specs.declared.event.TagEnd.TheVariants as end
-use Rattle.tocmark_core_scan.specs.Basic.{byte_at}
-use Rattle.tocmark_core_pages.specs.Emitted.{NodeView}
-use Rattle.tocmark_core_pages.specs.Range.{snapped}
-use Rattle.tocmark_core_scan.specs.PlainParts.{Part, Bare, Escaped, Referred, Feed, spelled, spelled_part, is_plain_part, last_byte, are_plain_parts, begins_plainly}
+use Rattle.tocmark_read_scan.specs.Basic.{byte_at}
+use Rattle.tocmark_core_reader.specs.Emitted.{NodeView}
+use Rattle.tocmark_core_reader.specs.Range.{snapped}
+use Rattle.tocmark_read_scan.specs.PlainParts.{Part, Bare, Escaped, Referred, Feed, spelled, spelled_part, is_plain_part, last_byte, are_plain_parts, begins_plainly}
 
 -- the parts of a line and of further lines, with a line feed between two
 abbrev pub text_parts : List Part → List (List Part) → List Part

@@ -1,14 +1,14 @@
 -- The reading of a text.
 use Rattle.std.specs.Prelude.{ℕ, List, Option}
 use Rattle.std.specs.List.{fold}
-use Rattle.tocmark_reader.specs.Reading.{ReadingView}
-use Rattle.tocmark_core_tokens.specs.Label.{first_place}
-use Rattle.tocmark_core_blocks.specs.Blocks.{blocks_of}
-use Rattle.tocmark_core_leaves.specs.Definitions.{DefinitionView}
-use Rattle.tocmark_core_spans.specs.Definitions as defs
-use Rattle.tocmark_core_spans.specs.declared.definitions.Entry.{Entry}
-use Rattle.tocmark_core_pages.specs.Emitted.{NodeView, emitted}
-use Rattle.tocmark_core_pages.specs.Pages.{assembled}
+use Rattle.tocmark_event.specs.Reading.{ReadingView}
+use Rattle.tocmark_read_tokens.specs.Label.{first_place}
+use Rattle.tocmark_read_blocks.specs.Blocks.{blocks_of}
+use Rattle.tocmark_read_blocks.specs.Definitions.{DefinitionView}
+use Rattle.tocmark_read_spans.specs.Definitions as defs
+use Rattle.tocmark_read_spans.specs.declared.definitions.Entry.{Entry}
+use Rattle.tocmark_core_reader.specs.Emitted.{NodeView, emitted}
+use Rattle.tocmark_core_reader.specs.Pages.{assembled}
 
 -- one more definition
 unfoldable pub define_step : defs.State → DefinitionView → defs.State

@@ -1,7 +1,7 @@
 //! Laws of what is read, each the contract of a function that does nothing.
 
 ghost use Rattle.std.specs.Prelude.{◌<◌, ◌^◌, IsTrue, List, length, ℕ, ◌↔◌};
-ghost use Rattle.tocmark_core_scan.specs.PlainParts.{Part, spelled};
+ghost use Rattle.tocmark_read_scan.specs.PlainParts.{Part, spelled};
 ghost use Rattle.tocmark_core_reader.specs.PlainTexts.{AreKept, IsPlain, is_plain, is_plain_text, text_parts};
 ghost use Rattle.tocmark_core_reader.specs.Reading.{found_in};
 

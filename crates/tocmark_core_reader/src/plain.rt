@@ -2,10 +2,10 @@
 
 ghost use Rattle.std.specs.Prelude.{◌≡◌, ◌==◌, ◌↔◌, IsTrue};
 ghost use Rattle.std.specs.List.{list_all, slice_split};
-ghost use Rattle.tocmark_core_scan.specs.PlainParts.{are_plain_parts, begins_plainly, ends_number, goes_on, is_inert, is_plain_byte, is_quiet, last_byte};
+ghost use Rattle.tocmark_read_scan.specs.PlainParts.{are_plain_parts, begins_plainly, ends_number, goes_on, is_inert, is_plain_byte, is_quiet, last_byte};
 ghost use Rattle.tocmark_core_reader.specs.PlainTexts.{IsPlain, has_plain_bytes, is_plain, is_printable, parts_from, plain_front};
 
-use tocmark_core_scan::basic::{byte_at, rest};
+use tocmark_read_scan::basic::{byte_at, rest};
 
 fn is_inert(byte: u8) -> bool
     ensures { result ≡ is_inert byte }

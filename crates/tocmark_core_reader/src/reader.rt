@@ -1,18 +1,18 @@
 //! The reader.
 
 ghost use Rattle.std.specs.Prelude.{◌≡◌, map, string_bytes, IfOk, OnOk};
-ghost use Rattle.tocmark_core_leaves.specs.Definitions.{definition_view};
-ghost use Rattle.tocmark_core_spans.specs.Definitions.{collected_view, entry_of};
+ghost use Rattle.tocmark_read_blocks.specs.Definitions.{definition_view};
+ghost use Rattle.tocmark_read_spans.specs.Definitions.{collected_view, entry_of};
 ghost use Rattle.tocmark_core_reader.specs.Reading.{define_step, collected, first_entry, core_reading};
-ghost use Rattle.tocmark_reader.specs.Reading.{reading_view};
+ghost use Rattle.tocmark_event.specs.Reading.{reading_view};
 
+use crate::page::assemble;
 use std::alloc::{AllocError, Global};
-use tocmark_core_blocks::{LinkDefinition, read_blocks};
-use tocmark_core_pages::page::assemble;
-use tocmark_core_spans::definitions::{Collected, Definitions, Entry, distinct_labels};
-use tocmark_core_tokens::label::first_places;
 use tocmark_event::event::ParserOptions;
-use tocmark_reader::{Reader, Reading};
+use tocmark_event::reader::{Reader, Reading};
+use tocmark_read_blocks::{LinkDefinition, read_blocks};
+use tocmark_read_spans::definitions::{Collected, Definitions, Entry, distinct_labels};
+use tocmark_read_tokens::label::first_places;
 
 /// Reads CommonMark 0.31.2, under all flags alike.
 #[derive(Clone, Copy, Debug)]
@@ -87,12 +87,12 @@ fn find(alloc: Global, text: &str) -> Result<Reading, AllocError>
 impl Reader for CoreReader {
     ghost use Rattle.std.specs.Prelude.{IsTrue, List};
     ghost use Rattle.tocmark_event.specs.Forest.{IsBalanced};
-    ghost use Rattle.tocmark_reader.specs.Reading.{reading_view};
+    ghost use Rattle.tocmark_event.specs.Reading.{reading_view};
     ghost use Rattle.tocmark_event.specs.Text.{text_of};
     ghost use Rattle.tocmark_event.specs.View.{event_view};
-    ghost use Rattle.tocmark_core_scan.specs.PlainParts.{Part, meant, spelled};
+    ghost use Rattle.tocmark_read_scan.specs.PlainParts.{Part, meant, spelled};
     ghost use Rattle.tocmark_core_reader.specs.PlainTexts.{IsReadAs, is_plain_text, lines_paragraph, text_parts};
-    ghost use Rattle.tocmark_core_pages.specs.Range.{HasGoodRanges};
+    ghost use Rattle.tocmark_core_reader.specs.Range.{HasGoodRanges};
     ghost use Rattle.tocmark_core_reader.specs.Reading.{core_reading};
 
     ghost reading = { λ _ text _. core_reading text };

@@ -4,3 +4,9 @@ pub mod Ends
 pub mod Merged
 pub mod Forest
 pub mod Flags
+pub mod Reading
+pub mod ErrorText
+pub mod Options
+pub mod Validation
+pub mod Special
+pub mod Order

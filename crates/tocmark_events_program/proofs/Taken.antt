@@ -8,11 +8,11 @@ use Rattle.tocmark_event.specs.Text.{ParserEvent}
 use Rattle.tocmark_event.specs.declared.event.flags.ParserOptions.{ParserOptions}
 use Rattle.tocmark_core_reader.specs.Reading.{core_reading}
 use Rattle.tocmark_laws.proofs.Handed.{drained, written_in_parts}
-use Rattle.tocmark_options.specs.Options.{OptionsView}
-use Rattle.tocmark_reader.specs.Reading.{lent_pair}
-use Rattle.tocmark_work.specs.Ranges.{Pair, Range}
-use Rattle.tocmark_work.specs.WorkView.{rendering, ranged_pairs}
-use Rattle.tocmark_work.specs.Walk.{Walk, Done, done, nothing_yet, script}
+use Rattle.tocmark_event.specs.Options.{OptionsView}
+use Rattle.tocmark_event.specs.Reading.{lent_pair}
+use Rattle.tocmark_state.specs.Ranges.{Pair, Range}
+use Rattle.tocmark_state.specs.WorkView.{rendering, ranged_pairs}
+use Rattle.tocmark_state.specs.Walk.{Walk, Done, done, nothing_yet, script}
 use Rattle.tocmark_events_program.specs.Events.{IsWritten, places_left, writing}
 use Rattle.tocmark_events_program.specs.declared.pairs.EventPairs.{EventPairs}
 

@@ -10,10 +10,10 @@ use Rattle.tocmark_core_reader.specs.Reading.{core_reading}
 use Rattle.tocmark_event.specs.Text.{text_of}
 use Rattle.tocmark_event.specs.View.{EventView}
 use Rattle.tocmark_json.specs.Json.{events_json, pair_view, pairs_json}
-use Rattle.tocmark_options.specs.Options.{OptionsView, options_view}
-use Rattle.tocmark_work.specs.Ranges.{Pair, unranged}
-use Rattle.tocmark_work.specs.WorkView.{rendering}
-use Rattle.tocmark_work.specs.Walk.{Walk, Done, done, nothing_yet, script}
+use Rattle.tocmark_event.specs.Options.{OptionsView, options_view}
+use Rattle.tocmark_state.specs.Ranges.{Pair, unranged}
+use Rattle.tocmark_state.specs.WorkView.{rendering}
+use Rattle.tocmark_state.specs.Walk.{Walk, Done, done, nothing_yet, script}
 use Rattle.tocmark_events_program.specs.declared.arguments.Job.{Job}
 use Rattle.tocmark_events_program.specs.declared.arguments.Job.TheVariants as job
 use Rattle.tocmark_events_program.specs.declared.pairs.EventPairs.{EventPairs}

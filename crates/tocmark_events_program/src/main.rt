@@ -1,4 +1,8 @@
-//! Markdown on standard input to events as JSON on standard output, and back. `docs/JSON.md` has the form.
+//! The program for other languages: Markdown on standard input to events as JSON on standard output, and back.
+//! `docs/JSON.md` has the form.
+//!
+//! It stands on the library (`tocmark`) and on `tocmark_json`. `arguments` has its options, `settings` what they set,
+//! `pairs` the events of what was read, and `fault` its lines on standard error.
 #![tactic(auto)]
 
 mod arguments;
@@ -14,8 +18,8 @@ ghost use Rattle.serde_json.specs.Written.{IsInOrder};
 ghost use Rattle.tocmark_event.specs.Text.{text_of};
 ghost use Rattle.tocmark_event.specs.View.{event_view};
 ghost use Rattle.tocmark_json.specs.Json.{events_json, pair_view, pairs_json};
-ghost use Rattle.tocmark_options.specs.Options.{options_view};
-ghost use Rattle.tocmark_work.specs.Ranges.{Pair, unranged};
+ghost use Rattle.tocmark_event.specs.Options.{options_view};
+ghost use Rattle.tocmark_state.specs.Ranges.{Pair, unranged};
 ghost use Rattle.tocmark_events_program.specs.Events.{IsAnswer, IsAnswered, IsJsonOf, IsWriteFault, IsWritten, IsWrittenAgain, IsWrittenFrom, reading_json};
 
 use arguments::{Job, asked, command};

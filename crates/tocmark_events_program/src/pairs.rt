@@ -4,7 +4,7 @@ ghost use Rattle.std.specs.Prelude.{◌≡◌, map};
 ghost use Rattle.std.specs.Iterator.{item_count, YieldsFirstBy};
 ghost use Rattle.tocmark_event.specs.Text.{text_of};
 ghost use Rattle.tocmark_json.specs.Json.{pair_view};
-ghost use Rattle.tocmark_reader.specs.Reading.{lent_pair};
+ghost use Rattle.tocmark_event.specs.Reading.{lent_pair};
 ghost use Rattle.tocmark_events_program.specs.Events.{places_left};
 
 use tocmark::event::Event;

@@ -2,18 +2,18 @@
 use Rattle.std.proofs.Common.{◌≡◌, List, false, None, refl, ap, ◌∙◌, ℕ}
 use Rattle.std.specs.Prelude.{◌&&◌}
 use Rattle.tocmark_event.specs.Forest.{flat}
-use Rattle.tocmark_options.specs.Options.{OptionsView}
-use Rattle.tocmark_reader.specs.Reading.{ReadingView}
+use Rattle.tocmark_event.specs.Options.{OptionsView}
+use Rattle.tocmark_event.specs.Reading.{ReadingView}
 use Rattle.tocmark_event.specs.declared.event.flags.ParserOptions.{ParserOptions}
 use Rattle.tocmark_spelling.specs.Body.{Trees}
 use Rattle.tocmark_spelling.specs.PlanOf.{setting_of}
 use Rattle.tocmark_render.specs.Candidates.{has_source, is_delimiter_block}
 use Rattle.tocmark_render.specs.Choice.{preferred, has_standard_markers}
-use Rattle.tocmark_label_sets.specs.Document.{first_document}
-use Rattle.tocmark_labels.specs.Placeholder.{needs_placeholder}
+use Rattle.tocmark_write_labels.specs.Document.{first_document}
+use Rattle.tocmark_write_labels.specs.Placeholder.{needs_placeholder}
 use Rattle.tocmark_render.proofs.Chosen.{chosen-unlabelled}
 use Rattle.tocmark_render.proofs.PlainUnits.{choice-unasked}
-use Rattle.tocmark_work.specs.WorkView.{keeping, rendering}
+use Rattle.tocmark_state.specs.WorkView.{keeping, rendering}
 
 -- it takes its preferred spelling
 pub alone-chosen : (o : OptionsView) (reading : List ℕ → ParserOptions → ReadingView) (flags : ParserOptions) (f : Trees)

@@ -3,7 +3,7 @@ use Rattle.std.proofs.Common.{◌≡◌, ℕ, List, ◌++◌, ap, ◌∙◌, app
 use Rattle.std.specs.List.{FoldsTo, concat}
 use Rattle.tocmark_laws.proofs.Handed.{kept_in_parts}
 use Rattle.tocmark_laws.specs.Paragraphs.{Keeps}
-use Rattle.tocmark_work.specs.Walk.{Walk, Done}
+use Rattle.tocmark_state.specs.Walk.{Walk, Done}
 use Rattle.tocmark_laws.specs.Links.{one_text_walk}
 
 -- the text stands behind what it held

@@ -3,10 +3,10 @@ use Rattle.std.proofs.Common.{◌≡◌, ℕ, ◌+◌, ◌/◌, ◌%◌, ◌<◌
 use Rattle.std.proofs.lemmas.Bool.Decides.{nat_tests}
 use Rattle.std.specs.Prelude.{◌≢◌, slice_get, is_none}
 use Rattle.std.specs.Char.{encode_utf8}
-use Rattle.tocmark_options.specs.Options.{OptionsView}
+use Rattle.tocmark_event.specs.Options.{OptionsView}
 use Rattle.tocmark_event.specs.declared.event.flags.ParserOptions.{ParserOptions}
-use Rattle.tocmark_escape.specs.Escape.{Place, spot, is_encoded, is_last, escape_after, escaped, needs_backslash, reference, with_backslash, written}
-use Rattle.tocmark_renderer.specs.WriterOf.{HasNoFeed}
+use Rattle.tocmark_write_texts.specs.Escape.{Place, spot, is_encoded, is_last, escape_after, escaped, needs_backslash, reference, with_backslash, written}
+use Rattle.tocmark_write_renderer.specs.WriterOf.{HasNoFeed}
 use Rattle.tocmark_laws.specs.TextBlocks.{Kind, place_in}
 
 -- whether no byte is a line feed

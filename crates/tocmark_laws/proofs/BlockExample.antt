@@ -2,8 +2,8 @@
 use Rattle.std.proofs.Common.{◌≡◌, List, [], ◌∷◌, codes, refl}
 use Rattle.std.specs.Char.{encode_utf8}
 use Rattle.std.specs.Str.{chars}
-use Rattle.tocmark_escape.specs.Escape.{coded, doubles_backslash, ends_line, escaped, is_marker, is_read_as_marker, needs_backslash, opens_label, reference, with_backslash, written}
-use Rattle.tocmark_options.specs.Options.{default_options}
+use Rattle.tocmark_write_texts.specs.Escape.{coded, doubles_backslash, ends_line, escaped, is_marker, is_read_as_marker, needs_backslash, opens_label, reference, with_backslash, written}
+use Rattle.tocmark_event.specs.Options.{default_options}
 use Rattle.tocmark_event.specs.declared.event.HeadingLevel.TheVariants as level
 use Rattle.tocmark_event.specs.declared.event.flags.ParserOptions.{ParserOptions}
 use Rattle.tocmark_laws.specs.TextBlocks.{Block, ParagraphKind, HeadingKind, texts_behind}

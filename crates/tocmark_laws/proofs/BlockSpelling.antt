@@ -4,7 +4,7 @@ use Rattle.std.proofs.lemmas.Str.{chars-nil}
 use Rattle.std.specs.List.{concat}
 use Rattle.tocmark_event.specs.Forest.{empty, leaf, node, flat}
 use Rattle.tocmark_event.specs.View.{EventView, Start, End, Leaf, Text, SourcedEvent, SourcedLeaf, end_of}
-use Rattle.tocmark_escape.specs.Escape.{Place, escaped}
+use Rattle.tocmark_write_texts.specs.Escape.{Place, escaped}
 use Rattle.tocmark_spelling.specs.Body.{Trees, is_broken, some_leaf}
 use Rattle.tocmark_spelling.specs.Closing.{closing}
 use Rattle.tocmark_spelling.specs.Gap.{gap}
@@ -17,12 +17,12 @@ use Rattle.tocmark_spelling.specs.Plan.{Setting, Manner}
 use Rattle.tocmark_spelling.specs.Spelling.{spelling, then_site, body_or_id, skips_body}
 use Rattle.tocmark_spelling.specs.Stretch.{leaf_on, place, held_with, stretch_on}
 use Rattle.tocmark_spelling.specs.Runs.{ahead_of, past, beyond}
-use Rattle.tocmark_renderer.proofs.Laid.{laid-part}
+use Rattle.tocmark_write_renderer.proofs.Laid.{laid-part}
 use Rattle.tocmark_render.specs.Candidates.{preferred_manner, has_source, is_delimiter_block, is_delimiter_tag, is_math, some_tag}
 use Rattle.tocmark_render.specs.Choice as choice
 use Rattle.tocmark_render.specs.Choice.{page_in, spelled, accepted_if, document_after, has_standard_markers}
-use Rattle.tocmark_label_sets.specs.Document.{DocumentView}
-use Rattle.tocmark_labels.specs.Placeholder.{whole, needs_placeholder, needs_placeholder_at, is_ambiguous_list}
+use Rattle.tocmark_write_labels.specs.Document.{DocumentView}
+use Rattle.tocmark_write_labels.specs.Placeholder.{whole, needs_placeholder, needs_placeholder_at, is_ambiguous_list}
 use Rattle.tocmark_render.specs.Chosen.{chosen}
 use Rattle.tocmark_render.proofs.Chosen.{chosen-unlabelled}
 use Rattle.tocmark_render.proofs.PlainUnits.{choice-unasked}

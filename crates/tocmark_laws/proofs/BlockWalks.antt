@@ -1,27 +1,27 @@
 -- What a document of paragraphs and headings hands: a text for each block.
 use Rattle.std.proofs.Common.{◌≡◌, ℕ, ◌<◌, true, false, if◌then◌else◌, List, [], ◌∷◌, ◌++◌, length, length-append, replicate, map, refl, ap, subst, ◌∙◌, arith, append_assoc, eq-eqb, Option, Some, None, Result, Ok, Err}
 use Rattle.std.specs.List.{AllByRecursion, concat}
-use Rattle.tocmark_escape.specs.Escape.{escaped}
+use Rattle.tocmark_write_texts.specs.Escape.{escaped}
 use Rattle.tocmark_event.specs.Ends.{same_end, end_code}
 use Rattle.tocmark_event.specs.Forest.{flat, flat_onto}
-use Rattle.tocmark_options.specs.Options.{OptionsView, default_options}
-use Rattle.tocmark_reader.specs.Reading.{ReadingView}
+use Rattle.tocmark_event.specs.Options.{OptionsView, default_options}
+use Rattle.tocmark_event.specs.Reading.{ReadingView}
 use Rattle.tocmark_event.specs.View.{EventView, Start, End, Leaf, Text, TagView, SourcedEvent, end_of}
 use Rattle.tocmark_event.specs.declared.event.flags.ParserOptions.{ParserOptions}
-use Rattle.tocmark_options.specs.declared.options.Error.{Error}
-use Rattle.tocmark_options.specs.declared.options.Error.TheVariants as error
+use Rattle.tocmark_event.specs.declared.options.Error.{Error}
+use Rattle.tocmark_event.specs.declared.options.Error.TheVariants as error
 use Rattle.tocmark_spelling.specs.Plan.{Setting}
 use Rattle.tocmark_spelling.specs.PlanOf.{setting_of}
-use Rattle.tocmark_labels.specs.Definitions.{definitions_text}
-use Rattle.tocmark_label_sets.specs.Document.{DocumentView, first_document}
-use Rattle.tocmark_labels.specs.Ending.{last_texts, holds_raw_block, unless_empty}
-use Rattle.tocmark_labels.specs.Units.{waits}
-use Rattle.tocmark_labels.proofs.Forests.{waits-flat}
-use Rattle.tocmark_work.specs.Ranges.{Pair, unranged}
-use Rattle.tocmark_work.specs.WorkView.{keeping, rendering}
+use Rattle.tocmark_write_labels.specs.Definitions.{definitions_text}
+use Rattle.tocmark_write_labels.specs.Document.{DocumentView, first_document}
+use Rattle.tocmark_write_labels.specs.Ending.{last_texts, holds_raw_block, unless_empty}
+use Rattle.tocmark_write_labels.specs.Units.{waits}
+use Rattle.tocmark_write_labels.proofs.Forests.{waits-flat}
+use Rattle.tocmark_state.specs.Ranges.{Pair, unranged}
+use Rattle.tocmark_state.specs.WorkView.{keeping, rendering}
 use Rattle.tocmark_laws.specs.TextBlocks.{Kind, Block, HasText, MakesBlocks, blocks_walk, tag_of, mark_of, block_text, block_events, document_of, feeds_behind, place_in, texts_behind}
-use Rattle.tocmark_work.specs.Walk.{Walk, Done, done, Kept, Rendering, Standing, beginning, nothing_yet, go_on, stay, finished_of, flushed, flushed_before, flushed_or_deferred, flush_of, joins, advance, step, walk, script, ended, with_event}
-use Rattle.tocmark_work.specs.Writes.{Makes}
+use Rattle.tocmark_state.specs.Walk.{Walk, Done, done, Kept, Rendering, Standing, beginning, nothing_yet, go_on, stay, finished_of, flushed, flushed_before, flushed_or_deferred, flush_of, joins, advance, step, walk, script, ended, with_event}
+use Rattle.tocmark_state.specs.Writes.{Makes}
 use Rattle.tocmark_laws.proofs.BlockEscapes.{IsFilled, escaped_filled}
 use Rattle.tocmark_laws.proofs.BlockSpelling.{text_leaf, text_trees, unit, IsCalm, IsChosen, block_placed, block_chosen}
 

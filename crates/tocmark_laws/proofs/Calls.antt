@@ -2,14 +2,14 @@
 use Rattle.std.proofs.Common.{◌≡◌, ℕ, List, [], ◌∷◌, ◌++◌, Result, Ok, Err, refl, ap, sym, ◌∙◌, subst, append_assoc, append-nil}
 use Rattle.std.specs.List.{FoldsTo}
 use Rattle.tocmark_event.specs.declared.event.flags.ParserOptions.{ParserOptions}
-use Rattle.tocmark_options.specs.declared.options.Error.{Error}
-use Rattle.tocmark_work.specs.declared.work.Progress.{Progress}
+use Rattle.tocmark_event.specs.declared.options.Error.{Error}
+use Rattle.tocmark_state.specs.declared.work.Progress.{Progress}
 use Rattle.tocmark_laws.specs.Calls.{AreCalls, GoesOn, all_pairs}
-use Rattle.tocmark_work.specs.Ranges.{Pair}
+use Rattle.tocmark_state.specs.Ranges.{Pair}
 use Rattle.tocmark_state.specs.StateView.{Adds, Ends}
-use Rattle.tocmark_work.specs.Walk.{Done, done, Rendering, Standing, Walk, ended, go_on, nothing_yet, script, walk}
-use Rattle.tocmark_work.specs.Writes.{Makes, RefusesAt}
-use Rattle.tocmark_work.proofs.Walks.{FoldsTo-append, Makes-then, RefusesAt-longer, go_on-assoc, walk-append}
+use Rattle.tocmark_state.specs.Walk.{Done, done, Rendering, Standing, Walk, ended, go_on, nothing_yet, script, walk}
+use Rattle.tocmark_state.specs.Writes.{Makes, RefusesAt}
+use Rattle.tocmark_state.proofs.Walks.{FoldsTo-append, Makes-then, RefusesAt-longer, go_on-assoc, walk-append}
 
 -- a script goes on where a shorter walk stands
 script-append : (how : Rendering) (source : List ℕ) (s : Standing) (xs ys : List Pair) → script how source s (xs ++ ys) ≡ go_on (walk how source s xs).texts (walk how source s xs).outcome (λ t. script how source t ys)

@@ -3,15 +3,15 @@ use Rattle.std.proofs.Common.{◌≡◌, ℕ, List, [], ◌∷◌, Bool, true, f
 use Rattle.tocmark_event.specs.Ends.{same_end}
 use Rattle.tocmark_event.specs.View.{EventView, Start, End, Leaf, SourcedEvent, unsourced}
 use Rattle.tocmark_event.specs.declared.event.TagEnd.{TagEnd}
-use Rattle.tocmark_options.specs.declared.options.Error.{Error}
-use Rattle.tocmark_options.specs.declared.options.Error.TheVariants as error
+use Rattle.tocmark_event.specs.declared.options.Error.{Error}
+use Rattle.tocmark_event.specs.declared.options.Error.TheVariants as error
 use Rattle.tocmark_spelling.specs.Buffered.{sourced}
 use Rattle.tocmark_laws.specs.Causes.{HasBadRange, Cause, BadRange, RefusedUnit, WrongEnd, IsRefusedAtPair, HasRefusedLastUnit, EndCause, OpenContainer, RefusedLastUnit, IsRefusedIn, AtPair, AtEnd}
-use Rattle.tocmark_work.specs.Ranges.{Pair, Range, is_good_range, source_text, range_end_after, resolved_at}
+use Rattle.tocmark_state.specs.Ranges.{Pair, Range, is_good_range, source_text, range_end_after, resolved_at}
 use Rattle.tocmark_laws.specs.Trees.{ends_innermost}
-use Rattle.tocmark_work.specs.Walk.{Kept, Rendering, Standing, Walk, go_on, stay, with_event, joins, flush_of, flushed, flushed_or_deferred, is_due, flushed_before, advance, advance_with, step, walk, finished, finished_of, ended, ended_at, script}
-use Rattle.tocmark_labels.specs.Pending.{nested}
-use Rattle.tocmark_labels.proofs.Joined.{unsourced-sourced}
+use Rattle.tocmark_state.specs.Walk.{Kept, Rendering, Standing, Walk, go_on, stay, with_event, joins, flush_of, flushed, flushed_or_deferred, is_due, flushed_before, advance, advance_with, step, walk, finished, finished_of, ended, ended_at, script}
+use Rattle.tocmark_write_labels.specs.Pending.{nested}
+use Rattle.tocmark_write_labels.proofs.Joined.{unsourced-sourced}
 
 same_error : {A : Type 0} (x y : Error) (r : Result A Error) → r ≡ Err x → r ≡ Err y → x ≡ y
 same_error x y r h k = cc

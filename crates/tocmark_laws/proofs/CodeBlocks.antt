@@ -5,12 +5,12 @@ use Rattle.std.proofs.lemmas.List.{reverse-append}
 use Rattle.std.specs.Prelude.{slice_index}
 use Rattle.std.specs.List.{concat}
 use Rattle.tocmark_event.specs.Forest.{empty, leaf, node, flat, flat_onto}
-use Rattle.tocmark_options.specs.Options.{OptionsView}
-use Rattle.tocmark_reader.specs.Reading.{ReadingView}
+use Rattle.tocmark_event.specs.Options.{OptionsView}
+use Rattle.tocmark_event.specs.Reading.{ReadingView}
 use Rattle.tocmark_event.specs.View.{EventView, Start, End, Leaf, Text, CodeBlock, Fenced, SourcedEvent}
 use Rattle.tocmark_event.specs.declared.event.TagEnd.TheVariants as end
 use Rattle.tocmark_event.specs.declared.event.flags.ParserOptions.{ParserOptions}
-use Rattle.tocmark_options.specs.declared.options.Error.{Error}
+use Rattle.tocmark_event.specs.declared.options.Error.{Error}
 use Rattle.tocmark_spelling.specs.Body.{Trees, joined_by, text_of_leaf, some_leaf}
 use Rattle.tocmark_spelling.specs.Closing.{closing}
 use Rattle.tocmark_spelling.specs.Gap.{gap}
@@ -28,15 +28,15 @@ use Rattle.tocmark_spelling.specs.declared.trail.Last.TheVariants.{Inline, Other
 use Rattle.tocmark_render.specs.Candidates.{preferred_manner, has_source, is_delimiter_block, is_delimiter_tag, is_math, some_tag}
 use Rattle.tocmark_render.specs.Choice as choice
 use Rattle.tocmark_render.specs.Choice.{preferred, spelled, accepted_if, document_after}
-use Rattle.tocmark_labels.specs.Definitions.{definitions_text}
-use Rattle.tocmark_label_sets.specs.Document.{DocumentView, first_document}
-use Rattle.tocmark_labels.specs.Ending.{last_texts, holds_raw_block}
-use Rattle.tocmark_labels.specs.Placeholder.{whole, needs_placeholder, needs_placeholder_at}
+use Rattle.tocmark_write_labels.specs.Definitions.{definitions_text}
+use Rattle.tocmark_write_labels.specs.Document.{DocumentView, first_document}
+use Rattle.tocmark_write_labels.specs.Ending.{last_texts, holds_raw_block}
+use Rattle.tocmark_write_labels.specs.Placeholder.{whole, needs_placeholder, needs_placeholder_at}
 use Rattle.tocmark_laws.proofs.BlockSpelling.{text_leaf, text_trees, page_of, blank}
 use Rattle.tocmark_laws.proofs.Paragraphs.{laid-plain}
-use Rattle.tocmark_work.specs.Ranges.{Pair, unranged}
-use Rattle.tocmark_work.specs.WorkView.{keeping, rendering}
-use Rattle.tocmark_work.specs.Walk.{Walk, Done, done, Kept, Rendering, Standing, beginning, finished_of, go_on, stay, nothing_yet, script, walk, joins, flushed_before, advance, step, ended}
+use Rattle.tocmark_state.specs.Ranges.{Pair, unranged}
+use Rattle.tocmark_state.specs.WorkView.{keeping, rendering}
+use Rattle.tocmark_state.specs.Walk.{Walk, Done, done, Kept, Rendering, Standing, beginning, finished_of, go_on, stay, nothing_yet, script, walk, joins, flushed_before, advance, step, ended}
 use Rattle.tocmark_laws.proofs.Alone.{alone-chosen}
 use Rattle.tocmark_laws.proofs.Fences.{fence-is}
 use Rattle.tocmark_laws.specs.CodeBlocks.{IsFence, code_events, code_text, opened_code}

@@ -1,7 +1,7 @@
 -- A fence is longer than each run of its character.
 use Rattle.std.proofs.Common.{◌≡◌, ℕ, zero, suc, ◌+◌, ◌≤◌, Bool, true, false, cond, if◌then◌else◌, List, [], ◌∷◌, ◌++◌, refl, sym, subst, arith, eq-eqb, replicate, chars}
-use Rattle.tocmark_options.specs.Options.{OptionsView}
-use Rattle.tocmark_texts.specs.Leaves.{run_length, longest_run}
+use Rattle.tocmark_event.specs.Options.{OptionsView}
+use Rattle.tocmark_write_texts.specs.Leaves.{run_length, longest_run}
 use Rattle.tocmark_spelling.specs.Opening.{fence, fence_length, fence_token}
 use Rattle.tocmark_laws.specs.CodeBlocks.{HasRun, IsFence, clashes}
 

@@ -4,13 +4,13 @@ use mathlib.Core.List.{map-map}
 use Rattle.std.specs.Borrow.{Bor}
 use Rattle.std.specs.Iterator.{Yields, DrainsIf, YieldsFirstBy}
 use Rattle.std.specs.List.{FoldsTo, concat}
-use Rattle.tocmark_reader.specs.Reading.{events_left, lent_event, lent_pair, pairs_left}
+use Rattle.tocmark_event.specs.Reading.{events_left, lent_event, lent_pair, pairs_left}
 use Rattle.tocmark_event.specs.Text.{ParserEvent}
-use Rattle.tocmark_reader.specs.declared.Events.{Events}
-use Rattle.tocmark_reader.specs.declared.Pairs.{Pairs}
+use Rattle.tocmark_event.specs.declared.reader.Events.{Events}
+use Rattle.tocmark_event.specs.declared.reader.Pairs.{Pairs}
 use Rattle.tocmark_laws.specs.Paragraphs.{Keeps}
-use Rattle.tocmark_work.specs.Ranges.{Range, unranged}
-use Rattle.tocmark_work.specs.WorkView.{pairs, ranged_pairs}
+use Rattle.tocmark_state.specs.Ranges.{Range, unranged}
+use Rattle.tocmark_state.specs.WorkView.{pairs, ranged_pairs}
 
 module _ {S A B : Type 0} (view : A → B) (rest : S → List B) where
   -- what was given, and then what is left, is all

@@ -1,3 +1,4 @@
+pub mod Misplaced
 pub mod Handed
 pub mod Trees
 pub mod Reading
@@ -26,3 +27,4 @@ pub mod Unexpected
 pub mod UnexpectedCauses
 pub mod SingleBlocks
 pub mod WrittenUnits
+pub mod LineFeeds

@@ -1,14 +1,14 @@
 -- What is handed for a paragraph with one inline link round one text.
 use Rattle.std.proofs.Common.{◌≡◌, ℕ, List, [], ◌++◌, None, Ok, false, Result, refl, ap, ◌∙◌, codes}
 use Rattle.tocmark_event.specs.Forest.{empty, leaf, node, flat}
-use Rattle.tocmark_options.specs.Options.{OptionsView}
-use Rattle.tocmark_reader.specs.Reading.{ReadingView}
+use Rattle.tocmark_event.specs.Options.{OptionsView}
+use Rattle.tocmark_event.specs.Reading.{ReadingView}
 use Rattle.tocmark_event.specs.View.{Link, Paragraph, Text}
 use Rattle.tocmark_event.specs.declared.event.LinkType.TheVariants as link
 use Rattle.tocmark_event.specs.declared.event.flags.ParserOptions.{ParserOptions}
-use Rattle.tocmark_options.specs.declared.options.Error.{Error}
-use Rattle.tocmark_texts.specs.Destination.{inline_closing}
-use Rattle.tocmark_escape.specs.Escape.{escaped}
+use Rattle.tocmark_event.specs.declared.options.Error.{Error}
+use Rattle.tocmark_write_texts.specs.Destination.{inline_closing}
+use Rattle.tocmark_write_texts.specs.Escape.{escaped}
 use Rattle.tocmark_spelling.specs.Body.{Trees}
 use Rattle.tocmark_spelling.specs.ById.{by_id}
 use Rattle.tocmark_spelling.specs.Closing.{closing}
@@ -19,13 +19,13 @@ use Rattle.tocmark_spelling.specs.Runs.{prefers_underscore}
 use Rattle.tocmark_spelling.specs.Spelling.{spelling}
 use Rattle.tocmark_spelling.specs.Stretch.{leaf_on}
 use Rattle.tocmark_render.specs.Choice.{preferred, spelled, document_after}
-use Rattle.tocmark_labels.specs.Definitions.{definitions_text}
-use Rattle.tocmark_label_sets.specs.Document.{DocumentView, first_document}
-use Rattle.tocmark_labels.specs.Ending.{last_texts, holds_raw_block}
-use Rattle.tocmark_labels.specs.Placeholder.{needs_placeholder}
+use Rattle.tocmark_write_labels.specs.Definitions.{definitions_text}
+use Rattle.tocmark_write_labels.specs.Document.{DocumentView, first_document}
+use Rattle.tocmark_write_labels.specs.Ending.{last_texts, holds_raw_block}
+use Rattle.tocmark_write_labels.specs.Placeholder.{needs_placeholder}
 use Rattle.tocmark_laws.proofs.Paragraphs.{laid-plain}
-use Rattle.tocmark_work.specs.WorkView.{keeping, rendering}
-use Rattle.tocmark_work.specs.Walk.{Walk, Done, done, finished_of, nothing_yet, script, joins, flushed, flushed_before, advance, step, ended}
+use Rattle.tocmark_state.specs.WorkView.{keeping, rendering}
+use Rattle.tocmark_state.specs.Walk.{Walk, Done, done, finished_of, nothing_yet, script, joins, flushed, flushed_before, advance, step, ended}
 use Rattle.tocmark_laws.proofs.Alone.{alone-chosen}
 use Rattle.tocmark_laws.specs.Links.{link_events, link_text, one_text_walk, place_in_link}
 

@@ -3,37 +3,37 @@ use Rattle.std.proofs.Common.{◌≡◌, ℕ, List, [], ◌∷◌, ◌++◌, if�
 use Rattle.std.specs.Prelude.{◌||◌, ◌<◌, length, nat_lt}
 use Rattle.std.specs.List.{concat}
 use Rattle.tocmark_event.specs.Forest.{empty, leaf, node, flat}
-use Rattle.tocmark_options.specs.Options.{OptionsView}
-use Rattle.tocmark_reader.specs.Reading.{ReadingView}
+use Rattle.tocmark_event.specs.Options.{OptionsView}
+use Rattle.tocmark_event.specs.Reading.{ReadingView}
 use Rattle.tocmark_event.specs.View.{Paragraph, LeafView, Text, Code, End}
 use Rattle.tocmark_event.specs.declared.event.TagEnd.TheVariants as end
 use Rattle.tocmark_event.specs.declared.event.flags.ParserOptions.{ParserOptions}
-use Rattle.tocmark_options.specs.declared.options.Error.{Error}
+use Rattle.tocmark_event.specs.declared.options.Error.{Error}
 use Rattle.tocmark_spelling.specs.Body.{Trees}
 use Rattle.tocmark_spelling.specs.Closing.{closing}
-use Rattle.tocmark_escape.specs.Escape.{Place, escaped}
+use Rattle.tocmark_write_texts.specs.Escape.{Place, escaped}
 use Rattle.tocmark_spelling.specs.Opening.{opening}
 use Rattle.tocmark_spelling.specs.ById.{by_id}
-use Rattle.tocmark_texts.specs.Leaves.{code_span, unspan}
+use Rattle.tocmark_write_texts.specs.Leaves.{code_span, unspan}
 use Rattle.tocmark_spelling.specs.Marker.{marker}
 use Rattle.tocmark_spelling.specs.Runs.{prefers_underscore}
 use Rattle.tocmark_spelling.specs.Page.{Sheet, laid, put_byte}
 use Rattle.tocmark_spelling.specs.PlanOf.{setting_of}
 use Rattle.tocmark_spelling.specs.Spelling.{spelling}
 use Rattle.tocmark_spelling.specs.Stretch.{leaf_on}
-use Rattle.tocmark_texts.specs.Unescape.{unescape}
+use Rattle.tocmark_write_texts.specs.Unescape.{unescape}
 use Rattle.tocmark_render.specs.Candidates.{is_delimiter_block, is_math}
 use Rattle.tocmark_render.specs.Choice.{preferred, spelled, document_after}
-use Rattle.tocmark_labels.specs.Definitions.{definitions_text}
-use Rattle.tocmark_label_sets.specs.Document.{DocumentView, first_document}
-use Rattle.tocmark_labels.specs.Ending.{last_texts, holds_raw_block}
-use Rattle.tocmark_labels.specs.Placeholder.{needs_placeholder}
+use Rattle.tocmark_write_labels.specs.Definitions.{definitions_text}
+use Rattle.tocmark_write_labels.specs.Document.{DocumentView, first_document}
+use Rattle.tocmark_write_labels.specs.Ending.{last_texts, holds_raw_block}
+use Rattle.tocmark_write_labels.specs.Placeholder.{needs_placeholder}
 use Rattle.tocmark_render.specs.Chosen.{chosen}
 use Rattle.tocmark_render.proofs.Chosen.{chosen-unlabelled}
 use Rattle.tocmark_render.proofs.PlainUnits.{choice-unasked}
 use Rattle.tocmark_laws.specs.Paragraphs.{ReadsAs, ReadsAsSpan, paragraph_with, paragraph_of}
-use Rattle.tocmark_work.specs.WorkView.{keeping, rendering}
-use Rattle.tocmark_work.specs.Walk.{Walk, Done, done, finished_of, handed_text, nothing_yet, script, joins, flushed, flushed_before, advance, step, ended}
+use Rattle.tocmark_state.specs.WorkView.{keeping, rendering}
+use Rattle.tocmark_state.specs.Walk.{Walk, Done, done, finished_of, handed_text, nothing_yet, script, joins, flushed, flushed_before, advance, step, ended}
 
 -- a text that is handed
 handed : (text : List ℕ) → concat (handed_text text) ≡ text

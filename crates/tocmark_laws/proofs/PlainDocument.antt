@@ -3,12 +3,12 @@ use Rattle.std.proofs.Common.{◌≡◌, ℕ, ◌+◌, ◌<◌, true, false, ◌
 use Rattle.std.specs.Char.{char_set_contains}
 use Rattle.std.specs.List.{AllByRecursion, list_all}
 use Rattle.tocmark_event.specs.Forest.{empty, leaf, node, flat, flat_onto}
-use Rattle.tocmark_options.specs.Options.{OptionsView}
-use Rattle.tocmark_reader.specs.Reading.{ReadingView}
+use Rattle.tocmark_event.specs.Options.{OptionsView}
+use Rattle.tocmark_event.specs.Reading.{ReadingView}
 use Rattle.tocmark_event.specs.View.{Start, End, Leaf, SoftBreak, Paragraph, SourcedEvent}
 use Rattle.tocmark_event.specs.declared.event.TagEnd.TheVariants as end
 use Rattle.tocmark_event.specs.declared.event.flags.ParserOptions.{ParserOptions}
-use Rattle.tocmark_options.specs.declared.options.Error.{Error}
+use Rattle.tocmark_event.specs.declared.options.Error.{Error}
 use Rattle.tocmark_core_reader.specs.PlainTexts.{line_events, lines_paragraph}
 use Rattle.tocmark_spelling.specs.Body.{Trees, some_leaf}
 use Rattle.tocmark_spelling.specs.Closing.{closing}
@@ -22,19 +22,19 @@ use Rattle.tocmark_spelling.specs.Spelling.{spelling, then_site}
 use Rattle.tocmark_render.specs.Candidates.{preferred_manner, has_source, is_delimiter_block, is_delimiter_tag, is_math, some_tag}
 use Rattle.tocmark_render.specs.Choice as choice
 use Rattle.tocmark_render.specs.Choice.{has_standard_markers, spelled, document_after, accepted_if, preferred}
-use Rattle.tocmark_labels.specs.Definitions.{definitions_text}
-use Rattle.tocmark_label_sets.specs.Document.{DocumentView, first_document}
-use Rattle.tocmark_labels.specs.Ending.{last_texts, holds_raw_block, unless_empty}
-use Rattle.tocmark_labels.specs.Placeholder.{needs_placeholder, needs_placeholder_at}
+use Rattle.tocmark_write_labels.specs.Definitions.{definitions_text}
+use Rattle.tocmark_write_labels.specs.Document.{DocumentView, first_document}
+use Rattle.tocmark_write_labels.specs.Ending.{last_texts, holds_raw_block, unless_empty}
+use Rattle.tocmark_write_labels.specs.Placeholder.{needs_placeholder, needs_placeholder_at}
 use Rattle.tocmark_render.specs.Chosen.{chosen}
 use Rattle.tocmark_render.proofs.Chosen.{chosen-unlabelled}
 use Rattle.tocmark_render.proofs.PlainUnits.{choice-unasked}
-use Rattle.tocmark_core_scan.proofs.PlainTests.{all_from}
+use Rattle.tocmark_read_scan.proofs.PlainTests.{all_from}
 use Rattle.tocmark_laws.specs.PlainLines.{is_line, paragraph_of_lines, IsReadBack, HandsLines}
-use Rattle.tocmark_work.specs.Ranges.{Pair, unranged}
-use Rattle.tocmark_work.specs.WorkView.{keeping, rendering}
-use Rattle.tocmark_work.specs.Walk.{Walk, Done, done, Kept, Rendering, Standing, finished_of, nothing_yet, beginning, go_on, script, stay, walk, joins, flushed_before, advance, step, ended}
-use Rattle.tocmark_work.specs.Writes.{Makes}
+use Rattle.tocmark_state.specs.Ranges.{Pair, unranged}
+use Rattle.tocmark_state.specs.WorkView.{keeping, rendering}
+use Rattle.tocmark_state.specs.Walk.{Walk, Done, done, Kept, Rendering, Standing, finished_of, nothing_yet, beginning, go_on, script, stay, walk, joins, flushed_before, advance, step, ended}
+use Rattle.tocmark_state.specs.Writes.{Makes}
 use Rattle.tocmark_laws.proofs.PlainParagraph.{Escapes, IsLineText, line_from, lines_stand, lines_are_read_back}
 use Rattle.tocmark_laws.proofs.Paragraphs.{neither_in}
 use Rattle.tocmark_laws.proofs.PlainSpelling.{line_trees, in_paragraph, page_of, within, site_of, around, lines_text, lines_spelled, written_some}

@@ -3,12 +3,12 @@ use Rattle.std.proofs.Common.{◌≡◌, ℕ, zero, suc, ◌+◌, ◌^◌, ◌<�
 use Rattle.std.proofs.lemmas.Str.{chars-IsAscii, encodes-IsAscii}
 use Rattle.std.specs.List.{AllByRecursion}
 use Rattle.tocmark_core_reader.specs.Reading.{core_reading}
-use Rattle.tocmark_escape.specs.Escape.{escape, escaped}
+use Rattle.tocmark_write_texts.specs.Escape.{escape, escaped}
 use Rattle.tocmark_core_reader.specs.PlainTexts.{lines_paragraph, IsReadAs}
 use Rattle.tocmark_laws.proofs.PlainCharacters.{parts_of}
 use Rattle.tocmark_laws.proofs.PlainEscapes.{ArePrintable, escape_is}
 use Rattle.tocmark_laws.proofs.PlainEscapedTexts.{IsLine, plain_line, escape_lines, escape_lines_are_read}
-use Rattle.tocmark_core_scan.specs.PlainParts.{spelled}
+use Rattle.tocmark_read_scan.specs.PlainParts.{spelled}
 use Rattle.tocmark_laws.specs.PlainLines.{PlacedLine, escaped_text, texts}
 
 printable_ascii : (xs : List ℕ) → ArePrintable xs → IsAscii xs

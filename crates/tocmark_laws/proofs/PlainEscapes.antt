@@ -5,14 +5,14 @@ use Rattle.std.specs.Prelude.{slice_get}
 use Rattle.std.specs.Char.{char_set_contains, is_ascii_digit, is_ascii_alphanumeric, is_ascii_punctuation}
 use Rattle.std.specs.List.{AllByRecursion, list_all}
 use Rattle.std.specs.Option.{option_map_or}
-use Rattle.tocmark_core_scan.specs.Basic.{byte_at}
-use Rattle.tocmark_escape.specs.Characters.{is_alphanumeric}
-use Rattle.tocmark_escape.specs.Escape.{Place, spot_from, needs_backslash, is_read_as_marker, escape_after, escape, doubles_backslash}
-use Rattle.tocmark_core_inlines.proofs.PlainNeighbours.{IsPlainByte, IsPlainPart, ArePlainParts}
+use Rattle.tocmark_read_scan.specs.Basic.{byte_at}
+use Rattle.tocmark_write_texts.specs.Characters.{is_alphanumeric}
+use Rattle.tocmark_write_texts.specs.Escape.{Place, spot_from, needs_backslash, is_read_as_marker, escape_after, escape, doubles_backslash}
+use Rattle.tocmark_read_inlines.proofs.PlainNeighbours.{IsPlainByte, IsPlainPart, ArePlainParts}
 use Rattle.tocmark_core_reader.proofs.PlainReading.{IsPrintable}
-use Rattle.tocmark_core_scan.proofs.PlainTests.{eq_of, differs}
+use Rattle.tocmark_read_scan.proofs.PlainTests.{eq_of, differs}
 use Rattle.tocmark_laws.proofs.PlainCharacters.{part_of, parts_on, parts_of, written_is, part_elim, backslash_punctuation, no_marker, no_mark_of, at_backslash, at_underscore, bare_if, bare_letter, letter_ascii}
-use Rattle.tocmark_core_scan.specs.PlainParts.{Part, Bare, spelled_part, spelled, last_byte}
+use Rattle.tocmark_read_scan.specs.PlainParts.{Part, Bare, spelled_part, spelled, last_byte}
 use Rattle.tocmark_laws.specs.PlainLines.{IsInParagraph}
 
 abbrev pub ArePrintable : List ℕ → Type 0

@@ -6,7 +6,7 @@ use Rattle.tocmark_event.specs.View.{EventView, Start, End, Leaf, Text, SoftBrea
 use Rattle.tocmark_event.specs.declared.event.TagEnd.TheVariants as end
 use Rattle.tocmark_core_reader.proofs.PlainReading.{IsPrintable}
 use Rattle.tocmark_spelling.specs.Body.{Trees}
-use Rattle.tocmark_escape.specs.Escape.{Place, escaped}
+use Rattle.tocmark_write_texts.specs.Escape.{Place, escaped}
 use Rattle.tocmark_spelling.specs.Kinds.{is_emphasis_or_strong, starts, and_is}
 use Rattle.tocmark_spelling.specs.Page.{Sheet, laid, put_byte, Path, Page, Site, Around, Trail, Plain, Reference}
 use Rattle.tocmark_spelling.specs.declared.trail.Last.{Last}
@@ -20,7 +20,7 @@ use Rattle.tocmark_laws.proofs.PlainCharacters.{parts_of}
 use Rattle.tocmark_laws.proofs.PlainEscapes.{ArePrintable, escape_is}
 use Rattle.tocmark_laws.proofs.PlainEscapedTexts.{IsLine, plain_line}
 use Rattle.tocmark_laws.proofs.PlainEscapedBytes.{escaped_is}
-use Rattle.tocmark_core_scan.specs.PlainParts.{spelled}
+use Rattle.tocmark_read_scan.specs.PlainParts.{spelled}
 use Rattle.tocmark_laws.specs.PlainLines.{PlacedLine, escaped_text}
 
 -- a paragraph's lines as leaves, with a soft break between two

@@ -3,12 +3,12 @@ use Rattle.std.proofs.Common.{◌≡◌, ℕ, subst, List, [], ◌∷◌, ◌++�
 use Rattle.tocmark_event.specs.Forest.{IsReading}
 use Rattle.tocmark_event.specs.View.{EventView, SourcedEvent, unsourced}
 use Rattle.tocmark_event.specs.declared.event.TagEnd.{TagEnd}
-use Rattle.tocmark_options.specs.declared.options.Error.{Error}
-use Rattle.tocmark_labels.specs.Pending.{nested}
-use Rattle.tocmark_labels.proofs.Balanced.{reading-more, reading-nothing}
-use Rattle.tocmark_work.specs.Ranges.{Pair, resolved}
-use Rattle.tocmark_work.specs.Walk.{Kept, Rendering, Standing, Walk, advance, advance_with, beginning, flush_of, flushed, flushed_before, flushed_or_deferred, go_on, is_due, joins, stay, step, walk, with_event}
-use Rattle.tocmark_work.proofs.Walks.{due_closed}
+use Rattle.tocmark_event.specs.declared.options.Error.{Error}
+use Rattle.tocmark_write_labels.specs.Pending.{nested}
+use Rattle.tocmark_write_labels.proofs.Balanced.{reading-more, reading-nothing}
+use Rattle.tocmark_state.specs.Ranges.{Pair, resolved}
+use Rattle.tocmark_state.specs.Walk.{Kept, Rendering, Standing, Walk, advance, advance_with, beginning, flush_of, flushed, flushed_before, flushed_or_deferred, go_on, is_due, joins, stay, step, walk, with_event}
+use Rattle.tocmark_state.proofs.Walks.{due_closed}
 
 abbrev Nested : Standing → Type 0
 Nested s = IsReading s.pending s.open_tags

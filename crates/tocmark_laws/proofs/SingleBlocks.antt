@@ -4,15 +4,15 @@ use Rattle.std.proofs.lemmas.List.{length-append, length-replicate}
 use Rattle.std.specs.List.{concat}
 use Rattle.tocmark_event.specs.View.{Code}
 use Rattle.tocmark_event.specs.declared.event.flags.ParserOptions.{ParserOptions}
-use Rattle.tocmark_options.specs.Options.{OptionsView, default_options}
-use Rattle.tocmark_options.specs.declared.options.Error.{Error}
-use Rattle.tocmark_reader.specs.Reading.{ReadingView}
-use Rattle.tocmark_texts.specs.Leaves.{code_span, is_blank, padding, span, ticks, longest_run}
-use Rattle.tocmark_texts.proofs.SpanReads.{code_span-read}
-use Rattle.tocmark_work.specs.Ranges.{Pair}
-use Rattle.tocmark_work.specs.Walk.{Walk, Done, done, handed_text, nothing_yet, script}
-use Rattle.tocmark_work.specs.WorkView.{rendering}
-use Rattle.tocmark_work.specs.Writes.{Makes}
+use Rattle.tocmark_event.specs.Options.{OptionsView, default_options}
+use Rattle.tocmark_event.specs.declared.options.Error.{Error}
+use Rattle.tocmark_event.specs.Reading.{ReadingView}
+use Rattle.tocmark_write_texts.specs.Leaves.{code_span, is_blank, padding, span, ticks, longest_run}
+use Rattle.tocmark_write_texts.proofs.SpanReads.{code_span-read}
+use Rattle.tocmark_state.specs.Ranges.{Pair}
+use Rattle.tocmark_state.specs.Walk.{Walk, Done, done, handed_text, nothing_yet, script}
+use Rattle.tocmark_state.specs.WorkView.{rendering}
+use Rattle.tocmark_state.specs.Writes.{Makes}
 use Rattle.tocmark_laws.specs.CodeBlocks.{IsFence, code_text}
 use Rattle.tocmark_laws.specs.Links.{link_text, one_text_walk}
 use Rattle.tocmark_laws.specs.Paragraphs.{paragraph_with}

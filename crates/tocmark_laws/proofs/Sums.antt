@@ -5,13 +5,13 @@ use Rattle.std.proofs.lemmas.List.Sums.{sum_by-append, sum_by-cons}
 use Rattle.std.proofs.Math.Nat.{min-eq_left}
 use Rattle.std.specs.List.{sum_by}
 use Rattle.tocmark_event.specs.declared.event.flags.ParserOptions.{ParserOptions}
-use Rattle.tocmark_options.specs.declared.options.Error.{Error}
-use Rattle.tocmark_work.specs.declared.work.Progress.{Progress}
+use Rattle.tocmark_event.specs.declared.options.Error.{Error}
+use Rattle.tocmark_state.specs.declared.work.Progress.{Progress}
 use Rattle.tocmark_laws.specs.Calls.{AddUpTo, AreCalls, GoesOn, all_pairs, pairs_of_first}
-use Rattle.tocmark_work.specs.Ranges.{Pair}
-use Rattle.tocmark_work.specs.WorkView.{at_most}
+use Rattle.tocmark_state.specs.Ranges.{Pair}
+use Rattle.tocmark_state.specs.WorkView.{at_most}
 use Rattle.tocmark_state.specs.StateView.{Adds, Ends}
-use Rattle.tocmark_work.specs.Walk.{Rendering, Standing, nothing_yet, script, walk}
+use Rattle.tocmark_state.specs.Walk.{Rendering, Standing, nothing_yet, script, walk}
 
 abbrev events_of : List Progress → ℕ
 events_of ns = sum_by (λ n. n.events_consumed) ns

@@ -5,15 +5,15 @@ use Rattle.tocmark_event.specs.Ends.{same_end}
 use Rattle.tocmark_event.specs.Forest.{Forest, empty, leaf, node, flat, flat_onto, joined}
 use Rattle.tocmark_event.specs.View.{EventView, Start, End, Leaf, SourcedEvent, SourcedLeaf, TagView, unsourced, end_of}
 use Rattle.tocmark_event.specs.declared.event.TagEnd.{TagEnd}
-use Rattle.tocmark_options.specs.declared.options.Error.{Error}
-use Rattle.tocmark_options.specs.declared.options.Error.TheVariants as error
-use Rattle.tocmark_labels.specs.Pending.{closed, nested}
-use Rattle.tocmark_labels.proofs.Balanced.{flat_onto-joined, same-is, same-self}
-use Rattle.tocmark_work.specs.Ranges.{Pair, Range, is_good_range, range_end_after, resolved, resolved_at, source_text}
+use Rattle.tocmark_event.specs.declared.options.Error.{Error}
+use Rattle.tocmark_event.specs.declared.options.Error.TheVariants as error
+use Rattle.tocmark_write_labels.specs.Pending.{closed, nested}
+use Rattle.tocmark_write_labels.proofs.Balanced.{flat_onto-joined, same-is, same-self}
+use Rattle.tocmark_state.specs.Ranges.{Pair, Range, is_good_range, range_end_after, resolved, resolved_at, source_text}
 use Rattle.tocmark_spelling.specs.Buffered.{sourced}
 use Rattle.tocmark_laws.specs.Trees.{Part, Trees, IsRefused, ends_innermost, deferred_unit, followed_unit, stop_at, unit_walk, walk_trees, ranged, with_first, part_onto, part_ends, end_ranged, then_ranged}
-use Rattle.tocmark_work.specs.Walk.{Kept, Rendering, Standing, Walk, beginning, go_on, refuse, stay, joins, with_event, is_due, handed_text, flush_of, flushed, flushed_or_deferred, flushed_before, advance, advance_with, step, walk}
-use Rattle.tocmark_work.proofs.Walks.{joins_ok, joins_err, before_not_due, before_waiting, before_due, flushed_is, advance_is, prefixed, go_on-assoc}
+use Rattle.tocmark_state.specs.Walk.{Kept, Rendering, Standing, Walk, beginning, go_on, refuse, stay, joins, with_event, is_due, handed_text, flush_of, flushed, flushed_or_deferred, flushed_before, advance, advance_with, step, walk}
+use Rattle.tocmark_state.proofs.Walks.{joins_ok, joins_err, before_not_due, before_waiting, before_due, flushed_is, advance_is, prefixed, go_on-assoc}
 
 -- ---- a list of events is trees
 

@@ -3,30 +3,30 @@
 use Rattle.std.proofs.Common.{◌≡◌, Bool, true, false, ℕ, Option, Some, None, Ok, Err, List, [], refl, sym, ap, ◌∙◌, subst}
 use Rattle.std.specs.Prelude.{◌&&◌}
 use Rattle.tocmark_event.specs.Forest.{IsBalanced, flat}
-use Rattle.tocmark_options.specs.Options.{OptionsView}
-use Rattle.tocmark_reader.specs.Reading.{ReadingView}
+use Rattle.tocmark_event.specs.Options.{OptionsView}
+use Rattle.tocmark_event.specs.Reading.{ReadingView}
 use Rattle.tocmark_event.specs.View.{EventView, SourcedEvent}
 use Rattle.tocmark_event.specs.declared.event.flags.ParserOptions.{ParserOptions}
-use Rattle.tocmark_options.specs.declared.options.Error.{Error}
-use Rattle.tocmark_options.specs.declared.options.Error.TheVariants.{UnexpectedEvent, Unrepresentable}
+use Rattle.tocmark_event.specs.declared.options.Error.{Error}
+use Rattle.tocmark_event.specs.declared.options.Error.TheVariants.{UnexpectedEvent, Unrepresentable}
 use Rattle.tocmark_spelling.specs.Body.{Trees}
 use Rattle.tocmark_spelling.specs.Page.{Page, Site}
 use Rattle.tocmark_spelling.specs.Plan.{Setting, Manner}
 use Rattle.tocmark_spelling.specs.Spelling.{is_misplaced, spelling}
 use Rattle.tocmark_spelling.proofs.Refusals.{none-misplaced}
-use Rattle.tocmark_causes.proofs.Misplaced.{labelled-start, start-labelled}
+use Rattle.tocmark_laws.proofs.Misplaced.{labelled-start, start-labelled}
 use Rattle.tocmark_render.specs.Candidates.{candidates, is_checked, preferred_manner}
 use Rattle.tocmark_render.specs.Choice.{Chosen, accepted_if, by_markers, choice, first_or, first_that_reads_back, has_standard_markers, page_in, page_of, preferred, spelled, unless_misplaced}
-use Rattle.tocmark_label_sets.specs.Document.{DocumentView}
-use Rattle.tocmark_labels.specs.Placeholder.{whole}
-use Rattle.tocmark_labels.specs.Units.{label_for, labelled}
+use Rattle.tocmark_write_labels.specs.Document.{DocumentView}
+use Rattle.tocmark_write_labels.specs.Placeholder.{whole}
+use Rattle.tocmark_write_labels.specs.Units.{label_for, labelled}
 use Rattle.tocmark_render.specs.Chosen.{chosen}
 use Rattle.tocmark_render.specs.Unrepresentable.{IsUnrepresentable}
 use Rattle.tocmark_render.proofs.Chosen.{chosen-flat}
 use Rattle.tocmark_render.proofs.Unrepresentable.{unrepresentable-causes}
 use Rattle.tocmark_render.specs.Validates.{validates}
-use Rattle.tocmark_work.specs.Walk.{Kept, Standing}
-use Rattle.tocmark_work.specs.WorkView.{keeping, rendering}
+use Rattle.tocmark_state.specs.Walk.{Kept, Standing}
+use Rattle.tocmark_state.specs.WorkView.{keeping, rendering}
 use Rattle.tocmark_laws.specs.Unexpected.{IsMisplacedUnit, setting_at}
 use Rattle.tocmark_laws.specs.UnrepresentableLists.{IsUnrepresentableUnit}
 

@@ -6,18 +6,18 @@ use Rattle.std.specs.Prelude.{not, ◌&&◌}
 use Rattle.tocmark_event.specs.Forest.{IsBalanced}
 use Rattle.tocmark_event.specs.View.{SourcedEvent}
 use Rattle.tocmark_event.specs.declared.event.TagEnd.{TagEnd}
-use Rattle.tocmark_options.specs.declared.options.Error.TheVariants.{UnexpectedEvent, Unrepresentable}
-use Rattle.tocmark_options.specs.declared.options.Error.{Error}
-use Rattle.tocmark_options.specs.Options.{OptionsView}
-use Rattle.tocmark_reader.specs.Reading.{ReadingView}
+use Rattle.tocmark_event.specs.declared.options.Error.TheVariants.{UnexpectedEvent, Unrepresentable}
+use Rattle.tocmark_event.specs.declared.options.Error.{Error}
+use Rattle.tocmark_event.specs.Options.{OptionsView}
+use Rattle.tocmark_event.specs.Reading.{ReadingView}
 use Rattle.tocmark_event.specs.declared.event.flags.ParserOptions.{ParserOptions}
 use Rattle.tocmark_laws.specs.Causes.{Cause, BadRange, RefusedUnit, WrongEnd, EndCause, OpenContainer, RefusedLastUnit, IsRefusedIn}
 use Rattle.tocmark_laws.specs.Causes as refused
-use Rattle.tocmark_work.specs.Ranges.{Pair}
-use Rattle.tocmark_work.specs.Walk.{Done, Kept, Rendering, Standing, beginning, ended, ended_at, go_on, is_due, is_whole, script, walk}
-use Rattle.tocmark_work.specs.WorkView.{rendering}
+use Rattle.tocmark_state.specs.Ranges.{Pair}
+use Rattle.tocmark_state.specs.Walk.{Done, Kept, Rendering, Standing, beginning, ended, ended_at, go_on, is_due, is_whole, script, walk}
+use Rattle.tocmark_state.specs.WorkView.{rendering}
 use Rattle.tocmark_laws.proofs.Causes.{script_cause}
-use Rattle.tocmark_labels.proofs.Balanced.{reading-balanced}
+use Rattle.tocmark_write_labels.proofs.Balanced.{reading-balanced}
 use Rattle.tocmark_laws.proofs.Reading.{nothing_nested}
 use Rattle.tocmark_laws.proofs.Unexpected.{rendering-misplaced, rendering-unrepresentable}
 use Rattle.tocmark_laws.specs.UnrepresentableLists.{HasUnrepresentableEnd, HasUnrepresentableUnit, IsUnrepresentableIn}

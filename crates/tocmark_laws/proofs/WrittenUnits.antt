@@ -6,16 +6,16 @@ use Rattle.tocmark_event.specs.Forest.{Forest, empty, leaf, node, flat, flat_ont
 use Rattle.tocmark_event.specs.View.{EventView, Start, End, Leaf, SourcedEvent, SourcedLeaf, unsourced, end_of}
 use Rattle.tocmark_event.specs.declared.event.TagEnd.{TagEnd}
 use Rattle.tocmark_event.specs.declared.event.flags.ParserOptions.{ParserOptions}
-use Rattle.tocmark_options.specs.Options.{OptionsView}
-use Rattle.tocmark_options.specs.declared.options.Error.{Error}
-use Rattle.tocmark_options.specs.declared.options.Error.TheVariants.{UnexpectedEvent}
-use Rattle.tocmark_reader.specs.Reading.{ReadingView}
+use Rattle.tocmark_event.specs.Options.{OptionsView}
+use Rattle.tocmark_event.specs.declared.options.Error.{Error}
+use Rattle.tocmark_event.specs.declared.options.Error.TheVariants.{UnexpectedEvent}
+use Rattle.tocmark_event.specs.Reading.{ReadingView}
 use Rattle.tocmark_spelling.specs.Body as body
 use Rattle.tocmark_spelling.specs.Page.{Page}
 use Rattle.tocmark_spelling.specs.Plan.{Setting}
 use Rattle.tocmark_spelling.specs.Spelling.{is_misplaced}
-use Rattle.tocmark_label_sets.specs.Document.{DocumentView}
-use Rattle.tocmark_labels.specs.Units.{labelled}
+use Rattle.tocmark_write_labels.specs.Document.{DocumentView}
+use Rattle.tocmark_write_labels.specs.Units.{labelled}
 use Rattle.tocmark_render.specs.Candidates.{candidates, is_delimiter_block}
 use Rattle.tocmark_render.specs.Choice.{Chosen, accepted, choice, document_after, has_standard_markers}
 use Rattle.tocmark_render.specs.Chosen.{chosen}
@@ -27,10 +27,10 @@ use Rattle.tocmark_laws.specs.Unexpected.{setting_at}
 use Rattle.tocmark_laws.specs.Written.{AreWritten, IsWrittenAsRead, ReadsBackIfDelimited, Written, last_unit, last_written, texts_of, written_as, written_trees, written_unit, written_unless}
 use Rattle.tocmark_laws.proofs.Trees.{trees_of, walk_is}
 use Rattle.tocmark_laws.proofs.Unexpected.{flat-choice, misplaced-choice}
-use Rattle.tocmark_work.specs.Ranges.{Pair, resolved}
-use Rattle.tocmark_labels.specs.Pending.{nested}
-use Rattle.tocmark_work.specs.Walk.{Kept, Rendering, Standing, Walk, advance, advance_with, beginning, flush_of, flushed, flushed_before, flushed_or_deferred, go_on, handed_text, is_due, joins, stay, step, walk, with_event}
-use Rattle.tocmark_work.specs.WorkView.{keeping, rendering}
+use Rattle.tocmark_state.specs.Ranges.{Pair, resolved}
+use Rattle.tocmark_write_labels.specs.Pending.{nested}
+use Rattle.tocmark_state.specs.Walk.{Kept, Rendering, Standing, Walk, advance, advance_with, beginning, flush_of, flushed, flushed_before, flushed_or_deferred, go_on, handed_text, is_due, joins, stay, step, walk, with_event}
+use Rattle.tocmark_state.specs.WorkView.{keeping, rendering}
 
 -- ---- the texts of a walk over trees are those of the units
 

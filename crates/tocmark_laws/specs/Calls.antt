@@ -2,11 +2,11 @@
 use Rattle.std.specs.Prelude.{◌≡◌, ℕ, ◌<◌, ◌^◌, List, [], ◌∷◌, ◌++◌, take, Result, Ok, Err}
 use Rattle.std.specs.List.{sum_by}
 use Rattle.tocmark_event.specs.declared.event.flags.ParserOptions.{ParserOptions}
-use Rattle.tocmark_options.specs.declared.options.Error.{Error}
-use Rattle.tocmark_work.specs.declared.work.Progress.{Progress}
-use Rattle.tocmark_work.specs.Ranges.{Pair}
+use Rattle.tocmark_event.specs.declared.options.Error.{Error}
+use Rattle.tocmark_state.specs.declared.work.Progress.{Progress}
+use Rattle.tocmark_state.specs.Ranges.{Pair}
 use Rattle.tocmark_state.specs.StateView.{Adds, Ends}
-use Rattle.tocmark_work.specs.Walk.{Rendering, Standing}
+use Rattle.tocmark_state.specs.Walk.{Rendering, Standing}
 
 -- the pairs of all calls as one list
 abbrev pub all_pairs : List (List Pair) → List Pair

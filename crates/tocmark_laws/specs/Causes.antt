@@ -2,11 +2,11 @@
 use Rattle.std.specs.Prelude.{◌≡◌, ◌≢◌, ◌++◌, ℕ, List, [], ◌∷◌, true, false, Ok, Err, Some, None}
 use Rattle.tocmark_event.specs.View.{End}
 use Rattle.tocmark_event.specs.declared.event.TagEnd.{TagEnd}
-use Rattle.tocmark_options.specs.declared.options.Error.{Error}
-use Rattle.tocmark_options.specs.declared.options.Error.TheVariants as error
-use Rattle.tocmark_work.specs.Ranges.{Pair, Range, is_good_range}
+use Rattle.tocmark_event.specs.declared.options.Error.{Error}
+use Rattle.tocmark_event.specs.declared.options.Error.TheVariants as error
+use Rattle.tocmark_state.specs.Ranges.{Pair, Range, is_good_range}
 use Rattle.tocmark_laws.specs.Trees.{ends_innermost}
-use Rattle.tocmark_work.specs.Walk.{Rendering, Standing, is_due, walk}
+use Rattle.tocmark_state.specs.Walk.{Rendering, Standing, is_due, walk}
 
 -- the pair's range is none of the source
 pub record HasBadRange (source : List ℕ) (pair : Pair) (e : Error) : Type 0 where

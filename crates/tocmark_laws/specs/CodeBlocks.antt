@@ -1,17 +1,17 @@
 -- A document of one fenced code block, and what is handed for it.
 use Rattle.std.specs.Prelude.{◌≡◌, ℕ, ◌<◌, ◌≤◌, Bool, false, ◌&&◌, ◌==◌, if◌then◌else◌, List, [], ◌∷◌, ◌++◌, chars, codes, encode_utf8, flat_map, map, replicate}
 use Rattle.std.specs.List.{concat, list_any}
-use Rattle.tocmark_options.specs.Options.{OptionsView}
-use Rattle.tocmark_reader.specs.Reading.{ReadingView}
+use Rattle.tocmark_event.specs.Options.{OptionsView}
+use Rattle.tocmark_event.specs.Reading.{ReadingView}
 use Rattle.tocmark_event.specs.View.{Start, End, Leaf, CodeBlock, Fenced, Text}
 use Rattle.tocmark_event.specs.declared.event.TagEnd.TheVariants as end
 use Rattle.tocmark_event.specs.declared.event.flags.ParserOptions.{ParserOptions}
-use Rattle.tocmark_escape.specs.Characters.{backtick}
+use Rattle.tocmark_write_texts.specs.Characters.{backtick}
 use Rattle.tocmark_spelling.specs.Opening.{info_byte}
 use Rattle.tocmark_spelling.specs.Words.{last_byte}
-use Rattle.tocmark_work.specs.Ranges.{Pair, unranged}
-use Rattle.tocmark_work.specs.WorkView.{rendering}
-use Rattle.tocmark_work.specs.Walk.{nothing_yet, script}
+use Rattle.tocmark_state.specs.Ranges.{Pair, unranged}
+use Rattle.tocmark_state.specs.WorkView.{rendering}
+use Rattle.tocmark_state.specs.Walk.{nothing_yet, script}
 use Rattle.tocmark_laws.specs.Links.{one_text_walk}
 
 -- a fenced code block with this info string and these texts, without ranges

@@ -1,3 +1,4 @@
+pub mod Misplaced
 pub mod Trees
 pub mod Paragraphs
 pub mod Causes
@@ -10,3 +11,4 @@ pub mod Unexpected
 pub mod SingleBlocks
 pub mod UnrepresentableLists
 pub mod Written
+pub mod LineFeeds

@@ -1,16 +1,16 @@
 -- A paragraph with one link round one text, and what is handed for it.
 use Rattle.std.specs.Prelude.{◌≡◌, ℕ, false, true, List, [], ◌∷◌, ◌++◌, Some, Ok, codes}
-use Rattle.tocmark_options.specs.Options.{OptionsView}
-use Rattle.tocmark_reader.specs.Reading.{ReadingView}
+use Rattle.tocmark_event.specs.Options.{OptionsView}
+use Rattle.tocmark_event.specs.Reading.{ReadingView}
 use Rattle.tocmark_event.specs.View.{Start, End, Leaf, Link, Paragraph, Text}
 use Rattle.tocmark_event.specs.declared.event.LinkType.TheVariants as link
 use Rattle.tocmark_event.specs.declared.event.TagEnd.TheVariants as end
 use Rattle.tocmark_event.specs.declared.event.flags.ParserOptions.{ParserOptions}
-use Rattle.tocmark_texts.specs.Destination.{inline_closing}
-use Rattle.tocmark_escape.specs.Escape.{Place, escaped}
-use Rattle.tocmark_work.specs.Ranges.{Pair, unranged}
-use Rattle.tocmark_work.specs.WorkView.{rendering}
-use Rattle.tocmark_work.specs.Walk.{Walk, Done, done, nothing_yet, script}
+use Rattle.tocmark_write_texts.specs.Destination.{inline_closing}
+use Rattle.tocmark_write_texts.specs.Escape.{Place, escaped}
+use Rattle.tocmark_state.specs.Ranges.{Pair, unranged}
+use Rattle.tocmark_state.specs.WorkView.{rendering}
+use Rattle.tocmark_state.specs.Walk.{Walk, Done, done, nothing_yet, script}
 
 -- a paragraph with one inline link round one text, without ranges
 abbrev pub link_events : List ℕ → List ℕ → List ℕ → List ℕ → List Pair

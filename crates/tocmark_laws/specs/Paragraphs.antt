@@ -3,11 +3,11 @@ use Rattle.std.specs.Prelude.{◌≡◌, ℕ, ◌<◌, false, List, [], ◌∷�
 use Rattle.std.specs.List.{concat}
 use Rattle.tocmark_event.specs.View.{Start, End, Leaf, LeafView, Paragraph, Text}
 use Rattle.tocmark_event.specs.declared.event.TagEnd.TheVariants as end
-use Rattle.tocmark_escape.specs.Escape.{Place, escaped}
-use Rattle.tocmark_texts.specs.Leaves.{code_span, unspan}
-use Rattle.tocmark_texts.specs.Unescape.{unescape}
-use Rattle.tocmark_work.specs.Ranges.{Pair, unranged}
-use Rattle.tocmark_work.specs.Walk.{Walk, Done, done}
+use Rattle.tocmark_write_texts.specs.Escape.{Place, escaped}
+use Rattle.tocmark_write_texts.specs.Leaves.{code_span, unspan}
+use Rattle.tocmark_write_texts.specs.Unescape.{unescape}
+use Rattle.tocmark_state.specs.Ranges.{Pair, unranged}
+use Rattle.tocmark_state.specs.Walk.{Walk, Done, done}
 
 -- a paragraph with one leaf, without ranges
 abbrev pub paragraph_with : LeafView → List Pair

@@ -3,14 +3,14 @@ use Rattle.std.specs.Prelude.{◌≡◌, ℕ, ◌^◌, ◌<◌, Bool, true, fals
 use Rattle.std.specs.Char.{char_set_contains}
 use Rattle.std.specs.List.{list_all}
 use Rattle.tocmark_event.specs.View.{EventView}
-use Rattle.tocmark_options.specs.declared.options.Error.{Error}
+use Rattle.tocmark_event.specs.declared.options.Error.{Error}
 use Rattle.tocmark_core_reader.specs.PlainTexts.{text_parts, is_printable, is_plain_text, lines_paragraph, IsReadAs}
 use Rattle.tocmark_core_reader.specs.Reading.{core_reading}
-use Rattle.tocmark_core_scan.specs.PlainParts.{Part, spelled, meant, last_byte}
-use Rattle.tocmark_escape.specs.Escape.{Place, ends_line, escaped}
-use Rattle.tocmark_work.specs.Ranges.{Pair, unranged}
-use Rattle.tocmark_work.specs.Walk.{Walk, Done, done}
-use Rattle.tocmark_work.specs.Writes.{Makes}
+use Rattle.tocmark_read_scan.specs.PlainParts.{Part, spelled, meant, last_byte}
+use Rattle.tocmark_write_texts.specs.Escape.{Place, ends_line, escaped}
+use Rattle.tocmark_state.specs.Ranges.{Pair, unranged}
+use Rattle.tocmark_state.specs.Walk.{Walk, Done, done}
+use Rattle.tocmark_state.specs.Writes.{Makes}
 
 -- a line: at least one character, each from U+0020 to U+007E, the last of them no space
 abbrev pub is_line : List ℕ → Bool

@@ -4,12 +4,12 @@ use Rattle.std.specs.Prelude.{◌≡◌, ℕ, ◌<◌, false, List, Some, Result
 use Rattle.std.specs.List.{concat}
 use Rattle.tocmark_event.specs.View.{Code}
 use Rattle.tocmark_event.specs.declared.event.flags.ParserOptions.{ParserOptions}
-use Rattle.tocmark_options.specs.Options.{default_options}
-use Rattle.tocmark_options.specs.declared.options.Error.{Error}
-use Rattle.tocmark_texts.specs.Leaves.{code_span, unspan}
-use Rattle.tocmark_work.specs.Ranges.{Pair}
-use Rattle.tocmark_work.specs.Walk.{done}
-use Rattle.tocmark_work.specs.Writes.{Makes}
+use Rattle.tocmark_event.specs.Options.{default_options}
+use Rattle.tocmark_event.specs.declared.options.Error.{Error}
+use Rattle.tocmark_write_texts.specs.Leaves.{code_span, unspan}
+use Rattle.tocmark_state.specs.Ranges.{Pair}
+use Rattle.tocmark_state.specs.Walk.{done}
+use Rattle.tocmark_state.specs.Writes.{Makes}
 use Rattle.tocmark_laws.specs.CodeBlocks.{IsFence, code_events, code_text}
 use Rattle.tocmark_laws.specs.Links.{link_events, link_text, one_text_walk}
 use Rattle.tocmark_laws.specs.Paragraphs.{paragraph_with}

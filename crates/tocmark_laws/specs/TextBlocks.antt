@@ -1,18 +1,18 @@
 -- Documents of paragraphs and headings that hold texts alone, and the texts that are handed for them.
 use Rattle.std.specs.Prelude.{◌≡◌, ◌≢◌, ℕ, max, Bool, true, false, Some, None, Result, Ok, List, [], ◌∷◌, ◌++◌, chars, codes, flat_map, map, replicate}
 use Rattle.std.specs.List.{AllByRecursion, concat}
-use Rattle.tocmark_options.specs.Options.{OptionsView, default_options}
-use Rattle.tocmark_reader.specs.Reading.{ReadingView}
+use Rattle.tocmark_event.specs.Options.{OptionsView, default_options}
+use Rattle.tocmark_event.specs.Reading.{ReadingView}
 use Rattle.tocmark_event.specs.View.{EventView, Start, End, Leaf, TagView, Paragraph, Heading, Text, end_of}
 use Rattle.tocmark_event.specs.declared.event.HeadingLevel.{HeadingLevel}
 use Rattle.tocmark_event.specs.declared.event.flags.ParserOptions.{ParserOptions}
-use Rattle.tocmark_options.specs.declared.options.Error.{Error}
-use Rattle.tocmark_escape.specs.Escape.{Place, escaped}
+use Rattle.tocmark_event.specs.declared.options.Error.{Error}
+use Rattle.tocmark_write_texts.specs.Escape.{Place, escaped}
 use Rattle.tocmark_spelling.specs.Opening.{level_number}
-use Rattle.tocmark_work.specs.Ranges.{Pair, unranged}
-use Rattle.tocmark_work.specs.WorkView.{rendering}
-use Rattle.tocmark_work.specs.Walk.{Walk, Done, done, nothing_yet, script}
-use Rattle.tocmark_work.specs.Writes.{Makes}
+use Rattle.tocmark_state.specs.Ranges.{Pair, unranged}
+use Rattle.tocmark_state.specs.WorkView.{rendering}
+use Rattle.tocmark_state.specs.Walk.{Walk, Done, done, nothing_yet, script}
+use Rattle.tocmark_state.specs.Writes.{Makes}
 
 -- a paragraph, or a heading with its level from 1 to 6
 pub data Kind : Type 0 where

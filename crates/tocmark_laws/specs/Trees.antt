@@ -4,10 +4,10 @@ use Rattle.tocmark_event.specs.Ends.{same_end}
 use Rattle.tocmark_event.specs.Forest.{Forest, empty, leaf, node, flat_onto}
 use Rattle.tocmark_event.specs.View.{EventView, Start, End, Leaf, SourcedEvent, SourcedLeaf, TagView, unsourced, end_of}
 use Rattle.tocmark_event.specs.declared.event.TagEnd.{TagEnd}
-use Rattle.tocmark_options.specs.declared.options.Error.{Error}
-use Rattle.tocmark_options.specs.declared.options.Error.TheVariants as error
-use Rattle.tocmark_work.specs.Ranges.{Pair, resolved}
-use Rattle.tocmark_work.specs.Walk.{Kept, Rendering, Standing, Walk, beginning, go_on, refuse, stay, flush_of}
+use Rattle.tocmark_event.specs.declared.options.Error.{Error}
+use Rattle.tocmark_event.specs.declared.options.Error.TheVariants as error
+use Rattle.tocmark_state.specs.Ranges.{Pair, resolved}
+use Rattle.tocmark_state.specs.Walk.{Kept, Rendering, Standing, Walk, beginning, go_on, refuse, stay, flush_of}
 
 -- pairs up to the first bad range
 pub record Ranged : Type 0 where

@@ -3,17 +3,17 @@ use Rattle.std.specs.Prelude.{◌≡◌, ◌≢◌, ◌++◌, ℕ, List, [], ◌
 use Rattle.tocmark_event.specs.Forest.{flat}
 use Rattle.tocmark_event.specs.View.{SourcedEvent}
 use Rattle.tocmark_event.specs.declared.event.flags.ParserOptions.{ParserOptions}
-use Rattle.tocmark_options.specs.Options.{OptionsView}
-use Rattle.tocmark_options.specs.declared.options.Error.TheVariants.{UnexpectedEvent}
-use Rattle.tocmark_reader.specs.Reading.{ReadingView}
+use Rattle.tocmark_event.specs.Options.{OptionsView}
+use Rattle.tocmark_event.specs.declared.options.Error.TheVariants.{UnexpectedEvent}
+use Rattle.tocmark_event.specs.Reading.{ReadingView}
 use Rattle.tocmark_spelling.specs.Body.{Trees}
 use Rattle.tocmark_spelling.specs.Plan.{Setting}
 use Rattle.tocmark_spelling.specs.PlanOf.{setting_of}
 use Rattle.tocmark_laws.specs.Causes.{HasWrongEnd}
-use Rattle.tocmark_work.specs.Ranges.{Pair}
-use Rattle.tocmark_work.specs.Walk.{Kept, Standing, walk}
-use Rattle.tocmark_work.specs.WorkView.{rendering}
-use Rattle.tocmark_causes.specs.Misplaced.{HasMisplacedStart}
+use Rattle.tocmark_state.specs.Ranges.{Pair}
+use Rattle.tocmark_state.specs.Walk.{Kept, Standing, walk}
+use Rattle.tocmark_state.specs.WorkView.{rendering}
+use Rattle.tocmark_laws.specs.Misplaced.{HasMisplacedStart}
 
 -- what units are written with behind a document, but for the label of one
 abbrev pub setting_at : OptionsView → (List ℕ → ParserOptions → ReadingView) → Kept → Setting

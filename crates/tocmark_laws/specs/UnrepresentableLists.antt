@@ -3,16 +3,16 @@ use Rattle.std.specs.Prelude.{◌≡◌, ◌++◌, ℕ, true, false, Option, Som
 use Rattle.tocmark_event.specs.Forest.{flat}
 use Rattle.tocmark_event.specs.View.{EventView}
 use Rattle.tocmark_event.specs.declared.event.flags.ParserOptions.{ParserOptions}
-use Rattle.tocmark_options.specs.Options.{OptionsView}
-use Rattle.tocmark_reader.specs.Reading.{ReadingView}
+use Rattle.tocmark_event.specs.Options.{OptionsView}
+use Rattle.tocmark_event.specs.Reading.{ReadingView}
 use Rattle.tocmark_spelling.specs.Body.{Trees}
 use Rattle.tocmark_spelling.specs.Plan.{Setting}
-use Rattle.tocmark_labels.specs.Units.{labelled, waits}
+use Rattle.tocmark_write_labels.specs.Units.{labelled, waits}
 use Rattle.tocmark_render.specs.Unrepresentable.{IsUnrepresentable}
 use Rattle.tocmark_laws.specs.Unexpected.{setting_at}
-use Rattle.tocmark_work.specs.Ranges.{Pair}
-use Rattle.tocmark_work.specs.Walk.{Standing, is_due, walk}
-use Rattle.tocmark_work.specs.WorkView.{rendering}
+use Rattle.tocmark_state.specs.Ranges.{Pair}
+use Rattle.tocmark_state.specs.Walk.{Standing, is_due, walk}
+use Rattle.tocmark_state.specs.WorkView.{rendering}
 
 -- what is pending is the events of a forest which, before this event and with the label of these events, can't be represented
 pub record IsUnrepresentableUnit (s : Setting) (at : Standing) (next : Option EventView) : Type 0 where

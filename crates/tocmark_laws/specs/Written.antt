@@ -4,21 +4,21 @@ use Rattle.tocmark_event.specs.Forest.{Forest, empty, leaf, node, flat, flat_ont
 use Rattle.tocmark_event.specs.View.{EventView, Start, End, Leaf, SourcedEvent, SourcedLeaf, unsourced, end_of}
 use Rattle.tocmark_event.specs.declared.event.TagEnd.{TagEnd}
 use Rattle.tocmark_event.specs.declared.event.flags.ParserOptions.{ParserOptions}
-use Rattle.tocmark_options.specs.Options.{OptionsView}
-use Rattle.tocmark_options.specs.declared.options.Error.{Error}
-use Rattle.tocmark_reader.specs.Reading.{ReadingView}
+use Rattle.tocmark_event.specs.Options.{OptionsView}
+use Rattle.tocmark_event.specs.declared.options.Error.{Error}
+use Rattle.tocmark_event.specs.Reading.{ReadingView}
 use Rattle.tocmark_spelling.specs.Body as body
 use Rattle.tocmark_spelling.specs.Page.{Page}
 use Rattle.tocmark_spelling.specs.Plan.{Setting}
-use Rattle.tocmark_label_sets.specs.Document.{DocumentView}
-use Rattle.tocmark_labels.specs.Units.{labelled}
+use Rattle.tocmark_write_labels.specs.Document.{DocumentView}
+use Rattle.tocmark_write_labels.specs.Units.{labelled}
 use Rattle.tocmark_render.specs.Candidates.{candidates, is_delimiter_block}
 use Rattle.tocmark_render.specs.Choice.{document_after}
 use Rattle.tocmark_render.specs.FirstReadBack.{IsFirstReadBack}
 use Rattle.tocmark_laws.specs.Trees.{Part, Trees, part_onto, ranged}
 use Rattle.tocmark_laws.specs.Unexpected.{setting_at}
-use Rattle.tocmark_work.specs.Ranges.{Pair}
-use Rattle.tocmark_work.specs.Walk.{Kept, Rendering, Standing, beginning, handed_text, walk}
+use Rattle.tocmark_state.specs.Ranges.{Pair}
+use Rattle.tocmark_state.specs.Walk.{Kept, Rendering, Standing, beginning, handed_text, walk}
 
 -- a unit that is written: its events, the event that follows it, the document before it, its text, and the document after it
 pub record Written : Type 0 where

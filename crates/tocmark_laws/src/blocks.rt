@@ -3,26 +3,26 @@
 ghost use Rattle.std.specs.Prelude.{◌≡◌, ◌++◌, ℕ, Err, List, Ok, Option, false};
 ghost use Rattle.std.specs.List.{concat};
 ghost use Rattle.tocmark_laws.specs.Paragraphs.{Keeps};
-ghost use Rattle.tocmark_work.specs.WorkView.{rendering};
-ghost use Rattle.tocmark_work.specs.Walk.{done, nothing_yet, script};
-ghost use Rattle.tocmark_work.specs.Ranges.{Pair};
-ghost use Rattle.tocmark_work.specs.Writes.{Makes};
-ghost use Rattle.tocmark_work.specs.declared.work.Progress.{Progress};
+ghost use Rattle.tocmark_state.specs.WorkView.{rendering};
+ghost use Rattle.tocmark_state.specs.Walk.{done, nothing_yet, script};
+ghost use Rattle.tocmark_state.specs.Ranges.{Pair};
+ghost use Rattle.tocmark_state.specs.Writes.{Makes};
+ghost use Rattle.tocmark_state.specs.declared.work.Progress.{Progress};
 ghost use Rattle.tocmark_event.specs.Forest.{IsBalanced};
-ghost use Rattle.tocmark_options.specs.Options.{OptionsView};
-ghost use Rattle.tocmark_reader.specs.Reading.{ReadingView};
+ghost use Rattle.tocmark_event.specs.Options.{OptionsView};
+ghost use Rattle.tocmark_event.specs.Reading.{ReadingView};
 ghost use Rattle.tocmark_event.specs.declared.event.flags.ParserOptions.{ParserOptions};
 ghost use Rattle.tocmark_event.specs.View.{EventView, SourcedEvent};
-ghost use Rattle.tocmark_options.specs.declared.options.Error.TheVariants.{UnexpectedEvent, Unrepresentable};
+ghost use Rattle.tocmark_event.specs.declared.options.Error.TheVariants.{UnexpectedEvent, Unrepresentable};
 ghost use Rattle.tocmark_laws.specs.CodeBlocks.{CodeIsFenced, IsFence, code_events, code_text};
 ghost use Rattle.tocmark_laws.specs.Links.{LinksAreClosed, link_events, link_text};
 ghost use Rattle.tocmark_laws.specs.Unexpected.{IsMisplacedUnit, IsUnexpectedIn};
 ghost use Rattle.tocmark_laws.specs.UnrepresentableLists.{IsUnrepresentableIn};
-ghost use Rattle.tocmark_label_sets.specs.Document.{DocumentView};
+ghost use Rattle.tocmark_write_labels.specs.Document.{DocumentView};
 ghost use Rattle.tocmark_render.specs.Chosen.{chosen};
 ghost use Rattle.tocmark_spelling.specs.Plan.{Setting};
 
-use tocmark_work::taker::Taker;
+use tocmark_state::taker::Taker;
 
 /// For one fenced code block alone exactly one text is handed: its fence and its info string on a line of
 /// their own, its texts as they are, and its fence where these end a line. The fence is longer than each

@@ -3,13 +3,13 @@
 ghost use Rattle.std.specs.Prelude.{◌≡◌, ◌++◌, ◌∷◌, [], List, ℕ, Ok, Result, length};
 ghost use Rattle.std.specs.List.{sum_by};
 ghost use Rattle.tocmark_event.specs.declared.event.flags.ParserOptions.{ParserOptions};
-ghost use Rattle.tocmark_options.specs.declared.options.Error.{Error};
-ghost use Rattle.tocmark_work.specs.declared.work.Progress.{Progress};
+ghost use Rattle.tocmark_event.specs.declared.options.Error.{Error};
+ghost use Rattle.tocmark_state.specs.declared.work.Progress.{Progress};
 ghost use Rattle.tocmark_laws.specs.Calls.{AddUpTo, AreCalls, all_pairs, pairs_of_first};
-ghost use Rattle.tocmark_work.specs.Ranges.{Pair};
-ghost use Rattle.tocmark_work.specs.Walk.{Rendering, nothing_yet, script, walk};
+ghost use Rattle.tocmark_state.specs.Ranges.{Pair};
+ghost use Rattle.tocmark_state.specs.Walk.{Rendering, nothing_yet, script, walk};
 
-use tocmark_work::taker::Taker;
+use tocmark_state::taker::Taker;
 
 /// The counts of calls on one state over one source add up to those of one list. Where all calls and `finish`
 /// succeed, the sum of their events is the number of all events, and the sum of their bytes is the length of all

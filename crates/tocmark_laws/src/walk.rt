@@ -5,25 +5,25 @@ ghost use Rattle.std.specs.Char.{char_set_contains};
 ghost use Rattle.std.specs.List.{AllByRecursion, list_all};
 ghost use Rattle.tocmark_core_reader.specs.PlainTexts.{lines_paragraph};
 ghost use Rattle.tocmark_event.specs.Forest.{IsBalanced, IsReading};
-ghost use Rattle.tocmark_options.specs.Options.{OptionsView};
+ghost use Rattle.tocmark_event.specs.Options.{OptionsView};
 ghost use Rattle.tocmark_event.specs.View.{Code};
-ghost use Rattle.tocmark_reader.specs.Reading.{ReadingView};
+ghost use Rattle.tocmark_event.specs.Reading.{ReadingView};
 ghost use Rattle.tocmark_event.specs.declared.event.flags.ParserOptions.{ParserOptions};
-ghost use Rattle.tocmark_options.specs.declared.options.Error.{Error};
-ghost use Rattle.tocmark_work.specs.declared.work.Progress.{Progress};
+ghost use Rattle.tocmark_event.specs.declared.options.Error.{Error};
+ghost use Rattle.tocmark_state.specs.declared.work.Progress.{Progress};
 ghost use Rattle.tocmark_laws.specs.Calls.{AreCalls, all_pairs};
 ghost use Rattle.tocmark_laws.specs.Causes.{IsRefusedAtPair, IsRefusedIn};
 ghost use Rattle.tocmark_laws.specs.Paragraphs.{AppendsTo, Keeps, ReadsAs, ReadsAsSpan, paragraph_of, paragraph_with};
 ghost use Rattle.tocmark_laws.specs.PlainLines.{is_line, paragraph_of_lines, IsReadBack, IsPlaced, IsPlainOf, PlacedLine, escaped_text, texts};
-ghost use Rattle.tocmark_work.specs.Ranges.{Pair};
+ghost use Rattle.tocmark_state.specs.Ranges.{Pair};
 ghost use Rattle.tocmark_laws.specs.TextBlocks.{BlocksAreEscapes};
 ghost use Rattle.tocmark_laws.specs.Trees.{Trees, ranged, then_ranged, walk_trees};
-ghost use Rattle.tocmark_work.specs.WorkView.{rendering};
-ghost use Rattle.tocmark_work.specs.Walk.{Kept, Rendering, Standing, beginning, done, go_on, nothing_yet, script, walk};
-ghost use Rattle.tocmark_work.specs.Writes.{Makes};
+ghost use Rattle.tocmark_state.specs.WorkView.{rendering};
+ghost use Rattle.tocmark_state.specs.Walk.{Kept, Rendering, Standing, beginning, done, go_on, nothing_yet, script, walk};
+ghost use Rattle.tocmark_state.specs.Writes.{Makes};
 
-use tocmark_texts::laws::{code_spans_read_back, escapes_read_back};
-use tocmark_work::taker::Taker;
+use tocmark_state::taker::Taker;
+use tocmark_write_texts::laws::{code_spans_read_back, escapes_read_back};
 
 /// What later events add depends on where the earlier ones stand alone, whatever a unit comes to.
 pub fn cuts_are_free()

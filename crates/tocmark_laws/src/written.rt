@@ -5,22 +5,22 @@ ghost use Rattle.std.specs.List.{AllByRecursion};
 ghost use Rattle.tocmark_event.specs.Forest.{flat};
 ghost use Rattle.tocmark_event.specs.View.{EventView, SourcedEvent};
 ghost use Rattle.tocmark_event.specs.declared.event.flags.ParserOptions.{ParserOptions};
-ghost use Rattle.tocmark_options.specs.Options.{OptionsView};
-ghost use Rattle.tocmark_reader.specs.Reading.{ReadingView};
+ghost use Rattle.tocmark_event.specs.Options.{OptionsView};
+ghost use Rattle.tocmark_event.specs.Reading.{ReadingView};
 ghost use Rattle.tocmark_spelling.specs.Body.{Trees};
 ghost use Rattle.tocmark_spelling.specs.Page.{Page};
 ghost use Rattle.tocmark_spelling.specs.Plan.{Setting};
-ghost use Rattle.tocmark_label_sets.specs.Document.{DocumentView};
-ghost use Rattle.tocmark_labels.specs.Units.{labelled};
+ghost use Rattle.tocmark_write_labels.specs.Document.{DocumentView};
+ghost use Rattle.tocmark_write_labels.specs.Units.{labelled};
 ghost use Rattle.tocmark_render.specs.Candidates.{candidates, is_delimiter_block};
 ghost use Rattle.tocmark_render.specs.Choice.{document_after, has_standard_markers};
 ghost use Rattle.tocmark_render.specs.Chosen.{chosen};
 ghost use Rattle.tocmark_render.specs.FirstReadBack.{IsFirstReadBack};
 ghost use Rattle.tocmark_render.specs.Validates.{validates};
 ghost use Rattle.tocmark_laws.specs.Written.{AreWritten, ReadsBackIfDelimited, Written, last_written};
-ghost use Rattle.tocmark_work.specs.Ranges.{Pair};
-ghost use Rattle.tocmark_work.specs.Walk.{Kept, Standing, beginning, walk};
-ghost use Rattle.tocmark_work.specs.WorkView.{rendering};
+ghost use Rattle.tocmark_state.specs.Ranges.{Pair};
+ghost use Rattle.tocmark_state.specs.Walk.{Kept, Standing, beginning, walk};
+ghost use Rattle.tocmark_state.specs.WorkView.{rendering};
 
 /// Under options that are accepted with the flags, with markers that Markdown reads, a unit with delimiters
 /// that is written has the text of a page that reads back as the unit: the first of its candidates that does.

@@ -4,11 +4,11 @@ use Rattle.std.specs.Global.{Global}
 use Rattle.std.specs.Io.KnownBytes.{Appends}
 use Rattle.std.specs.List.{concat}
 use Rattle.std.specs.Str.{IsUtf8}
-use Rattle.tocmark_options.specs.Options.{default_options}
+use Rattle.tocmark_event.specs.Options.{default_options}
 use Rattle.tocmark_core_reader.specs.Reading.{core_reading}
-use Rattle.tocmark_work.specs.Ranges.{Pair, unranged}
-use Rattle.tocmark_work.specs.WorkView.{rendering}
-use Rattle.tocmark_work.specs.Walk.{Walk, Done, done, nothing_yet, script}
+use Rattle.tocmark_state.specs.Ranges.{Pair, unranged}
+use Rattle.tocmark_state.specs.WorkView.{rendering}
+use Rattle.tocmark_state.specs.Walk.{Walk, Done, done, nothing_yet, script}
 use Rattle.tocmark_program.specs.declared.arguments.Spelling.{Spelling}
 use Rattle.tocmark_program.specs.declared.arguments.Spelling.TheVariants.{Escaped, FromSource}
 use Rattle.tocmark_program.specs.declared.fault.Fault.{Fault}

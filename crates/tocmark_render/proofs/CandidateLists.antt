@@ -1,8 +1,8 @@
 -- The list of candidates grows by one fallback after the other.
 use Rattle.std.proofs.Common.{◌≡◌, ◌∙◌, ap, sym, ℕ, ◌+◌, ◌<◌, List, ◌++◌, append_assoc, drop, flat_map, get_or, length, map}
 use Rattle.std.proofs.lemmas.List.{drop_more, map-append}
-use Rattle.tocmark_renderer.specs.JobOf.{manner_view}
-use Rattle.tocmark_renderer.specs.declared.job.Manner as declared
+use Rattle.tocmark_write_renderer.specs.JobOf.{manner_view}
+use Rattle.tocmark_write_renderer.specs.declared.job.Manner as declared
 use Rattle.tocmark_spelling.specs.Plan as plan
 use Rattle.tocmark_spelling.specs.declared.plan.Layout.{Layout}
 use Rattle.tocmark_spelling.specs.declared.plan.TextSpelling.{TextSpelling}

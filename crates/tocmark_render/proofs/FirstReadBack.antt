@@ -3,13 +3,13 @@ use Rattle.std.proofs.Common.{◌≡◌, ◌≤◌, ◌∙◌, Bool, true, false
 use Rattle.std.specs.List.{AllByRecursion}
 use Rattle.std.proofs.lemmas.Bool.{true≢false}
 use Rattle.tocmark_event.specs.View.{EventView}
-use Rattle.tocmark_options.specs.Options.{OptionsView}
-use Rattle.tocmark_options.specs.declared.options.Error.TheVariants.{Unrepresentable}
+use Rattle.tocmark_event.specs.Options.{OptionsView}
+use Rattle.tocmark_event.specs.declared.options.Error.TheVariants.{Unrepresentable}
 use Rattle.tocmark_spelling.specs.Body.{Trees}
 use Rattle.tocmark_spelling.specs.Page.{Page}
 use Rattle.tocmark_spelling.specs.Plan.{Setting, Manner}
 use Rattle.tocmark_spelling.specs.Spelling.{is_misplaced}
-use Rattle.tocmark_label_sets.specs.Document.{DocumentView}
+use Rattle.tocmark_write_labels.specs.Document.{DocumentView}
 use Rattle.tocmark_render.specs.Candidates.{candidates, escaped_manners, has_event, has_source, is_checked, is_delimiter_block, source_manners}
 use Rattle.tocmark_render.specs.Choice.{Chosen, accepted, by_markers, choice, definitions_of, first_or, first_that_reads_back, has_standard_markers, if_read_back, page_read_back, preferred, spelled, unless_misplaced, without_spelling}
 use Rattle.tocmark_render.specs.FirstReadBack.{First, IsChosenAmong, IsFirstReadBack, NoneReadsBack, Nothing, ReadsBackAs, ReadsBackIn}

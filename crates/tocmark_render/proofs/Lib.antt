@@ -10,3 +10,4 @@ pub mod LowManners
 pub mod CandidateLists
 pub mod FirstReadBack
 pub mod Unrepresentable
+pub mod Documents

@@ -5,7 +5,7 @@ use Rattle.std.specs.List.{AllByRecursion}
 use Rattle.std.proofs.lemmas.Bool.{false≢true, or_cases}
 use Rattle.std.proofs.lemmas.Bool.Decides.{Decides-eqb}
 use Rattle.std.proofs.lemmas.Slice.Eq.{bytes_eq-Decides}
-use Rattle.tocmark_options.specs.Options.{OptionsView}
+use Rattle.tocmark_event.specs.Options.{OptionsView}
 use Rattle.tocmark_spelling.specs.Plan.{Manner, Plan}
 use Rattle.tocmark_render.specs.Candidates.{fallback_manners, other_emphasis, other_strong, source_manners}
 use Rattle.tocmark_render.specs.Choice.{has_standard_markers}

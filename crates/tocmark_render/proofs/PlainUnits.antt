@@ -1,12 +1,12 @@
 -- What is chosen for a unit that isn't checked and of which no source is asked: its preferred spelling.
 use Rattle.std.proofs.Common.{◌≡◌, Bool, true, false, ◌&&◌, ◌||◌, Option, None, refl, sym, ap, ◌∙◌, subst}
 use Rattle.tocmark_event.specs.View.{EventView}
-use Rattle.tocmark_options.specs.Options.{OptionsView}
+use Rattle.tocmark_event.specs.Options.{OptionsView}
 use Rattle.tocmark_spelling.specs.Body.{Trees}
 use Rattle.tocmark_spelling.specs.Plan.{Setting}
 use Rattle.tocmark_render.specs.Candidates.{candidates, has_event, has_source, is_checked, is_delimiter_block}
 use Rattle.tocmark_render.specs.Choice.{choice, preferred, has_standard_markers}
-use Rattle.tocmark_label_sets.specs.Document.{DocumentView}
+use Rattle.tocmark_write_labels.specs.Document.{DocumentView}
 use Rattle.tocmark_render.specs.Tries.{Asked, first}
 use Rattle.tocmark_render.specs.Validates.{validates}
 use Rattle.tocmark_render.proofs.Trials.{candidates-are, choice-lost, choice-unsearched, first-none}

@@ -3,10 +3,10 @@ use Rattle.std.proofs.Common.{◌≡◌, ℕ, Bool, true, false, List, [], ◌�
 use Rattle.std.specs.Prelude.{◌&&◌, not}
 use Rattle.std.specs.List.{list_any}
 use Rattle.tocmark_event.specs.Merged.{merged}
-use Rattle.tocmark_reader.specs.Reading.{ReadingView, reading_view}
+use Rattle.tocmark_event.specs.Reading.{ReadingView, reading_view}
 use Rattle.tocmark_event.specs.Text.{ParserEvent, text_of}
 use Rattle.tocmark_event.specs.View.{EventView, event_view}
-use Rattle.tocmark_reader.specs.declared.Reading.{Reading}
+use Rattle.tocmark_event.specs.declared.reader.Reading.{Reading}
 use Rattle.tocmark_spelling.specs.ById.{events_of}
 use Rattle.tocmark_spelling.specs.SameEvents.{same_events}
 use Rattle.tocmark_render.specs.ReadsBack.{found_in}

@@ -6,7 +6,7 @@ use Rattle.std.specs.Prelude.{string_eq}
 use Rattle.std.proofs.lemmas.Bool.{false≢true, or_cases}
 use Rattle.std.proofs.lemmas.Slice.Eq.{bytes_eq-Decides}
 use Rattle.indexmap.specs.IndexSet.{insert_key}
-use Rattle.tocmark_label_sets.specs.Document.{DocumentView}
+use Rattle.tocmark_write_labels.specs.Document.{DocumentView}
 use Rattle.tocmark_render.specs.TrialOf.{reads_back_in}
 use Rattle.tocmark_render.specs.Tries.{Asked}
 

@@ -6,32 +6,32 @@ use Rattle.std.proofs.lemmas.Bool.{false≢true, true≢false}
 use Rattle.std.proofs.lemmas.Bool.Decides.{nat_tests}
 use Rattle.tocmark_event.specs.Forest.{flat}
 use Rattle.tocmark_event.specs.Merged.{merged}
-use Rattle.tocmark_reader.specs.Reading.{ReadingView}
+use Rattle.tocmark_event.specs.Reading.{ReadingView}
 use Rattle.tocmark_event.specs.View.{SourcedEvent, unsourced}
 use Rattle.tocmark_event.specs.declared.event.flags.ParserOptions.{ParserOptions}
-use Rattle.tocmark_options.specs.declared.options.Error.{Error}
-use Rattle.tocmark_options.specs.declared.options.Error.TheVariants as error
+use Rattle.tocmark_event.specs.declared.options.Error.{Error}
+use Rattle.tocmark_event.specs.declared.options.Error.TheVariants as error
 use Rattle.tocmark_spelling.specs.Body.{Trees}
 use Rattle.tocmark_spelling.specs.Page.{Page, Site}
 use Rattle.tocmark_spelling.specs.Plan.{Manner}
 use Rattle.tocmark_spelling.specs.Spelling.{spelling}
-use Rattle.tocmark_emphasis.specs.Low.{AsksLow}
-use Rattle.tocmark_renderer.specs.JobOf.{manner_view}
-use Rattle.tocmark_renderer.specs.WriterOf as renderer
-use Rattle.tocmark_renderer.specs.WriterOf.{Arrives, Comes, IsRefusal, Rendering, blank, site_of}
-use Rattle.tocmark_renderer.specs.declared.job.Manner as declared
+use Rattle.tocmark_write_emphasis.specs.Low.{AsksLow}
+use Rattle.tocmark_write_renderer.specs.JobOf.{manner_view}
+use Rattle.tocmark_write_renderer.specs.WriterOf as renderer
+use Rattle.tocmark_write_renderer.specs.WriterOf.{Arrives, Comes, IsRefusal, Rendering, blank, site_of}
+use Rattle.tocmark_write_renderer.specs.declared.job.Manner as declared
 use Rattle.tocmark_spelling.proofs.Refusals.{none-misplaced}
-use Rattle.tocmark_read_back.specs.InParagraph.{in_paragraph}
+use Rattle.tocmark_write_read_back.specs.InParagraph.{in_paragraph}
 use Rattle.tocmark_render.specs.Candidates.{has_source, is_checked, is_delimiter_block, preferred_manner}
 use Rattle.tocmark_render.specs.Choice.{Chosen, accepted_if, first_that_reads_back, if_read_back, page_in, page_of, page_read_back, preferred, spelled}
-use Rattle.tocmark_label_sets.specs.Document.{DocumentView}
-use Rattle.tocmark_labels.specs.Placeholder.{whole}
+use Rattle.tocmark_write_labels.specs.Document.{DocumentView}
+use Rattle.tocmark_write_labels.specs.Placeholder.{whole}
 use Rattle.tocmark_render.specs.ReadsBack.{flags_at, found_in, is_taken, reads_back, whole_text}
 use Rattle.tocmark_render.specs.TrialOf.{Came, ComesOrBack, IsLow, IsReady, Refuses, WentBack, Writes, asked_of, events_in, options_in, or_no_trees, read_of, reads_back_in, spelled_at}
 use Rattle.tocmark_render.specs.Tries.{Asked, Found, Lost, Stopped, StopsTrial, first, is_delimiter_event, is_sourced_event, misplaced}
-use Rattle.tocmark_labels.specs.Units.{trees_of}
+use Rattle.tocmark_write_labels.specs.Units.{trees_of}
 use Rattle.tocmark_render.specs.declared.trial.Trial.{Trial}
-use Rattle.tocmark_labels.proofs.Balanced.{flat-of-trees}
+use Rattle.tocmark_write_labels.proofs.Balanced.{flat-of-trees}
 use Rattle.tocmark_render.proofs.UnitEvents.{delimiters-flat, event-flat, source-flat}
 use Rattle.tocmark_render.proofs.Trials.{none-test}
 

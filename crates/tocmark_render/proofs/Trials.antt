@@ -1,27 +1,27 @@
 -- A search over candidates that goes on where an earlier one found nothing.
 use Rattle.std.proofs.Common.{◌≡◌, ◌∙◌, sym, ap, refl, subst, ℕ, ◌+◌, ◌<◌, ◌≤◌, Bool, true, false, ◌&&◌, Option, Some, None, Result, Ok, Err, List, [], ◌∷◌, ◌++◌, length, map, flat_map, drop, get_or, arith}
 use Rattle.std.proofs.lemmas.List.{drop_more, drop_all, length-map}
-use Rattle.tocmark_options.specs.declared.options.Error.{Error}
+use Rattle.tocmark_event.specs.declared.options.Error.{Error}
 use Rattle.tocmark_spelling.specs.Page.{Page}
 use Rattle.tocmark_spelling.specs.Plan.{Setting, Manner, Plan}
 use Rattle.tocmark_spelling.specs.declared.plan.Layout.{Layout}
 use Rattle.tocmark_spelling.specs.declared.plan.TextSpelling.{TextSpelling}
 use Rattle.std.specs.Prelude.{is_none, ◌↔◌, if◌then◌else◌}
 use Rattle.std.proofs.lemmas.Bool.{false≢true, true≢false}
-use Rattle.tocmark_options.specs.Options.{OptionsView}
-use Rattle.tocmark_options.specs.declared.options.Error.TheVariants as error
+use Rattle.tocmark_event.specs.Options.{OptionsView}
+use Rattle.tocmark_event.specs.declared.options.Error.TheVariants as error
 use Rattle.tocmark_spelling.specs.Body.{Trees}
 use Rattle.tocmark_spelling.specs.Page.{Site}
 use Rattle.tocmark_spelling.specs.Spelling.{spelling}
 use Rattle.tocmark_spelling.proofs.Refusals.{none-misplaced}
 use Rattle.tocmark_render.specs.Candidates.{candidates, escaped_manners, fallback_manners, fallbacks, has_source, is_checked, is_delimiter_block, preferred_manner, source_manners, delimiter_manners}
-use Rattle.tocmark_renderer.specs.WriterOf as renderer
-use Rattle.tocmark_renderer.specs.WriterOf.{Rendering, site_of}
+use Rattle.tocmark_write_renderer.specs.WriterOf as renderer
+use Rattle.tocmark_write_renderer.specs.WriterOf.{Rendering, site_of}
 use Rattle.tocmark_render.specs.Choice.{Chosen, choice, preferred, accepted, accepted_if, page_of, page_in, by_markers, unless_misplaced, first_or, has_standard_markers, first_that_reads_back, page_read_back, spelled}
-use Rattle.tocmark_labels.specs.Placeholder.{whole}
+use Rattle.tocmark_write_labels.specs.Placeholder.{whole}
 use Rattle.tocmark_render.specs.ReadsBack.{reads_back}
 use Rattle.tocmark_render.specs.Validates.{validates}
-use Rattle.tocmark_label_sets.specs.Document.{DocumentView, first_document}
+use Rattle.tocmark_write_labels.specs.Document.{DocumentView, first_document}
 use Rattle.tocmark_render.specs.TrialOf.{IsLeft, IsWritten, Refuses, Writes}
 use Rattle.tocmark_render.specs.Tries.{if_source, manners_for, plan_view, Asked, Found, Lost, PlacedIfTried, Stopped, StopsTrial, Tries, first, misplaced}
 

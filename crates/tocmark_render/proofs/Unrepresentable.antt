@@ -1,13 +1,13 @@
 -- A unit can't be represented just where it is checked and none of its candidates reads back.
 use Rattle.std.proofs.Common.{◌≡◌, ◌≤◌, Bool, true, false, ◌&&◌, if◌then◌else◌, Option, Some, None, Ok, Err, List, [], ◌++◌, length, refl, sym, subst, arith}
 use Rattle.tocmark_event.specs.View.{EventView}
-use Rattle.tocmark_options.specs.Options.{OptionsView}
-use Rattle.tocmark_options.specs.declared.options.Error.TheVariants.{UnexpectedEvent, Unrepresentable}
+use Rattle.tocmark_event.specs.Options.{OptionsView}
+use Rattle.tocmark_event.specs.declared.options.Error.TheVariants.{UnexpectedEvent, Unrepresentable}
 use Rattle.tocmark_spelling.specs.Body.{Trees}
 use Rattle.tocmark_spelling.specs.Page.{Page}
 use Rattle.tocmark_spelling.specs.Plan.{Setting}
 use Rattle.tocmark_spelling.specs.Spelling.{is_misplaced}
-use Rattle.tocmark_label_sets.specs.Document.{DocumentView}
+use Rattle.tocmark_write_labels.specs.Document.{DocumentView}
 use Rattle.tocmark_render.specs.Candidates.{candidates, escaped_manners, has_source, is_checked, is_delimiter_block, preferred_manner, source_manners}
 use Rattle.tocmark_render.specs.Choice.{Chosen, accepted_if, by_markers, choice, first_or, first_that_reads_back, has_standard_markers, preferred, spelled, unless_misplaced}
 use Rattle.tocmark_render.specs.Tries.{Asked}

@@ -1,6 +1,6 @@
 -- The spellings that are tried for a unit, in order.
 use Rattle.std.specs.Prelude.{ℕ, Bool, true, false, ◌&&◌, ◌||◌, if◌then◌else◌, ◌==◌, is_some, List, [], ◌∷◌, ◌++◌, bytes_eq, codes, flat_map, map}
-use Rattle.tocmark_options.specs.Options.{OptionsView}
+use Rattle.tocmark_event.specs.Options.{OptionsView}
 use Rattle.tocmark_event.specs.Forest.{empty, leaf, node}
 use Rattle.tocmark_event.specs.View.{TagView, Emphasis, Strong, Strikethrough, Superscript, Subscript, LeafView, InlineMath, DisplayMath, SourcedLeaf}
 use Rattle.tocmark_spelling.specs.Body.{Trees, some_leaf}

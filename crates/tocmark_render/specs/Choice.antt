@@ -1,18 +1,18 @@
 -- The spelling that is chosen for a unit, and the document that the unit leaves.
 use Rattle.std.specs.Prelude.{ℕ, Bool, true, false, ◌&&◌, ◌||◌, ◌==◌, Option, Some, None, Result, Ok, Err, List, [], ◌∷◌, ◌++◌, bytes_eq, codes}
-use Rattle.tocmark_options.specs.Options.{OptionsView}
+use Rattle.tocmark_event.specs.Options.{OptionsView}
 use Rattle.tocmark_event.specs.View.{EventView}
-use Rattle.tocmark_options.specs.declared.options.Error.{Error}
-use Rattle.tocmark_options.specs.declared.options.Error.TheVariants.{UnexpectedEvent, Unrepresentable}
+use Rattle.tocmark_event.specs.declared.options.Error.{Error}
+use Rattle.tocmark_event.specs.declared.options.Error.TheVariants.{UnexpectedEvent, Unrepresentable}
 use Rattle.tocmark_spelling.specs.Plan.{Setting, Manner}
 use Rattle.tocmark_spelling.specs.Body.{Trees}
 use Rattle.tocmark_spelling.specs.Page.{Page, Site}
 use Rattle.tocmark_spelling.specs.Spelling.{spelling, is_misplaced}
-use Rattle.tocmark_labels.specs.Definitions.{definitions_text}
-use Rattle.tocmark_label_sets.specs.Document.{DocumentView, known_in, literal_in}
+use Rattle.tocmark_write_labels.specs.Definitions.{definitions_text}
+use Rattle.tocmark_write_labels.specs.Document.{DocumentView, known_in, literal_in}
 use Rattle.tocmark_render.specs.Candidates.{candidates, is_checked, preferred_manner}
 use Rattle.tocmark_render.specs.ReadsBack.{reads_back}
-use Rattle.tocmark_labels.specs.Placeholder.{whole}
+use Rattle.tocmark_write_labels.specs.Placeholder.{whole}
 use Rattle.tocmark_render.specs.Validates.{validates}
 
 -- an empty page in a document

@@ -1,11 +1,11 @@
 -- The choice for a unit that is given as its events.
 use Rattle.std.specs.Prelude.{Option, Some, None, Err, List}
 use Rattle.tocmark_event.specs.View.{EventView, SourcedEvent}
-use Rattle.tocmark_options.specs.declared.options.Error.TheVariants.{UnexpectedEvent}
+use Rattle.tocmark_event.specs.declared.options.Error.TheVariants.{UnexpectedEvent}
 use Rattle.tocmark_spelling.specs.Plan.{Setting}
 use Rattle.tocmark_spelling.specs.Body.{Trees}
-use Rattle.tocmark_label_sets.specs.Document.{DocumentView}
-use Rattle.tocmark_labels.specs.Units.{labelled, trees_of}
+use Rattle.tocmark_write_labels.specs.Document.{DocumentView}
+use Rattle.tocmark_write_labels.specs.Units.{labelled, trees_of}
 use Rattle.tocmark_render.specs.Choice.{Chosen, choice}
 
 -- the choice for a unit's trees; a refusal where its events aren't balanced

@@ -4,11 +4,11 @@ use Rattle.std.specs.List.{list_any}
 use Rattle.tocmark_event.specs.View.{TagView, Paragraph, Link, Image, Start, End, end_of}
 use Rattle.tocmark_event.specs.Merged.{merged}
 use Rattle.tocmark_event.specs.declared.event.TagEnd.TheVariants as end
-use Rattle.tocmark_reader.specs.Reading.{ReadingView}
+use Rattle.tocmark_event.specs.Reading.{ReadingView}
 use Rattle.tocmark_spelling.specs.Plan.{Setting}
 use Rattle.tocmark_spelling.specs.ById.{events_of, goes_by_id, is_same_kind, merged_trees}
 use Rattle.tocmark_spelling.specs.Body.{Trees}
-use Rattle.tocmark_label_sets.specs.Document.{DocumentView}
+use Rattle.tocmark_write_labels.specs.Document.{DocumentView}
 use Rattle.tocmark_render.specs.ReadsBack.{expected, is_taken}
 
 -- the events of a reading are the unit's, merged, and no label that it leaves open is taken

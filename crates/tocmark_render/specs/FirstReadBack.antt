@@ -2,11 +2,11 @@
 use Rattle.std.specs.Prelude.{◌≡◌, Option, Some, Err, List, ◌∷◌, ◌++◌}
 use Rattle.std.specs.List.{AllByRecursion}
 use Rattle.tocmark_event.specs.View.{EventView}
-use Rattle.tocmark_options.specs.declared.options.Error.TheVariants.{Unrepresentable}
+use Rattle.tocmark_event.specs.declared.options.Error.TheVariants.{Unrepresentable}
 use Rattle.tocmark_spelling.specs.Plan.{Setting, Manner}
 use Rattle.tocmark_spelling.specs.Body.{Trees}
 use Rattle.tocmark_spelling.specs.Page.{Page}
-use Rattle.tocmark_label_sets.specs.Document.{DocumentView}
+use Rattle.tocmark_write_labels.specs.Document.{DocumentView}
 use Rattle.tocmark_render.specs.Choice.{Chosen, accepted, definitions_of, spelled}
 use Rattle.tocmark_render.specs.ReadsBack.{ReadsBack}
 

@@ -8,3 +8,4 @@ pub mod Chosen
 pub mod Tries
 pub mod TrialOf
 pub mod Unrepresentable
+pub mod DocumentOf

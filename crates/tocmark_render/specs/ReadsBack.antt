@@ -4,14 +4,14 @@ use Rattle.std.specs.List.{list_any}
 use Rattle.tocmark_event.specs.View.{EventView}
 use Rattle.tocmark_event.specs.Flags.{metadata_flags, union_of, without}
 use Rattle.tocmark_event.specs.Merged.{merged}
-use Rattle.tocmark_reader.specs.Reading.{ReadingView}
+use Rattle.tocmark_event.specs.Reading.{ReadingView}
 use Rattle.tocmark_event.specs.declared.event.flags.ParserOptions.{ParserOptions}
 use Rattle.tocmark_spelling.specs.Plan.{Setting}
 use Rattle.tocmark_spelling.specs.SameEvents.{same_events}
 use Rattle.tocmark_spelling.specs.ById.{events_of, merged_trees}
 use Rattle.tocmark_spelling.specs.Body.{Trees}
-use Rattle.tocmark_read_back.specs.InParagraph.{in_paragraph}
-use Rattle.tocmark_label_sets.specs.Document.{DocumentView, is_among, is_label}
+use Rattle.tocmark_write_read_back.specs.InParagraph.{in_paragraph}
+use Rattle.tocmark_write_labels.specs.Document.{DocumentView, is_among, is_label}
 
 -- the flags under which a unit is read: metadata stands only at a document's beginning
 abbrev pub flags_at : Setting → DocumentView → ParserOptions

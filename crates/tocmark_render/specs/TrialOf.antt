@@ -3,29 +3,29 @@ use Rattle.std.specs.Prelude.{◌≡◌, ◌<◌, ℕ, Bool, true, false, slice_
 use Rattle.std.specs.Global.{Global}
 use Rattle.std.specs.List.{AllByRecursion}
 use Rattle.indexmap.specs.IndexSet.{IndexSet}
-use Rattle.tocmark_emphasis.specs.Low.{chooses_bytes}
+use Rattle.tocmark_write_emphasis.specs.Low.{chooses_bytes}
 use Rattle.tocmark_event.specs.Forest.{empty}
-use Rattle.tocmark_options.specs.Options.{OptionsView, options_view}
-use Rattle.tocmark_reader.specs.Reading.{ReadingView}
+use Rattle.tocmark_event.specs.Options.{OptionsView, options_view}
+use Rattle.tocmark_event.specs.Reading.{ReadingView}
 use Rattle.tocmark_event.specs.View.{SourcedEvent}
 use Rattle.tocmark_event.specs.declared.event.flags.ParserOptions.{ParserOptions}
-use Rattle.tocmark_options.specs.declared.options.Error.{Error}
-use Rattle.tocmark_options.specs.declared.options.Error.TheVariants as error
+use Rattle.tocmark_event.specs.declared.options.Error.{Error}
+use Rattle.tocmark_event.specs.declared.options.Error.TheVariants as error
 use Rattle.tocmark_spelling.specs.Body.{Trees}
 use Rattle.tocmark_spelling.specs.Buffered.{buffered_view, following_view}
 use Rattle.tocmark_spelling.specs.Page.{Page, Site}
 use Rattle.tocmark_spelling.specs.Plan.{Manner, Setting}
 use Rattle.tocmark_spelling.specs.PlanOf.{setting_of}
 use Rattle.tocmark_spelling.specs.Spelling.{spelling}
-use Rattle.tocmark_unit.specs.FindingsOf.{AreFindings}
-use Rattle.tocmark_renderer.specs.WriterOf.{Arrives, IsRefusal, Rendering, blank, page_of, site_of}
+use Rattle.tocmark_write_unit.specs.FindingsOf.{AreFindings}
+use Rattle.tocmark_write_renderer.specs.WriterOf.{Arrives, IsRefusal, Rendering, blank, page_of, site_of}
 use Rattle.tocmark_render.specs.Choice.{Chosen, accepted, choice, definitions_of}
-use Rattle.tocmark_label_sets.specs.Document.{DocumentView, first_document}
-use Rattle.tocmark_label_sets.specs.LabelsOf.{label_now, labels_of}
-use Rattle.tocmark_labels.specs.Placeholder.{whole}
+use Rattle.tocmark_write_labels.specs.Document.{DocumentView, first_document}
+use Rattle.tocmark_write_labels.specs.LabelsOf.{label_now, labels_of}
+use Rattle.tocmark_write_labels.specs.Placeholder.{whole}
 use Rattle.tocmark_render.specs.ReadsBack.{flags_at, is_read_back, whole_text}
 use Rattle.tocmark_render.specs.Tries.{Asked, Tries}
-use Rattle.tocmark_labels.specs.Units.{trees_of}
+use Rattle.tocmark_write_labels.specs.Units.{trees_of}
 use Rattle.tocmark_render.specs.declared.earlier.Earlier.{Earlier}
 use Rattle.tocmark_render.specs.declared.read_back.ReadBack.{ReadBack}
 use Rattle.tocmark_render.specs.declared.trial.Trial.{Trial}

@@ -1,9 +1,9 @@
 -- What trying some spellings of a unit in order came to.
 use Rattle.std.specs.Prelude.{◌≡◌, Bool, true, false, Option, Some, None, Result, Ok, Err, List, [], ◌∷◌, ◌++◌, if◌then◌else◌, map}
-use Rattle.tocmark_options.specs.Options.{OptionsView}
+use Rattle.tocmark_event.specs.Options.{OptionsView}
 use Rattle.tocmark_event.specs.View.{EventView, SourcedEvent, Start, End, Leaf}
-use Rattle.tocmark_options.specs.declared.options.Error.{Error}
-use Rattle.tocmark_options.specs.declared.options.Error.TheVariants as error
+use Rattle.tocmark_event.specs.declared.options.Error.{Error}
+use Rattle.tocmark_event.specs.declared.options.Error.TheVariants as error
 use Rattle.tocmark_spelling.specs.Body.{Trees}
 use Rattle.tocmark_spelling.specs.Page.{Page, Site}
 use Rattle.tocmark_spelling.specs.Plan.{Setting, Manner, Plan}
@@ -13,9 +13,9 @@ use Rattle.tocmark_spelling.specs.declared.plan.Layout.TheVariants.{Runs}
 use Rattle.tocmark_spelling.specs.declared.plan.TextSpelling.{TextSpelling}
 use Rattle.tocmark_spelling.specs.declared.plan.TextSpelling.TheVariants.{Escaped}
 use Rattle.tocmark_render.specs.Candidates.{escaped_manners, in_manner, is_delimiter_tag, is_math, is_sourced, pairs_from, preferred_manner, source_manners}
-use Rattle.tocmark_renderer.specs.WriterOf.{Rendering, page_of, site_of}
+use Rattle.tocmark_write_renderer.specs.WriterOf.{Rendering, page_of, site_of}
 use Rattle.tocmark_render.specs.Choice.{first_that_reads_back}
-use Rattle.tocmark_label_sets.specs.Document.{DocumentView}
+use Rattle.tocmark_write_labels.specs.Document.{DocumentView}
 
 -- what stays the same while spellings of a unit are tried: the setting, the unit, and the event behind it
 pub record Asked : Type 0 where

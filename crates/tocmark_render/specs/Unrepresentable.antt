@@ -4,7 +4,7 @@ use Rattle.tocmark_event.specs.View.{EventView}
 use Rattle.tocmark_spelling.specs.Plan.{Setting}
 use Rattle.tocmark_spelling.specs.Body.{Trees}
 use Rattle.tocmark_spelling.specs.Spelling.{is_misplaced}
-use Rattle.tocmark_label_sets.specs.Document.{DocumentView}
+use Rattle.tocmark_write_labels.specs.Document.{DocumentView}
 use Rattle.tocmark_render.specs.Candidates.{candidates, is_checked}
 use Rattle.tocmark_render.specs.Choice.{has_standard_markers}
 use Rattle.tocmark_render.specs.FirstReadBack.{NoneReadsBack}

@@ -1,7 +1,7 @@
 -- The options and flags under which everything that is written is meant to be read back.
 use Rattle.std.specs.Prelude.{Bool, is_none}
-use Rattle.tocmark_options.specs.Options.{OptionsView}
-use Rattle.tocmark_options.specs.Validation.{validation}
+use Rattle.tocmark_event.specs.Options.{OptionsView}
+use Rattle.tocmark_event.specs.Validation.{validation}
 use Rattle.tocmark_event.specs.declared.event.flags.ParserOptions.{ParserOptions}
 
 -- whether the options are accepted with these flags

@@ -2,9 +2,9 @@
 
 ghost use Rattle.std.specs.Prelude.{◌≡◌, ◌∷◌, [], string_bytes, IfOk, IfSome, OnOk, map, is_some};
 ghost use Rattle.tocmark_spelling.specs.Plan.{Setting};
-ghost use Rattle.tocmark_renderer.specs.JobOf.{manner_view};
-ghost use Rattle.tocmark_renderer.specs.WriterOf.{page_of, site_of};
-ghost use Rattle.tocmark_label_sets.specs.Document.{first_document};
+ghost use Rattle.tocmark_write_renderer.specs.JobOf.{manner_view};
+ghost use Rattle.tocmark_write_renderer.specs.WriterOf.{page_of, site_of};
+ghost use Rattle.tocmark_write_labels.specs.Document.{first_document};
 ghost use Rattle.tocmark_render.specs.ReadsBack.{flags_at, whole_text};
 ghost use Rattle.tocmark_render.specs.TrialOf.{AreRefused, IsFront, IsKnown, IsLow, IsReady, KnowsIn, TriesIn, asked_of, earlier_view, read_of, reads_back_in, unresolved_in};
 
@@ -12,13 +12,13 @@ use crate::read_back::{ReadBack, behind_definitions, find};
 use crate::trial::{Refused, Trial, write};
 use std::alloc::AllocError;
 use tocmark_event::event::ParserOptions;
-use tocmark_label_sets::labels::Labels;
-use tocmark_label_sets::taken::Taken;
-use tocmark_labels::definitions::definitions_text;
-use tocmark_options::options::Error;
-use tocmark_reader::Reader;
-use tocmark_renderer::job::Manner;
-use tocmark_renderer::renderer::Renderer;
+use tocmark_event::options::Error;
+use tocmark_event::reader::Reader;
+use tocmark_write_labels::definitions::definitions_text;
+use tocmark_write_labels::labels::Labels;
+use tocmark_write_labels::taken::Taken;
+use tocmark_write_renderer::job::Manner;
+use tocmark_write_renderer::renderer::Renderer;
 
 /// The flags of both kinds of metadata blocks, which stand only at a document's beginning.
 const METADATA_BLOCKS: ParserOptions = ParserOptions(

@@ -8,14 +8,14 @@ ghost use Rattle.tocmark_spelling.specs.Plan.{Setting};
 ghost use Rattle.tocmark_spelling.specs.Spelling.{is_misplaced};
 ghost use Rattle.tocmark_render.specs.Candidates.{candidates, has_source, is_checked, is_delimiter_block};
 ghost use Rattle.tocmark_render.specs.Choice.{choice, has_standard_markers, preferred};
-ghost use Rattle.tocmark_label_sets.specs.Document.{DocumentView};
+ghost use Rattle.tocmark_write_labels.specs.Document.{DocumentView};
 ghost use Rattle.tocmark_render.specs.Chosen.{chosen};
 ghost use Rattle.tocmark_render.specs.FirstReadBack.{IsChosenAmong};
 ghost use Rattle.tocmark_render.specs.Unrepresentable.{IsUnrepresentable};
 ghost use Rattle.tocmark_render.specs.Validates.{validates};
-ghost use Rattle.tocmark_options.specs.Options.{OptionsView};
-ghost use Rattle.tocmark_options.specs.declared.options.Error.TheVariants.{Unrepresentable};
-ghost use Rattle.tocmark_labels.specs.Units.{labelled};
+ghost use Rattle.tocmark_event.specs.Options.{OptionsView};
+ghost use Rattle.tocmark_event.specs.declared.options.Error.TheVariants.{Unrepresentable};
+ghost use Rattle.tocmark_write_labels.specs.Units.{labelled};
 
 /// For a unit without delimiters the source is all that there is to choose from, unless the options ask
 /// that it be checked: where none of its texts is known there, or the options have markers that Markdown

@@ -1,6 +1,11 @@
-//! How a unit of events may be written, and the choice among these spellings.
+//! How a unit of events may be written, the choice among these spellings, and what a unit leaves to later ones.
+//!
+//! Below it stand `tocmark_write_unit` and `tocmark_write_labels`, above it `tocmark_state`. Enter at `document`: the
+//! text of one unit, and what it leaves. `search` chooses among the `manners`, by a `trial` behind a mark and what a
+//! reader finds in its text, behind earlier units (`earlier`, `read_back`). The laws of the choice stand in `laws`.
 #![tactic(auto)]
 
+pub mod document;
 pub mod earlier;
 pub mod laws;
 mod manners;
@@ -9,4 +14,4 @@ pub mod read_back_laws;
 pub mod search;
 pub mod trial;
 
-pub use crate::manners::candidates;
+pub use manners::candidates;

@@ -1,8 +1,8 @@
 //! The manners in which a unit may be written.
 
 ghost use Rattle.std.specs.Prelude.{◌≡◌, ◌++◌, map, false, true, IfOk, OnOk, flat_map};
-ghost use Rattle.tocmark_options.specs.Options.{options_view};
-ghost use Rattle.tocmark_renderer.specs.JobOf.{manner_view};
+ghost use Rattle.tocmark_event.specs.Options.{options_view};
+ghost use Rattle.tocmark_write_renderer.specs.JobOf.{manner_view};
 ghost use Rattle.tocmark_spelling.specs.declared.plan.Layout.TheVariants as layout;
 ghost use Rattle.tocmark_spelling.specs.declared.plan.TextSpelling.TheVariants as text_spelling;
 ghost use Rattle.tocmark_render.specs.Candidates.{escaped_manners, fallback_manners, fallbacks, in_manner, other_emphasis, other_strong, own_markers, pair, source_manners};
@@ -10,9 +10,9 @@ ghost use Rattle.tocmark_render.specs.Choice.{has_standard_markers};
 ghost use Rattle.tocmark_render.specs.Tries.{manners_for, plan_view, run_manners};
 
 use std::alloc::{AllocError, Global};
-use tocmark_options::options::Options;
-use tocmark_renderer::job::Manner;
+use tocmark_event::options::Options;
 use tocmark_spelling::plan::{Delimiters, Layout, TextSpelling};
+use tocmark_write_renderer::job::Manner;
 
 /// Whether emphasis and strong emphasis have markers that Markdown reads.
 pub fn has_standard_markers(options: &Options<'_>) -> bool

@@ -3,17 +3,17 @@
 ghost use Rattle.std.specs.Prelude.{◌≡◌, ◌++◌, codes, is_some, map, string_bytes, IfOk, IfSome};
 ghost use Rattle.tocmark_event.specs.Merged.{merged};
 ghost use Rattle.tocmark_event.specs.View.{unsourced};
-ghost use Rattle.tocmark_label_sets.specs.LabelsOf.{is_taken_in};
-ghost use Rattle.tocmark_read_back.specs.InParagraph.{in_paragraph};
+ghost use Rattle.tocmark_write_labels.specs.LabelsOf.{is_taken_in};
+ghost use Rattle.tocmark_write_read_back.specs.InParagraph.{in_paragraph};
 ghost use Rattle.tocmark_render.specs.ReadsBack.{found_in};
 ghost use Rattle.tocmark_spelling.specs.Buffered.{buffered_view};
 
 use std::alloc::{AllocError, Global};
 use tocmark_event::event::ParserOptions;
-use tocmark_label_sets::taken::Taken;
-use tocmark_read_back::agrees::agrees;
-use tocmark_reader::{Reader, Reading};
+use tocmark_event::reader::{Reader, Reading};
 use tocmark_spelling::buffered::BufferedEvent;
+use tocmark_write_labels::taken::Taken;
+use tocmark_write_read_back::agrees::agrees;
 
 /// What is known of a spelling that is read back.
 #[derive(Drop)]

@@ -2,7 +2,7 @@
 
 ghost use Rattle.std.specs.Prelude.{◌≡◌, ℕ, true, List};
 ghost use Rattle.tocmark_event.specs.View.{TagView};
-ghost use Rattle.tocmark_label_sets.specs.Document.{DocumentView};
+ghost use Rattle.tocmark_write_labels.specs.Document.{DocumentView};
 ghost use Rattle.tocmark_render.specs.EqualEvents.{HasUnit, IsSpelledById};
 ghost use Rattle.tocmark_render.specs.ReadsBack.{flags_at, whole_text, ReadsBack};
 ghost use Rattle.tocmark_spelling.specs.Body.{Trees};

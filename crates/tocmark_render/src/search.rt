@@ -2,10 +2,10 @@
 
 ghost use Rattle.std.specs.Prelude.{◌≡◌, ◌==◌, ◌&&◌, ◌∷◌, ◌||◌, None, [], flat_map, length, map, not, true, IfOk, OnOk};
 ghost use Rattle.std.specs.List.{AllByRecursion, list_any};
-ghost use Rattle.tocmark_options.specs.Options.{options_view};
+ghost use Rattle.tocmark_event.specs.Options.{options_view};
 ghost use Rattle.tocmark_spelling.specs.Buffered.{buffered_view};
-ghost use Rattle.tocmark_renderer.specs.JobOf.{manner_view};
-ghost use Rattle.tocmark_renderer.specs.WriterOf.{site_of};
+ghost use Rattle.tocmark_write_renderer.specs.JobOf.{manner_view};
+ghost use Rattle.tocmark_write_renderer.specs.WriterOf.{site_of};
 ghost use Rattle.tocmark_render.specs.Candidates.{delimiter_manners, escaped_manners, fallback_manners, fallbacks, preferred_manner};
 ghost use Rattle.tocmark_render.specs.Choice.{has_standard_markers};
 ghost use Rattle.tocmark_render.specs.Tries.{if_source, is_delimiter_event, is_sourced_event, manners_for};
@@ -21,11 +21,11 @@ use crate::read_back::ReadBack;
 use crate::trial::{Refused, Trial, write_preferred};
 use indexmap::IndexSet;
 use tocmark_event::event::{EventOf, ParserOptions, TagOf};
-use tocmark_options::options::{Error, Options};
-use tocmark_reader::Reader;
-use tocmark_renderer::job::Manner;
-use tocmark_renderer::renderer::Renderer;
+use tocmark_event::options::{Error, Options};
+use tocmark_event::reader::Reader;
 use tocmark_spelling::buffered::BufferedEvent;
+use tocmark_write_renderer::job::Manner;
+use tocmark_write_renderer::renderer::Renderer;
 
 /// Whether an event with a text in the source waits.
 fn is_sourced(event: &BufferedEvent) -> bool

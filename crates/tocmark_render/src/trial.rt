@@ -1,7 +1,7 @@
 //! A unit for which spellings are tried, and how it is written in one of them.
 
-ghost use Rattle.tocmark_renderer.specs.JobOf.{manner_view};
-ghost use Rattle.tocmark_renderer.specs.WriterOf.{site_of};
+ghost use Rattle.tocmark_write_renderer.specs.JobOf.{manner_view};
+ghost use Rattle.tocmark_write_renderer.specs.WriterOf.{site_of};
 ghost use Rattle.tocmark_render.specs.Candidates.{preferred_manner};
 ghost use Rattle.tocmark_render.specs.TrialOf.{IsFront, IsLow, IsReady, WritesIn, options_in};
 
@@ -9,13 +9,13 @@ use crate::manners::preferred_manner;
 use indexmap::IndexSet;
 use std::alloc::Global;
 use tocmark_event::event::{EventOf, OwnedEvent, ParserOptions};
-use tocmark_options::options::{Error, Options};
-use tocmark_reader::Reader;
-use tocmark_renderer::job::{Job, Manner};
-use tocmark_renderer::renderer::Renderer;
+use tocmark_event::options::{Error, Options};
+use tocmark_event::reader::Reader;
 use tocmark_spelling::buffered::BufferedEvent;
-use tocmark_unit::block::write_unit;
-use tocmark_unit::findings::Findings;
+use tocmark_write_renderer::job::{Job, Manner};
+use tocmark_write_renderer::renderer::Renderer;
+use tocmark_write_unit::block::write_unit;
+use tocmark_write_unit::findings::Findings;
 
 /// The texts of a unit, each behind the definitions that it needs, that weren't read back.
 pub(crate) type Refused = IndexSet<String>;

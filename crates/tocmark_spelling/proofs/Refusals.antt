@@ -7,7 +7,7 @@ use Rattle.tocmark_event.specs.Forest.{empty, leaf, node}
 use Rattle.tocmark_event.specs.View.{TagView, Item, Heading, TableCell, TableHead, Link, Image, LeafView, Text, Code, SourcedLeaf, Start, Leaf, CodeBlock, Indented, Fenced, Superscript, Subscript, HtmlBlock, ListOf}
 use Rattle.tocmark_spelling.specs.Body.{Trees}
 use Rattle.tocmark_spelling.specs.ById.{by_id}
-use Rattle.tocmark_options.specs.Options.{OptionsView}
+use Rattle.tocmark_event.specs.Options.{OptionsView}
 use Rattle.tocmark_event.specs.declared.event.LinkType.{LinkType}
 use Rattle.tocmark_event.specs.declared.event.LinkType.TheVariants as link
 use Rattle.tocmark_spelling.specs.Closing.{closing, closing_of, close_html, close_link, close_list, needs_id}

@@ -3,7 +3,7 @@ use Rattle.std.specs.Prelude.{ℕ, Bool, true, false, ◌&&◌, List, [], ◌∷
 use Rattle.tocmark_event.specs.View.{TagView, Paragraph, Link, Image, EventView, Start, End, end_of, unsourced}
 use Rattle.tocmark_event.specs.Forest.{flat}
 use Rattle.tocmark_event.specs.Merged.{merged}
-use Rattle.tocmark_reader.specs.Reading.{ReadingView}
+use Rattle.tocmark_event.specs.Reading.{ReadingView}
 use Rattle.tocmark_event.specs.declared.event.LinkType.{LinkType}
 use Rattle.tocmark_event.specs.declared.event.LinkType.TheVariants as link
 use Rattle.tocmark_event.specs.declared.event.TagEnd.TheVariants as end

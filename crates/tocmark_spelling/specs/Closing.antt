@@ -1,7 +1,7 @@
 -- What each container's closing writes, and what it leaves to the container's right neighbour.
 use Rattle.std.specs.Prelude.{◌^◌, min, ℕ, ◌+◌, ◌-◌, Bool, true, false, not, ◌&&◌, ◌==◌, if◌then◌else◌, nat_lt, Option, Some, None, is_some, List, [], ◌∷◌, ◌++◌, length, max, replicate, flat_map, drop, codes}
 use Rattle.tocmark_event.specs.View.{TagView, Paragraph, Heading, BlockQuote, CodeBlock, HtmlBlock, ListOf, Item, Table, TableHead, TableRow, TableCell, DefinitionList, DefinitionListTitle, DefinitionListDefinition, Emphasis, Strong, Strikethrough, Superscript, Subscript, Link, Image, MetadataBlock, end_of}
-use Rattle.tocmark_options.specs.Options.{OptionsView}
+use Rattle.tocmark_event.specs.Options.{OptionsView}
 use Rattle.tocmark_event.specs.declared.event.Alignment.{Alignment}
 use Rattle.tocmark_event.specs.declared.event.Alignment.TheVariants as alignment
 use Rattle.tocmark_event.specs.declared.event.HeadingLevel.{HeadingLevel}
@@ -9,7 +9,7 @@ use Rattle.tocmark_event.specs.declared.event.HeadingLevel.TheVariants as level
 use Rattle.tocmark_event.specs.declared.event.LinkType.{LinkType}
 use Rattle.tocmark_event.specs.declared.event.LinkType.TheVariants as link
 use Rattle.tocmark_event.specs.declared.event.MetadataBlockKind.{MetadataBlockKind}
-use Rattle.tocmark_texts.specs.Destination.{inline_closing}
+use Rattle.tocmark_write_texts.specs.Destination.{inline_closing}
 use Rattle.tocmark_spelling.specs.Kinds.{is_item, is_list}
 use Rattle.tocmark_spelling.specs.Page.{Content, Underlined, Fence, HtmlEnds, Listed, Headers, Delimited, Named, Level, Path, Page, Site, written, filled_to, prefix_of, with_trail, with_last, with_owed, raised}
 use Rattle.tocmark_spelling.specs.Words.{hyphen}

@@ -4,7 +4,7 @@ use Rattle.std.specs.List.{list_any}
 use Rattle.tocmark_event.specs.View.{LeafView, Text, InlineHtml, SoftBreak, HardBreak, EventView, Start, End, Leaf}
 use Rattle.tocmark_event.specs.declared.event.flags.ParserOptions.{ParserOptions}
 use Rattle.tocmark_spelling.specs.Plan.{Setting}
-use Rattle.tocmark_escape.specs.Characters.{is_ascii_white_space, is_ascii_punctuation, is_white_space, line_feed}
+use Rattle.tocmark_write_texts.specs.Characters.{is_ascii_white_space, is_ascii_punctuation, is_white_space, line_feed}
 use Rattle.tocmark_spelling.specs.Words.{first_character, last_character, asterisk}
 use Rattle.tocmark_spelling.specs.Kinds.{is_inline_tag, is_inline_end, is_emphasis, starts}
 use Rattle.tocmark_spelling.specs.ById.{events_of}

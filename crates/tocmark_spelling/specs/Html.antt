@@ -2,7 +2,7 @@
 use Rattle.std.specs.Prelude.{ℕ, Bool, false, not, ◌&&◌, ◌||◌, ◌==◌, if◌then◌else◌, Option, Some, None, List, [], ◌∷◌, ◌++◌, bytes_eq, codes, drop, take_while}
 use Rattle.std.specs.List.{list_any}
 use Rattle.std.specs.Str.{trim_start, str_to_ascii_lowercase}
-use Rattle.tocmark_escape.specs.Characters.{is_ascii_white_space, greater_than}
+use Rattle.tocmark_write_texts.specs.Characters.{is_ascii_white_space, greater_than}
 use Rattle.tocmark_spelling.specs.Words.{begins_with, holds}
 
 -- the tags of raw text

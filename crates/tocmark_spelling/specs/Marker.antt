@@ -3,7 +3,7 @@ use Rattle.std.specs.Prelude.{ℕ, ◌+◌, ◌%◌, Bool, true, false, not, ◌
 use Rattle.tocmark_event.specs.Ends.{same_end}
 use Rattle.tocmark_event.specs.View.{TagView, Strong, EventView, End, end_of}
 use Rattle.tocmark_event.specs.declared.event.TagEnd.{TagEnd}
-use Rattle.tocmark_escape.specs.Characters.{underscore}
+use Rattle.tocmark_write_texts.specs.Characters.{underscore}
 use Rattle.tocmark_spelling.specs.Words.{last_character, last_byte, asterisk, or_else, same_truth}
 use Rattle.tocmark_spelling.specs.Plan.{Markers, Setting, Manner}
 use Rattle.tocmark_spelling.specs.declared.plan.Layout.{Layout}

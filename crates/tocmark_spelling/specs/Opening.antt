@@ -2,7 +2,7 @@
 use Rattle.std.specs.Prelude.{ℕ, ◌+◌, Bool, true, false, not, ◌&&◌, ◌||◌, ◌==◌, if◌then◌else◌, nat_le, Option, Some, None, is_some, is_none, List, [], ◌∷◌, ◌++◌, length, min, max, replicate, flat_map, drop, codes, chars, decimal, encode_utf8, bytes_eq}
 use Rattle.std.specs.List.{list_any}
 use Rattle.tocmark_event.specs.View.{CodeView, Indented, Fenced, TagView, Heading, BlockQuote, CodeBlock, HtmlBlock, ListOf, Item, FootnoteDefinition, DefinitionListTitle, DefinitionListDefinition, Table, TableHead, TableCell, Emphasis, Strong, Strikethrough, Superscript, Subscript, Link, Image, MetadataBlock}
-use Rattle.tocmark_options.specs.Options.{OptionsView}
+use Rattle.tocmark_event.specs.Options.{OptionsView}
 use Rattle.tocmark_event.specs.declared.event.HeadingLevel.{HeadingLevel}
 use Rattle.tocmark_event.specs.declared.event.HeadingLevel.TheVariants as level
 use Rattle.tocmark_event.specs.declared.event.BlockQuoteKind.{BlockQuoteKind}
@@ -12,8 +12,8 @@ use Rattle.tocmark_event.specs.declared.event.MetadataBlockKind.TheVariants as m
 use Rattle.tocmark_event.specs.declared.event.LinkType.{LinkType}
 use Rattle.tocmark_event.specs.declared.event.flags.ParserOptions.{ParserOptions}
 use Rattle.std.specs.Prelude.{bit_and}
-use Rattle.tocmark_escape.specs.Characters.{hash, space, ampersand, backslash, backtick}
-use Rattle.tocmark_texts.specs.Leaves.{longest_run}
+use Rattle.tocmark_write_texts.specs.Characters.{hash, space, ampersand, backslash, backtick}
+use Rattle.tocmark_write_texts.specs.Leaves.{longest_run}
 use Rattle.tocmark_spelling.specs.Words.{asterisk, hyphen, or_else, same_truth}
 use Rattle.tocmark_spelling.specs.Plan.{Setting, Manner}
 use Rattle.tocmark_spelling.specs.declared.plan.Layout.{Layout}

@@ -1,14 +1,14 @@
 -- What the fields of a request mean.
 use Rattle.std.specs.Prelude.{ℕ, List, Bool, Option, ◌&&◌, if◌then◌else◌}
 use Rattle.tocmark_event.specs.View.{EventView}
-use Rattle.tocmark_escape.specs.Escape.{Place}
+use Rattle.tocmark_write_texts.specs.Escape.{Place}
 use Rattle.tocmark_spelling.specs.Kinds.{is_table, is_heading, is_emphasis_or_strong, starts, and_is}
 use Rattle.tocmark_spelling.specs.Page.{Held, Path, Page, with_last, written}
 use Rattle.tocmark_spelling.specs.declared.trail.Last.TheVariants.{Inline}
 use Rattle.tocmark_spelling.specs.Places.{is_in, is_raw}
 use Rattle.tocmark_spelling.specs.Stretch.{is_literal, has_entities, at_front, from_source, or_escaped}
-use Rattle.tocmark_options.specs.Options.{OptionsView}
-use Rattle.tocmark_reader.specs.Reading.{ReadingView}
+use Rattle.tocmark_event.specs.Options.{OptionsView}
+use Rattle.tocmark_event.specs.Reading.{ReadingView}
 use Rattle.tocmark_event.specs.declared.event.flags.ParserOptions.{ParserOptions}
 use Rattle.tocmark_spelling.specs.Plan.{Setting, Manner}
 use Rattle.tocmark_spelling.specs.declared.plan.TextSpelling.{TextSpelling}

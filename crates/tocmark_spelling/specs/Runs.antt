@@ -5,7 +5,7 @@ use Rattle.tocmark_event.specs.View.{TagView, Emphasis, Strong, SourcedEvent, Ev
 use Rattle.tocmark_event.specs.Forest.{empty, leaf, node, flat_onto}
 use Rattle.tocmark_event.specs.declared.event.TagEnd.{TagEnd}
 use Rattle.tocmark_event.specs.declared.event.TagEnd.TheVariants as end
-use Rattle.tocmark_escape.specs.Characters.{is_white_space, underscore}
+use Rattle.tocmark_write_texts.specs.Characters.{is_white_space, underscore}
 use Rattle.tocmark_spelling.specs.Words.{asterisk}
 use Rattle.tocmark_spelling.specs.Plan.{Setting}
 use Rattle.tocmark_spelling.specs.Kinds.{is_emphasis, is_emphasis_or_strong}

@@ -1,8 +1,8 @@
 -- The leaves: each with its gap, and a stretch of texts as one.
 use Rattle.std.specs.Prelude.{ℕ, ◌+◌, Bool, true, false, ◌&&◌, ◌||◌, ◌==◌, if◌then◌else◌, nat_lt, Option, Some, None, is_none, List, [], ◌∷◌, ◌++◌, length, max, codes, chars}
 use Rattle.tocmark_event.specs.View.{LeafView, Text, Code, InlineMath, DisplayMath, Html, InlineHtml, FootnoteReference, SoftBreak, HardBreak, Rule, TaskListMarker, SourcedLeaf, EventView, Leaf}
-use Rattle.tocmark_escape.specs.Escape.{Place, escaped}
-use Rattle.tocmark_texts.specs.Leaves.{code_span, inline_math, display_math, task_marker, footnote_reference}
+use Rattle.tocmark_write_texts.specs.Escape.{Place, escaped}
+use Rattle.tocmark_write_texts.specs.Leaves.{code_span, inline_math, display_math, task_marker, footnote_reference}
 use Rattle.tocmark_spelling.specs.Plan.{Setting, Manner}
 use Rattle.tocmark_spelling.specs.declared.plan.TextSpelling.{TextSpelling}
 use Rattle.tocmark_spelling.specs.declared.plan.TextSpelling.TheVariants.{Literal, Entities, LiteralEntities}

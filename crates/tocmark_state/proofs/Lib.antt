@@ -1,2 +1,4 @@
+pub mod Walks
+pub mod Steps
 pub mod Runs
 pub mod Statuses

@@ -2,19 +2,19 @@
 use Rattle.std.proofs.Common.{◌≡◌, ℕ, ◌+◌, ◌-◌, List, [], ◌++◌, length, sum_by, Result, Ok, Err, ap, sym, subst, IsOk}
 use Rattle.std.specs.List.{FoldsTo}
 use Rattle.std.specs.Result.{IfOk}
-use Rattle.tocmark_options.specs.Options.{OptionsView}
-use Rattle.tocmark_reader.specs.Reading.{ReadingView}
+use Rattle.tocmark_event.specs.Options.{OptionsView}
+use Rattle.tocmark_event.specs.Reading.{ReadingView}
 use Rattle.tocmark_event.specs.declared.event.flags.ParserOptions.{ParserOptions}
-use Rattle.tocmark_options.specs.declared.options.Error.{Error}
-use Rattle.tocmark_work.specs.declared.work.Progress.{Progress}
-use Rattle.tocmark_work.specs.Ranges.{Pair}
-use Rattle.tocmark_work.specs.Walk.{Done, done, Rendering, Standing, Walk, go_on, walk, nothing_yet, ended, script}
-use Rattle.tocmark_work.specs.Writes.{Makes, RefusesAt, TakesAll, TakesAllAt}
-use Rattle.tocmark_options.specs.declared.options.Error.TheVariants as error
+use Rattle.tocmark_event.specs.declared.options.Error.{Error}
+use Rattle.tocmark_state.specs.declared.work.Progress.{Progress}
+use Rattle.tocmark_state.specs.Ranges.{Pair}
+use Rattle.tocmark_state.specs.Walk.{Done, done, Rendering, Standing, Walk, go_on, walk, nothing_yet, ended, script}
+use Rattle.tocmark_state.specs.Writes.{Makes, RefusesAt, TakesAll, TakesAllAt}
+use Rattle.tocmark_event.specs.declared.options.Error.TheVariants as error
 use Rattle.tocmark_state.specs.StateView.{Adds, Ends}
-use Rattle.tocmark_work.specs.WorkView.{Counts, rendering}
-use Rattle.tocmark_work.proofs.Walks.{walk_after, Makes-then, RefusesAt-longer}
-use Rattle.tocmark_work.proofs.Steps.{no_ok}
+use Rattle.tocmark_state.specs.WorkView.{Counts, rendering}
+use Rattle.tocmark_state.proofs.Walks.{walk_after, Makes-then, RefusesAt-longer}
+use Rattle.tocmark_state.proofs.Steps.{no_ok}
 
 -- a call after the list p
 pub Adds-from : {W : Type 0} (gives refuses : W → List ℕ → W → Type 0) (w v : W) (how : Rendering) (flags : ParserOptions) (source : List ℕ) (r : Result Progress Error) (place : Standing) (p q : List Pair) (s : Standing) → (walk how source (nothing_yet flags) p).outcome ≡ Ok s → Makes gives refuses w v r place (walk how source s q) → IfOk r (λ n. Counts n (length q) (sum_by length (walk how source s q).texts)) → Adds gives refuses w v how flags source r place p q

@@ -1,1 +1,5 @@
+pub mod Ranges
+pub mod Walk
+pub mod Writes
+pub mod WorkView
 pub mod StateView

@@ -2,18 +2,18 @@
 use Rattle.std.specs.Prelude.{◌≡◌, ℕ, ◌-◌, ◌++◌, List, length, Result, Ok}
 use Rattle.std.specs.List.{sum_by}
 use Rattle.std.specs.Result.{IfOk}
-use Rattle.tocmark_options.specs.Options.{owned_options_view}
-use Rattle.tocmark_reader.specs.Reading.{ReadingView}
+use Rattle.tocmark_event.specs.Options.{owned_options_view}
+use Rattle.tocmark_event.specs.Reading.{ReadingView}
 use Rattle.tocmark_event.specs.declared.event.flags.ParserOptions.{ParserOptions}
-use Rattle.tocmark_options.specs.declared.options.Error.{Error}
-use Rattle.tocmark_work.specs.declared.work.Progress.{Progress}
+use Rattle.tocmark_event.specs.declared.options.Error.{Error}
+use Rattle.tocmark_state.specs.declared.work.Progress.{Progress}
 use Rattle.tocmark_state.specs.declared.state.State.{State}
 use Rattle.tocmark_state.specs.declared.state.Status.{Status}
 use Rattle.tocmark_state.specs.declared.state.Status.TheVariants.{Active, Finished, Failed}
-use Rattle.tocmark_work.specs.Ranges.{Pair}
-use Rattle.tocmark_work.specs.Walk.{done, Rendering, Standing, walk, nothing_yet, script}
-use Rattle.tocmark_work.specs.Writes.{Makes}
-use Rattle.tocmark_work.specs.WorkView.{Counts, pairs, rendering, standing_of}
+use Rattle.tocmark_state.specs.Ranges.{Pair}
+use Rattle.tocmark_state.specs.Walk.{done, Rendering, Standing, walk, nothing_yet, script}
+use Rattle.tocmark_state.specs.Writes.{Makes}
+use Rattle.tocmark_state.specs.WorkView.{Counts, flags_of, pairs, rendering, standing_of}
 
 -- where the events that a state took stand
 abbrev pub place_of : {R : Type 0} → State R → Standing
@@ -26,6 +26,10 @@ status_of s = s.status
 -- the reader of a state
 abbrev pub reader_of : {R : Type 0} → State R → R
 reader_of s = s.reader
+
+-- the flags that a state was made for
+abbrev pub state_flags : {R : Type 0} → State R → ParserOptions
+state_flags s = flags_of s.work
 
 -- two states take the same further events, under the same options
 pub record SameStanding {R : Type 0} (s t : State R) : Type 0 where

@@ -3,19 +3,19 @@
 ghost use Rattle.std.specs.Prelude.{◌+◌, Option, ◌≡◌, IfOk, OnOk, OnErr, List, ℕ, IsOk, Some, []};
 ghost use Rattle.std.specs.Borrow.{Bor};
 ghost use Rattle.std.specs.Iterator.{IsFinite, DrainsIf};
-ghost use Rattle.tocmark_options.specs.Options.{options_view, owned_options_view};
+ghost use Rattle.tocmark_event.specs.Options.{options_view, owned_options_view};
 ghost use Rattle.tocmark_event.specs.Text.{ParserEvent};
-ghost use Rattle.tocmark_work.specs.Ranges.{Range};
+ghost use Rattle.tocmark_state.specs.Ranges.{Range};
 ghost use Rattle.tocmark_state.specs.StateView.{Adds, Ends, rendering_of};
-ghost use Rattle.tocmark_work.specs.WorkView.{pairs, ranged_pairs, rendering};
+ghost use Rattle.tocmark_state.specs.WorkView.{pairs, ranged_pairs, rendering};
 
+use crate::taker::Taker;
+use crate::work::{Progress, Tools, Work, end, take_all, take_all_ranged};
 use std::alloc::{AllocError, Global};
 use std::fmt;
 use tocmark_event::event::{Event, ParserOptions};
-use tocmark_options::options::{Error, Options, OptionsOf};
-use tocmark_reader::Reader;
-use tocmark_work::taker::Taker;
-use tocmark_work::work::{Progress, Tools, Work, end, take_all, take_all_ranged};
+use tocmark_event::options::{Error, Options, OptionsOf};
+use tocmark_event::reader::Reader;
 
 /// Whether a state takes events.
 #[derive(Clone, Copy, Debug, PartialEq, Eq)]
@@ -81,8 +81,8 @@ fn lent_options(options: &OptionsOf<String>) -> Options<'_>
 impl<R: Reader + Drop> State<R> {
     ghost use Rattle.std.specs.Prelude.{IfErr};
     ghost use Rattle.tocmark_event.specs.declared.event.flags.ParserOptions.{ParserOptions};
-    ghost use Rattle.tocmark_work.specs.Ranges.{Pair};
-    ghost use Rattle.tocmark_state.specs.StateView.{Stands, IsActive, IsFailed, IsFinished, place_of, status_of};
+    ghost use Rattle.tocmark_state.specs.Ranges.{Pair};
+    ghost use Rattle.tocmark_state.specs.StateView.{Stands, IsActive, IsFailed, IsFinished, place_of, state_flags, status_of};
 
     /// A state that took no event. The options aren't checked. An `Err` says that memory ran out for
     /// a copy of the strong token; the reader is dropped then.
@@ -97,6 +97,7 @@ impl<R: Reader + Drop> State<R> {
         ensures same { IfOk result (λ state.
             rendering_of R.reading state
             ≡ rendering (options_view options.entry) (R.reading reader)) }
+        ensures flags { IfOk result (λ state. state_flags state ≡ parser_options) }
         ensures refused { IfErr result (λ e. e ≡ Error.OutOfMemory) }
     {
         let options = owned_options(alloc, options)?;
@@ -146,6 +147,7 @@ impl<R: Reader + Drop> State<R> {
             → Adds W.takes W.refuses writer.old writer.new (rendering_of R.reading self.old)
             flags source result (place_of self.new) p (pairs xs)) }
         ensures same { rendering_of R.reading self.new ≡ rendering_of R.reading self.old }
+        ensures flags { state_flags self.new ≡ state_flags self.old }
         ensures stands { OnOk result (status_of self.new ≡ status_of self.old) }
         ensures refused { OnErr result (IsFailed self.new) }
         ensures finished { IsFinished self.old
@@ -214,6 +216,7 @@ impl<R: Reader + Drop> State<R> {
             → Adds W.takes W.refuses writer.old writer.new (rendering_of R.reading self.old)
             flags source.now result (place_of self.new) p (ranged_pairs xs)) }
         ensures same { rendering_of R.reading self.new ≡ rendering_of R.reading self.old }
+        ensures flags { state_flags self.new ≡ state_flags self.old }
         ensures stands { OnOk result (status_of self.new ≡ status_of self.old) }
         ensures refused { OnErr result (IsFailed self.new) }
         ensures finished { IsFinished self.old
@@ -251,6 +254,7 @@ impl<R: Reader + Drop> State<R> {
             → Ends W.takes W.refuses writer.old writer.new (rendering_of R.reading self.old)
             flags source result p }
         ensures same { rendering_of R.reading self.new ≡ rendering_of R.reading self.old }
+        ensures flags { state_flags self.new ≡ state_flags self.old }
         ensures ok { OnOk result (IsFinished self.new) }
         ensures refused { OnErr result (IsFailed self.new) }
         ensures finished { IsFinished self.old

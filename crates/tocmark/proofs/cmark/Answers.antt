@@ -1,8 +1,8 @@
 use Rattle.std.proofs.Common.{◌≡◌, true, false, codes, [], ap, subst}
 use Rattle.std.specs.Result.{IfOk}
 use Rattle.std.specs.Char.{char_set_contains}
-use Rattle.tocmark_options.specs.Options.{OptionsView, default_options, options_view}
-use Rattle.tocmark_work.specs.WorkView.{pairs, rendering}
+use Rattle.tocmark_event.specs.Options.{OptionsView, default_options, options_view}
+use Rattle.tocmark_state.specs.WorkView.{pairs, rendering}
 use Rattle.tocmark_state.specs.StateView.{rendering_of}
 use Rattle.tocmark_laws.proofs.BlockWalks.{blocks_made}
 use Rattle.tocmark_laws.proofs.PlainDocument.{lines_handed}

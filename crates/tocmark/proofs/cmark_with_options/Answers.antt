@@ -1,9 +1,9 @@
 use Rattle.std.proofs.Common.{◌∙◌, [], Ok, Result, refl, subst, sym}
 use Rattle.std.proofs.lemmas.Result.{err_from_is_err_and}
-use Rattle.tocmark_options.specs.declared.options.Error.{Error}
-use Rattle.tocmark_work.specs.Walk.{Rendering, done, nothing_yet, script, walk}
-use Rattle.tocmark_work.specs.Writes.{Makes, RefusesAt, TakesAllAt}
-use Rattle.tocmark_work.specs.WorkView.{pairs}
+use Rattle.tocmark_event.specs.declared.options.Error.{Error}
+use Rattle.tocmark_state.specs.Walk.{Rendering, done, nothing_yet, script, walk}
+use Rattle.tocmark_state.specs.Writes.{Makes, RefusesAt, TakesAllAt}
+use Rattle.tocmark_state.specs.WorkView.{pairs}
 use Rattle.tocmark.proofs.cmark_with_options.Goals as goal
 
 pub returns-in_err-state-clause-made : goal.returns-in_err-state-clause-made
@@ -37,3 +37,6 @@ returns-in-Err-clause-made g c =
 
 pub returns-in-Ok-clause-same : goal.returns-in-Ok-clause-same
 returns-in-Ok-clause-same g c = c.in-Ok.ensures.same ∙ c.in_ok-state.ensures.same
+
+pub returns-in-Ok-clause-flags : goal.returns-in-Ok-clause-flags
+returns-in-Ok-clause-flags g c = c.in-Ok.ensures.flags ∙ c.in_ok-state.ensures.flags

@@ -1,10 +1,10 @@
 use Rattle.std.proofs.Common.{◌∙◌, [], Result, Err, Ok, refl, subst}
 use Rattle.std.proofs.lemmas.Result.{err_from_is_err_and}
-use Rattle.tocmark_options.specs.declared.options.Error.{Error}
-use Rattle.tocmark_work.specs.declared.work.Progress.{Progress}
-use Rattle.tocmark_work.specs.Walk.{Rendering}
+use Rattle.tocmark_event.specs.declared.options.Error.{Error}
+use Rattle.tocmark_state.specs.declared.work.Progress.{Progress}
+use Rattle.tocmark_state.specs.Walk.{Rendering}
 use Rattle.tocmark_state.specs.StateView.{Ends, place_of, rendering_of, Stands}
-use Rattle.tocmark_work.specs.WorkView.{pairs}
+use Rattle.tocmark_state.specs.WorkView.{pairs}
 use Rattle.tocmark_state.proofs.Runs.{Adds-script, Ends-script, taken_front}
 use Rattle.tocmark.proofs.write_all.Goals as goal
 
@@ -62,3 +62,6 @@ returns-clause-made g c flags s =
 
 pub returns-clause-same : goal.returns-clause-same
 returns-clause-same g c = c.in_ok-finish.ensures.same ∙ c.in_ok-process.ensures.same
+
+pub returns-clause-flags : goal.returns-clause-flags
+returns-clause-flags g c = c.in_ok-finish.ensures.flags ∙ c.in_ok-process.ensures.flags

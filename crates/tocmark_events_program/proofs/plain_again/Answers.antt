@@ -1,7 +1,7 @@
 use Rattle.std.proofs.Common.{inr, map, refl}
 use Rattle.tocmark_event.specs.Text.{text_of}
 use Rattle.tocmark_event.specs.View.{event_view}
-use Rattle.tocmark_work.specs.Ranges.{unranged}
+use Rattle.tocmark_state.specs.Ranges.{unranged}
 use Rattle.tocmark_events_program.proofs.plain_again.Goals as goal
 
 pub returns-clause-events : goal.returns-clause-events

@@ -6,7 +6,7 @@ use Rattle.serde_json.specs.Written.{IsInOrder}
 use Rattle.tocmark_event.specs.Text.{text_of}
 use Rattle.tocmark_event.specs.View.{EventView, event_view}
 use Rattle.tocmark_json.specs.Json.{pairs_json, ranged_view}
-use Rattle.tocmark_reader.specs.Reading.{ReadingView}
+use Rattle.tocmark_event.specs.Reading.{ReadingView}
 use Rattle.tocmark_events_program.specs.Events.{reading_json}
 use Rattle.tocmark_events_program.proofs.read_events.Goals as goal
 

@@ -3,7 +3,7 @@ use Rattle.std.specs.Vec.Iter.{into_iter_items}
 use Rattle.tocmark_event.specs.Text.{text_of}
 use Rattle.tocmark_event.specs.View.{event_view}
 use Rattle.tocmark_json.specs.Json.{pair_view}
-use Rattle.tocmark_work.specs.Ranges.{unranged}
+use Rattle.tocmark_state.specs.Ranges.{unranged}
 use Rattle.tocmark_events_program.proofs.without_ranges.Given as goal
 
 abbrev pub invariant-loop-event : goal.invariant-loop-event

@@ -1,8 +1,8 @@
 use Rattle.std.proofs.Common.{◌≡◌, ap, ◌∙◌, map}
 use Rattle.tocmark_event.specs.Text.{text_of}
 use Rattle.tocmark_json.specs.Json.{pair_view}
-use Rattle.tocmark_options.specs.Options.{options_view}
-use Rattle.tocmark_work.specs.WorkView.{ranged_pairs}
+use Rattle.tocmark_event.specs.Options.{options_view}
+use Rattle.tocmark_state.specs.WorkView.{ranged_pairs}
 use Rattle.tocmark_events_program.specs.Events.{places_left}
 use Rattle.tocmark_events_program.proofs.Taken.{all_written, pairs_taken}
 use Rattle.tocmark_events_program.proofs.written.Goals as goal

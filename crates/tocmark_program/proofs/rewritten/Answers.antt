@@ -2,14 +2,14 @@ use Rattle.std.proofs.Common.{◌≡◌, ℕ, List, [], ◌++◌, map, Some, ref
 use mathlib.Core.List.{map-map}
 use Rattle.std.specs.Global.{Global}
 use Rattle.std.specs.List.{FoldsTo, concat}
-use Rattle.tocmark_options.specs.Options.{default_options}
-use Rattle.tocmark_reader.specs.Reading.{ReadingView, events_left, pairs_left, reading_view}
+use Rattle.tocmark_event.specs.Options.{default_options}
+use Rattle.tocmark_event.specs.Reading.{ReadingView, events_left, pairs_left, reading_view}
 use Rattle.tocmark_event.specs.View.{EventView}
 use Rattle.tocmark_event.specs.declared.event.flags.ParserOptions.{ParserOptions}
 use Rattle.tocmark_core_reader.specs.Reading.{core_reading}
-use Rattle.tocmark_work.specs.Ranges.{Pair, unranged}
-use Rattle.tocmark_work.specs.WorkView.{rendering, pairs, ranged_pairs}
-use Rattle.tocmark_work.specs.Walk.{Walk, Done, done, nothing_yet, script}
+use Rattle.tocmark_state.specs.Ranges.{Pair, unranged}
+use Rattle.tocmark_state.specs.WorkView.{rendering, pairs, ranged_pairs}
+use Rattle.tocmark_state.specs.Walk.{Walk, Done, done, nothing_yet, script}
 use Rattle.tocmark_laws.proofs.Handed.{pairs_of_events, pairs_of_pairs, written_in_parts}
 use Rattle.tocmark_program.specs.Program.{events_in, IsRewritten}
 use Rattle.tocmark_program.specs.declared.arguments.Spelling.{Spelling}

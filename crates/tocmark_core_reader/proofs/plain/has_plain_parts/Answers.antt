@@ -1,5 +1,5 @@
 use Rattle.std.proofs.Common.{List, ℕ, ap, sym, ◌∙◌}
-use Rattle.tocmark_core_scan.specs.PlainParts.{are_plain_parts}
+use Rattle.tocmark_read_scan.specs.PlainParts.{are_plain_parts}
 use Rattle.tocmark_core_reader.specs.PlainTexts.{parts_from}
 use Rattle.tocmark_core_reader.proofs.PlainSearch.{front_passed, front_refused}
 use Rattle.tocmark_core_reader.proofs.plain.has_plain_parts.Goals as goal

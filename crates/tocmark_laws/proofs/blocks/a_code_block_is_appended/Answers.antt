@@ -1,7 +1,7 @@
 use Rattle.std.proofs.Common.{ℕ, List}
 use Rattle.std.specs.List.{concat}
-use Rattle.tocmark_work.specs.WorkView.{rendering}
-use Rattle.tocmark_work.specs.Walk.{nothing_yet, script}
+use Rattle.tocmark_state.specs.WorkView.{rendering}
+use Rattle.tocmark_state.specs.Walk.{nothing_yet, script}
 use Rattle.tocmark_laws.proofs.Appended.{appended}
 use Rattle.tocmark_laws.proofs.CodeBlocks.{is_fenced}
 use Rattle.tocmark_laws.specs.CodeBlocks.{code_events, code_text}

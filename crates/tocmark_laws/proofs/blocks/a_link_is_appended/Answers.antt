@@ -1,5 +1,5 @@
-use Rattle.tocmark_work.specs.WorkView.{rendering}
-use Rattle.tocmark_work.specs.Walk.{nothing_yet, script}
+use Rattle.tocmark_state.specs.WorkView.{rendering}
+use Rattle.tocmark_state.specs.Walk.{nothing_yet, script}
 use Rattle.tocmark_laws.proofs.Appended.{appended}
 use Rattle.tocmark_laws.proofs.Links.{handed}
 use Rattle.tocmark_laws.specs.Links.{link_events, link_text}

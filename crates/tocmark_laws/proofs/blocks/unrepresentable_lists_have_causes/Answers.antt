@@ -1,4 +1,4 @@
-use Rattle.tocmark_label_sets.specs.Document.{first_document}
+use Rattle.tocmark_write_labels.specs.Document.{first_document}
 use Rattle.tocmark_laws.proofs.UnexpectedCauses.{unrepresentable-cause}
 use Rattle.tocmark_laws.proofs.blocks.unrepresentable_lists_have_causes.Goals as goal
 

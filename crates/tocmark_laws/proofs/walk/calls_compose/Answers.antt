@@ -1,5 +1,5 @@
 use Rattle.std.proofs.Common.{[], refl}
-use Rattle.tocmark_work.specs.Walk.{nothing_yet}
+use Rattle.tocmark_state.specs.Walk.{nothing_yet}
 use Rattle.tocmark_laws.proofs.Calls.{calls_make}
 use Rattle.tocmark_laws.proofs.walk.calls_compose.Goals as goal
 

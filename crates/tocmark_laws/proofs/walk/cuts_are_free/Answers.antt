@@ -1,4 +1,4 @@
-use Rattle.tocmark_work.proofs.Walks.{walk_after}
+use Rattle.tocmark_state.proofs.Walks.{walk_after}
 use Rattle.tocmark_laws.proofs.walk.cuts_are_free.Goals as goal
 
 pub returns : goal.returns

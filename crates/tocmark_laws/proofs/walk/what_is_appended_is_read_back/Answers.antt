@@ -1,8 +1,8 @@
 use Rattle.std.proofs.Common.{ℕ, List}
 use Rattle.std.specs.List.{concat}
 use Rattle.tocmark_laws.specs.Paragraphs.{paragraph_of}
-use Rattle.tocmark_work.specs.WorkView.{rendering}
-use Rattle.tocmark_work.specs.Walk.{nothing_yet, script}
+use Rattle.tocmark_state.specs.WorkView.{rendering}
+use Rattle.tocmark_state.specs.Walk.{nothing_yet, script}
 use Rattle.tocmark_laws.proofs.Handed.{kept_in_parts}
 use Rattle.tocmark_laws.proofs.walk.what_is_appended_is_read_back.Goals as goal
 

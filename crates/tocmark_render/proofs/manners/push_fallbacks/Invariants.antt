@@ -1,5 +1,5 @@
 use Rattle.std.proofs.Common.{◌≡◌, ◌++◌, drop, flat_map, map}
-use Rattle.tocmark_renderer.specs.JobOf.{manner_view}
+use Rattle.tocmark_write_renderer.specs.JobOf.{manner_view}
 use Rattle.tocmark_render.specs.Candidates.{fallback_manners, fallbacks}
 use Rattle.tocmark_render.specs.Tries.{plan_view}
 use Rattle.tocmark_render.proofs.manners.push_fallbacks.Given as goal

@@ -1,7 +1,7 @@
 use Rattle.std.proofs.Common.{drop, map, subst, sym}
 use Rattle.std.proofs.lemmas.Result.{err_from_is_err_and}
-use Rattle.tocmark_renderer.specs.JobOf.{manner_view}
-use Rattle.tocmark_renderer.specs.WriterOf.{site_of}
+use Rattle.tocmark_write_renderer.specs.JobOf.{manner_view}
+use Rattle.tocmark_write_renderer.specs.WriterOf.{site_of}
 use Rattle.tocmark_render.specs.TrialOf.{IsFront, asked_of, earlier_at}
 use Rattle.tocmark_render.proofs.LowManners.{low-at}
 use Rattle.tocmark_render.proofs.Trials.{goes-on-all, lost-all, none-left, one-found, one-lost, stopped-there, views-end}

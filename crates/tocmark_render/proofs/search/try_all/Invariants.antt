@@ -1,6 +1,6 @@
 use Rattle.std.proofs.Common.{drop, map}
-use Rattle.tocmark_renderer.specs.JobOf.{manner_view}
-use Rattle.tocmark_renderer.specs.WriterOf.{site_of}
+use Rattle.tocmark_write_renderer.specs.JobOf.{manner_view}
+use Rattle.tocmark_write_renderer.specs.WriterOf.{site_of}
 use Rattle.tocmark_render.specs.TrialOf.{AreRefused, asked_of, earlier_at, earlier_view}
 use Rattle.tocmark_render.proofs.Trials.{GoesOn}
 use Rattle.tocmark_render.proofs.search.try_all.Given as goal

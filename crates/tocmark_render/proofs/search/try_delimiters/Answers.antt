@@ -1,7 +1,7 @@
 use Rattle.std.proofs.Common.{Ok, flat_map, map, subst, sym}
 use Rattle.std.specs.List.{AllByRecursion}
-use Rattle.tocmark_renderer.specs.JobOf.{manner_view}
-use Rattle.tocmark_renderer.specs.WriterOf.{site_of}
+use Rattle.tocmark_write_renderer.specs.JobOf.{manner_view}
+use Rattle.tocmark_write_renderer.specs.WriterOf.{site_of}
 use Rattle.tocmark_render.specs.Candidates.{fallback_manners, fallbacks}
 use Rattle.tocmark_render.specs.TrialOf.{IsFront, IsLow, asked_of, earlier_at, options_in}
 use Rattle.tocmark_render.specs.Tries.{run_manners}

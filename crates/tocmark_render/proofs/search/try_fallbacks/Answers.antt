@@ -1,8 +1,8 @@
 use Rattle.std.proofs.Common.{drop, flat_map, get_or, map, subst, sym}
 use Rattle.std.specs.List.{AllByRecursion}
 use Rattle.std.proofs.lemmas.Result.{err_from_is_err_and}
-use Rattle.tocmark_renderer.specs.JobOf.{manner_view}
-use Rattle.tocmark_renderer.specs.WriterOf.{site_of}
+use Rattle.tocmark_write_renderer.specs.JobOf.{manner_view}
+use Rattle.tocmark_write_renderer.specs.WriterOf.{site_of}
 use Rattle.tocmark_render.specs.Candidates.{fallback_manners, fallbacks}
 use Rattle.tocmark_render.specs.TrialOf.{IsFront, IsLow, asked_of, earlier_at}
 use Rattle.tocmark_render.specs.Tries.{plan_view}

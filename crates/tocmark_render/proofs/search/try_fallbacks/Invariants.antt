@@ -1,5 +1,5 @@
 use Rattle.std.proofs.Common.{drop, flat_map}
-use Rattle.tocmark_renderer.specs.WriterOf.{site_of}
+use Rattle.tocmark_write_renderer.specs.WriterOf.{site_of}
 use Rattle.tocmark_render.specs.Candidates.{fallback_manners, fallbacks}
 use Rattle.tocmark_render.specs.TrialOf.{AreRefused, asked_of, earlier_at, earlier_view}
 use Rattle.tocmark_render.proofs.Trials.{GoesOn, fallback_at}

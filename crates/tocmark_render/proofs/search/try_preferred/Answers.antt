@@ -1,8 +1,8 @@
 use Rattle.std.proofs.Common.{ap, subst, sym, [], ◌∷◌}
 use Rattle.std.specs.List.{AllByRecursion}
 use Rattle.std.proofs.lemmas.Bool.{false≢true}
-use Rattle.tocmark_renderer.specs.JobOf.{manner_view}
-use Rattle.tocmark_renderer.specs.WriterOf.{site_of}
+use Rattle.tocmark_write_renderer.specs.JobOf.{manner_view}
+use Rattle.tocmark_write_renderer.specs.WriterOf.{site_of}
 use Rattle.tocmark_render.specs.Candidates.{preferred_manner}
 use Rattle.tocmark_render.specs.TrialOf.{IsLow, asked_of, earlier_at, options_in}
 use Rattle.tocmark_render.proofs.Trials.{tries-same}

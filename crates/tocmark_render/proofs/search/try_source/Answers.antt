@@ -1,7 +1,7 @@
 use Rattle.std.proofs.Common.{ap, false, map, subst, sym, true, ◌∷◌, []}
 use Rattle.std.specs.List.{AllByRecursion}
-use Rattle.tocmark_renderer.specs.JobOf.{manner_view}
-use Rattle.tocmark_renderer.specs.WriterOf.{site_of}
+use Rattle.tocmark_write_renderer.specs.JobOf.{manner_view}
+use Rattle.tocmark_write_renderer.specs.WriterOf.{site_of}
 use Rattle.tocmark_render.specs.TrialOf.{IsLow, asked_of, earlier_at, options_in}
 use Rattle.tocmark_render.proofs.LowManners.{low-source}
 use Rattle.tocmark_render.proofs.Trials.{no-source, source-tried}

@@ -1,7 +1,7 @@
 use Rattle.std.proofs.Common.{◌∙◌, [], ap, subst, sym}
-use Rattle.tocmark_emphasis.specs.Low.{OpensLow}
-use Rattle.tocmark_renderer.specs.JobOf.{manner_view}
-use Rattle.tocmark_renderer.specs.WriterOf.{Comes, levels_of, page_of, site_of}
+use Rattle.tocmark_write_emphasis.specs.Low.{OpensLow}
+use Rattle.tocmark_write_renderer.specs.JobOf.{manner_view}
+use Rattle.tocmark_write_renderer.specs.WriterOf.{Comes, levels_of, page_of, site_of}
 use Rattle.tocmark_spelling.specs.Body.{Trees}
 use Rattle.tocmark_spelling.specs.Machine.{around}
 use Rattle.tocmark_spelling.specs.Page.{Path, Site}

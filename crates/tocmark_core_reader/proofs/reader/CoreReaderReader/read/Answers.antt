@@ -1,6 +1,6 @@
 use Rattle.std.proofs.Common.{◌<◌, ◌^◌, length, arith}
 use Rattle.tocmark_core_reader.proofs.PlainTests.{plain_found}
-use Rattle.tocmark_reader.specs.Reading.{reading_view}
+use Rattle.tocmark_event.specs.Reading.{reading_view}
 use Rattle.tocmark_core_reader.proofs.reader.CoreReaderReader.read.Goals as goal
 
 pub returns-clause-plain : goal.returns-clause-plain

@@ -1,6 +1,6 @@
 use Rattle.std.proofs.Common.{Ok, Err, refl}
-use Rattle.tocmark_options.specs.Options.{options_view, owned_options_view}
-use Rattle.tocmark_work.specs.WorkView.{standing_of}
+use Rattle.tocmark_event.specs.Options.{options_view, owned_options_view}
+use Rattle.tocmark_state.specs.WorkView.{standing_of}
 use Rattle.tocmark_state.proofs.Runs.{Ends-with}
 use Rattle.tocmark_state.proofs.Statuses.{not_finished, not_failed}
 use Rattle.tocmark_state.proofs.state.State.finish.Goals as goal

@@ -1,14 +1,14 @@
 use Rattle.std.proofs.Common.{Ok, Err}
 use Rattle.std.proofs.lemmas.List.{length-map}
-use Rattle.tocmark_options.specs.Options.{options_view, owned_options_view}
-use Rattle.tocmark_work.specs.WorkView.{pairs, standing_of}
+use Rattle.tocmark_event.specs.Options.{options_view, owned_options_view}
+use Rattle.tocmark_state.specs.WorkView.{pairs, standing_of}
 use Rattle.tocmark_state.proofs.Runs.{Adds-with}
 use Rattle.tocmark_state.proofs.Statuses.{not_finished, not_failed}
 use Rattle.tocmark_state.proofs.state.State.process.Goals as goal
 
 pub returns-in-Ok-clause-active : goal.returns-in-Ok-clause-active
 returns-in-Ok-clause-active g c a =
-    let e = c.in-Ok.ensures in (
+    let e = c.in-Ok.ensures.made in (
       c.into_iter-events.result,
       e.0,
       c.into_iter-events.ensures.into_iter_gives,
@@ -18,7 +18,7 @@ returns-in-Ok-clause-active g c a =
 
 pub returns-in-Err-clause-active : goal.returns-in-Err-clause-active
 returns-in-Err-clause-active g c a =
-    let e = c.in-Err.ensures in
+    let e = c.in-Err.ensures.made in
     rw (c.failed.ensures.error, c.failed.ensures.state) (
       c.into_iter-events.result,
       e.0,

@@ -1,0 +1,10 @@
+//! Examples of what calls with events and ranges hand to the writer: the walk over events is computed on each.
+#![tactic(auto)]
+
+ghost use Rattle.test_definitions_calls.specs.Answers.{AreAnswered};
+ghost use Rattle.test_definitions_calls.specs.Events.{calls};
+
+/// Ranges, units, refused events, lists that wait, and flags.
+pub fn calls_are_answered()
+    ensures { AreAnswered calls }
+{}

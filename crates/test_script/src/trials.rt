@@ -1,0 +1,201 @@
+//! The trials of a unit.
+
+ghost use Rattle.std.specs.Prelude.{◌≡◌};
+
+use crate::alike::{difference, difference_in_taken};
+use crate::midst::enter;
+use crate::report::{Place, Report};
+use crate::unit::{Outcome, Unit, write};
+use std::alloc::{AllocError, Global};
+use tocmark_event::event::OwnedEvent;
+use tocmark_event::options::Options;
+use tocmark_render::candidates;
+use tocmark_spelling::trail::Trail;
+use tocmark_write_renderer::job::Manner;
+use tocmark_write_renderer::parts::Parts;
+use tocmark_write_renderer::renderer::Renderer;
+
+/// Where a unit begins.
+#[derive(Drop)]
+pub struct Front {
+    /// Line feeds at the end of all that was written, prefixes not counted.
+    newlines: usize,
+    /// What the last unit left.
+    trail: Trail,
+}
+
+impl Front {
+    /// The front of the first unit.
+    pub fn new() -> Front {
+        Front {
+            newlines: 0,
+            trail: Trail::new(),
+        }
+    }
+
+    /// A renderer of the unit that begins here.
+    fn renderer<'u>(&self, alloc: Global) -> Result<Renderer<'u>, AllocError> {
+        let trail = self.trail.copied(alloc)?;
+        Ok(Renderer::resume(alloc, self.newlines, trail))
+    }
+
+    /// Goes on to where a unit ended.
+    fn pass(&mut self, left: Parts) {
+        self.newlines = left.newlines;
+        self.trail = left.trail;
+    }
+}
+
+/// What stays the same while a unit is tried.
+#[derive(Clone, Copy)]
+struct Trial<'t, 'u, 'o> {
+    unit: &'t Unit<'u, 'o>,
+    front: &'t Front,
+    /// Its first event, if the mark stands behind it.
+    entered: Option<&'u OwnedEvent>,
+}
+
+/// A renderer that stands where the mark is set.
+fn begun<'u>(trial: Trial<'_, 'u, '_>) -> Result<Renderer<'u>, AllocError> {
+    let mut renderer = trial.front.renderer(trial.unit.alloc)?;
+    if let Some(event) = trial.entered {
+        enter(&mut renderer, trial.unit.alloc, event)?;
+    }
+    Ok(renderer)
+}
+
+/// What differs between two renderers, of which both wrote the same, if anything.
+fn difference_after(
+    renderer: &mut Renderer<'_>,
+    alone: &mut Renderer<'_>,
+    is_alike: bool,
+    start: usize,
+) -> Result<Option<&'static str>, AllocError>
+    ensures mark { renderer.new.at_mark ≡ renderer.old.at_mark }
+{
+    if !is_alike {
+        return Ok(Some("whether it is written"));
+    }
+    match difference(renderer, alone, start)? {
+        Some(what) => Ok(Some(what)),
+        None => difference_in_taken(renderer, alone),
+    }
+}
+
+/// Writes events in one manner behind a mark, and goes back; `alone` writes them, too. Both stand where the
+/// mark is set.
+fn try_beside<'u>(
+    rest: &Unit<'u, '_>,
+    renderer: &mut Renderer<'u>,
+    alone: &mut Renderer<'u>,
+    place: Place,
+    manner: &Manner<'_>,
+    report: &mut Report,
+) -> Result<(), AllocError> {
+    let start = alone.text().len();
+    let before = difference(renderer, alone, start)?;
+    report.note_difference(place, "before it", before)?;
+    renderer.mark();
+    let outcome = write(rest, renderer, manner);
+    let is_alike = write(rest, alone, manner) == outcome;
+    let behind = difference_after(renderer, alone, is_alike, start)?;
+    renderer.back();
+    report.note(outcome);
+    report.note_difference(place, "behind it", behind)
+}
+
+/// Tries the events behind the mark in one manner, beside a renderer of its own.
+fn try_one<'u>(
+    trial: Trial<'_, 'u, '_>,
+    renderer: &mut Renderer<'u>,
+    number: usize,
+    manner: &Manner<'_>,
+    report: &mut Report,
+) -> Result<(), AllocError> {
+    let mut alone = begun(trial)?;
+    let first = usize::from(trial.entered.is_some());
+    let rest = trial.unit.rest(first);
+    let place = Place {
+        first,
+        manner: number,
+    };
+    try_beside(&rest, renderer, &mut alone, place, manner, report)
+}
+
+/// Tries the events behind the mark in each of these manners, by one renderer.
+fn try_each<'u>(
+    trial: Trial<'_, 'u, '_>,
+    renderer: &mut Renderer<'u>,
+    manners: &[Manner<'_>],
+    report: &mut Report,
+) -> Result<(), AllocError> {
+    for (place, manner) in manners.iter().enumerate() {
+        try_one(trial, renderer, place + 1, manner, report)?;
+    }
+    Ok(())
+}
+
+/// Tries the unit in each of these manners, with the mark before it or behind this first event.
+fn try_behind<'u>(
+    unit: &Unit<'u, '_>,
+    front: &Front,
+    entered: Option<&'u OwnedEvent>,
+    manners: &[Manner<'_>],
+    report: &mut Report,
+) -> Result<(), AllocError> {
+    let trial = Trial {
+        unit,
+        front,
+        entered,
+    };
+    let mut renderer = begun(trial)?;
+    try_each(trial, &mut renderer, manners, report)
+}
+
+/// The manners in which units are tried, and the first one again.
+fn manners<'a>(alloc: Global, options: &Options<'a>) -> Result<Vec<Manner<'a>>, AllocError> {
+    let mut manners = candidates(alloc, options, true, true, true)?;
+    if let Some(first) = manners.first() {
+        let first = *first;
+        manners.push(first)?;
+    }
+    Ok(manners)
+}
+
+/// Tries the unit in these manners, with the mark before it, and behind its first event if it has more.
+fn try_in(
+    unit: &Unit<'_, '_>,
+    front: &Front,
+    manners: &[Manner<'_>],
+    report: &mut Report,
+) -> Result<(), AllocError> {
+    report.begin_unit();
+    try_behind(unit, front, None, manners, report)?;
+    match unit.events {
+        [first, _, ..] => try_behind(unit, front, Some(&first.event), manners, report),
+        _ => Ok(()),
+    }
+}
+
+/// Goes on to the front of the next unit, if this one is written in the manner.
+fn pass(unit: &Unit<'_, '_>, front: &mut Front, manner: &Manner<'_>) -> Result<(), AllocError> {
+    let mut renderer = front.renderer(unit.alloc)?;
+    if write(unit, &mut renderer, manner) == Outcome::Written {
+        front.pass(renderer.into_parts());
+    }
+    Ok(())
+}
+
+/// Tries the unit in all manners, and goes on to the front of the next one.
+pub fn try_all(
+    unit: &Unit<'_, '_>,
+    front: &mut Front,
+    report: &mut Report,
+) -> Result<(), AllocError> {
+    let manners = manners(unit.alloc, unit.options)?;
+    try_in(unit, front, &manners, report)?;
+    match manners.first() {
+        Some(first) => pass(unit, front, first),
+        None => Ok(()),
+    }
+}

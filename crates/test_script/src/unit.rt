@@ -1,0 +1,110 @@
+//! A unit of a row or a part of one, and how it is written in one manner.
+
+ghost use Rattle.std.specs.Prelude.{◌≡◌, true};
+ghost use Rattle.tocmark_write_emphasis.specs.Low.{AsksLow};
+
+use std::alloc::Global;
+use tocmark_core_reader::CoreReader;
+use tocmark_event::event::{OwnedEvent, ParserOptions};
+use tocmark_event::options::{Error, Options};
+use tocmark_spelling::buffered::BufferedEvent;
+use tocmark_spelling::plan::Delimiters;
+use tocmark_write_renderer::job::{Job, Manner};
+use tocmark_write_renderer::renderer::Renderer;
+use tocmark_write_unit::block::write_unit;
+use tocmark_write_unit::findings::findings_of;
+
+/// The label that is reserved for lists.
+const LABEL: &str = "cmark-loose-0";
+
+/// A unit of a row or a part of one, and what it is written with.
+#[derive(Clone, Copy)]
+pub struct Unit<'u, 'o> {
+    pub alloc: Global,
+    pub options: &'u Options<'o>,
+    pub flags: ParserOptions,
+    pub events: &'u [BufferedEvent],
+    /// The event after it, if there is one.
+    pub next: Option<&'u OwnedEvent>,
+}
+
+impl<'u, 'o> Unit<'u, 'o> {
+    /// So many events at its front, or all where it hasn't so many.
+    pub fn front(&self, count: usize) -> Unit<'u, 'o> {
+        match self.events.get(count) {
+            Some(next) => Unit {
+                events: &self.events[..count],
+                next: Some(&next.event),
+                ..*self
+            },
+            None => *self,
+        }
+    }
+
+    /// The events behind these.
+    pub fn rest(&self, count: usize) -> Unit<'u, 'o> {
+        let events = self.events.get(count..).unwrap_or(&[]);
+        Unit { events, ..*self }
+    }
+}
+
+/// How a writing ended.
+#[derive(Clone, Copy, PartialEq, Eq)]
+pub enum Outcome {
+    Written,
+    /// A node stands where it may not, or the manner asks for a marker past ASCII.
+    Refused,
+    /// Memory can't hold the text.
+    OutOfMemory,
+}
+
+/// Whether the markers that are asked for are ASCII, the strong one in its first byte.
+fn asks_low(delimiters: Delimiters<'_>) -> bool
+    ensures { result ≡ true → AsksLow delimiters.entry }
+{
+    let is_strong_low = match delimiters.strong.as_bytes() {
+        [first, ..] => *first < 128,
+        [] => true,
+    };
+    delimiters.emphasis.is_ascii() && is_strong_low
+}
+
+fn outcome_of(written: Result<(), Error>) -> Outcome {
+    match written {
+        Ok(()) => Outcome::Written,
+        Err(Error::UnexpectedEvent) => Outcome::Refused,
+        Err(_error) => Outcome::OutOfMemory,
+    }
+}
+
+/// Writes the unit in one manner, which asks for ASCII.
+fn write_low<'u>(
+    unit: &Unit<'u, '_>,
+    renderer: &mut Renderer<'u>,
+    manner: &Manner<'_>,
+) -> Result<(), Error>
+    requires low { AsksLow manner.now.delimiters }
+    ensures mark { renderer.new.at_mark ≡ renderer.old.at_mark }
+{
+    let (alloc, options, flags) = (unit.alloc, unit.options, unit.flags);
+    let (events, next) = (unit.events, unit.next);
+    let found = findings_of(alloc, &CoreReader, options, flags, events)?;
+    let job = Job {
+        alloc,
+        options,
+        flags,
+        label: Some(LABEL),
+    };
+    write_unit(renderer, job, &CoreReader, events, &found, next, *manner)
+}
+
+/// Writes the unit in one manner. Where that is refused some of it may be written.
+pub fn write<'u>(unit: &Unit<'u, '_>, renderer: &mut Renderer<'u>, manner: &Manner<'_>) -> Outcome
+    ensures mark { renderer.new.at_mark ≡ renderer.old.at_mark }
+{
+    if asks_low(manner.delimiters) {
+        outcome_of(write_low(unit, renderer, manner))
+    } else {
+        Outcome::Refused
+    }
+}

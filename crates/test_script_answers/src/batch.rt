@@ -1,0 +1,176 @@
+//! Batches of scripts.
+
+use crate::again::Again;
+use crate::cuts::write_cuts;
+use crate::fault::Fault;
+use crate::question::answers;
+use crate::runs::run;
+use std::alloc::{AllocError, Global};
+use std::io::Write;
+use test_script_events::fault::{LineFault, NumberedFault};
+use test_script_lines::lines::ScriptLines;
+use test_script_lines::script::Script;
+
+/// Scripts whose lines come one after the other.
+#[derive(Drop)]
+pub struct Batch {
+    alloc: Global,
+    lines: ScriptLines,
+    /// Whether each script so far has its answer.
+    is_right: bool,
+    /// What the runs of scripts again were, where they are run again.
+    again: Option<Again>,
+}
+
+/// The answer of a whole script, which isn't run again.
+fn answer_once(alloc: Global, script: &Script<'static>) -> Result<String, AllocError> {
+    if !script.questions.is_empty() {
+        return answers(alloc, script);
+    }
+    let mut answer = run(alloc, script, &script.calls, script.shows_calls)?;
+    if script.compares_cuts {
+        write_cuts(alloc, &mut answer, script)?;
+    }
+    Ok(answer)
+}
+
+/// The answer of a whole script, which is run again where that is asked for.
+fn answer(
+    alloc: Global,
+    script: &Script<'static>,
+    again: &mut Option<Again>,
+) -> Result<String, AllocError> {
+    let mut answer = answer_once(alloc, script)?;
+    if let Some(again) = again {
+        again.run(alloc, script, &mut answer)?;
+    }
+    Ok(answer)
+}
+
+fn write_out<O: Write>(output: &mut O, text: &str) -> Result<(), Fault> {
+    match output.write_all(text.as_bytes()) {
+        Ok(()) => Ok(()),
+        Err(_) => Err(Fault::Write),
+    }
+}
+
+/// Writes an answer and this last line.
+fn write_answer<O: Write>(output: &mut O, answer: &str, last: &str) -> Result<(), Fault> {
+    write_out(output, answer)?;
+    write_out(output, last)
+}
+
+impl Batch {
+    /// No line yet. Each script is run again where there is a place to count that.
+    pub fn new(alloc: Global, again: Option<Again>) -> Batch {
+        Batch {
+            alloc,
+            lines: ScriptLines::new(alloc),
+            is_right: true,
+            again,
+        }
+    }
+
+    /// Writes a fault's line, in place of an answer. A line that can't be written changes nothing.
+    fn refuse<F: Write>(&mut self, faults: &mut F, fault: NumberedFault<'_>) {
+        let _ = writeln!(faults, "test_script: {fault}");
+        self.is_right = false;
+    }
+
+    /// Writes that memory ran out for an answer.
+    fn refuse_answer<F: Write>(&mut self, faults: &mut F) {
+        let fault = NumberedFault {
+            number: self.lines.line(),
+            line: "",
+            fault: LineFault::OutOfMemory,
+        };
+        self.refuse(faults, fault);
+    }
+
+    /// Writes the answer of a script and this last line.
+    fn answer<O: Write, F: Write>(
+        &mut self,
+        script: &Script<'static>,
+        last: &str,
+        output: &mut O,
+        faults: &mut F,
+    ) -> Result<(), Fault> {
+        match answer(self.alloc, script, &mut self.again) {
+            Ok(answer) => write_answer(output, answer.as_str(), last),
+            Err(_) => {
+                self.refuse_answer(faults);
+                Ok(())
+            }
+        }
+    }
+
+    /// Ends a script: writes its answer and this last line, unless it had a fault.
+    fn end_script<O: Write, F: Write>(
+        &mut self,
+        last: &str,
+        output: &mut O,
+        faults: &mut F,
+    ) -> Result<(), Fault> {
+        match self.lines.end() {
+            Ok(Some(script)) => self.answer(&script, last, output, faults),
+            Ok(None) => Ok(()),
+            Err(fault) => {
+                self.refuse(faults, fault);
+                Ok(())
+            }
+        }
+    }
+
+    /// Takes the next line. An `Err` says that the output can't be written.
+    fn take<O: Write, F: Write>(
+        &mut self,
+        line: &str,
+        output: &mut O,
+        faults: &mut F,
+    ) -> Result<(), Fault> {
+        if line == "%" {
+            self.lines.pass();
+            return self.end_script("%\n", output, faults);
+        }
+        if let Err(fault) = self.lines.take(line) {
+            self.refuse(faults, fault);
+        }
+        Ok(())
+    }
+
+    /// Takes the end of the input, where the last script needn't have a line `%`.
+    fn end<O: Write, F: Write>(&mut self, output: &mut O, faults: &mut F) -> Result<(), Fault> {
+        if self.lines.is_begun() {
+            self.end_script("", output, faults)?;
+        }
+        match output.flush() {
+            Ok(()) => Ok(()),
+            Err(_) => Err(Fault::Write),
+        }
+    }
+
+    /// Takes all lines of a text, and its end. Returns whether each script has its answer.
+    pub fn take_all<O: Write, F: Write>(
+        &mut self,
+        text: &str,
+        output: &mut O,
+        faults: &mut F,
+    ) -> Result<bool, Fault> {
+        for line in text.split('\n') {
+            self.take(line, output, faults)?;
+        }
+        self.end(output, faults)?;
+        Ok(self.is_right)
+    }
+
+    /// Writes what the runs of scripts again were.
+    pub fn write_again<O: Write>(&self, output: &mut O) -> Result<(), Fault> {
+        let Some(again) = &self.again else {
+            return Ok(());
+        };
+        match again.write(output) {
+            Ok(()) => Ok(()),
+            Err(_) => Err(Fault::Write),
+        }
+    }
+}

@@ -1,0 +1,158 @@
+//! Questions about what a text is read as, and their answers.
+
+use crate::errors::{ended, error_name};
+use crate::events::{merged, write_events};
+use crate::question::write_text;
+use std::alloc::{AllocError, Global};
+use test_script_events::line::EventLine;
+use test_script_events::string::Quoted;
+use test_script_lines::script::Script;
+use tocmark::core_reader::CoreReader;
+use tocmark::reader::{Reader, Reading};
+use tocmark::{
+    Error, cmark, cmark_with_options, cmark_with_source_range, cmark_with_source_range_and_options,
+};
+
+fn read(alloc: Global, script: &Script<'static>, text: &str) -> Result<Reading, AllocError> {
+    CoreReader.read(alloc, text, script.flags)
+}
+
+fn write_labels(answer: &mut String, name: &str, labels: &[String]) -> Result<(), AllocError> {
+    for label in labels {
+        let label = Quoted(label.as_str());
+        writeln!(answer, "{name} {label}")?;
+    }
+    Ok(())
+}
+
+fn write_all_labels(answer: &mut String, reading: &Reading) -> Result<(), AllocError> {
+    write_labels(answer, "Defined", &reading.defined)?;
+    write_labels(answer, "Unresolved", &reading.unresolved)
+}
+
+fn write_reading(answer: &mut String, reading: &Reading) -> Result<(), AllocError> {
+    for (event, (start, end)) in &reading.events {
+        let line = EventLine(event);
+        writeln!(answer, "{line} {start}..{end}")?;
+    }
+    write_all_labels(answer, reading)
+}
+
+/// Writes the reading of a text: its events with their ranges, and its labels.
+pub fn write_read(
+    alloc: Global,
+    answer: &mut String,
+    script: &Script<'static>,
+    text: &str,
+) -> Result<(), AllocError> {
+    write_reading(answer, &read(alloc, script, text)?)
+}
+
+fn write_merged(alloc: Global, answer: &mut String, reading: &Reading) -> Result<(), AllocError> {
+    write_events(answer, &merged(alloc, &reading.events)?)?;
+    write_all_labels(answer, reading)
+}
+
+/// Writes the reading of a text without ranges, each stretch of texts as one.
+pub fn write_read_merged(
+    alloc: Global,
+    answer: &mut String,
+    script: &Script<'static>,
+    text: &str,
+) -> Result<(), AllocError> {
+    write_merged(alloc, answer, &read(alloc, script, text)?)
+}
+
+fn write_count(alloc: Global, answer: &mut String, reading: &Reading) -> Result<(), AllocError> {
+    let count = merged(alloc, &reading.events)?.len();
+    writeln!(answer, "{count} events")
+}
+
+/// Writes how many events the reading of a text has, each stretch of texts as one.
+pub fn write_read_count(
+    alloc: Global,
+    answer: &mut String,
+    script: &Script<'static>,
+    text: &str,
+) -> Result<(), AllocError> {
+    write_count(alloc, answer, &read(alloc, script, text)?)
+}
+
+/// Writes back the events of a reading.
+fn write_back(
+    alloc: Global,
+    script: &Script<'static>,
+    reading: &Reading,
+    output: &mut String,
+) -> Result<(), Error> {
+    let (flags, events) = (script.flags, reading.events());
+    if script.has_options {
+        let options = script.options();
+        ended(cmark_with_options(alloc, events, output, CoreReader, flags, options))
+    } else {
+        ended(cmark(alloc, events, output, CoreReader, flags))
+    }
+}
+
+/// Writes back the events of a text's reading, with their ranges in the text.
+fn write_back_ranged(
+    alloc: Global,
+    script: &Script<'static>,
+    text: &str,
+    reading: &Reading,
+    output: &mut String,
+) -> Result<(), Error> {
+    let (flags, pairs) = (script.flags, reading.pairs());
+    if script.has_options {
+        let options = script.options();
+        ended(cmark_with_source_range_and_options(
+            alloc, pairs, text, output, CoreReader, flags, options,
+        ))
+    } else {
+        ended(cmark_with_source_range(alloc, pairs, text, output, CoreReader, flags))
+    }
+}
+
+/// What the reading of a text is written back as, with its ranges in the text or without.
+fn written_back(
+    alloc: Global,
+    script: &Script<'static>,
+    text: &str,
+    reading: &Reading,
+    has_source: bool,
+) -> Result<String, Error> {
+    let mut output = String::new(alloc);
+    if has_source {
+        write_back_ranged(alloc, script, text, reading, &mut output)?;
+    } else {
+        write_back(alloc, script, reading, &mut output)?;
+    }
+    Ok(output)
+}
+
+/// A text, read and written back.
+fn rewritten(
+    alloc: Global,
+    script: &Script<'static>,
+    text: &str,
+    has_source: bool,
+) -> Result<String, Error> {
+    written_back(alloc, script, text, &read(alloc, script, text)?, has_source)
+}
+
+/// Writes what a text is read and written back as, with the ranges of the reading or without, or the error.
+pub fn write_roundtrip(
+    alloc: Global,
+    answer: &mut String,
+    script: &Script<'static>,
+    text: &str,
+    has_source: bool,
+) -> Result<(), AllocError> {
+    match rewritten(alloc, script, text, has_source) {
+        Ok(output) => write_text(answer, output.as_str()),
+        Err(error) => {
+            let name = error_name(&error);
+            writeln!(answer, "Err {name}")
+        }
+    }
+}

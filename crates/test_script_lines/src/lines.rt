@@ -1,0 +1,113 @@
+//! The lines of scripts, one after the other.
+
+use crate::gathering::Gathering;
+use crate::script::Script;
+use crate::statement::{Statement, statement_in_line};
+use std::alloc::Global;
+use std::mem;
+use test_script_events::fault::{LineFault, NumberedFault};
+
+/// Scripts whose lines are taken one after the other.
+#[derive(Drop)]
+pub struct ScriptLines {
+    alloc: Global,
+    /// The script whose lines come.
+    gathering: Gathering<'static>,
+    /// Whether one of its lines had a fault.
+    is_faulty: bool,
+    /// The number of the last line, counted from 1.
+    line: usize,
+}
+
+/// Takes what a line with this number says, if anything.
+fn take_said(
+    gathering: &mut Gathering<'static>,
+    number: usize,
+    said: Option<Statement>,
+) -> Result<(), LineFault> {
+    match said {
+        Some(statement) => gathering.take(number, statement),
+        None => Ok(()),
+    }
+}
+
+/// The script whose lines were taken. Behind the last of them, which has this number, something can be missing.
+fn whole(
+    gathering: Gathering<'static>,
+    last: usize,
+) -> Result<Script<'static>, NumberedFault<'static>> {
+    let number = gathering.unclosed().unwrap_or(last);
+    match gathering.end() {
+        Ok(script) => Ok(script),
+        Err(fault) => Err(NumberedFault {
+            number,
+            line: "",
+            fault,
+        }),
+    }
+}
+
+impl ScriptLines {
+    /// No line yet.
+    pub fn new(alloc: Global) -> ScriptLines {
+        ScriptLines {
+            alloc,
+            gathering: Gathering::new(alloc),
+            is_faulty: false,
+            line: 0,
+        }
+    }
+
+    /// The number of the last line, counted from 1.
+    pub fn line(&self) -> usize {
+        self.line
+    }
+
+    /// Whether a line of the script said something, and none had a fault.
+    pub fn is_begun(&self) -> bool {
+        !self.is_faulty && !self.gathering.is_empty()
+    }
+
+    /// Passes over a line that is none of the script's.
+    pub fn pass(&mut self) {
+        self.line = self.line.saturating_add(1);
+    }
+
+    /// Takes what a line says, behind lines without a fault.
+    fn gather(&mut self, line: &str) -> Result<(), LineFault> {
+        match statement_in_line(self.alloc, line) {
+            Ok(said) => take_said(&mut self.gathering, self.line, said),
+            Err(fault) => Err(fault),
+        }
+    }
+
+    /// Takes the next line of the script. Behind one with a fault the lines up to its end are passed over.
+    pub fn take<'l>(&mut self, line: &'l str) -> Result<(), NumberedFault<'l>> {
+        self.pass();
+        if self.is_faulty {
+            return Ok(());
+        }
+        match self.gather(line) {
+            Ok(()) => Ok(()),
+            Err(fault) => {
+                self.is_faulty = true;
+                Err(NumberedFault {
+                    number: self.line,
+                    line,
+                    fault,
+                })
+            }
+        }
+    }
+
+    /// The script whose lines were taken, or nothing where one of them had a fault. The next line begins another
+    /// script.
+    pub fn end(&mut self) -> Result<Option<Script<'static>>, NumberedFault<'static>> {
+        let gathering = mem::replace(&mut self.gathering, Gathering::new(self.alloc));
+        if mem::replace(&mut self.is_faulty, false) {
+            drop(gathering);
+            return Ok(None);
+        }
+        whole(gathering, self.line).map(Some)
+    }
+}

@@ -1,5 +1,0 @@
-use Rattle.tocmark_causes.proofs.Misplaced.{none-start, start-none}
-use Rattle.tocmark_causes.proofs.misplaced_nodes_are_starts.Goals as goal
-
-pub returns : goal.returns
-returns c = record { refused = none-start; misplaced = start-none }

@@ -1,2 +1,0 @@
--- Definitions.
-pub mod Leads

@@ -1,6 +1,0 @@
-use Rattle.std.proofs.Common.{◌≡◌, drop, []}
-use Rattle.tocmark_core_marks.specs.Cells.{cells_of}
-use Rattle.tocmark_core_marks.proofs.cell.fill_all.Given as goal
-
-abbrev pub invariant-loop-byte : goal.invariant-loop-byte
-invariant-loop-byte l = cells_of l.cells.items l.at (drop l.byte-index l.bytes) ≡ cells_of [] l.fn.start l.bytes

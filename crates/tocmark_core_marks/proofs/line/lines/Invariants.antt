@@ -1,6 +1,0 @@
-use Rattle.std.proofs.Common.{◌≡◌, ◌++◌, drop, length}
-use Rattle.tocmark_core_marks.specs.Lines.{lines_from, lines_of}
-use Rattle.tocmark_core_marks.proofs.line.lines.Given as goal
-
-abbrev pub invariant-loop-at : goal.invariant-loop-at
-invariant-loop-at l = l.lines.items ++ lines_from l.text (length l.lines.items) l.start l.at (drop l.at l.text) ≡ lines_of l.text

@@ -1,6 +1,0 @@
-use Rattle.std.proofs.Common.{◌≡◌, take}
-use Rattle.tocmark_core_marks.specs.Marks.{number_of}
-use Rattle.tocmark_core_marks.proofs.mark.number_of.Given as goal
-
-abbrev pub invariant-loop-digit : goal.invariant-loop-digit
-invariant-loop-digit l = l.number ≡ number_of (take l.digit-index l.digits)

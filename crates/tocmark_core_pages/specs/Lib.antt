@@ -1,5 +1,0 @@
-pub mod Range
-pub mod Emitted
-pub mod Words
-pub mod Inlines
-pub mod Pages

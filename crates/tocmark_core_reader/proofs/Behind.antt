@@ -1,0 +1,107 @@
+-- A block's nodes are the same behind all others: so they may be written block by block.
+use Rattle.std.proofs.Common.{◌≡◌, ℕ, Bool, true, false, ◌++◌, ◌∷◌, [], List, map, Option, refl, ap, sym, ◌∙◌}
+use Rattle.std.specs.List.{fold}
+use Rattle.std.specs.Prelude.{nat_le, if◌then◌else◌, get_or, take, length, ◌+◌, ◌<◌}
+use Rattle.std.proofs.lemmas.List.Sums.{fold-append, fold_more}
+use Rattle.tocmark_read_scan.specs.Basic.{plus}
+use Rattle.tocmark_read_scan.specs.Content as content
+use Rattle.tocmark_read_blocks.specs.declared.definition.Piece.{Piece}
+use Rattle.tocmark_read_blocks.specs.declared.page.Block.{Block}
+use Rattle.tocmark_read_blocks.specs.declared.page.BlockKind.{BlockKind}
+use Rattle.tocmark_read_blocks.specs.declared.page.BlockKind.TheVariants as kind
+use Rattle.tocmark_read_inlines.specs.Inlines as inlines
+use Rattle.tocmark_read_spans.specs.declared.definitions.Entry.{Entry}
+use Rattle.tocmark_core_reader.specs.Emitted.{NodeView, Writing, step}
+use Rattle.tocmark_core_reader.specs.Inlines.{inline_node}
+use Rattle.tocmark_core_reader.specs.Pages.{State, Progress, written_behind, written_by, written_alone, content_line, lines_nodes, block_node, pieces_of, with_inlines, leaf_inlines, with_block, with_lines, with_rule, wrapped, paragraph_taken, taken_as, block_taken, is_unwrapped, block_step}
+
+abbrev pub Find : Type 0
+Find = List ℕ → Option Entry
+
+-- the nodes that a change adds are the same behind all others
+abbrev Adds : List ℕ → (State → State) → Type 0
+Adds text change = (w : Writing) (s : State) → written_behind text w (change s) ≡ written_by text change (written_behind text w s)
+
+abbrev progress : inlines.State → Writing → Progress
+progress found w = record { writing = w; inlines = found }
+
+adds_both : (text : List ℕ) (first next : State → State) → Adds text first → Adds text next → Adds text (λ s. next (first s))
+adds_both text first next f g w s =
+    g w (first s)
+    ∙ ap (written_by text next) (f w s)
+    ∙ sym (g (fold (step text) w s.nodes) (first (record { nodes = []; inlines = s.inlines })))
+
+adds_one : (text : List ℕ) (b : Bool) (yes-one no-one : State → State) → Adds text yes-one → Adds text no-one → Adds text (λ s. if b then yes-one s else no-one s)
+adds_one text true y n f g w s = f w s
+adds_one text false y n f g w s = g w s
+
+adds_block : (text : List ℕ) (b : Block) → Adds text (with_block text b)
+unfolding with_block
+adds_block text b w s = ap (progress s.inlines) (fold-append (step text) w s.nodes (block_node text b ∷ []))
+
+adds_rule : (text : List ℕ) (b : Block) → Adds text (with_rule b)
+unfolding with_rule
+adds_rule text b w s = ap (progress s.inlines) (fold-append (step text) w s.nodes _)
+
+adds_lines : (text : List ℕ) (html : Bool) (b : Block) (lines : List Piece) → Adds text (with_lines text html b lines)
+unfolding with_lines
+adds_lines text html b lines w s =
+    let more : List NodeView = lines_nodes text html (plus b.depth 1) lines in
+    ap (progress s.inlines)
+    (fold-append (step text) w (s.nodes ++ block_node text b ∷ []) more
+    ∙ ap (λ x. fold (step text) x more) (fold-append (step text) w s.nodes (block_node text b ∷ [])))
+
+adds_inlines : (text : List ℕ) (found : inlines.State) (w : Writing) (s : State) → written_behind text w (with_inlines found s) ≡ written_behind text (fold (step text) w s.nodes) (with_inlines found (record { nodes = []; inlines = s.inlines }))
+adds_inlines text found w s =
+    ap (progress (record { nodes = []; targets = found.targets; texts = found.texts; missed = found.missed }))
+    (fold-append (step text) w s.nodes (map (inline_node found.texts found.targets) found.nodes))
+
+adds_leaf : (text : List ℕ) (find : Find) (pieces : List Piece) (depth : ℕ) → Adds text (leaf_inlines text find pieces depth)
+unfolding leaf_inlines
+adds_leaf text find pieces depth w s =
+    adds_inlines text (inlines.read_inlines (content.content_of text (map content_line pieces)) depth find s.inlines) w s
+
+adds_wrapped : (text : List ℕ) (find : Find) (pieces : List Piece) (b : Block) → Adds text (wrapped text find pieces b)
+unfolding wrapped
+adds_wrapped text find pieces b =
+    adds_both text (with_block text b) (leaf_inlines text find pieces (plus b.depth 1)) (adds_block text b) (adds_leaf text find pieces (plus b.depth 1))
+
+-- a container with its inlines is written as the container, and then the inlines
+pub wrapped_behind : (text : List ℕ) (find : Find) (pieces : List Piece) (b : Block) (p : Progress) → written_by text (wrapped text find pieces b) p ≡ written_by text (leaf_inlines text find pieces (plus b.depth 1)) (written_by text (with_block text b) p)
+unfolding wrapped
+wrapped_behind text find pieces b p = adds_leaf text find pieces (plus b.depth 1) p.writing (with_block text b (record { nodes = []; inlines = p.inlines }))
+
+adds_paragraph : (text : List ℕ) (find : Find) (pieces : List Piece) (unwrapped : Bool) (b : Block) → Adds text (paragraph_taken text find pieces unwrapped b)
+unfolding paragraph_taken
+adds_paragraph text find pieces unwrapped b =
+    let leaf : State → State = leaf_inlines text find pieces b.depth in
+    let whole : State → State = wrapped text find pieces b in
+    let some : Adds text (λ s. if unwrapped then leaf s else whole s) = adds_one text unwrapped leaf whole (adds_leaf text find pieces b.depth) (adds_wrapped text find pieces b) in
+    adds_one text (nat_le b.last b.first) (λ s. s) (λ s. if unwrapped then leaf s else whole s) (λ w s. refl) some
+
+adds_kind : (k : BlockKind) (text : List ℕ) (find : Find) (pieces : List Piece) (unwrapped : Bool) (b : Block) → Adds text (taken_as k text find pieces unwrapped b)
+adds_kind kind.Paragraph text find pieces unwrapped b = adds_paragraph text find pieces unwrapped b
+adds_kind (kind.Heading level) text find pieces unwrapped b = adds_wrapped text find pieces b
+adds_kind kind.Quote text find pieces unwrapped b = adds_block text b
+adds_kind (kind.List first) text find pieces unwrapped b = adds_block text b
+adds_kind kind.Item text find pieces unwrapped b = adds_block text b
+adds_kind kind.Indented text find pieces unwrapped b = adds_lines text false b pieces
+adds_kind (kind.Fenced from to) text find pieces unwrapped b = adds_lines text false b pieces
+adds_kind kind.Html text find pieces unwrapped b = adds_lines text true b pieces
+adds_kind kind.Rule text find pieces unwrapped b = adds_rule text b
+
+-- one more block, written behind the others
+pub block_behind : (text : List ℕ) (find : Find) (all : List Piece) (unwrapped : Bool) (b : Block) (s : State) → written_alone text (block_taken text find all unwrapped b s) ≡ written_by text (block_taken text find all unwrapped b) (written_alone text s)
+unfolding block_taken
+block_behind text find all unwrapped b s = adds_kind b.kind text find (pieces_of all b.first b.last) unwrapped b (record { events = []; stack = [] }) s
+
+-- one more of a list of blocks
+pub more_behind : (text : List ℕ) (find : Find) (blocks : List Block) (all : List Piece) (start : State) (i : ℕ) (d : Block) (unwrapped : Bool) (before after : Progress) → i < length blocks → unwrapped ≡ is_unwrapped blocks (get_or blocks i d) → before ≡ written_alone text (fold (block_step text find blocks all) start (take i blocks)) → after ≡ written_by text (block_taken text find all unwrapped (get_or blocks i d)) before → after ≡ written_alone text (fold (block_step text find blocks all) start (take (i + 1) blocks))
+more_behind text find blocks all start i d unwrapped before after lt u b a =
+    let block : Block = get_or blocks i d in
+    let s : State = fold (block_step text find blocks all) start (take i blocks) in
+    a
+    ∙ ap (written_by text (block_taken text find all unwrapped block)) b
+    ∙ ap (λ x. written_by text (block_taken text find all x block) (written_alone text s)) u
+    ∙ sym (block_behind text find all (is_unwrapped blocks block) block s)
+    ∙ ap (written_alone text) (sym (fold_more (block_step text find blocks all) start blocks i d lt))

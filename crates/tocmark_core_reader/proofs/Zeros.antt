@@ -1,0 +1,31 @@
+-- A text in which no U+0000 stands is left as it is.
+use Rattle.std.proofs.Common.{◌≡◌, ◌<◌, ℕ, zero, suc, true, false, ◌==◌, List, [], ◌∷◌, ◌++◌, refl, ap, ◌∙◌, append-nil, slice_index, arith}
+use Rattle.std.specs.List.{flat_map, list_any}
+use Rattle.std.specs.Str.{IsUtf8}
+use Rattle.std.specs.Str.Lossy.{utf8_lossy}
+use Rattle.std.proofs.lemmas.Str.{IsUtf8-append, IsUtf8-from_ascii, utf8_lossy-IsUtf8}
+use Rattle.tocmark_read_scan.proofs.PlainTests.{both_false}
+use Rattle.tocmark_read_blocks.specs.Definitions.{replaced}
+use Rattle.tocmark_core_reader.specs.Words.{cleaned, feed_if}
+
+pub without_zeros : (bytes : List ℕ) → list_any (λ b. b == 0) bytes ≡ false → flat_map replaced bytes ≡ bytes
+unfolding replaced
+without_zeros [] h = refl
+without_zeros (b ∷ bs) h =
+    let both = both_false (b == 0) (list_any (λ x. x == 0) bs) h in
+    rw (both.0) (ap (λ (xs : List ℕ). b ∷ xs) (without_zeros bs (both.1)))
+
+pub text_kept : (bytes : List ℕ) → IsUtf8 bytes → list_any (λ b. b == 0) bytes ≡ false → cleaned bytes false ≡ bytes
+unfolding cleaned
+text_kept bytes utf8 h =
+    ap (λ (xs : List ℕ). utf8_lossy (xs ++ [])) (without_zeros bytes h) ∙ ap utf8_lossy (append-nil bytes) ∙ utf8_lossy-IsUtf8 bytes utf8
+
+feed_ascii : (i : ℕ) → slice_index (10 ∷ []) i < 128
+feed_ascii zero = omega arith
+feed_ascii (suc i) = omega arith
+
+pub line_kept : (bytes : List ℕ) → IsUtf8 bytes → list_any (λ b. b == 0) bytes ≡ false → cleaned bytes true ≡ bytes ++ feed_if true
+unfolding cleaned
+line_kept bytes utf8 h =
+    ap (λ (xs : List ℕ). utf8_lossy (xs ++ 10 ∷ [])) (without_zeros bytes h)
+    ∙ utf8_lossy-IsUtf8 (bytes ++ 10 ∷ []) (IsUtf8-append bytes (10 ∷ []) utf8 (IsUtf8-from_ascii (10 ∷ []) feed_ascii))

@@ -1,0 +1,159 @@
+-- From blocks to nodes.
+use Rattle.std.specs.Prelude.{ℕ, ◌-◌, Bool, true, false, not, ◌&&◌, nat_lt, nat_le, if◌then◌else◌, List, [], ◌∷◌, ◌++◌, length, map, slice_get, slice_range, Option, None}
+use Rattle.std.specs.List.{fold, flat_map}
+use Rattle.std.specs.Option.{option_map_or}
+use Rattle.tocmark_event.specs.View as view
+use Rattle.tocmark_read_scan.specs.Basic.{plus, piece}
+use Rattle.tocmark_read_scan.specs.Content as content
+use Rattle.tocmark_read_scan.specs.declared.content.Line.{Line}
+use Rattle.tocmark_read_blocks.specs.declared.definition.Piece.{Piece}
+use Rattle.tocmark_read_blocks.specs.declared.page.Block.{Block}
+use Rattle.tocmark_read_blocks.specs.declared.page.BlockKind.{BlockKind}
+use Rattle.tocmark_read_blocks.specs.declared.page.BlockKind.TheVariants as kind
+use Rattle.tocmark_read_inlines.specs.Inlines as inlines
+use Rattle.tocmark_read_spans.specs.declared.definitions.Entry.{Entry}
+use Rattle.tocmark_core_reader.specs.Emitted.{ItemView, NodeView, Container, Given, Writing, emission_view, step}
+use Rattle.tocmark_core_reader.specs.Inlines.{inline_node}
+use Rattle.tocmark_core_reader.specs.Words.{cleaned, info_text, spaces_text}
+use Rattle.tocmark_core_reader.specs.declared.page.Assembly.{Assembly}
+
+-- the pieces of a range
+abbrev pub pieces_of : List Piece → ℕ → ℕ → List Piece
+pieces_of pieces first last = if nat_le first last && nat_le last (length pieces) then slice_range pieces first last else []
+
+-- a piece as a line of a text
+unfoldable pub content_line : Piece → Line
+content_line p = record { start = p.start; end = p.end; next = p.next }
+
+-- a node
+abbrev pub node : ℕ → ItemView → ℕ → ℕ → NodeView
+node depth item start end = record { depth = depth; item = item; start = start; end = end }
+
+-- the spaces that are left of a partly used tab are a text of their own
+unfoldable pub space_nodes : ℕ → Piece → List NodeView
+space_nodes depth p =
+    if nat_lt 0 p.spaces then node depth (Given (view.Text (spaces_text p.spaces))) (p.start - 1) p.start ∷ [] else []
+
+-- a line of HTML, or of code
+unfoldable pub line_item : List ℕ → Bool → Piece → ItemView
+line_item text html p =
+    let words = cleaned (piece text p.start p.end) (nat_lt p.end p.next) in
+    if html then Given (view.Html words) else Given (view.Text words)
+
+-- a line of code or HTML
+unfoldable pub line_nodes : List ℕ → Bool → ℕ → Piece → List NodeView
+line_nodes text html depth p =
+    space_nodes depth p ++ (if nat_lt p.start p.next then node depth (line_item text html p) p.start p.next ∷ [] else [])
+
+-- the nodes of lines of code or HTML
+abbrev pub lines_nodes : List ℕ → Bool → ℕ → List Piece → List NodeView
+lines_nodes text html depth lines = flat_map (line_nodes text html depth) lines
+
+-- the container that a block is
+unfoldable pub block_tag : List ℕ → BlockKind → view.TagView
+block_tag text kind.Quote = view.BlockQuote None
+block_tag text (kind.List first) = view.ListOf first
+block_tag text kind.Item = view.Item
+block_tag text kind.Paragraph = view.Paragraph
+block_tag text (kind.Heading level) = view.Heading level None [] []
+block_tag text kind.Indented = view.CodeBlock view.Indented
+block_tag text (kind.Fenced from to) = view.CodeBlock (view.Fenced (info_text (piece text from to)))
+block_tag text kind.Html = view.HtmlBlock
+block_tag text kind.Rule = view.Paragraph
+
+-- a block directly in an item of a tight list
+unfoldable pub is_unwrapped : List Block → Block → Bool
+is_unwrapped blocks b =
+    option_map_or (λ place. option_map_or (λ (l : Block). not l.loose) (slice_get blocks place) false) b.list false
+
+-- the node of a block
+abbrev pub block_node : List ℕ → Block → NodeView
+block_node text b = node b.depth (Container (block_tag text b.kind)) b.start b.end
+
+-- the nodes so far, and what their inlines have beside the source
+pub record State : Type 0 where
+  pub nodes : List NodeView
+  pub inlines : inlines.State
+
+-- the events of the nodes so far, and what the inlines have beside the source
+pub record Progress : Type 0 where
+  pub writing : Writing
+  pub inlines : inlines.State
+
+-- events and inlines as plain values
+abbrev pub assembly_view : Assembly → Progress
+assembly_view a = record { writing = emission_view a.emission; inlines = inlines.inlines_view a.inlines }
+
+-- the nodes are written behind what is written
+abbrev pub written_behind : List ℕ → Writing → State → Progress
+written_behind text w s = record { writing = fold (step text) w s.nodes; inlines = s.inlines }
+
+-- nothing is written but the nodes
+abbrev pub written_alone : List ℕ → State → Progress
+written_alone text s = written_behind text (record { events = []; stack = [] }) s
+
+-- the nodes that a change puts behind none are written behind what is written
+abbrev pub written_by : List ℕ → (State → State) → Progress → Progress
+written_by text change p = written_behind text p.writing (change (record { nodes = []; inlines = p.inlines }))
+
+-- the nodes of the inlines that were found
+abbrev pub with_inlines : inlines.State → State → State
+with_inlines found s = record {
+  nodes = s.nodes ++ map (inline_node found.texts found.targets) found.nodes;
+  inlines = record { nodes = []; targets = found.targets; texts = found.texts; missed = found.missed };
+}
+
+-- the inlines of a leaf
+unfoldable pub leaf_inlines : List ℕ → (List ℕ → Option Entry) → List Piece → ℕ → State → State
+leaf_inlines text find pieces depth s =
+    with_inlines (inlines.read_inlines (content.content_of text (map content_line pieces)) depth find s.inlines) s
+
+-- one more container
+unfoldable pub with_block : List ℕ → Block → State → State
+with_block text b s = record s { nodes = s.nodes ++ block_node text b ∷ [] }
+
+-- a code or HTML block with its lines
+unfoldable pub with_lines : List ℕ → Bool → Block → List Piece → State → State
+with_lines text html b lines s = record s { nodes = (s.nodes ++ block_node text b ∷ []) ++ lines_nodes text html (plus b.depth 1) lines }
+
+-- one more thematic break
+unfoldable pub with_rule : Block → State → State
+with_rule b s = record s { nodes = s.nodes ++ node b.depth (Given view.Rule) b.start b.end ∷ [] }
+
+-- a paragraph or a heading with its inlines
+unfoldable pub wrapped : List ℕ → (List ℕ → Option Entry) → List Piece → Block → State → State
+wrapped text find pieces b s = leaf_inlines text find pieces (plus b.depth 1) (with_block text b s)
+
+-- a paragraph of definitions alone is nothing, and one in a tight list has no container
+unfoldable pub paragraph_taken : List ℕ → (List ℕ → Option Entry) → List Piece → Bool → Block → State → State
+paragraph_taken text find pieces unwrapped b s =
+    if nat_le b.last b.first then s
+    else (if unwrapped then leaf_inlines text find pieces b.depth s else wrapped text find pieces b s)
+
+-- a block of this kind
+abbrev pub taken_as : BlockKind → List ℕ → (List ℕ → Option Entry) → List Piece → Bool → Block → State → State
+taken_as kind.Paragraph text find pieces unwrapped b s = paragraph_taken text find pieces unwrapped b s
+taken_as (kind.Heading level) text find pieces unwrapped b s = wrapped text find pieces b s
+taken_as kind.Quote text find pieces unwrapped b s = with_block text b s
+taken_as (kind.List first) text find pieces unwrapped b s = with_block text b s
+taken_as kind.Item text find pieces unwrapped b s = with_block text b s
+taken_as kind.Indented text find pieces unwrapped b s = with_lines text false b pieces s
+taken_as (kind.Fenced from to) text find pieces unwrapped b s = with_lines text false b pieces s
+taken_as kind.Html text find pieces unwrapped b s = with_lines text true b pieces s
+taken_as kind.Rule text find pieces unwrapped b s = with_rule b s
+
+-- one more block
+unfoldable pub block_taken : List ℕ → (List ℕ → Option Entry) → List Piece → Bool → Block → State → State
+block_taken text find all unwrapped b s = taken_as b.kind text find (pieces_of all b.first b.last) unwrapped b s
+
+-- one more block, which may stand in a tight list
+abbrev pub block_step : List ℕ → (List ℕ → Option Entry) → List Block → List Piece → State → Block → State
+block_step text find blocks pieces s b = block_taken text find pieces (is_unwrapped blocks b) b s
+
+-- no nodes, and the texts of the definitions
+abbrev pub start_state : List ℕ → State
+start_state texts = record { nodes = []; inlines = record { nodes = []; targets = []; texts = texts; missed = [] } }
+
+-- all blocks with their inlines
+abbrev pub assembled : List ℕ → (List ℕ → Option Entry) → List Block → List Piece → List ℕ → State
+assembled text find blocks pieces texts = fold (block_step text find blocks pieces) (start_state texts) blocks

@@ -1,0 +1,22 @@
+-- Texts of events that are not spelled in the source as they are.
+use Rattle.std.specs.Prelude.{ℕ, Bool, if◌then◌else◌, List, [], ◌∷◌, ◌++◌, replicate}
+use Rattle.std.specs.List.{flat_map}
+use Rattle.std.specs.Str.Lossy.{utf8_lossy}
+use Rattle.tocmark_read_tokens.specs.Reference.{unescaped}
+use Rattle.tocmark_read_blocks.specs.Definitions.{replaced}
+
+-- a line feed, for a line that ends
+abbrev pub feed_if : Bool → List ℕ
+feed_if feed = if feed then 10 ∷ [] else []
+
+-- U+FFFD stands for U+0000, and a line feed for a line ending (CommonMark 2.3)
+unfoldable pub cleaned : List ℕ → Bool → List ℕ
+cleaned bytes feed = utf8_lossy (flat_map replaced bytes ++ feed_if feed)
+
+-- an info string has no escapes and references
+unfoldable pub info_text : List ℕ → List ℕ
+info_text bytes = utf8_lossy (unescaped (flat_map replaced bytes))
+
+-- so many spaces
+unfoldable pub spaces_text : ℕ → List ℕ
+spaces_text count = utf8_lossy (replicate count 32)

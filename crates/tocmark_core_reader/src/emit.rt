@@ -1,0 +1,185 @@
+//! From nodes to events.
+
+ghost use Rattle.std.specs.Prelude.{◌≡◌, ◌++◌, ◌∷◌, [], map, IfOk, OnOk};
+ghost use Rattle.tocmark_event.specs.Text.{text_of};
+ghost use Rattle.tocmark_event.specs.View.{event_view, tag_view};
+ghost use Rattle.tocmark_core_reader.specs.Range.{is_cut, snapped, IsGoodRange};
+ghost use Rattle.tocmark_core_reader.specs.Emitted.{Container, item_view, node_view, emission_view, shown, closed, source_text, put, step};
+
+use crate::words::cleaned_part;
+use std::alloc::{AllocError, Global};
+use tocmark_event::event::{CowStr, Event, Tag, TagEnd};
+
+/// What stands at a node.
+#[derive(Drop)]
+pub enum Item {
+    /// A container; what lies in it are the nodes behind it that are deeper.
+    Container(Tag<'static>),
+    /// A text: the bytes of the node's range, but U+FFFD for U+0000.
+    Source,
+    /// A text that differs from its source.
+    Text(CowStr<'static>),
+    Code(CowStr<'static>),
+    Html(CowStr<'static>),
+    InlineHtml(CowStr<'static>),
+    SoftBreak,
+    HardBreak,
+    Rule,
+}
+
+/// A part of a text, in bytes: `end` is the place behind the last one. Nodes stand in the order of
+/// their Starts; a node lies in the nearest container before it whose depth is less.
+#[derive(Drop)]
+pub struct Node {
+    pub depth: usize,
+    pub item: Item,
+    pub start: usize,
+    pub end: usize,
+}
+
+/// A container whose End is still to come.
+#[derive(Clone, Copy)]
+pub struct Open {
+    pub end: TagEnd,
+    pub range: (usize, usize),
+}
+
+/// The events so far, each with its range in bytes, and the containers that are open, the outermost
+/// first.
+#[derive(Drop)]
+pub struct Emission {
+    pub events: Vec<Marked>,
+    pub stack: Vec<Open>,
+}
+
+type Marked = (Event<'static>, (usize, usize));
+
+fn is_cut(text: &str, at: usize) -> bool
+    ensures { result ≡ is_cut text.now at }
+{
+    let bytes = text.as_bytes();
+    if at < bytes.len() {
+        bytes[at] < 128 || 192 <= bytes[at]
+    } else {
+        at == bytes.len()
+    }
+}
+
+fn snapped(text: &str, start: usize, end: usize) -> (usize, usize)
+    ensures exact { result ≡ snapped text.now start end }
+    ensures good { IsGoodRange text.now result }
+{
+    if start <= end && is_cut(text, start) && is_cut(text, end) {
+        (start, end)
+    } else {
+        (0, 0)
+    }
+}
+
+fn source_text(
+    alloc: Global,
+    text: &str,
+    range: (usize, usize),
+) -> Result<CowStr<'static>, AllocError>
+    ensures { IfOk result (λ copy. text_of copy ≡ source_text text.now range) }
+{
+    Ok(CowStr::Owned(cleaned_part(alloc, text, range.0, range.1, false)?))
+}
+
+/// Adds an item to a list.
+fn add<T: Drop>(list: &mut Vec<T>, item: T) -> Result<(), AllocError>
+    ensures { OnOk result (list.new.items ≡ list.old.items ++ item ∷ []) }
+{
+    Ok(list.push(item)?)
+}
+
+fn push(
+    out: &mut Vec<Marked>,
+    event: Event<'static>,
+    range: (usize, usize),
+) -> Result<(), AllocError>
+    ensures { OnOk result (map shown out.new.items
+        ≡ map shown out.old.items ++ (event_view text_of event.entry, range) ∷ []) }
+{
+    add(out, (event, range))
+}
+
+impl Emission {
+    /// Ends the containers from a depth on, the innermost first.
+    fn close_to(&mut self, depth: usize) -> Result<(), AllocError>
+        ensures { OnOk result (emission_view self.new ≡ closed depth (emission_view self.old)) }
+    {
+        while self.stack.len() > depth {
+            if let Some(last) = self.stack.pop() {
+                push(&mut self.events, Event::End(last.end), last.range)?;
+            }
+        }
+        Ok(())
+    }
+
+    /// Begins a container.
+    fn begin(
+        &mut self,
+        text: &str,
+        tag: Tag<'static>,
+        range: (usize, usize),
+    ) -> Result<(), AllocError>
+        ensures { OnOk result (emission_view self.new
+            ≡ put text.now (Container (tag_view text_of tag.entry)) range (emission_view self.old)) }
+    {
+        let end = tag.to_end();
+        push(&mut self.events, Event::Start(tag), range)?;
+        self.stack.push(Open { end, range })?;
+        Ok(())
+    }
+
+    /// Puts one item behind the events so far.
+    fn put(
+        &mut self,
+        alloc: Global,
+        text: &str,
+        item: Item,
+        range: (usize, usize),
+    ) -> Result<(), AllocError>
+        ensures { OnOk result (emission_view self.new
+            ≡ put text.now (item_view item) range (emission_view self.old)) }
+    {
+        let event = match item {
+            Item::Container(tag) => return self.begin(text, tag, range),
+            Item::Source => Event::Text(source_text(alloc, text, range)?),
+            Item::Text(words) => Event::Text(words),
+            Item::Code(words) => Event::Code(words),
+            Item::Html(words) => Event::Html(words),
+            Item::InlineHtml(words) => Event::InlineHtml(words),
+            Item::SoftBreak => Event::SoftBreak,
+            Item::HardBreak => Event::HardBreak,
+            Item::Rule => Event::Rule,
+        };
+        push(&mut self.events, event, range)
+    }
+
+    /// Writes one node. Its range is that of the event if it is in order, within the text and on
+    /// boundaries of characters; else the event gets an empty one at the front.
+    pub fn write(&mut self, alloc: Global, text: &str, node: Node) -> Result<(), AllocError>
+        ensures { OnOk result (emission_view self.new
+            ≡ step text.now (emission_view self.old) (node_view node)) }
+    {
+        let closed = self.close_to(node.depth);
+        if closed.is_err() {
+            drop(node);
+            return closed;
+        }
+        let range = snapped(text, node.start, node.end);
+        self.put(alloc, text, node.item, range)
+    }
+
+    /// Ends all containers, and gives the events.
+    pub fn finish(self) -> Result<Vec<Marked>, AllocError>
+        ensures { IfOk result (λ events.
+            map shown events.items ≡ (closed 0 (emission_view self)).events) }
+    {
+        let mut all = self;
+        all.close_to(0)?;
+        Ok(all.events)
+    }
+}

@@ -1,0 +1,400 @@
+//! From blocks to events.
+
+ghost use Rattle.std.specs.Prelude.{◌≡◌, [], map, IfOk, OnOk};
+ghost use Rattle.std.specs.List.{fold};
+ghost use Rattle.tocmark_event.specs.Text.{text_of};
+ghost use Rattle.tocmark_event.specs.View.{tag_view};
+ghost use Rattle.tocmark_read_spans.specs.Definitions.{entry_of};
+ghost use Rattle.tocmark_read_inlines.specs.Inlines.{inlines_view};
+ghost use Rattle.tocmark_core_reader.specs.Emitted.{item_view, emission_view, step};
+ghost use Rattle.tocmark_core_reader.specs.Pages.{pieces_of, content_line, space_nodes, line_item, line_nodes, lines_nodes, block_tag, is_unwrapped, block_node, assembly_view, leaf_inlines, with_block, with_lines, with_rule, wrapped, paragraph_taken, block_taken, assembled, written_alone, written_by};
+
+use crate::emit::{Emission, Item, Node};
+use crate::inline::write_inlines;
+use crate::words::{cleaned_part, info_text, spaces_text};
+use std::alloc::{AllocError, Global};
+use std::mem;
+use tocmark_event::event::{CodeBlockKind, CowStr, Tag};
+use tocmark_read_blocks::{Block, BlockKind, Piece};
+use tocmark_read_inlines::inlines::{Inlines, read_inlines};
+use tocmark_read_scan::basic::piece;
+use tocmark_read_scan::content::{Line, content_of};
+use tocmark_read_spans::definitions::Definitions;
+
+/// The pieces of a range, none where it is none of the list.
+fn pieces_of(pieces: &[Piece], first: usize, last: usize) -> &[Piece]
+    ensures { result.now ≡ pieces_of pieces.now first last }
+{
+    if first <= last && last <= pieces.len() {
+        &pieces[first..last]
+    } else {
+        &[]
+    }
+}
+
+#[tactic(auto, unfolding(crate::specs::Pages::content_line))]
+fn content_line(line: Piece) -> Line
+    ensures { result ≡ content_line line }
+{
+    Line {
+        start: line.start,
+        end: line.end,
+        next: line.next,
+    }
+}
+
+/// Writes the lines of a leaf over those of another one.
+fn content_lines(lines: &mut Vec<Line>, pieces: &[Piece]) -> Result<(), AllocError>
+    ensures { OnOk result (lines.new.items ≡ map content_line pieces.now) }
+{
+    lines.clear();
+    for line in pieces {
+        lines.push(content_line(*line))?;
+    }
+    Ok(())
+}
+
+/// Writes the spaces that are left of a partly used tab.
+#[tactic(auto, unfolding(crate::specs::Pages::space_nodes))]
+fn write_spaces(
+    alloc: Global,
+    out: &mut Emission,
+    text: &str,
+    depth: usize,
+    line: Piece,
+) -> Result<(), AllocError>
+    ensures { OnOk result (emission_view out.new
+        ≡ fold (step text.now) (emission_view out.old) (space_nodes depth line)) }
+{
+    if 0 < line.spaces {
+        let spaces = CowStr::Owned(spaces_text(alloc, line.spaces)?);
+        let node = Node {
+            depth,
+            item: Item::Text(spaces),
+            start: line.start.saturating_sub(1),
+            end: line.start,
+        };
+        out.write(alloc, text, node)?;
+    }
+    Ok(())
+}
+
+#[tactic(auto, unfolding(crate::specs::Pages::line_item))]
+fn line_item(alloc: Global, text: &str, html: bool, line: Piece) -> Result<Item, AllocError>
+    ensures { IfOk result (λ i. item_view i ≡ line_item text.now html line) }
+{
+    let feed = line.end < line.next;
+    let words = CowStr::Owned(cleaned_part(alloc, text, line.start, line.end, feed)?);
+    if html {
+        Ok(Item::Html(words))
+    } else {
+        Ok(Item::Text(words))
+    }
+}
+
+/// Writes a line of code or HTML.
+#[tactic(auto, unfolding(crate::specs::Pages::line_nodes))]
+fn write_line(
+    alloc: Global,
+    out: &mut Emission,
+    text: &str,
+    html: bool,
+    depth: usize,
+    line: Piece,
+) -> Result<(), AllocError>
+    ensures { OnOk result (emission_view out.new
+        ≡ fold (step text.now) (emission_view out.old) (line_nodes text.now html depth line)) }
+{
+    write_spaces(alloc, out, text, depth, line)?;
+    if line.start < line.next {
+        let node = Node {
+            depth,
+            item: line_item(alloc, text, html, line)?,
+            start: line.start,
+            end: line.next,
+        };
+        out.write(alloc, text, node)?;
+    }
+    Ok(())
+}
+
+fn write_lines(
+    alloc: Global,
+    out: &mut Emission,
+    text: &str,
+    html: bool,
+    depth: usize,
+    lines: &[Piece],
+) -> Result<(), AllocError>
+    ensures { OnOk result (emission_view out.new
+        ≡ fold (step text.now) (emission_view out.old)
+        (lines_nodes text.now html depth lines.now)) }
+{
+    for line in lines {
+        write_line(alloc, out, text, html, depth, *line)?;
+    }
+    Ok(())
+}
+
+/// The container that a block is. A thematic break is none, and stands as a paragraph here.
+#[tactic(auto, unfolding(crate::specs::Pages::block_tag))]
+fn block_tag(alloc: Global, text: &str, kind: BlockKind) -> Result<Tag<'static>, AllocError>
+    ensures { IfOk result (λ t. tag_view text_of t ≡ block_tag text.now kind) }
+{
+    match kind {
+        BlockKind::Quote => Ok(Tag::BlockQuote(None)),
+        BlockKind::List(first) => Ok(Tag::List(first)),
+        BlockKind::Item => Ok(Tag::Item),
+        BlockKind::Paragraph => Ok(Tag::Paragraph),
+        BlockKind::Heading(level) => Ok(Tag::Heading {
+            level,
+            id: None,
+            classes: Vec::new(alloc),
+            attrs: Vec::new(alloc),
+        }),
+        BlockKind::Indented => Ok(Tag::CodeBlock(CodeBlockKind::Indented)),
+        BlockKind::Fenced(from, to) => {
+            let info = info_text(alloc, piece(text.as_bytes(), from, to))?;
+            Ok(Tag::CodeBlock(CodeBlockKind::Fenced(CowStr::Owned(info))))
+        }
+        BlockKind::Html => Ok(Tag::HtmlBlock),
+        BlockKind::Rule => Ok(Tag::Paragraph),
+    }
+}
+
+/// Whether a paragraph stands directly in an item of a tight list.
+#[tactic(auto, unfolding(crate::specs::Pages::is_unwrapped))]
+fn is_unwrapped(blocks: &[Block], block: Block) -> bool
+    ensures { result ≡ is_unwrapped blocks.now block }
+{
+    match block.list {
+        None => false,
+        Some(place) => match blocks.get(place).copied() {
+            None => false,
+            Some(list) => !list.loose,
+        },
+    }
+}
+
+fn write_block(
+    alloc: Global,
+    out: &mut Emission,
+    text: &str,
+    block: Block,
+) -> Result<(), AllocError>
+    ensures { OnOk result (emission_view out.new
+        ≡ step text.now (emission_view out.old) (block_node text.now block)) }
+{
+    let node = Node {
+        depth: block.depth,
+        item: Item::Container(block_tag(alloc, text, block.kind)?),
+        start: block.start,
+        end: block.end,
+    };
+    out.write(alloc, text, node)
+}
+
+/// What inlines have beside the source where none is read yet; `texts` are those of the definitions.
+fn no_inlines(alloc: Global, texts: Vec<u8>) -> Inlines
+    ensures { inlines_view result
+        ≡ record { nodes = []; targets = []; texts = texts.items; missed = [] } }
+{
+    Inlines {
+        nodes: Vec::new(alloc),
+        targets: Vec::new(alloc),
+        texts,
+        missed: Vec::new(alloc),
+    }
+}
+
+/// What is written so far, what the inlines have beside the source, and a list for the lines of a leaf.
+#[derive(Drop)]
+pub struct Assembly {
+    pub emission: Emission,
+    pub inlines: Inlines,
+    pub lines: Vec<Line>,
+}
+
+impl Assembly {
+    /// Reads the inlines of a leaf.
+    #[tactic(auto, unfolding(crate::specs::Pages::leaf_inlines))]
+    fn read_leaf(
+        &mut self,
+        alloc: Global,
+        text: &str,
+        definitions: &Definitions,
+        pieces: &[Piece],
+        depth: usize,
+    ) -> Result<(), AllocError>
+        ensures { OnOk result (assembly_view self.new ≡ written_by text.now
+            (leaf_inlines text.now (entry_of definitions.now) pieces.now depth)
+            (assembly_view self.old)) }
+    {
+        content_lines(&mut self.lines, pieces)?;
+        let content = content_of(alloc, text.as_bytes(), &self.lines)?;
+        let before = mem::replace(&mut self.inlines, no_inlines(alloc, Vec::new(alloc)));
+        let mut found = read_inlines(alloc, before, &content, depth, definitions)?;
+        write_inlines(
+            alloc,
+            &mut self.emission,
+            text,
+            &found.texts,
+            &found.targets,
+            &found.nodes,
+        )?;
+        found.nodes.clear();
+        self.inlines = found;
+        Ok(())
+    }
+
+    #[tactic(auto, unfolding(crate::specs::Pages::with_block))]
+    fn open(&mut self, alloc: Global, text: &str, block: Block) -> Result<(), AllocError>
+        ensures { OnOk result (assembly_view self.new
+            ≡ written_by text.now (with_block text.now block) (assembly_view self.old)) }
+    {
+        write_block(alloc, &mut self.emission, text, block)
+    }
+
+    #[tactic(auto, unfolding(crate::specs::Pages::with_lines))]
+    fn take_lines(
+        &mut self,
+        alloc: Global,
+        text: &str,
+        html: bool,
+        block: Block,
+        lines: &[Piece],
+    ) -> Result<(), AllocError>
+        ensures { OnOk result (assembly_view self.new
+            ≡ written_by text.now (with_lines text.now html block lines.now)
+            (assembly_view self.old)) }
+    {
+        write_block(alloc, &mut self.emission, text, block)?;
+        write_lines(
+            alloc,
+            &mut self.emission,
+            text,
+            html,
+            block.depth.saturating_add(1),
+            lines,
+        )
+    }
+
+    #[tactic(auto, unfolding(crate::specs::Pages::with_rule))]
+    fn take_rule(&mut self, alloc: Global, text: &str, block: Block) -> Result<(), AllocError>
+        ensures { OnOk result (assembly_view self.new
+            ≡ written_by text.now (with_rule block) (assembly_view self.old)) }
+    {
+        let node = Node {
+            depth: block.depth,
+            item: Item::Rule,
+            start: block.start,
+            end: block.end,
+        };
+        self.emission.write(alloc, text, node)
+    }
+
+    /// A paragraph or a heading with its inlines.
+    fn read_wrapped(
+        &mut self,
+        alloc: Global,
+        text: &str,
+        definitions: &Definitions,
+        pieces: &[Piece],
+        block: Block,
+    ) -> Result<(), AllocError>
+        ensures { OnOk result (assembly_view self.new ≡ written_by text.now
+            (wrapped text.now (entry_of definitions.now) pieces.now block)
+            (assembly_view self.old)) }
+    {
+        self.open(alloc, text, block)?;
+        self.read_leaf(
+            alloc,
+            text,
+            definitions,
+            pieces,
+            block.depth.saturating_add(1),
+        )
+    }
+
+    #[tactic(auto, unfolding(crate::specs::Pages::paragraph_taken))]
+    fn read_paragraph(
+        &mut self,
+        alloc: Global,
+        text: &str,
+        definitions: &Definitions,
+        pieces: &[Piece],
+        unwrapped: bool,
+        block: Block,
+    ) -> Result<(), AllocError>
+        ensures { OnOk result (assembly_view self.new ≡ written_by text.now
+            (paragraph_taken text.now (entry_of definitions.now) pieces.now unwrapped block)
+            (assembly_view self.old)) }
+    {
+        if block.last <= block.first {
+            Ok(())
+        } else if unwrapped {
+            self.read_leaf(alloc, text, definitions, pieces, block.depth)
+        } else {
+            self.read_wrapped(alloc, text, definitions, pieces, block)
+        }
+    }
+
+    /// One more block; `all` are the pieces of all blocks.
+    #[tactic(auto, unfolding(crate::specs::Pages::block_taken))]
+    fn read_block(
+        &mut self,
+        alloc: Global,
+        text: &str,
+        definitions: &Definitions,
+        all: &[Piece],
+        unwrapped: bool,
+        block: Block,
+    ) -> Result<(), AllocError>
+        ensures { OnOk result (assembly_view self.new ≡ written_by text.now
+            (block_taken text.now (entry_of definitions.now) all.now unwrapped block)
+            (assembly_view self.old)) }
+    {
+        let pieces = pieces_of(all, block.first, block.last);
+        match block.kind {
+            BlockKind::Paragraph => {
+                self.read_paragraph(alloc, text, definitions, pieces, unwrapped, block)
+            }
+            BlockKind::Heading(_) => self.read_wrapped(alloc, text, definitions, pieces, block),
+            BlockKind::Quote => self.open(alloc, text, block),
+            BlockKind::List(_) => self.open(alloc, text, block),
+            BlockKind::Item => self.open(alloc, text, block),
+            BlockKind::Indented => self.take_lines(alloc, text, false, block, pieces),
+            BlockKind::Fenced(_, _) => self.take_lines(alloc, text, false, block, pieces),
+            BlockKind::Html => self.take_lines(alloc, text, true, block, pieces),
+            BlockKind::Rule => self.take_rule(alloc, text, block),
+        }
+    }
+}
+
+/// All blocks with their inlines; `texts` are those of the definitions. The nodes of a block are
+/// written before the next one is read.
+pub fn assemble(
+    alloc: Global,
+    text: &str,
+    definitions: &Definitions,
+    blocks: &[Block],
+    pieces: &[Piece],
+    texts: Vec<u8>,
+) -> Result<Assembly, AllocError>
+    ensures { IfOk result (λ a. assembly_view a ≡ written_alone text.now
+        (assembled text.now (entry_of definitions.now) blocks.now pieces.now texts.items)) }
+{
+    let mut assembly = Assembly {
+        emission: Emission {
+            events: Vec::with_capacity(alloc, blocks.len().saturating_add(pieces.len()))?,
+            stack: Vec::new(alloc),
+        },
+        inlines: no_inlines(alloc, texts),
+        lines: Vec::new(alloc),
+    };
+    for block in blocks {
+        let unwrapped = is_unwrapped(blocks, *block);
+        assembly.read_block(alloc, text, definitions, pieces, unwrapped, *block)?;
+    }
+    Ok(assembly)
+}

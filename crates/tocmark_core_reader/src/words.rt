@@ -1,0 +1,140 @@
+//! Texts of events that are not spelled in the source as they are.
+
+ghost use Rattle.std.specs.Prelude.{◌≡◌, ◌++◌, true, string_bytes, IfOk, OnOk};
+ghost use Rattle.std.specs.List.{flat_map};
+ghost use Rattle.tocmark_read_scan.specs.Basic.{piece};
+ghost use Rattle.tocmark_read_tokens.specs.Reference.{unescaped};
+ghost use Rattle.tocmark_event.specs.Text.{text_of};
+ghost use Rattle.tocmark_read_blocks.specs.Definitions.{replaced};
+ghost use Rattle.tocmark_read_spans.specs.Definitions.{stretch_text};
+ghost use Rattle.tocmark_core_reader.specs.Words.{feed_if, cleaned, info_text, spaces_text};
+
+use std::alloc::{AllocError, Global};
+use tocmark_event::event::CowStr;
+use tocmark_read_scan::basic::piece;
+use tocmark_read_spans::role::Stretch;
+use tocmark_read_tokens::reference::unescaped;
+
+#[tactic(auto, unfolding(tocmark_read_blocks::specs::Definitions::replaced))]
+fn push_byte(out: &mut Vec<u8>, byte: u8) -> Result<(), AllocError>
+    ensures { OnOk result (out.new.items ≡ out.old.items ++ replaced byte) }
+{
+    if byte == 0 {
+        out.push(0xef)?;
+        out.push(0xbf)?;
+        out.push(0xbd)?;
+    } else {
+        out.push(byte)?;
+    }
+    Ok(())
+}
+
+fn push_replaced(out: &mut Vec<u8>, bytes: &[u8]) -> Result<(), AllocError>
+    ensures { OnOk result (out.new.items ≡ out.old.items ++ flat_map replaced bytes.now) }
+{
+    for byte in bytes {
+        push_byte(out, *byte)?;
+    }
+    Ok(())
+}
+
+/// The bytes with U+FFFD for U+0000; with room for one more.
+#[tactic(auto, using(crate::proofs::Zeros::without_zeros))]
+fn replaced_bytes(alloc: Global, bytes: &[u8]) -> Result<Vec<u8>, AllocError>
+    ensures { IfOk result (λ v. v.items ≡ flat_map replaced bytes.now) }
+{
+    let mut out = Vec::with_capacity(alloc, bytes.len().saturating_add(1))?;
+    if bytes.contains(&0) {
+        push_replaced(&mut out, bytes)?;
+    } else {
+        out.extend_from_slice(bytes)?;
+    }
+    Ok(out)
+}
+
+fn push_feed(out: &mut Vec<u8>, feed: bool) -> Result<(), AllocError>
+    ensures { OnOk result (out.new.items ≡ out.old.items ++ feed_if feed) }
+{
+    if feed {
+        out.push(b'\n')?;
+    }
+    Ok(())
+}
+
+#[tactic(auto, unfolding(crate::specs::Words::cleaned))]
+fn cleaned(alloc: Global, bytes: &[u8], feed: bool) -> Result<String, AllocError>
+    ensures { IfOk result (λ t. string_bytes t ≡ cleaned bytes.now feed) }
+{
+    let mut out = replaced_bytes(alloc, bytes)?;
+    push_feed(&mut out, feed)?;
+    String::from_utf8_lossy(alloc, &out)
+}
+
+fn with_feed(alloc: Global, text: &str) -> Result<String, AllocError>
+    ensures { IfOk result (λ t. string_bytes t ≡ text.now ++ feed_if true) }
+{
+    let mut line = String::with_capacity(alloc, text.len().saturating_add(1))?;
+    line.push_str(text)?;
+    line.push('\n')?;
+    Ok(line)
+}
+
+#[tactic(auto, using(crate::proofs::Zeros::text_kept, crate::proofs::Zeros::line_kept))]
+fn cleaned_text(alloc: Global, text: &str, feed: bool) -> Result<String, AllocError>
+    ensures { IfOk result (λ t. string_bytes t ≡ cleaned text.now feed) }
+{
+    if text.as_bytes().contains(&0) {
+        cleaned(alloc, text.as_bytes(), feed)
+    } else if feed {
+        with_feed(alloc, text)
+    } else {
+        String::from_str(alloc, text)
+    }
+}
+
+/// A part of a text with U+FFFD for U+0000, and a line feed behind it if it is a line that ends.
+pub fn cleaned_part(
+    alloc: Global,
+    text: &str,
+    start: usize,
+    end: usize,
+    feed: bool,
+) -> Result<String, AllocError>
+    ensures { IfOk result (λ t. string_bytes t ≡ cleaned (piece text.now start end) feed) }
+{
+    match text.get(start..end) {
+        Some(part) => cleaned_text(alloc, part, feed),
+        None => cleaned(alloc, piece(text.as_bytes(), start, end), feed),
+    }
+}
+
+/// An info string: without escapes and references.
+#[tactic(auto, unfolding(crate::specs::Words::info_text))]
+pub fn info_text(alloc: Global, bytes: &[u8]) -> Result<String, AllocError>
+    ensures { IfOk result (λ t. string_bytes t ≡ info_text bytes.now) }
+{
+    let bytes = replaced_bytes(alloc, bytes)?;
+    let bytes = unescaped(alloc, &bytes)?;
+    String::from_utf8_lossy(alloc, &bytes)
+}
+
+/// So many spaces.
+#[tactic(auto, unfolding(crate::specs::Words::spaces_text))]
+pub fn spaces_text(alloc: Global, count: usize) -> Result<String, AllocError>
+    ensures { IfOk result (λ t. string_bytes t ≡ spaces_text count) }
+{
+    let bytes = vec![in alloc; b' '; count]?;
+    String::from_utf8_lossy(alloc, &bytes)
+}
+
+/// A stretch of texts.
+pub fn stretch_text(
+    alloc: Global,
+    texts: &[u8],
+    stretch: Stretch,
+) -> Result<CowStr<'static>, AllocError>
+    ensures { IfOk result (λ t. text_of t ≡ stretch_text texts.now stretch) }
+{
+    let bytes = piece(texts, stretch.start, stretch.end);
+    Ok(CowStr::Owned(String::from_utf8_lossy(alloc, bytes)?))
+}

@@ -1,7 +1,0 @@
-use Rattle.std.proofs.Common.{sym, ◌∙◌}
-use Rattle.tocmark_core_scan.proofs.Repeats.{repeated_stop}
-use Rattle.tocmark_core_spans.proofs.emphasis.Openers.close.Goals as goal
-
--- nothing fits: the loop ends as the definition does
-pub returns-in-None : goal.returns-in-None
-returns-in-None c = sym (repeated_stop _ _ _ _ _ c.loop-fuel-test.true (rw c.in-None.is at c.in_ok-close_once.ensures)) ∙ c.loop-fuel.invariant

@@ -1,5 +1,0 @@
-use Rattle.tocmark_core_spans.proofs.Marks.{numbered_step}
-use Rattle.tocmark_core_spans.proofs.role.number_marks.Goals as goal
-
-pub loop-at-preserved : goal.loop-at-preserved
-loop-at-preserved c = numbered_step _ _ _ _ _ _ c.loop-at-test.true c.loop-at.invariant c.set.ensures

@@ -1,4 +1,0 @@
-pub mod Widening
-pub mod Nodes
-pub mod Lowness
-pub mod Opened

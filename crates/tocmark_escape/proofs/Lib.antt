@@ -1,3 +1,0 @@
-pub mod EscapeLemmas
-pub mod Bare
-pub mod Runs

@@ -1,4 +1,0 @@
-//! How texts are escaped so that a reader finds them in their spelling.
-#![tactic(auto)]
-
-pub mod escape;

@@ -1,3 +1,0 @@
-pub mod FreeLabels
-pub mod LabelLemmas
-pub mod ReservedLabels

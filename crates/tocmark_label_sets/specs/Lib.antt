@@ -1,3 +1,0 @@
-pub mod Document
-pub mod LabelsOf
-pub mod Reserved

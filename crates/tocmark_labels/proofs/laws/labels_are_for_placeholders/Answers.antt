@@ -1,5 +1,0 @@
-use Rattle.tocmark_labels.proofs.Forests.{no-label}
-use Rattle.tocmark_labels.proofs.laws.labels_are_for_placeholders.Goals as goal
-
-pub returns : goal.returns
-returns c = no-label

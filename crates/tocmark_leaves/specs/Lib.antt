@@ -1,3 +1,0 @@
--- Definitions.
-pub mod BesideOf
-pub mod Led

@@ -1,5 +1,0 @@
-use Rattle.tocmark_marker.proofs.Stars.{star-is}
-use Rattle.tocmark_marker.proofs.preferred.is_star.Goals as goal
-
-pub returns : goal.returns
-returns c = star-is c.args.marker

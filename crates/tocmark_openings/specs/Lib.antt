@@ -1,4 +1,0 @@
--- Definitions.
-pub mod AheadOf
-pub mod Between
-pub mod Items

@@ -1,6 +1,0 @@
-use Rattle.std.proofs.Common.{◌≡◌, map, drop}
-use Rattle.tocmark_options.specs.Validation.{sizes_fault, named_size}
-use Rattle.tocmark_options.proofs.options.first_too_large.Given as goal
-
-abbrev pub invariant-loop-size : goal.invariant-loop-size
-invariant-loop-size l = sizes_fault (map named_size (drop l.size-index l.sizes)) ≡ sizes_fault (map named_size l.sizes)

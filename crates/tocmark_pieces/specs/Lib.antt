@@ -1,5 +1,0 @@
--- Definitions.
-pub mod Headings
-pub mod Lists
-pub mod Delimiters
-pub mod Html

@@ -1,5 +1,0 @@
-pub mod ClosedLemmas
-pub mod TrimLemmas
-pub mod PlaceLemmas
-pub mod HtmlLemmas
-pub mod RawLemmas

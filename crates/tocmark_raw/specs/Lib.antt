@@ -1,6 +1,0 @@
--- Definitions.
-pub mod BlockEnds
-pub mod Html
-pub mod HtmlAhead
-pub mod Kinds
-pub mod Raw

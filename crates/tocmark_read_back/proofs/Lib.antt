@@ -1,2 +1,0 @@
-pub mod Agreements
-pub mod Comparisons

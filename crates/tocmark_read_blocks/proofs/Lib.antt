@@ -1,0 +1,8 @@
+pub mod Places
+pub mod Steps
+pub mod PlainLines
+pub mod PlainSteps
+pub mod PlainStarts
+pub mod PlainPages
+pub mod PlainTexts
+pub mod PlainFronts

@@ -1,0 +1,285 @@
+-- How a line changes a page (CommonMark, appendix "A parsing strategy").
+use Rattle.std.specs.Prelude.{ℕ, ◌-◌, Bool, true, false, ◌==◌, ◌&&◌, nat_lt, nat_le, if◌then◌else◌, List, [], length, map, slice_get, slice_set, Option, Some, None}
+use Rattle.std.specs.List.{fold}
+use Rattle.std.specs.Option.{option_map_or}
+use Rattle.tocmark_event.specs.declared.event.HeadingLevel.{HeadingLevel}
+use Rattle.tocmark_read_scan.specs.Basic.{plus, piece}
+use Rattle.tocmark_read_scan.specs.Repeat.{repeated}
+use Rattle.tocmark_read_lines.specs.Lines.{lines_of}
+use Rattle.tocmark_read_lines.specs.Cells.{cells_of, cell_place, ink_from, moved, trimmed}
+use Rattle.tocmark_read_blocks.specs.Codes.{code_piece, text_piece, heading_piece, keeps_line}
+use Rattle.tocmark_read_blocks.specs.Definitions.{DefinitionView, definition_view}
+use Rattle.tocmark_read_lines.specs.Containers.{after_quote, container_at, matched, touched_from}
+use Rattle.tocmark_read_lines.specs.Html.{html_ends}
+use Rattle.tocmark_read_blocks.specs.Leaves.{is_paragraph, leaf_at, leaf_turn, rule_at}
+use Rattle.tocmark_read_lines.specs.Marks.{tail_of}
+use Rattle.tocmark_read_blocks.specs.Pages.{State, first_page, innermost, leaf_finished, settled, closed_to, list_left, opened_with, leaf_opened, piece_taken}
+use Rattle.tocmark_read_lines.specs.declared.line.Line.{Line}
+use Rattle.tocmark_read_lines.specs.declared.cell.Cell.{Cell}
+use Rattle.tocmark_read_lines.specs.declared.cell.Cursor.{Cursor}
+use Rattle.tocmark_read_blocks.specs.declared.block.Place.{Place}
+use Rattle.tocmark_read_blocks.specs.declared.block.Blocks.{Blocks}
+use Rattle.tocmark_read_blocks.specs.declared.definition.Piece.{Piece}
+use Rattle.tocmark_read_lines.specs.declared.container.Container.{Container}
+use Rattle.tocmark_read_lines.specs.declared.container.Container.TheVariants as container
+use Rattle.tocmark_read_lines.specs.declared.container.Opened.{Opened}
+use Rattle.tocmark_read_lines.specs.declared.container.ItemStart.{ItemStart}
+use Rattle.tocmark_read_lines.specs.declared.container.ContainerStart.{ContainerStart}
+use Rattle.tocmark_read_lines.specs.declared.container.ContainerStart.TheVariants as begins
+use Rattle.tocmark_read_lines.specs.declared.html.HtmlKind.{HtmlKind}
+use Rattle.tocmark_read_blocks.specs.declared.leaf.Leaf.{Leaf}
+use Rattle.tocmark_read_blocks.specs.declared.leaf.Leaf.TheVariants as leaf
+use Rattle.tocmark_read_blocks.specs.declared.leaf.LeafStart.{LeafStart}
+use Rattle.tocmark_read_blocks.specs.declared.leaf.LeafStart.TheVariants as start
+use Rattle.tocmark_read_blocks.specs.declared.leaf.Turn.{Turn}
+use Rattle.tocmark_read_blocks.specs.declared.leaf.Turn.TheVariants as turn
+use Rattle.tocmark_read_lines.specs.declared.mark.Fence.{Fence}
+use Rattle.tocmark_read_lines.specs.declared.mark.Heading.{Heading}
+use Rattle.tocmark_read_lines.specs.declared.mark.Tail.{Tail}
+use Rattle.tocmark_read_blocks.specs.declared.page.Block.{Block}
+use Rattle.tocmark_read_blocks.specs.declared.page.BlockKind.{BlockKind}
+use Rattle.tocmark_read_blocks.specs.declared.page.BlockKind.TheVariants as kind
+
+-- the place of the first byte of a line that is no space, at a place of it
+abbrev pub start_of : List Cell → Place → Line → ℕ
+start_of cells place line = cell_place cells place.cursor.ink line.end
+
+-- the info string is the rest of the fence's line without spaces around it
+unfoldable pub info_of : List Cell → Cursor → Fence → Line → BlockKind
+info_of cells cursor fence line =
+    let from = ink_from cells (plus cursor.ink fence.count) in
+    let to = trimmed cells from (length cells) 32 in
+    kind.Fenced (cell_place cells from line.end) (cell_place cells to line.end)
+
+-- the open paragraph stands in the innermost container that goes on
+unfoldable pub goes_directly : ℕ → State → Bool
+goes_directly depth s = is_paragraph s.leaf && nat_le (length s.opened) depth
+
+-- all containers that are open now go on at this cursor
+abbrev pub with_place : Cursor → State → State × Place
+with_place cursor s = (s, record { cursor = cursor; depth = length s.opened })
+
+-- a block quote begins (CommonMark 5.1)
+unfoldable pub quote_opened : List ℕ → List Cell → Line → Place → State → State × Place
+quote_opened text cells line place s =
+    with_place (after_quote cells place.cursor)
+    (opened_with container.Quote kind.Quote (start_of cells place line) line (list_left (closed_to text place.depth s)))
+
+-- a list whose markers end with this byte
+abbrev pub is_list_of : ℕ → Container → Bool
+is_list_of sort container.Quote = false
+is_list_of sort (container.List same) = same == sort
+is_list_of sort (container.Item width) = false
+
+-- the innermost container is a list whose markers end with this byte
+unfoldable pub is_in_list : ℕ → State → Bool
+is_in_list sort s = option_map_or (λ (o : Opened). is_list_of sort o.container) (innermost s.opened) false
+
+-- an item goes into the open list of its sort, or begins one
+unfoldable pub list_started : ItemStart → ℕ → Line → State → State
+list_started item start line s =
+    if is_in_list item.sort s then s
+    else opened_with (container.List item.sort) (kind.List item.number) start line (list_left s)
+
+-- an item begins, in its list (CommonMark 5.2)
+unfoldable pub item_opened : List ℕ → List Cell → Line → Place → ItemStart → State → State × Place
+item_opened text cells line place item s =
+    with_place (moved cells place.cursor item.next)
+    (opened_with (container.Item item.width) kind.Item (start_of cells place line) line
+    (list_started item (start_of cells place line) line (closed_to text place.depth s)))
+
+-- a state with a place to go on at
+abbrev pub some_place : State × Place → State × Option Place
+some_place p = (p.0, Some (p.1))
+
+-- the container that was found begins
+abbrev pub begun_at : List ℕ → List Cell → Line → Place → State → Option ContainerStart → State × Option Place
+begun_at text cells line place s None = (s, None)
+begun_at text cells line place s (Some begins.Quote) = some_place (quote_opened text cells line place s)
+begun_at text cells line place s (Some (begins.Item item)) = some_place (item_opened text cells line place item s)
+
+-- the container that begins at a place opens
+unfoldable pub container_once : List ℕ → List Cell → Line → Tail → Place → State → State × Option Place
+container_once text cells line tail place s =
+    begun_at text cells line place s (container_at cells tail place.cursor (goes_directly place.depth s))
+
+-- containers begin one after the other, as many as the line has columns at most
+abbrev pub containers_opened : List ℕ → List Cell → Line → Tail → Place → State → State × Place
+containers_opened text cells line tail place s = repeated (container_once text cells line tail) (length cells) place s
+
+-- an HTML block of these kinds ends with a line that has its end
+abbrev pub html_ended_as : Leaf → List ℕ → State → State
+html_ended_as leaf.Nothing rest s = s
+html_ended_as leaf.Paragraph rest s = s
+html_ended_as leaf.Indented rest s = s
+html_ended_as (leaf.Fenced f) rest s = s
+html_ended_as (leaf.Html k) rest s = if html_ends k rest then leaf_finished s else s
+
+-- the open HTML block ends if this line has its end
+unfoldable pub html_ended : List ℕ → State → State
+html_ended rest s = html_ended_as s.leaf rest s
+
+-- the rest of a line goes into the open code or HTML block
+unfoldable pub code_taken : List ℕ → List Cell → ℕ → Line → State → State
+code_taken text cells column line s =
+    let code = code_piece cells column line in
+    html_ended (piece text code.start code.end) (piece_taken code line (keeps_line cells column s.leaf) s)
+
+-- where the open paragraph has no line, it begins with this one
+unfoldable pub text_started : ℕ → State → State
+text_started start s =
+    option_map_or
+    (λ (b : Block). if nat_le (length s.pieces) b.first then record s { blocks = slice_set s.blocks (length s.blocks - 1) (record b { start = start }) } else s)
+    (slice_get s.blocks (length s.blocks - 1)) s
+
+-- a paragraph begins, if none is open
+abbrev pub in_paragraph : List ℕ → List Cell → Line → Place → State → State
+in_paragraph text cells line place s =
+    if is_paragraph s.leaf then s
+    else leaf_opened leaf.Paragraph kind.Paragraph (text_piece cells place.cursor line).start line (closed_to text place.depth s)
+
+-- the rest of a line goes into the open paragraph, or into a new one (CommonMark 4.8)
+unfoldable pub text_taken : List ℕ → List Cell → Line → Place → State → State
+text_taken text cells line place s =
+    let words = text_piece cells place.cursor line in
+    piece_taken words line true (text_started words.start (in_paragraph text cells line place s))
+
+-- indented code begins (CommonMark 4.4)
+unfoldable pub indented_started : List ℕ → List Cell → Line → Place → ℕ → State → State
+indented_started text cells line place column s =
+    code_taken text cells column line
+    (leaf_opened leaf.Indented kind.Indented (cell_place cells column line.end) line (closed_to text place.depth s))
+
+-- a heading on one line (CommonMark 4.2)
+unfoldable pub heading_started : List ℕ → List Cell → Line → Place → Heading → State → State
+heading_started text cells line place heading s =
+    leaf_finished
+    (piece_taken (heading_piece cells heading line) line true
+    (leaf_opened leaf.Nothing (kind.Heading heading.level) (start_of cells place line) line (closed_to text place.depth s)))
+
+-- a fenced code block begins (CommonMark 4.5)
+unfoldable pub fence_started : List ℕ → List Cell → Line → Place → Fence → State → State
+fence_started text cells line place fence s =
+    leaf_opened (leaf.Fenced fence) (info_of cells place.cursor fence line) (start_of cells place line) line (closed_to text place.depth s)
+
+-- the indentation of an HTML block belongs to it
+unfoldable pub html_started : List ℕ → List Cell → Line → Place → HtmlKind → State → State
+html_started text cells line place k s =
+    code_taken text cells place.cursor.column line
+    (leaf_opened (leaf.Html k) kind.Html (cell_place cells place.cursor.column line.end) line (closed_to text place.depth s))
+
+-- a thematic break (CommonMark 4.1)
+unfoldable pub rule_started : List ℕ → List Cell → Line → Place → State → State
+rule_started text cells line place s =
+    leaf_finished (leaf_opened leaf.Nothing kind.Rule (start_of cells place line) line (closed_to text place.depth s))
+
+-- the open paragraph has a line behind its definitions
+unfoldable pub has_text : State → Bool
+has_text s = option_map_or (λ (b : Block). nat_lt b.first (length s.pieces)) (slice_get s.blocks (length s.blocks - 1)) false
+
+-- the last block is of this kind
+abbrev pub of_kind : BlockKind → List Block → List Block
+of_kind k blocks = option_map_or (λ (b : Block). slice_set blocks (length blocks - 1) (record b { kind = k })) (slice_get blocks (length blocks - 1)) blocks
+
+-- the open paragraph is a heading that ends with this line
+unfoldable pub underlined : HeadingLevel → Line → State → State
+underlined level line s = leaf_finished (record s { blocks = of_kind (kind.Heading level) s.blocks; end = line.end; line = line.number })
+
+-- a thematic break where one stands, and text elsewhere
+abbrev pub rule_or_text : LeafStart → List ℕ → List Cell → Line → Place → State → State
+rule_or_text start.Rule text cells line place s = rule_started text cells line place s
+rule_or_text start.Blank text cells line place s = text_taken text cells line place s
+rule_or_text start.Text text cells line place s = text_taken text cells line place s
+rule_or_text (start.Indented c) text cells line place s = text_taken text cells line place s
+rule_or_text (start.Heading h) text cells line place s = text_taken text cells line place s
+rule_or_text (start.Fence f) text cells line place s = text_taken text cells line place s
+rule_or_text (start.Html k) text cells line place s = text_taken text cells line place s
+rule_or_text (start.Underline l) text cells line place s = text_taken text cells line place s
+
+-- a heading is underlined only if it has text (CommonMark 4.3)
+abbrev pub underlined_if : Bool → List ℕ → List Cell → Line → Tail → Place → HeadingLevel → State → State
+underlined_if true text cells line tail place level s = underlined level line s
+underlined_if false text cells line tail place level s = rule_or_text (rule_at cells tail place.cursor.ink) text cells line place s
+
+-- behind definitions alone, an underline is a thematic break or text
+unfoldable pub underline_taken : List ℕ → List Cell → Line → Tail → Place → HeadingLevel → State → State
+underline_taken text cells line tail place level s =
+    let t = settled text s in
+    underlined_if (has_text t) text cells line tail place level t
+
+-- what the rest of a line begins comes into the page
+unfoldable pub started : LeafStart → List ℕ → List Cell → Line → Tail → Place → State → State
+started start.Blank text cells line tail place s = closed_to text place.depth s
+started start.Text text cells line tail place s = text_taken text cells line place s
+started (start.Indented column) text cells line tail place s = indented_started text cells line place column s
+started (start.Heading heading) text cells line tail place s = heading_started text cells line place heading s
+started (start.Fence fence) text cells line tail place s = fence_started text cells line place fence s
+started (start.Html k) text cells line tail place s = html_started text cells line place k s
+started (start.Underline level) text cells line tail place s = underline_taken text cells line tail place level s
+started start.Rule text cells line tail place s = rule_started text cells line place s
+
+-- the leaf that begins behind the containers that began
+abbrev pub started_at : List ℕ → List Cell → Line → Tail → State × Place → State
+started_at text cells line tail found =
+    let s = found.0 in
+    let place = found.1 in
+    started
+    (leaf_at cells (piece text (start_of cells place line) line.end) tail place.cursor (is_paragraph s.leaf) (goes_directly place.depth s))
+    text cells line tail place s
+
+-- first containers begin, then a leaf
+unfoldable pub leaf_started : List ℕ → List Cell → Line → Place → State → State
+leaf_started text cells line place s =
+    started_at text cells line (tail_of cells) (containers_opened text cells line (tail_of cells) place s)
+
+-- the open leaf has its turn only where all containers round it go on
+unfoldable pub turn_of : List Cell → Place → State → Turn
+turn_of cells place s = if nat_le (length s.opened) place.depth then leaf_turn cells place.cursor s.leaf else turn.Passes
+
+-- the open leaf ends with this line
+unfoldable pub leaf_ended : Line → State → State
+leaf_ended line s = leaf_finished (record s { end = line.end; line = line.number })
+
+-- the quotes that go on in a line reach to it
+unfoldable pub touched : Line → ℕ → State → State
+touched line depth s = record s { opened = touched_from depth line.end line.number s.quotes s.opened }
+
+-- the open leaf ends with the line, takes it, or lets something else begin
+abbrev pub turn_taken : Turn → List ℕ → List Cell → Line → Place → State → State
+turn_taken turn.Closes text cells line place s = leaf_ended line s
+turn_taken (turn.Takes column) text cells line place s = code_taken text cells column line s
+turn_taken turn.Passes text cells line place s = leaf_started text cells line place s
+
+-- a line is taken from the place behind the containers that go on
+abbrev pub taken_at : List ℕ → List Cell → Line → Place → State → State
+taken_at text cells line place s = turn_taken (turn_of cells place s) text cells line place s
+
+-- which containers go on, then what the open leaf does with the line, then what begins
+unfoldable pub cells_taken : List ℕ → List Cell → Line → State → State
+cells_taken text cells line s =
+    let found = matched cells s.opened s.quotes in
+    taken_at text cells line (record { cursor = found.1; depth = found.0 }) (touched line (found.0) s)
+
+-- a line comes in
+unfoldable pub line_taken : List ℕ → State → Line → State
+line_taken text s line = cells_taken text (cells_of [] line.start (piece text line.start line.end)) line s
+
+-- all lines come in, and then all blocks end
+unfoldable pub page_of : List ℕ → State
+page_of text = closed_to text 0 (fold (line_taken text) first_page (lines_of text))
+
+-- what a text is made of, as plain values
+pub record BlocksView : Type 0 where
+  pub blocks : List Block
+  pub pieces : List Piece
+  pub definitions : List DefinitionView
+
+-- blocks, pieces and definitions as lists
+abbrev pub blocks_view : Blocks → BlocksView
+blocks_view b = record { blocks = b.blocks.items; pieces = b.pieces.items; definitions = map definition_view b.definitions.items }
+
+-- the blocks of a text
+unfoldable pub blocks_of : List ℕ → BlocksView
+blocks_of text =
+    let s = page_of text in
+    record { blocks = s.blocks; pieces = s.pieces; definitions = s.definitions }

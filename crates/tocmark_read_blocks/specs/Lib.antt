@@ -1,0 +1,5 @@
+pub mod Leaves
+pub mod Definitions
+pub mod Codes
+pub mod Pages
+pub mod Blocks

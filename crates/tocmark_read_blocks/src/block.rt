@@ -1,0 +1,571 @@
+//! How a line changes a page.
+
+ghost use Rattle.std.specs.Prelude.{◌≡◌, IfOk, OnOk};
+ghost use Rattle.std.specs.List.{fold};
+ghost use Rattle.tocmark_read_blocks.specs.Pages.{page};
+ghost use Rattle.tocmark_read_blocks.specs.Blocks.{info_of, goes_directly, quote_opened, is_in_list, list_started, item_opened, container_once, containers_opened, code_taken, html_ended, text_taken, text_started, indented_started, heading_started, fence_started, html_started, rule_started, has_text, underlined, underline_taken, started, leaf_started, turn_of, leaf_ended, touched, cells_taken, line_taken, page_of, blocks_view, blocks_of};
+
+use crate::code::{code_piece, heading_piece, keeps_line, text_piece};
+use crate::definition::{LinkDefinition, Piece};
+use crate::leaf::{Leaf, LeafStart, Turn, is_paragraph, leaf_at, leaf_turn, rule_at};
+use crate::page::{Block, BlockKind, Page};
+use std::alloc::{AllocError, Global};
+use tocmark_event::event::HeadingLevel;
+use tocmark_read_lines::cell::{Cells, Cursor, cell_place, ink_from, is_blank_at, moved, trimmed};
+use tocmark_read_lines::container::{
+    Container, ContainerStart, ItemStart, after_quote, container_at, matched, touch,
+};
+use tocmark_read_lines::html::{HtmlKind, html_ends};
+use tocmark_read_lines::line::{Line, lines};
+use tocmark_read_lines::mark::{Fence, Heading, Tail, tail_of};
+use tocmark_read_scan::basic::{piece, set};
+
+/// What a text is made of, but for the inlines of paragraphs and headings.
+#[derive(Drop)]
+pub struct Blocks {
+    pub blocks: Vec<Block>,
+    pub pieces: Vec<Piece>,
+    pub definitions: Vec<LinkDefinition>,
+}
+
+/// A cursor of a line, and how many of the open containers go on there.
+#[derive(Clone, Copy)]
+pub struct Place {
+    pub cursor: Cursor,
+    pub depth: usize,
+}
+
+/// A line with its columns, and the text that it stands in.
+#[derive(Clone, Copy)]
+pub struct Row<'t, 'c> {
+    pub text: &'t [u8],
+    pub cells: &'c Cells,
+    pub line: Line,
+}
+
+/// The range of a fence's info string.
+#[tactic(auto, unfolding(crate::specs::Blocks::info_of))]
+fn info_of(cells: &Cells, cursor: Cursor, fence: Fence, line: Line) -> BlockKind
+    ensures { result ≡ info_of cells.now cursor fence line }
+{
+    let from = ink_from(cells, cursor.ink.saturating_add(fence.count));
+    let to = trimmed(cells, from, cells.len(), b' ');
+    BlockKind::Fenced(
+        cell_place(cells, from, line.end),
+        cell_place(cells, to, line.end),
+    )
+}
+
+impl Page {
+    /// Whether the open paragraph stands in the innermost container that goes on.
+    #[tactic(auto, unfolding(crate::specs::Blocks::goes_directly))]
+    fn goes_directly(&self, depth: usize) -> bool
+        ensures { result ≡ goes_directly depth (page self.now) }
+    {
+        is_paragraph(self.leaf) && self.opened.len() <= depth
+    }
+
+    #[tactic(auto, unfolding(crate::specs::Blocks::quote_opened))]
+    fn open_quote(
+        &mut self,
+        alloc: Global,
+        row: &Row<'_, '_>,
+        place: Place,
+    ) -> Result<Place, AllocError>
+        ensures { IfOk result (λ next.
+            (page self.new, next)
+            ≡ quote_opened row.now.text.now row.now.cells.now row.now.line place (page self.old)) }
+    {
+        self.close_to(alloc, row.text, place.depth)?;
+        self.leave_list();
+        let start = cell_place(row.cells, place.cursor.ink, row.line.end);
+        self.open(Container::Quote, BlockKind::Quote, start, row.line)?;
+        Ok(Place {
+            cursor: after_quote(row.cells, place.cursor),
+            depth: self.opened.len(),
+        })
+    }
+
+    #[tactic(auto, unfolding(crate::specs::Blocks::is_in_list))]
+    fn is_in_list(&self, sort: u8) -> bool
+        ensures { result ≡ is_in_list sort (page self.now) }
+    {
+        match self
+            .opened
+            .get(self.opened.len().saturating_sub(1))
+            .copied()
+        {
+            None => false,
+            Some(one) => match one.container {
+                Container::Quote => false,
+                Container::List(same) => same == sort,
+                Container::Item(_) => false,
+            },
+        }
+    }
+
+    /// Begins the list of an item, if the innermost container isn't one of its sort.
+    #[tactic(auto, unfolding(crate::specs::Blocks::list_started))]
+    fn start_list(&mut self, item: ItemStart, start: usize, line: Line) -> Result<(), AllocError>
+        ensures { OnOk result (page self.new ≡ list_started item start line (page self.old)) }
+    {
+        if !self.is_in_list(item.sort) {
+            self.leave_list();
+            let kind = BlockKind::List(item.number);
+            self.open(Container::List(item.sort), kind, start, line)?;
+        }
+        Ok(())
+    }
+
+    #[tactic(auto, unfolding(crate::specs::Blocks::item_opened))]
+    fn open_item(
+        &mut self,
+        alloc: Global,
+        row: &Row<'_, '_>,
+        place: Place,
+        item: ItemStart,
+    ) -> Result<Place, AllocError>
+        ensures { IfOk result (λ next.
+            (page self.new, next)
+            ≡ item_opened row.now.text.now row.now.cells.now row.now.line place item
+            (page self.old)) }
+    {
+        self.close_to(alloc, row.text, place.depth)?;
+        let start = cell_place(row.cells, place.cursor.ink, row.line.end);
+        self.start_list(item, start, row.line)?;
+        self.open(
+            Container::Item(item.width),
+            BlockKind::Item,
+            start,
+            row.line,
+        )?;
+        Ok(Place {
+            cursor: moved(row.cells, place.cursor, item.next),
+            depth: self.opened.len(),
+        })
+    }
+
+    /// Opens the container that begins at a place, and gives the place behind its marker.
+    #[tactic(auto, unfolding(crate::specs::Blocks::container_once))]
+    fn open_once(
+        &mut self,
+        alloc: Global,
+        row: &Row<'_, '_>,
+        tail: Tail,
+        place: Place,
+    ) -> Result<Option<Place>, AllocError>
+        ensures { IfOk result (λ next.
+            (page self.new, next)
+            ≡ container_once row.now.text.now row.now.cells.now row.now.line tail place
+            (page self.old)) }
+    {
+        let directly = self.goes_directly(place.depth);
+        match container_at(row.cells, tail, place.cursor, directly) {
+            None => Ok(None),
+            Some(ContainerStart::Quote) => {
+                let next = self.open_quote(alloc, row, place)?;
+                Ok(Some(next))
+            }
+            Some(ContainerStart::Item(item)) => {
+                let next = self.open_item(alloc, row, place, item)?;
+                Ok(Some(next))
+            }
+        }
+    }
+
+    /// Opens the containers that begin at a place one after the other.
+    #[tactic(auto, using(tocmark_read_scan::proofs::Repeats::repeated_zero, tocmark_read_scan::proofs::Repeats::repeated_stop, tocmark_read_scan::proofs::Repeats::repeated_more))]
+    fn open_all(
+        &mut self,
+        alloc: Global,
+        row: &Row<'_, '_>,
+        tail: Tail,
+        first: Place,
+    ) -> Result<Place, AllocError>
+        ensures { IfOk result (λ last.
+            (page self.new, last)
+            ≡ containers_opened row.now.text.now row.now.cells.now row.now.line tail first
+            (page self.old)) }
+    {
+        let mut place = first;
+        for _steps_left in (0..row.cells.len()).rev() {
+            match self.open_once(alloc, row, tail, place)? {
+                None => return Ok(place),
+                Some(next) => place = next,
+            }
+        }
+        Ok(place)
+    }
+
+    /// Closes an open HTML block whose last line this is.
+    #[tactic(auto, unfolding(crate::specs::Blocks::html_ended))]
+    fn end_html(&mut self, rest: &[u8])
+        ensures { page self.new ≡ html_ended rest.now (page self.old) }
+    {
+        if let Leaf::Html(kind) = self.leaf {
+            if html_ends(kind, rest) {
+                self.finish_leaf();
+            }
+        }
+    }
+
+    /// Puts a line of code or HTML into the open leaf.
+    #[tactic(auto, unfolding(crate::specs::Blocks::code_taken))]
+    fn take_code(&mut self, row: &Row<'_, '_>, column: usize) -> Result<(), AllocError>
+        ensures { OnOk result (page self.new
+            ≡ code_taken row.now.text.now row.now.cells.now column row.now.line (page self.old)) }
+    {
+        let code = code_piece(row.cells, column, row.line);
+        let keeps = keeps_line(row.cells, column, self.leaf);
+        self.take_piece(code, row.line, keeps)?;
+        self.end_html(piece(row.text, code.start, code.end));
+        Ok(())
+    }
+
+    /// Where the open paragraph has no line, it begins with this one.
+    #[tactic(auto, unfolding(crate::specs::Blocks::text_started))]
+    fn start_text(&mut self, start: usize)
+        ensures { page self.new ≡ text_started start (page self.old) }
+    {
+        let index = self.blocks.len().saturating_sub(1);
+        if let Some(block) = self.blocks.get(index).copied() {
+            if self.pieces.len() <= block.first {
+                set(&mut self.blocks, index, Block { start, ..block });
+            }
+        }
+    }
+
+    /// Puts a line into the open paragraph, or begins one.
+    #[tactic(auto, unfolding(crate::specs::Blocks::text_taken))]
+    fn take_text(
+        &mut self,
+        alloc: Global,
+        row: &Row<'_, '_>,
+        place: Place,
+    ) -> Result<(), AllocError>
+        ensures { OnOk result (page self.new
+            ≡ text_taken row.now.text.now row.now.cells.now row.now.line place (page self.old)) }
+    {
+        let words = text_piece(row.cells, place.cursor, row.line);
+        if !is_paragraph(self.leaf) {
+            self.close_to(alloc, row.text, place.depth)?;
+            self.open_leaf(Leaf::Paragraph, BlockKind::Paragraph, words.start, row.line)?;
+        }
+        self.start_text(words.start);
+        self.take_piece(words, row.line, true)
+    }
+
+    #[tactic(auto, unfolding(crate::specs::Blocks::indented_started))]
+    fn start_indented(
+        &mut self,
+        alloc: Global,
+        row: &Row<'_, '_>,
+        place: Place,
+        column: usize,
+    ) -> Result<(), AllocError>
+        ensures { OnOk result (page self.new
+            ≡ indented_started row.now.text.now row.now.cells.now row.now.line place column
+            (page self.old)) }
+    {
+        self.close_to(alloc, row.text, place.depth)?;
+        let start = cell_place(row.cells, column, row.line.end);
+        self.open_leaf(Leaf::Indented, BlockKind::Indented, start, row.line)?;
+        self.take_code(row, column)
+    }
+
+    #[tactic(auto, unfolding(crate::specs::Blocks::heading_started))]
+    fn start_heading(
+        &mut self,
+        alloc: Global,
+        row: &Row<'_, '_>,
+        place: Place,
+        heading: Heading,
+    ) -> Result<(), AllocError>
+        ensures { OnOk result (page self.new
+            ≡ heading_started row.now.text.now row.now.cells.now row.now.line place heading
+            (page self.old)) }
+    {
+        self.close_to(alloc, row.text, place.depth)?;
+        let start = cell_place(row.cells, place.cursor.ink, row.line.end);
+        let kind = BlockKind::Heading(heading.level);
+        self.open_leaf(Leaf::Nothing, kind, start, row.line)?;
+        self.take_piece(heading_piece(row.cells, heading, row.line), row.line, true)?;
+        self.finish_leaf();
+        Ok(())
+    }
+
+    #[tactic(auto, unfolding(crate::specs::Blocks::fence_started))]
+    fn start_fence(
+        &mut self,
+        alloc: Global,
+        row: &Row<'_, '_>,
+        place: Place,
+        fence: Fence,
+    ) -> Result<(), AllocError>
+        ensures { OnOk result (page self.new
+            ≡ fence_started row.now.text.now row.now.cells.now row.now.line place fence
+            (page self.old)) }
+    {
+        self.close_to(alloc, row.text, place.depth)?;
+        let start = cell_place(row.cells, place.cursor.ink, row.line.end);
+        let kind = info_of(row.cells, place.cursor, fence, row.line);
+        self.open_leaf(Leaf::Fenced(fence), kind, start, row.line)
+    }
+
+    #[tactic(auto, unfolding(crate::specs::Blocks::html_started))]
+    fn start_html(
+        &mut self,
+        alloc: Global,
+        row: &Row<'_, '_>,
+        place: Place,
+        kind: HtmlKind,
+    ) -> Result<(), AllocError>
+        ensures { OnOk result (page self.new
+            ≡ html_started row.now.text.now row.now.cells.now row.now.line place kind
+            (page self.old)) }
+    {
+        self.close_to(alloc, row.text, place.depth)?;
+        let start = cell_place(row.cells, place.cursor.column, row.line.end);
+        self.open_leaf(Leaf::Html(kind), BlockKind::Html, start, row.line)?;
+        self.take_code(row, place.cursor.column)
+    }
+
+    #[tactic(auto, unfolding(crate::specs::Blocks::rule_started))]
+    fn start_rule(
+        &mut self,
+        alloc: Global,
+        row: &Row<'_, '_>,
+        place: Place,
+    ) -> Result<(), AllocError>
+        ensures { OnOk result (page self.new
+            ≡ rule_started row.now.text.now row.now.cells.now row.now.line place (page self.old)) }
+    {
+        self.close_to(alloc, row.text, place.depth)?;
+        let start = cell_place(row.cells, place.cursor.ink, row.line.end);
+        self.open_leaf(Leaf::Nothing, BlockKind::Rule, start, row.line)?;
+        self.finish_leaf();
+        Ok(())
+    }
+
+    /// Whether the open paragraph has a line behind its definitions.
+    #[tactic(auto, unfolding(crate::specs::Blocks::has_text))]
+    fn has_text(&self) -> bool
+        ensures { result ≡ has_text (page self.now) }
+    {
+        match self
+            .blocks
+            .get(self.blocks.len().saturating_sub(1))
+            .copied()
+        {
+            None => false,
+            Some(block) => block.first < self.pieces.len(),
+        }
+    }
+
+    /// Makes the open paragraph a heading that ends with this line.
+    #[tactic(auto, unfolding(crate::specs::Blocks::underlined))]
+    fn underline(&mut self, level: HeadingLevel, line: Line)
+        ensures { page self.new ≡ underlined level line (page self.old) }
+    {
+        let index = self.blocks.len().saturating_sub(1);
+        if let Some(block) = self.blocks.get(index).copied() {
+            let kind = BlockKind::Heading(level);
+            set(&mut self.blocks, index, Block { kind, ..block });
+        }
+        self.end = line.end;
+        self.line = line.number;
+        self.finish_leaf();
+    }
+
+    /// Takes a line that would underline a heading: where the paragraph has definitions alone it is a
+    /// thematic break or text.
+    #[tactic(auto, unfolding(crate::specs::Blocks::underline_taken))]
+    fn take_underline(
+        &mut self,
+        alloc: Global,
+        row: &Row<'_, '_>,
+        tail: Tail,
+        place: Place,
+        level: HeadingLevel,
+    ) -> Result<(), AllocError>
+        ensures { OnOk result (page self.new
+            ≡ underline_taken row.now.text.now row.now.cells.now row.now.line tail place level
+            (page self.old)) }
+    {
+        self.settle(alloc, row.text)?;
+        if self.has_text() {
+            self.underline(level, row.line);
+            return Ok(());
+        }
+        match rule_at(row.cells, tail, place.cursor.ink) {
+            LeafStart::Rule => self.start_rule(alloc, row, place),
+            _ => self.take_text(alloc, row, place),
+        }
+    }
+
+    /// Begins the leaf that the rest of a line begins, or puts it into the open paragraph.
+    #[tactic(auto, unfolding(crate::specs::Blocks::started))]
+    fn start(
+        &mut self,
+        alloc: Global,
+        row: &Row<'_, '_>,
+        tail: Tail,
+        place: Place,
+        leaf: LeafStart,
+    ) -> Result<(), AllocError>
+        ensures { OnOk result (page self.new
+            ≡ started leaf row.now.text.now row.now.cells.now row.now.line tail place
+            (page self.old)) }
+    {
+        match leaf {
+            LeafStart::Blank => self.close_to(alloc, row.text, place.depth),
+            LeafStart::Text => self.take_text(alloc, row, place),
+            LeafStart::Indented(column) => { self.start_indented(alloc, row, place, column) }
+            LeafStart::Heading(heading) => { self.start_heading(alloc, row, place, heading) }
+            LeafStart::Fence(fence) => self.start_fence(alloc, row, place, fence),
+            LeafStart::Html(kind) => self.start_html(alloc, row, place, kind),
+            LeafStart::Underline(level) => { self.take_underline(alloc, row, tail, place, level) }
+            LeafStart::Rule => self.start_rule(alloc, row, place),
+        }
+    }
+
+    #[tactic(auto, unfolding(crate::specs::Blocks::leaf_started))]
+    fn start_inked(
+        &mut self,
+        alloc: Global,
+        row: &Row<'_, '_>,
+        first: Place,
+    ) -> Result<(), AllocError>
+        ensures { OnOk result (page self.new
+            ≡ leaf_started row.now.text.now row.now.cells.now row.now.line first (page self.old)) }
+    {
+        let tail = tail_of(row.cells);
+        let place = self.open_all(alloc, row, tail, first)?;
+        let in_paragraph = is_paragraph(self.leaf);
+        let directly = self.goes_directly(place.depth);
+        let rest = piece(
+            row.text,
+            cell_place(row.cells, place.cursor.ink, row.line.end),
+            row.line.end,
+        );
+        let leaf = leaf_at(row.cells, rest, tail, place.cursor, in_paragraph, directly);
+        self.start(alloc, row, tail, place, leaf)
+    }
+
+    /// Takes the rest of a line in which the open leaf doesn't go on by itself.
+    #[tactic(auto, using(crate::proofs::Steps::blank_started))]
+    fn start_line(
+        &mut self,
+        alloc: Global,
+        row: &Row<'_, '_>,
+        first: Place,
+    ) -> Result<(), AllocError>
+        ensures { OnOk result (page self.new
+            ≡ leaf_started row.now.text.now row.now.cells.now row.now.line first (page self.old)) }
+    {
+        if is_blank_at(row.cells, first.cursor) {
+            self.close_to(alloc, row.text, first.depth)
+        } else {
+            self.start_inked(alloc, row, first)
+        }
+    }
+
+    #[tactic(auto, unfolding(crate::specs::Blocks::turn_of))]
+    fn turn_of(&self, cells: &Cells, place: Place) -> Turn
+        ensures { result ≡ turn_of cells.now place (page self.now) }
+    {
+        if self.opened.len() <= place.depth {
+            leaf_turn(cells, place.cursor, self.leaf)
+        } else {
+            Turn::Passes
+        }
+    }
+
+    /// Ends the open leaf with this line.
+    #[tactic(auto, unfolding(crate::specs::Blocks::leaf_ended))]
+    fn end_leaf(&mut self, line: Line)
+        ensures { page self.new ≡ leaf_ended line (page self.old) }
+    {
+        self.end = line.end;
+        self.line = line.number;
+        self.finish_leaf();
+    }
+
+    /// The open containers that go on in a line reach to it.
+    #[tactic(auto, unfolding(crate::specs::Blocks::touched))]
+    fn touch_line(&mut self, line: Line, depth: usize)
+        ensures { page self.new ≡ touched line depth (page self.old) }
+    {
+        touch(&mut self.opened, &self.quotes, depth, line.end, line.number);
+    }
+
+    /// Takes the columns of a line.
+    #[tactic(auto, unfolding(crate::specs::Blocks::cells_taken))]
+    fn take_cells(&mut self, alloc: Global, row: &Row<'_, '_>) -> Result<(), AllocError>
+        ensures { OnOk result (page self.new
+            ≡ cells_taken row.now.text.now row.now.cells.now row.now.line (page self.old)) }
+    {
+        let (depth, cursor) = matched(row.cells, &self.opened, &self.quotes);
+        let place = Place { cursor, depth };
+        self.touch_line(row.line, depth);
+        match self.turn_of(row.cells, place) {
+            Turn::Closes => {
+                self.end_leaf(row.line);
+                Ok(())
+            }
+            Turn::Takes(column) => self.take_code(row, column),
+            Turn::Passes => self.start_line(alloc, row, place),
+        }
+    }
+
+    /// Takes a line. Its columns are written over those of the line before.
+    #[tactic(auto, unfolding(crate::specs::Blocks::line_taken))]
+    fn take_line(
+        &mut self,
+        alloc: Global,
+        text: &[u8],
+        cells: &mut Cells,
+        line: Line,
+    ) -> Result<(), AllocError>
+        ensures { OnOk result (page self.new ≡ line_taken text.now (page self.old) line) }
+    {
+        cells.read(text, line)?;
+        self.take_cells(alloc, &Row { text, cells, line })
+    }
+
+    fn take_lines(&mut self, alloc: Global, text: &[u8], lines: &[Line]) -> Result<(), AllocError>
+        ensures { OnOk result (page self.new
+            ≡ fold (line_taken text.now) (page self.old) lines.now) }
+    {
+        let mut cells = Cells::new(alloc);
+        for line in lines {
+            self.take_line(alloc, text, &mut cells, *line)?;
+        }
+        Ok(())
+    }
+}
+
+#[tactic(auto, unfolding(crate::specs::Blocks::page_of))]
+fn read_page(alloc: Global, text: &[u8]) -> Result<Page, AllocError>
+    ensures { IfOk result (λ found. page found ≡ page_of text.now) }
+{
+    let lines = lines(alloc, text)?;
+    let mut page = Page::new(alloc);
+    page.take_lines(alloc, text, &lines)?;
+    page.close_to(alloc, text, 0)?;
+    Ok(page)
+}
+
+/// The blocks of a text in the order of their starts, their pieces, and the link reference definitions
+/// in the order of the text. The text is UTF-8. Places are bytes. An `Err` says that memory ran out.
+#[tactic(auto, unfolding(crate::specs::Blocks::blocks_of))]
+pub fn read_blocks(alloc: Global, text: &[u8]) -> Result<Blocks, AllocError>
+    ensures { IfOk result (λ found. blocks_view found ≡ blocks_of text.now) }
+{
+    let page = read_page(alloc, text)?;
+    Ok(Blocks {
+        blocks: page.blocks,
+        pieces: page.pieces,
+        definitions: page.definitions,
+    })
+}

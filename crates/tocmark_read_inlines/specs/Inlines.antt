@@ -1,0 +1,50 @@
+-- The inlines of a document's leaves, one after the other.
+use Rattle.std.specs.Prelude.{ℕ, List, [], ◌++◌, length, map, replicate, Option}
+use Rattle.tocmark_read_scan.specs.Content as content
+use Rattle.tocmark_read_inlines.specs.Scan as scan
+use Rattle.tocmark_read_inlines.specs.Write.{written, moved}
+use Rattle.tocmark_read_spans.specs.declared.definitions.Entry.{Entry}
+use Rattle.tocmark_read_inlines.specs.declared.inlines.Inlines.{Inlines}
+use Rattle.tocmark_read_spans.specs.declared.role.Role.TheVariants.{Plain}
+use Rattle.tocmark_read_spans.specs.declared.role.Stretch.{Stretch}
+use Rattle.tocmark_read_spans.specs.declared.role.Target.{Target}
+use Rattle.tocmark_read_inlines.specs.declared.write.Node.{Node}
+
+-- the nodes of the leaves so far, and the texts, targets and missed labels beside them
+pub record State : Type 0 where
+  pub nodes : List Node
+  pub targets : List Target
+  pub texts : List ℕ
+  pub missed : List Stretch
+
+-- inlines as lists
+abbrev pub inlines_view : Inlines → State
+inlines_view v = record { nodes = v.nodes.items; targets = v.targets.items; texts = v.texts.items; missed = v.missed.items }
+
+-- the pass at the front of a text of so many bytes
+unfoldable pub scan_start : ℕ → List Target → List ℕ → List Stretch → scan.State
+scan_start length targets texts missed = record {
+  roles = replicate length Plain;
+  runs = [];
+  brackets = [];
+  inactive = 0;
+  place = 0;
+  resume = 0;
+  targets = targets;
+  texts = texts;
+  missed = missed;
+}
+
+-- the nodes of one more leaf behind the others
+abbrev pub inlines_from : content.State → ℕ → scan.State → State → State
+inlines_from leaf depth after s = record {
+  nodes = s.nodes ++ map (moved leaf.places) (written after.roles depth);
+  targets = after.targets;
+  texts = after.texts;
+  missed = after.missed;
+}
+
+-- one more leaf: what each byte is, nodes, their ranges in the source
+unfoldable pub read_inlines : content.State → ℕ → (List ℕ → Option Entry) → State → State
+read_inlines leaf depth definitions s =
+    inlines_from leaf depth (scan.scanned leaf.bytes definitions (scan_start (length leaf.bytes) s.targets s.texts s.missed)) s

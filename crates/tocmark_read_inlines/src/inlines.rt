@@ -1,0 +1,87 @@
+//! The inlines of a document's paragraphs and headings, one after the other.
+
+ghost use Rattle.std.specs.Prelude.{◌≡◌, IfOk};
+ghost use Rattle.tocmark_read_scan.specs.Content.{content_view};
+ghost use Rattle.tocmark_read_spans.specs.Definitions.{entry_of};
+ghost use Rattle.tocmark_read_inlines.specs.Scan.{scan};
+ghost use Rattle.tocmark_read_inlines.specs.Inlines.{inlines_view, scan_start, read_inlines};
+
+use crate::scan::Scanner;
+use crate::write::{Node, push_moved, write};
+use std::alloc::{AllocError, Global};
+use tocmark_read_scan::content::Content;
+use tocmark_read_spans::definitions::Definitions;
+use tocmark_read_spans::role::{Roles, Stretch, Target};
+
+/// The nodes of leaves in the order of the document, with ranges in bytes of its source; the targets of
+/// their links and images; the texts that stand nowhere in the source; and the labels that were looked
+/// up in vain, in order and with repetitions.
+#[derive(Drop)]
+pub struct Inlines {
+    /// The nodes.
+    pub nodes: Vec<Node>,
+    /// The targets, by the numbers of links and images.
+    pub targets: Vec<Target>,
+    /// The bytes of the texts, of which stretches are parts.
+    pub texts: Vec<u8>,
+    /// The labels that were looked up in vain.
+    pub missed: Vec<Stretch>,
+}
+
+/// A scanner at the front of a text of so many bytes.
+#[tactic(auto, unfolding(crate::specs::Inlines::scan_start))]
+fn scanner(
+    alloc: Global,
+    length: usize,
+    targets: Vec<Target>,
+    texts: Vec<u8>,
+    missed: Vec<Stretch>,
+) -> Scanner
+    ensures { scan result ≡ scan_start length targets.items texts.items missed.items }
+{
+    Scanner {
+        roles: Roles::new(alloc, length),
+        runs: Vec::new(alloc),
+        brackets: Vec::new(alloc),
+        inactive: 0,
+        place: 0,
+        resume: 0,
+        targets,
+        texts,
+        missed,
+    }
+}
+
+/// Reads the inlines of one more leaf, at a depth. An `Err` says that memory ran out.
+#[tactic(auto, unfolding(crate::specs::Inlines::read_inlines))]
+pub fn read_inlines(
+    alloc: Global,
+    before: Inlines,
+    content: &Content,
+    depth: usize,
+    definitions: &Definitions,
+) -> Result<Inlines, AllocError>
+    ensures { IfOk result (λ v.
+        inlines_view v
+        ≡ read_inlines (content_view content.now) depth (entry_of definitions.now)
+        (inlines_view before)) }
+{
+    let bytes = content.bytes();
+    let mut nodes = before.nodes;
+    let mut machine = scanner(
+        alloc,
+        bytes.len(),
+        before.targets,
+        before.texts,
+        before.missed,
+    );
+    machine.read(alloc, bytes, definitions)?;
+    let found = write(alloc, &machine.roles, depth)?;
+    push_moved(&mut nodes, content, &found)?;
+    Ok(Inlines {
+        nodes,
+        targets: machine.targets,
+        texts: machine.texts,
+        missed: machine.missed,
+    })
+}

@@ -1,0 +1,122 @@
+//! Sets of bytes, and the runs of their members.
+
+ghost use Rattle.std.specs.Prelude.{◌≡◌};
+ghost use Rattle.tocmark_read_scan.specs.Class.{is_in, is_unquoted, is_bracket, is_separator, is_mailbox, run_length, run_end};
+
+use crate::basic::rest;
+
+/// A set of bytes.
+#[derive(Clone, Copy)]
+pub enum Class {
+    /// A space, a tab or a line feed.
+    White,
+    /// A space or a tab.
+    Blank,
+    /// A decimal digit.
+    Digit,
+    /// A hexadecimal digit.
+    HexDigit,
+    /// A byte of the name of a tag, behind the first.
+    TagName,
+    /// The first byte of the name of an attribute.
+    AttributeStart,
+    /// A byte of the name of an attribute, behind the first.
+    AttributeName,
+    /// A byte of a value of an attribute that has no quotes.
+    Unquoted,
+    /// A byte of the scheme of an address, behind the first.
+    Scheme,
+    /// A byte of an address behind its scheme.
+    Address,
+    /// A byte of a mail address before the `@`.
+    Mailbox,
+    /// A byte of a mail address behind the `@`.
+    Domain,
+    /// This byte alone.
+    Only(u8),
+    /// Any byte but this one.
+    Except(u8),
+}
+
+#[tactic(auto, unfolding(crate::specs::Class::is_unquoted))]
+fn is_unquoted(byte: u8) -> bool
+    ensures { result ≡ is_unquoted byte }
+{
+    !(byte == b' '
+        || byte == b'\t'
+        || byte == b'\n'
+        || byte == b'\r'
+        || byte == b'"'
+        || byte == b'\''
+        || byte == b'='
+        || byte == b'<'
+        || byte == b'>'
+        || byte == b'`')
+}
+
+#[tactic(auto, unfolding(crate::specs::Class::is_bracket))]
+fn is_bracket(byte: u8) -> bool
+    ensures { result ≡ is_bracket byte }
+{
+    byte == b'(' || byte == b')' || byte == b'<' || byte == b'>' || byte == b'[' || byte == b']'
+}
+
+#[tactic(auto, unfolding(crate::specs::Class::is_separator))]
+fn is_separator(byte: u8) -> bool
+    ensures { result ≡ is_separator byte }
+{
+    byte == b'"' || byte == b',' || byte == b':' || byte == b';' || byte == b'@' || byte == b'\\'
+}
+
+#[tactic(auto, unfolding(crate::specs::Class::is_mailbox))]
+fn is_mailbox(byte: u8) -> bool
+    ensures { result ≡ is_mailbox byte }
+{
+    let sign = byte.is_ascii_punctuation() && !is_bracket(byte) && !is_separator(byte);
+    sign || byte.is_ascii_alphanumeric()
+}
+
+/// Whether a byte is in the set.
+#[tactic(auto, unfolding(crate::specs::Class::is_in))]
+pub fn is_in(class: Class, byte: u8) -> bool
+    ensures { result ≡ is_in class byte }
+{
+    match class {
+        Class::White => byte == b' ' || byte == b'\t' || byte == b'\n',
+        Class::Blank => byte == b' ' || byte == b'\t',
+        Class::Digit => byte.is_ascii_digit(),
+        Class::HexDigit => byte.is_ascii_hexdigit(),
+        Class::TagName => byte.is_ascii_alphanumeric() || byte == b'-',
+        Class::AttributeStart => byte.is_ascii_alphabetic() || byte == b'_' || byte == b':',
+        Class::AttributeName => {
+            byte.is_ascii_alphanumeric()
+                || byte == b'_'
+                || byte == b'.'
+                || byte == b':'
+                || byte == b'-'
+        }
+        Class::Unquoted => is_unquoted(byte),
+        Class::Scheme => {
+            byte.is_ascii_alphanumeric() || byte == b'+' || byte == b'.' || byte == b'-'
+        }
+        Class::Address => byte > b' ' && byte != 0x7f && byte != b'<' && byte != b'>',
+        Class::Mailbox => is_mailbox(byte),
+        Class::Domain => byte.is_ascii_alphanumeric() || byte == b'.' || byte == b'-',
+        Class::Only(one) => byte == one,
+        Class::Except(one) => byte != one,
+    }
+}
+
+fn run_length(bytes: &[u8], class: Class) -> usize
+    ensures { result ≡ run_length class bytes.now }
+{
+    bytes.iter().take_while(|byte| is_in(class, **byte)).count()
+}
+
+/// The place behind the members of a set that stand at a place, one after the other.
+#[tactic(auto, unfolding(crate::specs::Class::run_end))]
+pub fn run_end(bytes: &[u8], place: usize, class: Class) -> usize
+    ensures { result ≡ run_end bytes.now place class }
+{
+    place.saturating_add(run_length(rest(bytes, place), class))
+}

@@ -1,0 +1,12 @@
+//! What the blocks and the inlines of a Markdown text are scanned with. Texts are bytes, places are byte offsets, and
+//! each function answers at every argument: past the end of a text stands a line feed.
+//!
+//! It is the lowest crate of the core reader; `tocmark_read_tokens` stands on it, and all others above that. Enter at
+//! `basic` for bytes and places, at `class` for classes of characters, at `side` for what stands beside a run, and at
+//! `content` for the content of a block without the prefixes of its containers.
+#![tactic(auto)]
+
+pub mod basic;
+pub mod class;
+pub mod content;
+pub mod side;

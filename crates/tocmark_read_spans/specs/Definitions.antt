@@ -1,0 +1,87 @@
+-- The link reference definitions of a document, and lists of labels.
+use Rattle.std.specs.Prelude.{ℕ, List, [], ◌∷◌, ◌++◌, length, map, slice_get, string_bytes, Option, Some, None, unwrap_or}
+use Rattle.std.specs.HashMap.{get_by_text}
+use Rattle.std.specs.Str.Lossy.{utf8_lossy}
+use Rattle.tocmark_read_scan.specs.Basic.{piece}
+use Rattle.tocmark_read_tokens.specs.Label.{collapsed, key_of, distinct_from}
+use Rattle.tocmark_read_tokens.specs.Reference.{unescaped}
+use Rattle.tocmark_read_tokens.specs.declared.word.Definition.{Definition}
+use Rattle.tocmark_read_spans.specs.declared.definitions.Definitions.{Definitions}
+use Rattle.tocmark_read_spans.specs.declared.definitions.Entry.{Entry}
+use Rattle.tocmark_read_spans.specs.declared.definitions.Collected.{Collected}
+use Rattle.tocmark_read_spans.specs.declared.role.Stretch.{Stretch}
+
+-- the entry at a place, if there is one
+abbrev pub entry_at : List Entry → Option ℕ → Option Entry
+entry_at entries None = None
+entry_at entries (Some place) = slice_get entries place
+
+-- the first definition of the label with a key
+abbrev pub entry_of : Definitions → List ℕ → Option Entry
+entry_of d key = entry_at d.entries.items (get_by_text d.places key)
+
+-- the definitions found so far: the keys of their labels, labels and entries as stretches of texts
+pub record State : Type 0 where
+  pub keys : List (List ℕ)
+  pub labels : List Stretch
+  pub entries : List Entry
+  pub texts : List ℕ
+
+-- what is collected as lists
+abbrev pub collected_view : Collected → State
+collected_view c = record { keys = map string_bytes c.keys.items; labels = c.labels.items; entries = c.entries.items; texts = c.texts.items }
+
+-- nothing is collected yet
+abbrev pub collected_none : State
+collected_none = record { keys = []; labels = []; entries = []; texts = [] }
+
+-- the texts with one more, and its stretch
+abbrev pub kept : List ℕ → List ℕ → List ℕ × Stretch
+kept text texts = (texts ++ text, record { start = length texts; end = length (texts ++ text) })
+
+-- one more definition of these texts
+abbrev pub defined_as : List ℕ → List ℕ → List ℕ → List ℕ → State → State
+defined_as key label destination title s =
+    let l = kept label s.texts in
+    let d = kept destination (l.0) in
+    let t = kept title (d.0) in
+    record {
+      keys = s.keys ++ key ∷ [];
+      labels = s.labels ++ l.1 ∷ [];
+      entries = s.entries ++ record { destination = d.1; title = t.1 } ∷ [];
+      texts = t.0;
+    }
+
+-- one more definition: the label collapsed, destination and title without escapes and references
+unfoldable pub defined_with : List ℕ → List ℕ → List ℕ → State → State
+defined_with label destination title s =
+    defined_as (key_of label) (collapsed label) (unescaped destination) (unescaped title) s
+
+-- one more definition, as it was found in a text
+unfoldable pub defined : List ℕ → Definition → State → State
+defined bytes found s =
+    defined_with (piece bytes found.label.start found.label.end)
+    (piece bytes found.destination.start found.destination.end)
+    (piece bytes found.title.start found.title.end) s
+
+-- the key of a label among the texts
+abbrev pub label_key : List ℕ → Stretch → List ℕ
+label_key texts s = key_of (piece texts s.start s.end)
+
+-- the empty stretch
+abbrev pub no_stretch : Stretch
+no_stretch = record { start = 0; end = 0 }
+
+-- the text of a stretch
+abbrev pub stretch_text : List ℕ → Stretch → List ℕ
+stretch_text texts s = utf8_lossy (piece texts s.start s.end)
+
+-- the label at a place of a list
+abbrev pub label_at : List ℕ → List Stretch → ℕ → List ℕ
+label_at texts labels place = stretch_text texts (unwrap_or (slice_get labels place) no_stretch)
+
+-- the labels at the places where a key stands for the first time
+abbrev pub distinct_labels : List ℕ → List Stretch → List (List ℕ)
+distinct_labels texts labels =
+    let keys = map (label_key texts) labels in
+    map (label_at texts labels) (distinct_from 0 keys keys)

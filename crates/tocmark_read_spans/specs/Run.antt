@@ -1,0 +1,43 @@
+-- Runs of delimiters (CommonMark 6.2).
+use Rattle.std.specs.Prelude.{ℕ, Bool, true, false, not, ◌-◌, ◌==◌, ◌&&◌, ◌||◌, List}
+use Rattle.tocmark_read_scan.specs.Class.{run_end}
+use Rattle.tocmark_read_scan.specs.Side.{side_at, side_before}
+use Rattle.tocmark_read_scan.specs.declared.class.Class.TheVariants.{Only}
+use Rattle.tocmark_read_scan.specs.declared.side.Side.{Side}
+use Rattle.tocmark_read_scan.specs.declared.side.Side.TheVariants.{Space, Punctuation, Other}
+use Rattle.tocmark_read_spans.specs.declared.run.Run.{Run}
+
+-- white space
+unfoldable pub is_space : Side → Bool
+is_space Space = true
+is_space Punctuation = false
+is_space Other = false
+
+-- punctuation
+unfoldable pub is_punctuation : Side → Bool
+is_punctuation Space = false
+is_punctuation Punctuation = true
+is_punctuation Other = false
+
+-- left-flanking with what follows inside, right-flanking with what precedes inside
+unfoldable pub flanks : Side → Side → Bool
+flanks inner outer = not (is_space inner) && (not (is_punctuation inner) || (is_space outer || is_punctuation outer))
+
+-- a run opens (what follows inside) or closes (what precedes inside); _ not within a word
+unfoldable pub acts : ℕ → Side → Side → Bool
+acts byte inner outer = flanks inner outer && ((byte == 42) || not (flanks outer inner) || is_punctuation outer)
+
+-- the run between two places
+unfoldable pub run_between : List ℕ → ℕ → ℕ → ℕ → Run
+run_between bytes place end byte = record {
+  place = place;
+  count = end - place;
+  length = end - place;
+  byte = byte;
+  opens = acts byte (side_at bytes end) (side_before bytes place);
+  closes = acts byte (side_before bytes place) (side_at bytes end);
+}
+
+-- the run of a byte that begins at a place
+unfoldable pub run_at : List ℕ → ℕ → ℕ → Run
+run_at bytes place byte = run_between bytes place (run_end bytes place (Only byte)) byte

@@ -1,0 +1,159 @@
+//! The link reference definitions of a document, and lists of labels.
+
+ghost use Rattle.std.specs.Prelude.{◌≡◌, IfOk, OnOk, map, string_bytes};
+ghost use Rattle.tocmark_read_spans.specs.Definitions.{entry_of, label_key, collected_view, collected_none, kept, defined_with, defined, label_at, distinct_labels};
+
+use crate::role::Stretch;
+use std::alloc::{AllocError, Global};
+use std::collections::HashMap;
+use tocmark_read_scan::basic::piece;
+use tocmark_read_tokens::label::{collapsed, distinct, key_of};
+use tocmark_read_tokens::reference::unescaped;
+use tocmark_read_tokens::word::Definition;
+
+/// What a label is defined as, in the texts of the document's inlines.
+#[derive(Clone, Copy)]
+pub struct Entry {
+    /// The destination, without escapes and references.
+    pub destination: Stretch,
+    /// The title, without escapes and references; empty where there is none.
+    pub title: Stretch,
+}
+
+/// The definitions of a document in their order, and for the key of each label the place of the first.
+#[derive(Drop)]
+pub struct Definitions {
+    /// For the key of each label the place of its entry in the list.
+    pub places: HashMap<String, usize>,
+    /// What the labels are defined as, in the order of the document.
+    pub entries: Vec<Entry>,
+}
+
+/// The definitions that were found so far, in order, with the keys of their labels; the labels and the
+/// entries are stretches of the texts.
+#[derive(Drop)]
+pub struct Collected {
+    /// The key of each definition's label.
+    pub keys: Vec<String>,
+    /// Each definition's label, with one space for each stretch of white space.
+    pub labels: Vec<Stretch>,
+    /// What each label is defined as.
+    pub entries: Vec<Entry>,
+    /// The bytes of which labels and entries are stretches.
+    pub texts: Vec<u8>,
+}
+
+impl Definitions {
+    /// What the label with a key is defined as first; `None` where it isn't.
+    pub fn find(&self, key: &str) -> Option<Entry>
+        ensures { result ≡ entry_of self.now key.now }
+    {
+        let place = self.places.get(key).copied()?;
+        self.entries.get(place).copied()
+    }
+}
+
+/// Writes a text behind others, and gives its stretch.
+fn keep(texts: &mut Vec<u8>, text: &[u8]) -> Result<Stretch, AllocError>
+    ensures { IfOk result (λ s. (texts.new.items, s) ≡ kept text.now texts.old.items) }
+{
+    let start = texts.len();
+    texts.extend_from_slice(text)?;
+    Ok(Stretch {
+        start,
+        end: texts.len(),
+    })
+}
+
+impl Collected {
+    /// No definitions.
+    pub fn new(alloc: Global) -> Self
+        ensures { collected_view result ≡ collected_none }
+    {
+        Collected {
+            keys: Vec::new(alloc),
+            labels: Vec::new(alloc),
+            entries: Vec::new(alloc),
+            texts: Vec::new(alloc),
+        }
+    }
+
+    /// Adds a definition as it is written: a label, a destination and a title. An `Err` says that memory
+    /// ran out.
+    #[tactic(auto, unfolding(crate::specs::Definitions::defined_with))]
+    pub fn define(
+        &mut self,
+        alloc: Global,
+        label: &[u8],
+        destination: &[u8],
+        title: &[u8],
+    ) -> Result<(), AllocError>
+        ensures { OnOk result (collected_view self.new
+            ≡ defined_with label.now destination.now title.now (collected_view self.old)) }
+    {
+        self.keys.push(key_of(alloc, label)?)?;
+        let label = collapsed(alloc, label)?;
+        let label = keep(&mut self.texts, &label)?;
+        let destination = unescaped(alloc, destination)?;
+        let destination = keep(&mut self.texts, &destination)?;
+        let title = unescaped(alloc, title)?;
+        let title = keep(&mut self.texts, &title)?;
+        self.labels.push(label)?;
+        self.entries.push(Entry { destination, title })?;
+        Ok(())
+    }
+
+    /// Adds the definition that was found in a text. An `Err` says that memory ran out.
+    #[tactic(auto, unfolding(crate::specs::Definitions::defined))]
+    pub fn add(&mut self, alloc: Global, bytes: &[u8], found: Definition) -> Result<(), AllocError>
+        ensures { OnOk result (collected_view self.new
+            ≡ defined bytes.now found (collected_view self.old)) }
+    {
+        let label = piece(bytes, found.label.start, found.label.end);
+        let destination = piece(bytes, found.destination.start, found.destination.end);
+        let title = piece(bytes, found.title.start, found.title.end);
+        self.define(alloc, label, destination, title)
+    }
+}
+
+fn keys(alloc: Global, texts: &[u8], labels: &[Stretch]) -> Result<Vec<String>, AllocError>
+    ensures { IfOk result (λ v. map string_bytes v.items ≡ map (label_key texts.now) labels.now) }
+{
+    let mut keys = Vec::new(alloc);
+    for label in labels {
+        keys.push(key_of(alloc, piece(texts, label.start, label.end))?)?;
+    }
+    Ok(keys)
+}
+
+/// The label at a place of a list; an empty one past its end.
+fn label_text(
+    alloc: Global,
+    texts: &[u8],
+    labels: &[Stretch],
+    place: usize,
+) -> Result<String, AllocError>
+    ensures { IfOk result (λ t. string_bytes t ≡ label_at texts.now labels.now place) }
+{
+    let none = Stretch { start: 0, end: 0 };
+    let label = labels.get(place).copied().unwrap_or(none);
+    String::from_utf8_lossy(alloc, piece(texts, label.start, label.end))
+}
+
+/// The labels of a list, each of several that match once, as it is spelled first. An `Err` says that
+/// memory ran out.
+pub fn distinct_labels(
+    alloc: Global,
+    texts: &[u8],
+    labels: &[Stretch],
+) -> Result<Vec<String>, AllocError>
+    ensures { IfOk result (λ v. map string_bytes v.items ≡ distinct_labels texts.now labels.now) }
+{
+    let keys = keys(alloc, texts, labels)?;
+    let places = distinct(alloc, &keys)?;
+    let mut out = Vec::new(alloc);
+    for place in &places {
+        out.push(label_text(alloc, texts, labels, *place)?)?;
+    }
+    Ok(out)
+}

@@ -1,0 +1,185 @@
+//! Emphasis and strong emphasis: runs of delimiters are matched with one another.
+
+ghost use Rattle.std.specs.Prelude.{◌≡◌, IfOk, OnOk, length};
+ghost use Rattle.tocmark_read_scan.specs.Repeat.{repeated};
+ghost use Rattle.tocmark_read_spans.specs.Role.{roles_of};
+ghost use Rattle.tocmark_read_spans.specs.Emphasis.{openers, fits, class_of, found, matched, once, run_step, emphasized, emphasis_start};
+
+use crate::role::{Role, Roles, Span};
+use crate::run::Run;
+use std::alloc::{AllocError, Global};
+use tocmark_read_scan::basic::set;
+
+/// The runs that may open, the outermost first, and for each class of closers a place before which none
+/// of them fits.
+#[derive(Drop)]
+pub struct Openers {
+    /// The runs that may open, the outermost first.
+    pub stack: Vec<Run>,
+    /// For each class of closers a place of the text: no run before it fits.
+    pub bottoms: Vec<usize>,
+}
+
+/// Whether one run may open what another closes: where one of them could do both, the sum of their
+/// lengths is no multiple of 3, or both lengths are.
+#[tactic(auto, unfolding(crate::specs::Emphasis::fits))]
+fn fits(opener: Run, closer: Run) -> bool
+    ensures { result ≡ fits opener closer }
+{
+    opener.byte == closer.byte
+        && !((opener.closes || closer.opens)
+            && opener.length.saturating_add(closer.length) % 3 == 0
+            && !(opener.length % 3 == 0 && closer.length % 3 == 0))
+}
+
+/// The class of a closer: closers of one class fit the same openers.
+#[tactic(auto, unfolding(crate::specs::Emphasis::class_of))]
+fn class_of(closer: Run) -> usize
+    ensures { result ≡ class_of closer }
+{
+    let by_byte = if closer.byte == b'*' { 0 } else { 6 };
+    let by_side = if closer.opens { 0 } else { 3 };
+    by_byte + by_side + closer.length % 3
+}
+
+/// The place in the stack of the topmost run that fits, down to a place of the text.
+#[tactic(auto, using(crate::proofs::Search::found_down))]
+fn find(stack: &[Run], closer: Run, bottom: usize) -> Option<usize>
+    ensures { result ≡ found stack.now closer bottom (length stack.now) }
+{
+    for k in (0..stack.len()).rev() {
+        let opener = stack[k];
+        if opener.place < bottom {
+            return None;
+        }
+        if fits(opener, closer) {
+            return Some(k);
+        }
+    }
+    None
+}
+
+impl Openers {
+    /// Matches the run at a place of the stack with a closer, and gives what is left of the closer.
+    #[tactic(auto, unfolding(crate::specs::Emphasis::matched))]
+    fn join(
+        &mut self,
+        roles: &mut Roles,
+        k: usize,
+        opener: Run,
+        closer: Run,
+    ) -> Result<Run, AllocError>
+        ensures { IfOk result (λ left.
+            (openers (roles_of roles.new) self.new, left)
+            ≡ matched k opener closer (openers (roles_of roles.old) self.old)) }
+    {
+        let two = opener.count >= 2 && closer.count >= 2;
+        let width: usize = if two { 2 } else { 1 };
+        let inner = opener
+            .place
+            .saturating_add(opener.count)
+            .saturating_sub(width);
+        let span = if two { Span::Strong } else { Span::Emphasis };
+        let end = closer.place.saturating_add(width);
+        let last = opener.place.saturating_add(opener.count).saturating_sub(1);
+        roles.put_behind(last, inner, Role::Open(span, end))?;
+        roles.put_behind(closer.place, end.saturating_sub(1), Role::Close(end))?;
+        let left = opener.count.saturating_sub(width);
+        if left == 0 {
+            self.stack.truncate(k);
+        } else {
+            self.stack.truncate(k.saturating_add(1));
+            set(
+                &mut self.stack,
+                k,
+                Run {
+                    count: left,
+                    ..opener
+                },
+            );
+        }
+        Ok(Run {
+            place: end,
+            count: closer.count.saturating_sub(width),
+            ..closer
+        })
+    }
+
+    /// Matches a closer with the topmost opener that fits, and gives what is left of it. Where nothing is left
+    /// or none fits, gives nothing, and such closers don't look there again.
+    #[tactic(auto, unfolding(crate::specs::Emphasis::once))]
+    fn close_once(&mut self, roles: &mut Roles, left: Run) -> Result<Option<Run>, AllocError>
+        ensures { IfOk result (λ next.
+            (openers (roles_of roles.new) self.new, next)
+            ≡ once left (openers (roles_of roles.old) self.old)) }
+    {
+        if left.count == 0 {
+            return Ok(None);
+        }
+        let class = class_of(left);
+        let bottom = self.bottoms.get(class).copied().unwrap_or(0);
+        let Some(k) = find(&self.stack, left, bottom) else {
+            set(&mut self.bottoms, class, left.place);
+            return Ok(None);
+        };
+        match self.stack.get(k).copied() {
+            None => Ok(None),
+            Some(opener) => {
+                let next = self.join(roles, k, opener, left)?;
+                Ok(Some(next))
+            }
+        }
+    }
+
+    /// Matches a closer with openers as long as one fits, and gives what is left of it.
+    #[tactic(auto, using(tocmark_read_scan::proofs::Repeats::repeated_zero, tocmark_read_scan::proofs::Repeats::repeated_stop, tocmark_read_scan::proofs::Repeats::repeated_more))]
+    fn close(&mut self, roles: &mut Roles, closer: Run) -> Result<Run, AllocError>
+        ensures { IfOk result (λ left.
+            (openers (roles_of roles.new) self.new, left)
+            ≡ repeated once closer.count closer (openers (roles_of roles.old) self.old)) }
+    {
+        let mut left = closer;
+        for _steps_left in (0..closer.count).rev() {
+            match self.close_once(roles, left)? {
+                None => return Ok(left),
+                Some(next) => left = next,
+            }
+        }
+        Ok(left)
+    }
+
+    /// Takes the next run.
+    #[tactic(auto, unfolding(crate::specs::Emphasis::run_step))]
+    fn take(&mut self, roles: &mut Roles, run: Run) -> Result<(), AllocError>
+        ensures { OnOk result (openers (roles_of roles.new) self.new
+            ≡ run_step (openers (roles_of roles.old) self.old) run) }
+    {
+        let left = if run.closes {
+            self.close(roles, run)?
+        } else {
+            run
+        };
+        if left.opens && left.count > 0 {
+            self.stack.push(left)?;
+        }
+        Ok(())
+    }
+}
+
+/// Gives the delimiters of these runs, and of no others, their roles. An `Err` says that memory ran out.
+#[tactic(auto, unfolding(crate::specs::Emphasis::emphasized), using(crate::proofs::Runless::no_runs))]
+pub fn emphasize(alloc: Global, roles: &mut Roles, runs: &[Run]) -> Result<(), AllocError>
+    ensures { OnOk result (roles_of roles.new ≡ emphasized (roles_of roles.old) runs.now) }
+{
+    if runs.is_empty() {
+        return Ok(());
+    }
+    let mut machine = Openers {
+        stack: Vec::new(alloc),
+        bottoms: vec![in alloc; 0; 12]?,
+    };
+    for run in runs {
+        machine.take(roles, *run)?;
+    }
+    Ok(())
+}

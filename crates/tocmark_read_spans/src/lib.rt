@@ -1,0 +1,15 @@
+//! What the inlines of a paragraph or a heading are made of (CommonMark 0.31.2, section 6). Places are byte offsets
+//! in its text, and each function answers at every argument.
+//!
+//! Below it stand `tocmark_read_scan` and `tocmark_read_tokens`, above it `tocmark_read_inlines`. Enter at `role`:
+//! the role that each byte of the text gets. It comes from runs of `*` and `_` (`run`) and how they match
+//! (`emphasis`), code spans (`tick`), what stands behind the text of a link or an image (`link`), and what labels are
+//! defined as (`definitions`).
+#![tactic(auto)]
+
+pub mod definitions;
+pub mod emphasis;
+pub mod link;
+pub mod role;
+pub mod run;
+pub mod tick;

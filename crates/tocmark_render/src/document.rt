@@ -1,0 +1,551 @@
+//! The text that is chosen for a unit, and what the unit leaves to later ones.
+
+ghost use Rattle.std.specs.Prelude.{◌≡◌, ◌==◌, ℕ, List, [], string_bytes, IfOk, IfSome, OnErr, OnOk, map, option_map, is_some, None, true};
+ghost use Rattle.std.specs.List.{list_any};
+ghost use Rattle.tocmark_event.specs.Options.{options_view};
+ghost use Rattle.tocmark_event.specs.Reading.{ReadingView};
+ghost use Rattle.tocmark_spelling.specs.Buffered.{buffered_view, following_view, next_view};
+ghost use Rattle.tocmark_spelling.specs.Plan.{Setting};
+ghost use Rattle.tocmark_spelling.specs.PlanOf.{setting_of};
+ghost use Rattle.tocmark_write_renderer.specs.WriterOf.{page_of, sheet_of, site_of};
+ghost use Rattle.tocmark_render.specs.Choice.{choice};
+ghost use Rattle.tocmark_render.specs.Chosen.{chosen};
+ghost use Rattle.tocmark_write_labels.specs.Definitions.{definitions_text};
+ghost use Rattle.tocmark_write_labels.specs.Document.{first_document, known_in, literal_in};
+ghost use Rattle.tocmark_write_labels.specs.LabelsOf.{label_now, labels_of, Begins};
+ghost use Rattle.tocmark_render.specs.ReadsBack.{flags_at, whole_text};
+ghost use Rattle.tocmark_render.specs.TrialOf.{IsFront, IsKnown, IsReady, asked_of, or_no_trees, unresolved_in};
+ghost use Rattle.tocmark_write_labels.specs.Units.{label_for, trees_of};
+ghost use Rattle.tocmark_render.specs.DocumentOf.{document_at, document_view, document_flags, Gives, HasRoom, Spells, WritesChosen, kept_view, noted, passed};
+
+use crate::earlier::{Earlier, reading_flags};
+use crate::read_back::ReadBack;
+use crate::search::choose;
+use crate::trial::{Trial, likely_len};
+use std::alloc::{AllocError, Global};
+use std::mem;
+use tocmark_event::event::{Event, OwnedEvent, ParserOptions};
+use tocmark_event::options::{Error, Options};
+use tocmark_event::reader::Reader;
+use tocmark_spelling::buffered::BufferedEvent;
+use tocmark_spelling::trail::Trail;
+use tocmark_write_labels::definitions::{copied_references, definitions_text};
+use tocmark_write_labels::labels::Labels;
+use tocmark_write_labels::pending::Pending;
+use tocmark_write_labels::placeholder::needs_list_placeholder;
+use tocmark_write_labels::reserved_label::reserve_list_label;
+use tocmark_write_renderer::parts::{Parts, Reference};
+use tocmark_write_renderer::renderer::Renderer;
+use tocmark_write_unit::findings::findings_of;
+
+/// What earlier units leave to later ones.
+#[derive(Drop)]
+pub struct Document {
+    flags: ParserOptions,
+    /// Line feeds at the end of all that was written, prefixes not counted.
+    newlines: usize,
+    /// What the last unit left to its right neighbour.
+    trail: Trail,
+    /// What earlier units leave to be defined at the end.
+    references: Vec<Reference>,
+    /// The labels that earlier units define.
+    known: Labels,
+    /// The labels of earlier units that are no links, since nothing defines them.
+    literal: Labels,
+    /// Whether a unit was written.
+    flushed: bool,
+}
+
+fn kept_event(alloc: Global, event: Option<&Event<'_>>) -> Result<Option<OwnedEvent>, AllocError>
+    ensures { IfOk result (λ kept. kept_view kept ≡ next_view event.entry) }
+{
+    match event {
+        None => Ok(None),
+        Some(event) => Ok(Some(event.copied(alloc)?)),
+    }
+}
+
+fn lent_event(event: &Option<OwnedEvent>) -> Option<&OwnedEvent>
+    ensures { following_view result ≡ kept_view event.now }
+{
+    match event {
+        None => None,
+        Some(event) => Some(event),
+    }
+}
+
+fn lent_label(label: &Option<String>) -> Option<&str>
+    ensures { label_now result ≡ option_map string_bytes label.now }
+{
+    match label {
+        None => None,
+        Some(label) => Some(label.as_str()),
+    }
+}
+
+fn has_bracket(text: &str) -> bool
+    ensures { result ≡ list_any (λ b. b == 91) text.now }
+{
+    text.as_bytes().contains(&b'[')
+}
+
+/// Adds the labels that a reader finds defined in a unit's definitions. An `Err` says that memory ran
+/// out or the reader answered it; none is added then.
+fn note_known_labels<R: Reader>(
+    known: &mut Labels,
+    trial: &Trial<'_, '_, R>,
+    definitions: &str,
+) -> Result<(), AllocError>
+    ensures known { let reading = R.reading trial.now.reader.now in
+        OnOk result (labels_of known.new
+        ≡ known_in reading trial.now.flags (labels_of known.old) definitions.now) }
+    ensures front { Begins (labels_of known.old) (labels_of known.new) }
+    ensures stays { OnErr result (labels_of known.new ≡ labels_of known.old) }
+{
+    if definitions.is_empty() {
+        return Ok(());
+    }
+    let found = trial.reader.read(trial.alloc, definitions, trial.flags)?;
+    known.add_all(trial.alloc, &found.defined)
+}
+
+/// Adds the labels of a unit's text that nothing defines, if the text has a bracket: these are those
+/// that a reader finds in it. An `Err` says that memory ran out; none is added then.
+fn add_open_labels(
+    literal: &mut Labels,
+    alloc: Global,
+    text: &str,
+    unresolved: &[String],
+) -> Result<(), AllocError>
+    ensures literal { (reading : List ℕ → ParserOptions → ReadingView) (flags : ParserOptions)
+        → map string_bytes unresolved.now ≡ (reading text.now flags).unresolved
+        → OnOk result (labels_of literal.new
+        ≡ literal_in reading flags (labels_of literal.old) text.now) }
+    ensures stays { OnErr result (labels_of literal.new ≡ labels_of literal.old) }
+{
+    if has_bracket(text) {
+        literal.add_all(alloc, unresolved)
+    } else {
+        Ok(())
+    }
+}
+
+/// Adds the labels that a reader finds in a unit's text and nothing defines. Only a text with a
+/// bracket is read. An `Err` says that memory ran out or the reader answered it; none is added then.
+fn note_open_labels<R: Reader>(
+    literal: &mut Labels,
+    trial: &Trial<'_, '_, R>,
+    text: &str,
+) -> Result<(), AllocError>
+    ensures literal { let reading = R.reading trial.now.reader.now in
+        OnOk result (labels_of literal.new
+        ≡ literal_in reading trial.now.flags (labels_of literal.old) text.now) }
+    ensures stays { OnErr result (labels_of literal.new ≡ labels_of literal.old) }
+{
+    if !has_bracket(text) {
+        return Ok(());
+    }
+    let found = trial.reader.read(trial.alloc, text, trial.flags)?;
+    literal.add_all(trial.alloc, &found.unresolved)
+}
+
+impl Document {
+    /// A document before its first unit, for events of a parser with these flags.
+    pub fn new(alloc: Global, flags: ParserOptions) -> Document
+        ensures view { document_view result ≡ first_document }
+        ensures flags { document_flags result ≡ flags }
+    {
+        Document {
+            flags,
+            newlines: 0,
+            trail: Trail::new(),
+            references: Vec::new(alloc),
+            known: Labels::new(alloc),
+            literal: Labels::new(alloc),
+            flushed: false,
+        }
+    }
+
+    /// An equal document. An `Err` says that memory ran out.
+    pub fn copied(&self, alloc: Global) -> Result<Document, AllocError>
+        ensures view { IfOk result (λ copy. document_view copy ≡ document_view self.now) }
+        ensures flags { IfOk result (λ copy. document_flags copy ≡ document_flags self.now) }
+    {
+        Ok(Document {
+            flags: self.flags,
+            newlines: self.newlines,
+            trail: self.trail.copied(alloc)?,
+            references: copied_references(alloc, &self.references)?,
+            known: self.known.copied()?,
+            literal: self.literal.copied()?,
+            flushed: self.flushed,
+        })
+    }
+
+    /// Notes the labels that a reader finds defined in the definitions of a unit, and those that
+    /// nothing defines in its text. An `Err` says that memory ran out or the reader answered it; none
+    /// is noted then.
+    fn note_labels<R: Reader>(
+        &mut self,
+        trial: &Trial<'_, '_, R>,
+        definitions: &str,
+        text: &str,
+    ) -> Result<(), AllocError>
+        ensures noted { let reading = R.reading trial.now.reader.now in
+            let flags = trial.now.flags in
+            let old = document_view self.old in
+            OnOk result (document_view self.new ≡ record old {
+              known = known_in reading flags old.known definitions.now;
+              literal = literal_in reading flags old.literal text.now;
+            }) }
+        ensures stays { OnErr result (document_view self.new ≡ document_view self.old) }
+        ensures flags { document_flags self.new ≡ document_flags self.old }
+        ensures references { self.new.references ≡ self.old.references }
+    {
+        let before = self.known.len();
+        note_known_labels(&mut self.known, trial, definitions)?;
+        let noted = note_open_labels(&mut self.literal, trial, text);
+        if noted.is_err() {
+            self.known.truncate(before);
+        }
+        noted
+    }
+
+    /// Whether a unit's text is read by itself and under these flags when it is searched: it needs no
+    /// definitions, and no metadata is read that the flags may ask for.
+    fn reads_alone(&self, flags: ParserOptions, definitions: &str) -> bool
+        ensures definitions { result ≡ true → definitions.now ≡ [] }
+        ensures flags { (s : Setting) → s.flags ≡ flags → result ≡ true
+            → flags_at s (document_view self.now) ≡ flags }
+    {
+        let reading_flags = reading_flags(flags, self.flushed);
+        definitions.is_empty() && reading_flags.0 == flags.0
+    }
+
+    /// Notes the labels of a unit that is read back, as `note_labels` does. Its text isn't read again
+    /// where the search has read just that.
+    fn note_known<R: Reader>(
+        &mut self,
+        trial: &Trial<'_, '_, R>,
+        known: &ReadBack,
+        text: &str,
+    ) -> Result<(), AllocError>
+        requires unresolved { let q = asked_of R.reading trial.now in
+            let whole = whole_text (string_bytes known.now.definitions) text.now in
+            map string_bytes known.now.unresolved.items
+            ≡ unresolved_in q (document_view self.old) whole }
+        ensures noted { let reading = R.reading trial.now.reader.now in
+            let flags = trial.now.flags in
+            let old = document_view self.old in
+            OnOk result (document_view self.new ≡ record old {
+              known = known_in reading flags old.known (string_bytes known.now.definitions);
+              literal = literal_in reading flags old.literal text.now;
+            }) }
+        ensures stays { OnErr result (document_view self.new ≡ document_view self.old) }
+        ensures flags { document_flags self.new ≡ document_flags self.old }
+        ensures references { self.new.references ≡ self.old.references }
+    {
+        if self.reads_alone(trial.flags, known.definitions.as_str()) {
+            add_open_labels(&mut self.literal, trial.alloc, text, &known.unresolved)
+        } else {
+            self.note_labels(trial, known.definitions.as_str(), text)
+        }
+    }
+
+    /// Notes the labels of a unit that no reader has read, as `note_labels` does.
+    fn note_unread<R: Reader>(
+        &mut self,
+        trial: &Trial<'_, '_, R>,
+        renderer: &Renderer<'_>,
+    ) -> Result<(), AllocError>
+        ensures noted { let s = (asked_of R.reading trial.now).setting in
+            OnOk result (document_view self.new
+            ≡ noted s (document_view self.old) (page_of renderer.now)) }
+        ensures stays { OnErr result (document_view self.new ≡ document_view self.old) }
+        ensures flags { document_flags self.new ≡ document_flags self.old }
+        ensures references { self.new.references ≡ self.old.references }
+    {
+        let (references, newlines) = (renderer.references(), renderer.newlines());
+        let definitions = definitions_text(trial.alloc, references, newlines)?;
+        self.note_labels(trial, definitions.as_str(), renderer.text())
+    }
+
+    /// Notes the labels of a unit as it is written, and makes room for the definitions that it needs.
+    /// An `Err` says that memory ran out or the reader answered it; the document is then as it was.
+    fn note<R: Reader>(
+        &mut self,
+        trial: &Trial<'_, '_, R>,
+        renderer: &Renderer<'_>,
+        known: Option<ReadBack>,
+    ) -> Result<(), AllocError>
+        requires known { let q = asked_of R.reading trial.now in
+            IfSome known (IsKnown q (document_view self.old) (page_of renderer.now)) }
+        ensures noted { let s = (asked_of R.reading trial.now).setting in
+            OnOk result (document_view self.new
+            ≡ noted s (document_view self.old) (page_of renderer.now)) }
+        ensures room { OnOk result (HasRoom self.new (page_of renderer.now)) }
+        ensures stays { OnErr result (document_view self.new ≡ document_view self.old) }
+        ensures flags { document_flags self.new ≡ document_flags self.old }
+    {
+        self.references.reserve(renderer.references().len())?;
+        match known {
+            Some(known) => self.note_known(trial, &known, renderer.text()),
+            None => self.note_unread(trial, renderer),
+        }
+    }
+
+    /// A renderer of the next unit, to which the trail is moved.
+    fn begin<'a>(&mut self, alloc: Global) -> Renderer<'a>
+        ensures front { IsFront (site_of result) }
+        ensures view { document_at self.new (site_of result) ≡ document_view self.old }
+        ensures flags { document_flags self.new ≡ document_flags self.old }
+    {
+        let trail = mem::replace(&mut self.trail, Trail::new());
+        Renderer::resume(alloc, self.newlines, trail)
+    }
+
+    /// Takes back what `begin` moved, from a renderer that stands at a unit's front.
+    fn take_back(&mut self, renderer: Renderer<'_>)
+        ensures view { document_view self.new ≡ document_at self.old (site_of renderer.entry) }
+        ensures flags { document_flags self.new ≡ document_flags self.old }
+    {
+        let Parts {
+            newlines,
+            trail,
+            ..
+        } = renderer.into_parts();
+        self.newlines = newlines;
+        self.trail = trail;
+    }
+
+    /// Takes what a unit leaves, and hands out its text. There is room for the definitions that it
+    /// needs.
+    fn pass(&mut self, renderer: Renderer<'_>) -> String
+        requires { HasRoom self.old (page_of renderer) }
+        ensures text { string_bytes result ≡ (sheet_of renderer.entry).text }
+        ensures view { document_view self.new
+            ≡ passed (document_view self.old) (page_of renderer.entry) }
+        ensures flags { document_flags self.new ≡ document_flags self.old }
+    {
+        let Parts {
+            text,
+            newlines,
+            trail,
+            mut references,
+        } = renderer.into_parts();
+        let _room = self.references.append(&mut references);
+        self.newlines = newlines;
+        self.trail = trail;
+        self.flushed = true;
+        text
+    }
+
+    /// Writes the unit of a trial as it is chosen, with room for its text from the start, and hands on
+    /// what is known of that. At an `Err`, which is as in `block`, the renderer has gone back.
+    fn choose<'t, R: Reader>(
+        &self,
+        trial: &Trial<'t, '_, R>,
+        renderer: &mut Renderer<'t>,
+    ) -> Result<Option<ReadBack>, Error>
+        requires ready { IsReady R.reading trial.now }
+        requires front { IsFront (site_of renderer.old) }
+        ensures chosen { let reading = R.reading in
+            WritesChosen reading trial.now self.now renderer.old renderer.new result }
+        ensures known { let q = asked_of R.reading trial.now in
+            let d = document_view self.now in
+            IfOk result (λ known. IfSome known (IsKnown q d (page_of renderer.new))) }
+    {
+        renderer.reserve_lines(likely_len(trial.unit))?;
+        let earlier = Earlier {
+            known: &self.known,
+            flushed: self.flushed,
+        };
+        choose(trial, earlier, renderer)
+    }
+
+    /// Writes the unit of a trial as it is chosen, and notes its labels. At an `Err`, which is as in
+    /// `block`, the document is as it was, and the renderer has gone back.
+    fn write_chosen<'t, R: Reader>(
+        &mut self,
+        trial: &Trial<'t, '_, R>,
+        renderer: &mut Renderer<'t>,
+    ) -> Result<(), Error>
+        requires ready { IsReady R.reading trial.now }
+        requires front { IsFront (site_of renderer.old) }
+        ensures chosen { let reading = R.reading in
+            WritesChosen reading trial.now self.old renderer.old renderer.new result }
+        ensures noted { let s = (asked_of R.reading trial.now).setting in
+            OnOk result (document_view self.new
+            ≡ noted s (document_view self.old) (page_of renderer.new)) }
+        ensures room { OnOk result (HasRoom self.new (page_of renderer.new)) }
+        ensures stays { OnErr result (document_view self.new ≡ document_view self.old) }
+        ensures flags { document_flags self.new ≡ document_flags self.old }
+    {
+        let known = self.choose(trial, renderer)?;
+        if self.note(trial, renderer, known).is_err() {
+            renderer.back();
+            return Err(Error::OutOfMemory);
+        }
+        Ok(())
+    }
+
+    /// Writes the unit of a trial, by one renderer for all candidates. An `Err` is as in `block`.
+    fn write_unit<R: Reader>(&mut self, trial: &Trial<'_, '_, R>) -> Result<String, Error>
+        requires ready { IsReady R.reading trial.now }
+        ensures chosen { let q = asked_of R.reading trial.now in
+            Spells (document_view self.new) result
+            (choice q.setting (document_view self.old) q.unit q.next) }
+        ensures stays { OnErr result (document_view self.new ≡ document_view self.old) }
+        ensures flags { document_flags self.new ≡ document_flags self.old }
+    {
+        let mut renderer = self.begin(trial.alloc);
+        match self.write_chosen(trial, &mut renderer) {
+            Ok(()) => Ok(self.pass(renderer)),
+            Err(error) => {
+                self.take_back(renderer);
+                Err(error)
+            }
+        }
+    }
+
+    /// The label that is reserved for the lists of the last unit, if it waits. An `Err` says that memory
+    /// ran out.
+    fn label_at_end(&self, alloc: Global, unit: &Pending) -> Result<Option<String>, AllocError>
+        ensures { IfOk result (λ label. option_map string_bytes label ≡
+            label_for (document_view self.now) unit.now.events None) }
+    {
+        if needs_list_placeholder(alloc, unit)? {
+            let events = unit.events();
+            let label = reserve_list_label(alloc, &self.known, &self.literal, events)?;
+            Ok(Some(label))
+        } else {
+            Ok(None)
+        }
+    }
+
+    /// The label that is reserved for the lists of a unit: the last unit, which no event follows, has
+    /// one if it waits. An `Err` says that memory ran out.
+    fn label_for(
+        &self,
+        alloc: Global,
+        unit: &Pending,
+        next: Option<&Event<'_>>,
+    ) -> Result<Option<String>, AllocError>
+        ensures { IfOk result (λ label. option_map string_bytes label ≡
+            label_for (document_view self.now) unit.now.events (next_view next.entry)) }
+    {
+        match next {
+            Some(_) => Ok(None),
+            None => self.label_at_end(alloc, unit),
+        }
+    }
+
+    /// Writes a unit whose events are balanced. An `Err` is as in `block`.
+    fn chosen<'u, R: Reader>(
+        &mut self,
+        alloc: Global,
+        reader: &'u R,
+        unit: &'u [BufferedEvent],
+        next: Option<&'u OwnedEvent>,
+        label: Option<&'u str>,
+        options: &'u Options<'_>,
+    ) -> Result<String, Error>
+        requires balanced { is_some (trees_of (map buffered_view unit.now)) ≡ true }
+        ensures chosen { let flags = document_flags self.old in
+            let label = label_now label.entry in
+            let s = setting_of (options_view options.now) flags (R.reading reader.now) label in
+            let f = or_no_trees (trees_of (map buffered_view unit.now)) in
+            Spells (document_view self.new) result
+            (choice s (document_view self.old) f (following_view next.entry)) }
+        ensures stays { OnErr result (document_view self.new ≡ document_view self.old) }
+        ensures flags { document_flags self.new ≡ document_flags self.old }
+    {
+        let found = findings_of(alloc, reader, options, self.flags, unit)?;
+        let trial = Trial {
+            alloc,
+            reader,
+            flags: self.flags,
+            unit,
+            found: &found,
+            next,
+            label,
+            options,
+        };
+        self.write_unit(&trial)
+    }
+
+    /// Writes a unit whose events are balanced, before this event if one follows. An `Err` is as in `block`.
+    fn chosen_before<R: Reader>(
+        &mut self,
+        alloc: Global,
+        reader: &R,
+        unit: &Pending,
+        next: Option<&Event<'_>>,
+        label: Option<&str>,
+        options: &Options<'_>,
+    ) -> Result<String, Error>
+        requires balanced { is_some (trees_of unit.now.events) ≡ true }
+        ensures chosen { let flags = document_flags self.old in
+            let label = label_now label.entry in
+            let s = setting_of (options_view options.now) flags (R.reading reader.now) label in
+            let f = or_no_trees (trees_of unit.now.events) in
+            Spells (document_view self.new) result
+            (choice s (document_view self.old) f (next_view next.entry)) }
+        ensures stays { OnErr result (document_view self.new ≡ document_view self.old) }
+        ensures flags { document_flags self.new ≡ document_flags self.old }
+    {
+        let next = kept_event(alloc, next)?;
+        let events = unit.events();
+        let text = self.chosen(alloc, reader, events, lent_event(&next), label, options);
+        drop(next);
+        text
+    }
+
+    /// Writes a unit and gives its text.
+    ///
+    /// `next` is the event after the unit, if there is one. Where the options have markers that Markdown
+    /// reads, spellings are tried in order, and the first is taken in which the reader finds the unit:
+    /// from the source, where some text is known there, and for a unit that is checked the preferred one,
+    /// with delimiters also those by other plans and markers. A unit with delimiters is checked, and where
+    /// the options ask for it each that has an event. Where none is found, a unit that isn't checked is
+    /// written in the preferred spelling, as is one whose options aren't accepted, and any with other
+    /// markers. The last unit, which no event follows, has a label that is reserved for its lists, if one
+    /// needs a placeholder.
+    ///
+    /// An `Err` is `UnexpectedEvent` where a container of the unit is open, and where an event
+    /// stands where it may not, as a heading in a heading; `Unrepresentable` where no spelling of a
+    /// unit that is checked is read back, though the options are accepted; and `OutOfMemory` where memory
+    /// ran out or the reader answered it. The document is then as it was.
+    pub fn block<R: Reader>(
+        &mut self,
+        alloc: Global,
+        reader: &R,
+        unit: &Pending,
+        next: Option<&Event<'_>>,
+        options: &Options<'_>,
+    ) -> Result<String, Error>
+        ensures chosen { let flags = document_flags self.old in
+            let s = setting_of (options_view options.now) flags (R.reading reader.now) None in
+            Spells (document_view self.new) result
+            (chosen s (document_view self.old) unit.now.events (next_view next.entry)) }
+        ensures stays { OnErr result (document_view self.new ≡ document_view self.old) }
+        ensures flags { document_flags self.new ≡ document_flags self.old }
+    {
+        if !unit.is_whole() {
+            return Err(Error::UnexpectedEvent);
+        }
+        let label = self.label_for(alloc, unit, next)?;
+        let text = self.chosen_before(alloc, reader, unit, next, lent_label(&label), options);
+        drop(label);
+        text
+    }
+
+    /// The definitions that are left: of each unit so far those that it needs, each once, one a line,
+    /// behind a blank line; an empty text where no unit needs one. An `Err` says that memory ran out.
+    pub fn finish(&self, alloc: Global) -> Result<String, Error>
+        ensures { Gives result
+            (definitions_text (document_view self.now).references (document_view self.now).feeds) }
+    {
+        Ok(definitions_text(alloc, &self.references, self.newlines)?)
+    }
+}

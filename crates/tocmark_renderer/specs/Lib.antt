@@ -1,4 +1,0 @@
-pub mod JobOf
-pub mod WriterOf
-pub mod Changes
-pub mod RendererOf

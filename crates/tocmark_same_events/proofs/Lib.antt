@@ -1,2 +1,0 @@
-pub mod SameIsEqual
-pub mod SameKeys

@@ -1,6 +1,0 @@
-use Rattle.std.proofs.Common.{◌≡◌, map, take}
-use Rattle.tocmark_script_reader.specs.Readers.{ranged_view}
-use Rattle.tocmark_script_reader.proofs.readers.copied_events.Given as goal
-
-abbrev pub invariant-loop-event : goal.invariant-loop-event
-invariant-loop-event l = map ranged_view l.copies.items ≡ map ranged_view (take l.event-index l.events)

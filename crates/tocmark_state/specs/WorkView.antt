@@ -1,0 +1,102 @@
+-- What a state makes of its events, as plain values.
+use Rattle.std.specs.Prelude.{◌≡◌, ℕ, ◌-◌, ◌^◌, min, List, map, Result, Ok, Err, Option, None, string_bytes, String}
+use Rattle.std.specs.Borrow.{Bor}
+use Rattle.std.specs.Global.{Global}
+use Rattle.tocmark_event.specs.Options.{OptionsView, options_view}
+use Rattle.tocmark_event.specs.Reading.{ReadingView}
+use Rattle.tocmark_event.specs.Text.{ParserEvent, text_of}
+use Rattle.tocmark_event.specs.View.{EventView, SourcedEvent, event_view}
+use Rattle.tocmark_event.specs.declared.event.flags.ParserOptions.{ParserOptions}
+use Rattle.tocmark_event.specs.declared.options.Error.{Error}
+use Rattle.tocmark_spelling.specs.Buffered.{sourced}
+use Rattle.tocmark_spelling.specs.PlanOf.{setting_of}
+use Rattle.tocmark_write_labels.specs.Definitions.{definitions_text}
+use Rattle.tocmark_write_labels.specs.Document.{DocumentView}
+use Rattle.tocmark_render.specs.TrialOf.{Refuses}
+use Rattle.tocmark_render.specs.DocumentOf.{document_view, document_flags}
+use Rattle.tocmark_write_labels.specs.Ending.{holds_raw_block}
+use Rattle.tocmark_render.specs.Chosen.{chosen}
+use Rattle.tocmark_write_labels.specs.Pending.{text_now}
+use Rattle.tocmark_write_labels.specs.Units.{waits}
+use Rattle.tocmark_render.specs.declared.document.Document.{Document}
+use Rattle.tocmark_state.specs.declared.work.Progress.{Progress}
+use Rattle.tocmark_state.specs.declared.work.Work.{Work}
+use Rattle.tocmark_state.specs.declared.work.Tools.{Tools}
+use Rattle.tocmark_state.specs.Ranges.{Pair, Range, unranged}
+use Rattle.tocmark_state.specs.Walk.{Kept, Rendering, Standing}
+
+-- a call that left y where it succeeded
+abbrev pub Answers : {X Y : Type 0} → Result X Error → Y → Result Y Error → Type 0
+Answers (Ok x) y answer = answer ≡ Ok y
+Answers (Err e) y answer = Refuses e answer
+
+-- the flags stay with the document
+abbrev pub keeping : ParserOptions → Result (List ℕ × DocumentView) Error → Result (List ℕ × Kept) Error
+keeping flags (Ok x) = Ok (x.0, record { flags = flags; document = x.1 })
+keeping flags (Err e) = Err e
+
+-- how units are written with these options and a reader with these readings
+abbrev pub rendering : OptionsView → (List ℕ → ParserOptions → ReadingView) → Rendering
+rendering options reading = record {
+  choice = λ kept unit next. keeping kept.flags (chosen (setting_of options kept.flags reading None) kept.document unit next);
+  waits = waits;
+  definitions = λ kept. definitions_text kept.document.references kept.document.feeds;
+  holds_raw = holds_raw_block;
+}
+
+-- a document with its flags
+abbrev pub kept_of : Document → Kept
+kept_of d = record { flags = document_flags d; document = document_view d }
+
+-- where a state's events stand
+abbrev pub standing_of : Work → Standing
+standing_of w = record {
+  pending = w.pending.events;
+  open_tags = w.pending.open_tags;
+  document = kept_of w.document;
+  range_end = w.range_end;
+  is_deferred = w.is_deferred;
+}
+
+-- the flags for which events are written
+abbrev pub flags_of : Work → ParserOptions
+flags_of w = (standing_of w).document.flags
+
+-- a call that wrote a unit answered its text and left this document, or refused the unit as the choice does
+abbrev pub Chooses : Result (String Global) Error → Kept → Result (List ℕ × Kept) Error → Type 0
+Chooses (Ok text) kept choice = choice ≡ Ok (string_bytes text, kept)
+Chooses (Err e) kept choice = Refuses e choice
+
+-- how units are written in a call
+abbrev pub rendering_with : {R : Type 0} → (R → List ℕ → ParserOptions → ReadingView) → Tools R → Rendering
+rendering_with reading t = rendering (options_view t.options) (reading t.reader.now)
+
+-- events as pairs without ranges
+abbrev pub pairs : List (Bor ParserEvent) → List Pair
+pairs xs = map (λ x. unranged (event_view text_of x.now)) xs
+
+-- an event with its range
+abbrev pub ranged_pair : Bor ParserEvent × Option Range → Pair
+ranged_pair x = (event_view text_of x.0.now, x.1)
+
+-- events with their ranges
+abbrev pub ranged_pairs : List (Bor ParserEvent × Option Range) → List Pair
+ranged_pairs xs = map ranged_pair xs
+
+-- an event with this spelling in the source, and the end of the last range
+abbrev pub ResolvedAs : EventView → Result (Option (Bor (List ℕ)) × ℕ) Error → Result (SourcedEvent × ℕ) Error → Type 0
+ResolvedAs e (Ok x) answer = answer ≡ Ok (sourced e (text_now x.0), x.1)
+ResolvedAs e (Err x) answer = Refuses x answer
+
+-- a count stops at the greatest number of its type
+abbrev pub at_most : ℕ → ℕ
+at_most n = min n (2 ^ 64 - 1)
+
+-- what a call counts: its events, and the bytes that it handed
+pub record Counts (p : Progress) (events bytes : ℕ) : Type 0 where
+  pub events_consumed : p.events_consumed ≡ at_most events
+  pub bytes_written : p.bytes_written ≡ at_most bytes
+
+-- nothing is known of what a writer refuses
+abbrev pub unknown : {W : Type 0} → W → List ℕ → W → Type 0
+unknown w text v = Unit {0}

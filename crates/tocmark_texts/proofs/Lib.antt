@@ -1,6 +1,0 @@
-pub mod CharacterLemmas
-pub mod SpanLemmas
-pub mod ReadBack
-pub mod SpanReads
-pub mod TextLaws
-mod Rows

@@ -1,3 +1,0 @@
-pub mod Unescape
-pub mod Leaves
-pub mod Destination

@@ -1,8 +1,0 @@
-use Rattle.std.proofs.Common.{ap}
-use Rattle.tocmark_work.specs.WorkView.{at_most}
-use Rattle.tocmark_token_count.proofs.TokenRuns.{run_ends}
-use Rattle.tocmark_token_count.proofs.Runs.after_byte.Goals as goal
-
-pub returns-else-byte-token : goal.returns-else-byte-token
-returns-else-byte-token c rest =
-    rw c.max.ensures (ap at_most (run_ends c.args.self.longest c.args.self.last c.args.token c.args.byte rest c.if-byte-token.false))

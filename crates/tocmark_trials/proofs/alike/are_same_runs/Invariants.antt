@@ -1,8 +1,0 @@
-use Rattle.std.proofs.Common.{◌≡◌}
-use Rattle.tocmark_trials.proofs.alike.are_same_runs.Given as goal
-
-abbrev pub invariant-loop-place : goal.invariant-loop-place
-invariant-loop-place l =
-    record {
-      mark : l.left.at_mark ≡ l.fn.left.at_mark;
-    }

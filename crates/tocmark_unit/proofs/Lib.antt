@@ -1,6 +1,0 @@
-pub mod Steps
-pub mod Told
-pub mod Events
-pub mod Units
-pub mod Jumps
-pub mod Found

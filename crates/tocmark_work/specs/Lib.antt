@@ -1,4 +1,0 @@
-pub mod Ranges
-pub mod Walk
-pub mod Writes
-pub mod WorkView

@@ -1,0 +1,4 @@
+-- Definitions.
+pub mod Headings
+pub mod AheadOf
+pub mod Leads

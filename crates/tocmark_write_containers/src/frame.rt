@@ -1,0 +1,39 @@
+//! An open container.
+
+ghost use Rattle.std.specs.Prelude.{◌≡◌, IfOk};
+ghost use Rattle.tocmark_write_containers.specs.FrameOf.{level_of};
+
+use crate::content::Content;
+use crate::outside::Outside;
+use std::alloc::{AllocError, Global};
+use tocmark_event::event::TagOf;
+
+/// An open container.
+#[derive(Drop)]
+pub struct Frame<'a> {
+    pub tag: &'a TagOf<String>,
+    /// What stands before each of its lines.
+    pub prefix: String,
+    /// Where its opening ended in the unit's text, in bytes.
+    pub start: usize,
+    /// What it and the containers around it say of a place.
+    pub outside: Outside,
+    pub content: Content,
+}
+
+impl<'a> Frame<'a> {
+    /// An equal frame. An `Err` says that memory ran out.
+    pub fn copied(&self, alloc: Global) -> Result<Frame<'a>, AllocError>
+        ensures { IfOk result (λ copy. level_of copy ≡ level_of self.now) }
+    {
+        let prefix = String::from_str(alloc, self.prefix.as_str())?;
+        let content = self.content.copied(alloc)?;
+        Ok(Frame {
+            tag: self.tag,
+            prefix,
+            start: self.start,
+            outside: self.outside,
+            content,
+        })
+    }
+}

@@ -1,0 +1,5 @@
+pub mod Tokens
+pub mod Texts
+pub mod Reached
+pub mod Written
+pub mod Names

@@ -1,0 +1,26 @@
+-- A text of a stretch that is written.
+use Rattle.std.proofs.Common.{◌≡◌, Bool, false, Option, Result, sym, subst}
+use Rattle.std.specs.Prelude.{OnOk, chars, length}
+use Rattle.tocmark_event.specs.Options.{OptionsView}
+use Rattle.tocmark_event.specs.View.{EventView}
+use Rattle.tocmark_event.specs.declared.event.flags.ParserOptions.{ParserOptions}
+use Rattle.tocmark_spelling.specs.Gap.{gap}
+use Rattle.tocmark_spelling.specs.Page.{Held, Path, Page}
+use Rattle.tocmark_spelling.specs.Places.{widened}
+use Rattle.tocmark_spelling.specs.PlanOf.{shown}
+use Rattle.tocmark_spelling.specs.declared.plan.TextSpelling.{TextSpelling}
+use Rattle.tocmark_write_renderer.specs.WriterOf.{Rendering, Stands, levels_of, page_of, unheld}
+use Rattle.tocmark_write_inlines.specs.Led.{StandsAt, held_or_shown}
+
+module _ {X Y : Type 0} (result : Result X Y) (w mid : Rendering) (o : OptionsView) (flags : ParserOptions) (text : TextSpelling) (source : Bool) (e : EventView) (next : Option EventView) where
+  abbrev Shows : Held → Path → Page → Type 0
+  Shows h path page = OnOk result (Stands w (widened (length (chars h.text)) path) (shown o flags text source h next path (gap e path page)))
+
+  -- a stretch was written
+  pub shown-at : (more : Bool) (h whole : Held) (path : Path) (p : Page) → more ≡ false → h ≡ whole → Stands mid path (unheld p) → Shows h (levels_of mid) (page_of mid) → OnOk result (StandsAt w (held_or_shown more o flags text source whole e next path p))
+  shown-at more h whole path p last same stands shows =
+      let P : Path → Type 0 = λ x. Shows h x (page_of mid) in
+      let Q : Page → Type 0 = λ x. Shows h path x in
+      let R : Held → Type 0 = λ x. Shows x path (unheld p) in
+      let T : Bool → Type 0 = λ b. OnOk result (StandsAt w (held_or_shown b o flags text source whole e next path p)) in
+      subst T (sym last) (subst R same (subst Q stands.page_is (subst P stands.path_is shows)))

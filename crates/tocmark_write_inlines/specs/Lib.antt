@@ -1,0 +1,6 @@
+-- Definitions.
+pub mod Delimiters
+pub mod Between
+pub mod BesideOf
+pub mod Led
+pub mod Named

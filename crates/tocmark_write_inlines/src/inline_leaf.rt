@@ -1,0 +1,222 @@
+//! Inline leaves with a text of their own: code, mathematics, inline HTML, references to footnotes, breaks and boxes.
+
+ghost use Rattle.std.specs.Prelude.{◌≡◌, ◌+◌, string_bytes, chars, length, IfOk, OnOk};
+ghost use Rattle.tocmark_event.specs.View.{event_view};
+ghost use Rattle.tocmark_spelling.specs.Kinds.{is_table};
+ghost use Rattle.tocmark_spelling.specs.Page.{with_last, written};
+ghost use Rattle.tocmark_spelling.specs.Places.{is_in, widened};
+ghost use Rattle.tocmark_spelling.specs.declared.trail.Last.TheVariants.{Inline};
+ghost use Rattle.tocmark_write_inlines.specs.Led.{code_led, spelled_on, StandsAt};
+ghost use Rattle.tocmark_write_renderer.specs.WriterOf.{levels_of, page_of, Stands};
+ghost use Rattle.tocmark_write_texts.specs.Escape.{escaped, place_of};
+ghost use Rattle.tocmark_write_texts.specs.Leaves.{code_span, inline_math, display_math, task_marker, footnote_reference};
+
+use std::alloc::{AllocError, Global};
+use tocmark_event::event::OwnedEvent;
+use tocmark_spelling::trail::Last;
+use tocmark_write_renderer::renderer::Renderer;
+use tocmark_write_texts::escape::EscapePlace;
+use tocmark_write_texts::text_modifications::{code_span, math_text};
+
+/// Writes inline content, which stands behind its gap. An `Err` says that memory ran out.
+pub fn write_inline(renderer: &mut Renderer<'_>, text: &str) -> Result<(), AllocError>
+    ensures stands { OnOk result (Stands renderer.new (levels_of renderer.old)
+        (with_last Inline (written (levels_of renderer.old) text.now (page_of renderer.old)))) }
+    ensures mark { renderer.new.at_mark ≡ renderer.old.at_mark }
+{
+    renderer.write(text)?;
+    renderer.set_last(Last::Inline);
+    Ok(())
+}
+
+/// Writes inline content as the escape of a text at a place, which stands behind its gap. An `Err` says that memory
+/// ran out.
+pub fn write_escaped_inline(
+    renderer: &mut Renderer<'_>,
+    text: &str,
+    place: &EscapePlace<'_>,
+) -> Result<(), AllocError>
+    ensures stands { OnOk result (Stands renderer.new (levels_of renderer.old)
+        (with_last Inline (written (levels_of renderer.old)
+        (escaped (place_of place.now) text.now) (page_of renderer.old)))) }
+    ensures mark { renderer.new.at_mark ≡ renderer.old.at_mark }
+{
+    renderer.write_escaped(text, place)?;
+    renderer.set_last(Last::Inline);
+    Ok(())
+}
+
+/// Writes an inline leaf with this text, behind its gap. An `Err` says that memory ran out.
+pub fn write_spelled(
+    renderer: &mut Renderer<'_>,
+    event: &OwnedEvent,
+    text: &str,
+) -> Result<(), AllocError>
+    ensures stands { OnOk result (StandsAt renderer.new
+        (spelled_on (event_view string_bytes event.now)
+        text.now (levels_of renderer.old) (page_of renderer.old))) }
+    ensures mark { renderer.new.at_mark ≡ renderer.old.at_mark }
+{
+    renderer.write_gap(event)?;
+    write_inline(renderer, text)
+}
+
+/// How many characters a text has.
+pub fn character_count(text: &str) -> usize
+    ensures { result ≡ length (chars text.now) }
+{
+    text.chars().count()
+}
+
+/// Makes the nearest cell, if one is open, wider by so many characters. An `Err` says that memory ran
+/// out, or that the width would be too large.
+pub fn widen_cell(renderer: &mut Renderer<'_>, characters: usize) -> Result<(), AllocError>
+    ensures stands { OnOk result
+        (Stands renderer.new (widened characters (levels_of renderer.old)) (page_of renderer.old)) }
+    ensures mark { renderer.new.at_mark ≡ renderer.old.at_mark }
+{
+    renderer.widen(characters)
+}
+
+/// How many characters code has with a backtick before and after it. An `Err` says that they are too
+/// many.
+fn code_width(text: &str) -> Result<usize, AllocError>
+    ensures { IfOk result (λ width. width ≡ length (chars text.now) + 2) }
+{
+    character_count(text).checked_add(2).ok_or(AllocError)
+}
+
+/// Writes a code span behind its gap. An `Err` says that memory ran out.
+fn write_span(
+    renderer: &mut Renderer<'_>,
+    alloc: Global,
+    event: &OwnedEvent,
+    text: &str,
+) -> Result<(), AllocError>
+    ensures stands { OnOk result (StandsAt renderer.new
+        (spelled_on (event_view string_bytes event.now)
+        (code_span (is_in is_table (levels_of renderer.old)) text.now)
+        (levels_of renderer.old) (page_of renderer.old))) }
+    ensures mark { renderer.new.at_mark ≡ renderer.old.at_mark }
+{
+    let span = code_span(alloc, text, renderer.outside().in_table)?;
+    write_spelled(renderer, event, span.as_str())
+}
+
+/// Writes a code span behind its gap, and makes the nearest cell wider by its text's characters and
+/// two backticks. An `Err` says that memory ran out, or that the width would be too large.
+pub fn write_code(
+    renderer: &mut Renderer<'_>,
+    alloc: Global,
+    event: &OwnedEvent,
+    text: &str,
+) -> Result<(), AllocError>
+    ensures stands { OnOk result (StandsAt renderer.new
+        (code_led (event_view string_bytes event.now)
+        text.now (levels_of renderer.old) (page_of renderer.old))) }
+    ensures mark { renderer.new.at_mark ≡ renderer.old.at_mark }
+{
+    let width = code_width(text)?;
+    write_span(renderer, alloc, event, text)?;
+    widen_cell(renderer, width)
+}
+
+/// Writes mathematics within a line, behind its gap. An `Err` says that memory ran out.
+pub fn write_inline_math(
+    renderer: &mut Renderer<'_>,
+    alloc: Global,
+    event: &OwnedEvent,
+    text: &str,
+) -> Result<(), AllocError>
+    ensures stands { OnOk result (StandsAt renderer.new
+        (spelled_on (event_view string_bytes event.now)
+        (inline_math (is_in is_table (levels_of renderer.old)) text.now)
+        (levels_of renderer.old) (page_of renderer.old))) }
+    ensures mark { renderer.new.at_mark ≡ renderer.old.at_mark }
+{
+    let math = inline_math(alloc, text, renderer.outside().in_table)?;
+    write_spelled(renderer, event, math.as_str())
+}
+
+/// Writes mathematics that is shown on its own, behind its gap. An `Err` says that memory ran out.
+pub fn write_display_math(
+    renderer: &mut Renderer<'_>,
+    alloc: Global,
+    event: &OwnedEvent,
+    text: &str,
+) -> Result<(), AllocError>
+    ensures stands { OnOk result (StandsAt renderer.new
+        (spelled_on (event_view string_bytes event.now)
+        (display_math (is_in is_table (levels_of renderer.old)) text.now)
+        (levels_of renderer.old) (page_of renderer.old))) }
+    ensures mark { renderer.new.at_mark ≡ renderer.old.at_mark }
+{
+    let math = display_math(alloc, text, renderer.outside().in_table)?;
+    write_spelled(renderer, event, math.as_str())
+}
+
+/// Writes a reference to the footnote with this label, behind its gap. An `Err` says that memory ran
+/// out.
+pub fn write_footnote_reference(
+    renderer: &mut Renderer<'_>,
+    alloc: Global,
+    event: &OwnedEvent,
+    label: &str,
+) -> Result<(), AllocError>
+    ensures stands { OnOk result (StandsAt renderer.new
+        (spelled_on (event_view string_bytes event.now)
+        (footnote_reference label.now) (levels_of renderer.old) (page_of renderer.old))) }
+    ensures mark { renderer.new.at_mark ≡ renderer.old.at_mark }
+{
+    let reference = footnote_reference(alloc, label)?;
+    write_spelled(renderer, event, reference.as_str())
+}
+
+/// Writes the box of a task list, checked or not, behind its gap. An `Err` says that memory ran
+/// out.
+pub fn write_task_marker(
+    renderer: &mut Renderer<'_>,
+    event: &OwnedEvent,
+    checked: bool,
+) -> Result<(), AllocError>
+    ensures stands { OnOk result (StandsAt renderer.new
+        (spelled_on (event_view string_bytes event.now)
+        (task_marker checked) (levels_of renderer.old) (page_of renderer.old))) }
+    ensures mark { renderer.new.at_mark ≡ renderer.old.at_mark }
+{
+    write_spelled(renderer, event, task_marker(checked))
+}
+
+/// A reference to the footnote with this label.
+///
+/// An `Err` says that memory ran out.
+fn footnote_reference(alloc: Global, label: &str) -> Result<String, AllocError>
+    ensures { IfOk result (λ text. string_bytes text ≡ footnote_reference label.now) }
+{
+    format!(in alloc; "[^{label}]")
+}
+
+/// The box of a task list, checked or not, and a space.
+fn task_marker(checked: bool) -> &'static str
+    ensures { result.now ≡ task_marker checked }
+{
+    if checked { "[x] " } else { "[ ] " }
+}
+
+/// Mathematics within a line, in a table or not.
+///
+/// An `Err` says that memory ran out.
+fn inline_math(alloc: Global, text: &str, in_table: bool) -> Result<String, AllocError>
+    ensures { IfOk result (λ math. string_bytes math ≡ inline_math in_table text.now) }
+{
+    math_text(alloc, "$", text, in_table)
+}
+
+/// Mathematics that is shown on its own, in a table or not.
+///
+/// An `Err` says that memory ran out.
+fn display_math(alloc: Global, text: &str, in_table: bool) -> Result<String, AllocError>
+    ensures { IfOk result (λ math. string_bytes math ≡ display_math in_table text.now) }
+{
+    math_text(alloc, "$$", text, in_table)
+}

@@ -1,0 +1,295 @@
+//! Links and images: what opens and what closes them, the id in place of a body, and the definitions that they need.
+
+ghost use Rattle.std.specs.Prelude.{◌≡◌, codes, string_bytes, OnOk, ◌++◌, drop, false, IfOk};
+ghost use Rattle.std.specs.Str.{IsCharBoundary};
+ghost use Rattle.tocmark_event.specs.Options.{OptionsView};
+ghost use Rattle.tocmark_event.specs.View.{tag_view};
+ghost use Rattle.tocmark_spelling.specs.Closing.{close_inline, close_link, close_reference, close_with_body, close_with_id, closing_of, needs_id};
+ghost use Rattle.tocmark_spelling.specs.Look.{Look};
+ghost use Rattle.tocmark_spelling.specs.Opening.{link_mark, open_named};
+ghost use Rattle.tocmark_spelling.specs.Spelling.{id_of, id_on};
+ghost use Rattle.tocmark_write_blocks.specs.Leads.{is_closed, Closes};
+ghost use Rattle.tocmark_write_containers.specs.FrameOf.{content_view, level_of};
+ghost use Rattle.tocmark_write_renderer.specs.WriterOf.{levels_of, page_of, site_of, Arrives, sheet_of};
+ghost use Rattle.tocmark_write_texts.specs.Destination.{inline_closing};
+
+use crate::delimiters::close_inline;
+use std::alloc::{AllocError, Global};
+use tocmark_event::event::{LinkType, TagOf};
+use tocmark_spelling::trail::Last;
+use tocmark_write_containers::content::Content;
+use tocmark_write_containers::frame::Frame;
+use tocmark_write_renderer::parts::Reference;
+use tocmark_write_renderer::renderer::Renderer;
+use tocmark_write_texts::text_modifications;
+
+/// Writes a mark, and opens a link or image behind it.
+fn open_named<'a>(
+    renderer: &mut Renderer<'a>,
+    alloc: Global,
+    tag: &'a TagOf<String>,
+    mark: &str,
+    named: bool,
+) -> Result<(), AllocError>
+    ensures stands { (l : Look) → l.named ≡ named → OnOk result (Arrives renderer.new
+        (open_named (tag_view string_bytes tag.entry.now) mark.now l
+        (levels_of renderer.old) (page_of renderer.old))) }
+    ensures mark { renderer.new.at_mark ≡ renderer.old.at_mark }
+{
+    renderer.write(mark)?;
+    renderer.push_frame(tag, String::new(alloc), Content::Named(named))
+}
+
+/// Opens a link of this type; `named` says whether its id will stand in place of its body.
+///
+/// An `Err` says that memory ran out.
+pub fn open_link<'a>(
+    renderer: &mut Renderer<'a>,
+    alloc: Global,
+    tag: &'a TagOf<String>,
+    kind: LinkType,
+    named: bool,
+) -> Result<(), AllocError>
+    ensures stands { (l : Look) → l.named ≡ named → OnOk result (Arrives renderer.new
+        (open_named (tag_view string_bytes tag.entry.now) (link_mark kind) l
+        (levels_of renderer.old) (page_of renderer.old))) }
+    ensures mark { renderer.new.at_mark ≡ renderer.old.at_mark }
+{
+    open_named(renderer, alloc, tag, link_mark(kind), named)
+}
+
+/// Opens an image; `named` says whether its id will stand in place of its body.
+///
+/// An `Err` says that memory ran out.
+pub fn open_image<'a>(
+    renderer: &mut Renderer<'a>,
+    alloc: Global,
+    tag: &'a TagOf<String>,
+    named: bool,
+) -> Result<(), AllocError>
+    ensures stands { (l : Look) → l.named ≡ named → OnOk result (Arrives renderer.new
+        (open_named (tag_view string_bytes tag.entry.now) (codes "![") l
+        (levels_of renderer.old) (page_of renderer.old))) }
+    ensures mark { renderer.new.at_mark ≡ renderer.old.at_mark }
+{
+    open_named(renderer, alloc, tag, "![", named)
+}
+
+/// The id of a link or image; empty for any other container.
+pub fn id_of(tag: &TagOf<String>) -> &str
+    ensures { result.now ≡ id_of (tag_view string_bytes tag.now) }
+{
+    match tag {
+        TagOf::Link { id, .. } => id.as_str(),
+        TagOf::Image { id, .. } => id.as_str(),
+        _ => "",
+    }
+}
+
+/// Writes the id of a link or image in place of its body.
+///
+/// An `Err` says that memory ran out.
+pub fn write_id(renderer: &mut Renderer<'_>, tag: &TagOf<String>) -> Result<(), AllocError>
+    ensures stands { OnOk result (Arrives renderer.new
+        (id_on (tag_view string_bytes tag.now) (site_of renderer.old))) }
+    ensures mark { renderer.new.at_mark ≡ renderer.old.at_mark }
+{
+    renderer.write(id_of(tag))?;
+    renderer.set_last(Last::Inline);
+    Ok(())
+}
+
+/// Adds what closes an inline link with this destination and title.
+fn push_inline_closing(text: &mut String, destination: &str, title: &str) -> Result<(), AllocError>
+    ensures { OnOk result (string_bytes text.new
+        ≡ string_bytes text.old ++ inline_closing destination.now title.now) }
+{
+    match text_modifications::close_link(destination, title, text, LinkType::Inline) {
+        Ok(()) => Ok(()),
+        Err(_) => Err(AllocError),
+    }
+}
+
+/// The end of an inline link or image.
+fn close_with_destination(
+    renderer: &mut Renderer<'_>,
+    alloc: Global,
+    destination: &str,
+    title: &str,
+) -> Result<(), AllocError>
+    ensures stands { Closes result renderer.old renderer.new
+        (close_inline (inline_closing destination.now title.now)) }
+    ensures mark { renderer.new.at_mark ≡ renderer.old.at_mark }
+{
+    let mut text = String::new(alloc);
+    push_inline_closing(&mut text, destination, title)?;
+    close_inline(renderer, text.as_str())
+}
+
+/// The end, with this text, of a link or image that needs a definition of its label.
+fn close_reference(
+    renderer: &mut Renderer<'_>,
+    alloc: Global,
+    text: &str,
+    label: String,
+    destination: &str,
+    title: &str,
+) -> Result<(), AllocError>
+    ensures stands { Closes result renderer.old renderer.new
+        (close_reference text.now (string_bytes label) destination.now title.now) }
+    ensures mark { renderer.new.at_mark ≡ renderer.old.at_mark }
+{
+    let reference = Reference {
+        label,
+        destination: String::from_str(alloc, destination)?,
+        title: String::from_str(alloc, title)?,
+    };
+    renderer.add_reference(reference)?;
+    close_inline(renderer, text)
+}
+
+/// The same with the id in a pair of brackets.
+fn close_with_id(
+    renderer: &mut Renderer<'_>,
+    alloc: Global,
+    destination: &str,
+    title: &str,
+    id: &str,
+) -> Result<(), AllocError>
+    ensures stands { Closes result renderer.old renderer.new
+        (close_with_id destination.now title.now id.now) }
+    ensures mark { renderer.new.at_mark ≡ renderer.old.at_mark }
+{
+    let text = format!(in alloc; "][{id}]")?;
+    let label = String::from_str(alloc, id)?;
+    close_reference(renderer, alloc, text.as_str(), label, destination, title)
+}
+
+/// Whether the body can't be the label: there is an id, which doesn't spell it.
+fn needs_id(content: &Content, id: &str) -> bool
+    ensures { result ≡ needs_id (content_view content.now) id.now }
+{
+    match content {
+        Content::Named(true) => false,
+        _ => !id.is_empty(),
+    }
+}
+
+/// The unit's text from a place on, in bytes.
+fn label_from(renderer: &Renderer<'_>, alloc: Global, start: usize) -> Result<String, AllocError>
+    requires { IsCharBoundary (sheet_of renderer.now).text start }
+    ensures { IfOk result (λ label. string_bytes label ≡ drop start (sheet_of renderer.now).text) }
+{
+    String::from_str(alloc, renderer.text_from(start))
+}
+
+/// The end, with this text, of a link or image whose label is what stands behind its opening, unless
+/// its id is needed.
+fn close_with_body(
+    renderer: &mut Renderer<'_>,
+    alloc: Global,
+    text: &str,
+    frame: &Frame<'_>,
+    destination: &str,
+    title: &str,
+    id: &str,
+) -> Result<(), AllocError>
+    requires start { IsCharBoundary (sheet_of renderer.old).text (level_of frame.now).start }
+    ensures stands { Closes result renderer.old renderer.new
+        (close_with_body text.now (level_of frame.now) destination.now title.now id.now) }
+    ensures mark { renderer.new.at_mark ≡ renderer.old.at_mark }
+{
+    if needs_id(&frame.content, id) {
+        return close_with_id(renderer, alloc, destination, title, id);
+    }
+    let label = label_from(renderer, alloc, frame.start)?;
+    close_reference(renderer, alloc, text, label, destination, title)
+}
+
+/// The end of a link or image of this type.
+fn close_by_type(
+    renderer: &mut Renderer<'_>,
+    alloc: Global,
+    kind: LinkType,
+    frame: &Frame<'_>,
+    destination: &str,
+    title: &str,
+    id: &str,
+) -> Result<(), AllocError>
+    requires start { IsCharBoundary (sheet_of renderer.old).text (level_of frame.now).start }
+    ensures stands { Closes result renderer.old renderer.new
+        (close_link kind destination.now title.now id.now (level_of frame.now)) }
+    ensures mark { renderer.new.at_mark ≡ renderer.old.at_mark }
+{
+    match kind {
+        LinkType::Reference => close_with_id(renderer, alloc, destination, title, id),
+        LinkType::Collapsed => {
+            close_with_body(renderer, alloc, "][]", frame, destination, title, id)
+        }
+        LinkType::Shortcut => {
+            close_with_body(renderer, alloc, "]", frame, destination, title, id)
+        }
+        LinkType::Autolink => close_inline(renderer, ">"),
+        LinkType::Email => close_inline(renderer, ">"),
+        _ => close_with_destination(renderer, alloc, destination, title),
+    }
+}
+
+/// The end of a link or image whose opening ended where the text may be cut, in the containers
+/// outside.
+///
+/// An `Err` says that memory ran out.
+pub fn close_named(
+    renderer: &mut Renderer<'_>,
+    alloc: Global,
+    frame: &Frame<'_>,
+) -> Result<(), AllocError>
+    requires named { is_closed (level_of frame.now).tag ≡ false }
+    requires start { IsCharBoundary (sheet_of renderer.old).text (level_of frame.now).start }
+    ensures stands { (o : OptionsView) → Closes result renderer.old renderer.new
+        (closing_of o (level_of frame.now).tag (level_of frame.now)) }
+    ensures mark { renderer.new.at_mark ≡ renderer.old.at_mark }
+{
+    match frame.tag {
+        TagOf::Link {
+            link_type,
+            dest_url,
+            title,
+            id,
+        } => close_by_type(
+            renderer,
+            alloc,
+            *link_type,
+            frame,
+            dest_url.as_str(),
+            title.as_str(),
+            id.as_str(),
+        ),
+        TagOf::Image {
+            link_type,
+            dest_url,
+            title,
+            id,
+        } => close_by_type(
+            renderer,
+            alloc,
+            *link_type,
+            frame,
+            dest_url.as_str(),
+            title.as_str(),
+            id.as_str(),
+        ),
+        _ => Ok(()),
+    }
+}
+
+/// What stands before the body of a link of this type.
+pub fn link_mark(kind: LinkType) -> &'static str
+    ensures { result.now ≡ link_mark kind }
+{
+    match kind {
+        LinkType::Autolink => "<",
+        LinkType::Email => "<",
+        _ => "[",
+    }
+}

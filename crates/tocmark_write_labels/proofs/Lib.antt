@@ -1,0 +1,9 @@
+pub mod FreeLabels
+pub mod LabelLemmas
+pub mod ReservedLabels
+pub mod Forests
+pub mod Balanced
+pub mod Joined
+pub mod Ambiguous
+pub mod DefinitionTexts
+pub mod Feeds

@@ -1,0 +1,5 @@
+use Rattle.tocmark_write_labels.proofs.Forests.{no-label}
+use Rattle.tocmark_write_labels.proofs.laws.labels_are_for_placeholders.Goals as goal
+
+pub returns : goal.returns
+returns c = no-label

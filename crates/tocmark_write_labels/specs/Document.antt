@@ -1,0 +1,52 @@
+-- The document so far, as plain values.
+use Rattle.std.specs.Prelude.{ℕ, ◌==◌, Bool, false, if◌then◌else◌, Option, Some, None, List, [], ◌∷◌, ◌++◌, bytes_eq, chars, encode_utf8_all}
+use Rattle.std.specs.List.{list_any}
+use Rattle.caseless.specs.Caseless.{default_case_fold}
+use Rattle.tocmark_event.specs.Reading.{ReadingView}
+use Rattle.tocmark_event.specs.declared.event.flags.ParserOptions.{ParserOptions}
+use Rattle.tocmark_spelling.specs.Page.{Trail, first_trail, Reference}
+
+-- the trail, how many line feeds end what was written, the references so far, the folded labels that are defined by
+-- earlier units and those that a reader takes literally, and whether a unit was flushed
+pub record DocumentView : Type 0 where
+  pub trail : Trail
+  pub feeds : ℕ
+  pub references : List Reference
+  pub known : List (List ℕ)
+  pub literal : List (List ℕ)
+  pub flushed : Bool
+
+-- nothing is written
+abbrev pub first_document : DocumentView
+first_document = record { trail = first_trail; feeds = 0; references = []; known = []; literal = []; flushed = false }
+
+-- a label as labels are compared (CommonMark, section 4.7): the whole text in Unicode's default case folding
+abbrev pub folded : List ℕ → List ℕ
+folded label = encode_utf8_all (default_case_fold (chars label))
+
+-- whether a label is among folded labels
+abbrev pub is_among : List (List ℕ) → List ℕ → Bool
+is_among labels label = list_any (λ l. bytes_eq l (folded label)) labels
+
+-- whether a label is the reserved one, as labels are compared (CommonMark, section 6.3)
+abbrev pub is_label : Option (List ℕ) → List ℕ → Bool
+is_label None label = false
+is_label (Some reserved) label = bytes_eq (folded reserved) (folded label)
+
+-- folded labels, and then this one, folded, if it was not among them
+abbrev pub with_label : List (List ℕ) → List ℕ → List (List ℕ)
+with_label labels l = if is_among labels l then labels else labels ++ folded l ∷ []
+
+-- folded labels, and then those of a list that were not among them
+abbrev pub with_labels : List (List ℕ) → List (List ℕ) → List (List ℕ)
+with_labels labels [] = labels
+with_labels labels (l ∷ ls) = with_labels (with_label labels l) ls
+
+-- the labels that a reader finds defined in definitions become known
+abbrev pub known_in : (List ℕ → ParserOptions → ReadingView) → ParserOptions → List (List ℕ) → List ℕ → List (List ℕ)
+known_in reading flags known [] = known
+known_in reading flags known (b ∷ defs) = with_labels known (reading (b ∷ defs) flags).defined
+
+-- the labels that a reader looks up in vain in a text with a bracket become literal
+abbrev pub literal_in : (List ℕ → ParserOptions → ReadingView) → ParserOptions → List (List ℕ) → List ℕ → List (List ℕ)
+literal_in reading flags literal text = if list_any (λ b. b == 91) text then with_labels literal (reading text flags).unresolved else literal

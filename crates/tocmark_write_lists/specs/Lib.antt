@@ -1,0 +1,3 @@
+-- Definitions.
+pub mod Lists
+pub mod Items

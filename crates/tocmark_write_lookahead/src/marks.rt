@@ -1,0 +1,355 @@
+//! What the spelling of a container looks ahead for.
+
+ghost use Rattle.std.specs.Prelude.{◌≡◌, ℕ, ◌+◌, ◌≤◌, ◌<◌, map, slice_index_or, not, ◌&&◌, ◌||◌, Option, None, string_bytes, if◌then◌else◌, Bool, List, [], Some, IfOk, length, false, take, drop, reverse, is_some};
+ghost use Rattle.std.specs.Option.{option_copied};
+ghost use Rattle.tocmark_write_lookahead.specs.Ahead.{character_after, character_before, comes_before, disturbers, HoldMarks, AreDisturbed};
+ghost use Rattle.tocmark_event.specs.Options.{OptionsView};
+ghost use Rattle.tocmark_event.specs.View.{SourcedEvent, tag_view};
+ghost use Rattle.tocmark_event.specs.declared.event.flags.ParserOptions.{ParserOptions};
+ghost use Rattle.tocmark_spelling.specs.Buffered.{buffered_view};
+ghost use Rattle.tocmark_spelling.specs.Edges.{edge_before, edge_after};
+ghost use Rattle.tocmark_spelling.specs.Page.{front};
+ghost use Rattle.tocmark_spelling.specs.PlanOf.{setting_of};
+ghost use Rattle.tocmark_spelling.specs.Runs.{close_width, counts, disturbs_at, start_width};
+ghost use Rattle.tocmark_write_lookahead.specs.Sides.{closes_at, mark_of, no_side, AreRound, AreRoundIf};
+ghost use Rattle.tocmark_spelling.specs.Plan.{Setting};
+ghost use Rattle.tocmark_spelling.specs.Scans.{AreEnds};
+
+use crate::boundary::is_boundary;
+use crate::ends::{body_end, end_at};
+use crate::sides::{Counted, Side, edge, sides_ahead, sides_before};
+use std::alloc::{AllocError, Global};
+use tocmark_event::event::{EventOf, TagOf};
+use tocmark_event::reader::Reader;
+use tocmark_spelling::buffered::BufferedEvent;
+
+/// Whether an asterisk is needed that could close emphasis, given which characters are boundaries.
+fn closes_between(before: Option<char>, at_before: bool, at_first: bool, at_after: bool) -> bool
+    ensures { result ≡ ((not at_before || not at_after) && closes_at before at_before at_first) }
+{
+    match before {
+        None => false,
+        Some(character) => {
+            (!at_before || !at_after) && !character.is_whitespace() && (!at_before || at_first)
+        }
+    }
+}
+
+/// The characters round a node.
+#[derive(Clone, Copy)]
+struct Characters {
+    /// The one before its start.
+    before: Option<char>,
+    /// The one behind its start.
+    first: Option<char>,
+    /// The one behind its end.
+    after: Option<char>,
+}
+
+/// Whether the markers between these characters would be asterisks that could close the emphasis round
+/// them. An `Err` says that memory ran out.
+fn disturbs_at<R: Reader>(alloc: Global, reader: &R, round: Characters) -> Result<bool, AllocError>
+    ensures { (o : OptionsView) (flags : ParserOptions) (label : Option (List ℕ))
+        → IfOk result (λ disturbs.
+        disturbs ≡ disturbs_at (setting_of o flags (R.reading reader.now) label)
+        round.before round.first round.after) }
+{
+    let at_before = is_boundary(alloc, reader, round.before)?;
+    let at_first = is_boundary(alloc, reader, round.first)?;
+    let at_after = is_boundary(alloc, reader, round.after)?;
+    Ok(closes_between(round.before, at_before, at_first, at_after))
+}
+
+/// By runs emphasis and strong emphasis count, else the former alone.
+fn counts(tag: &TagOf<String>, runs: bool) -> bool
+    ensures { result ≡ counts runs (tag_view string_bytes tag.now) }
+{
+    match tag {
+        TagOf::Emphasis => true,
+        TagOf::Strong => runs,
+        _ => false,
+    }
+}
+
+fn character_at(sides: &[Side], place: usize) -> Option<char>
+    ensures { result ≡ (slice_index_or sides.now place no_side).character }
+{
+    if place < sides.len() {
+        sides[place].character
+    } else {
+        None
+    }
+}
+
+fn character_behind(sides: &[Side], place: usize) -> Option<char>
+    ensures { result ≡ (slice_index_or sides.now (place + 1) no_side).character }
+{
+    if place < sides.len() {
+        character_at(sides, place + 1)
+    } else {
+        None
+    }
+}
+
+/// What stands round the events of a unit, by the runs there.
+#[derive(Drop)]
+struct Round {
+    /// The sides before each event.
+    before: Vec<Side>,
+    /// Those of the starts from each event on.
+    starts: Vec<Side>,
+    /// Those of the ends from each event on.
+    ends: Vec<Side>,
+}
+
+/// What stands round events. An `Err` says that memory ran out.
+fn sides_round(alloc: Global, events: &[BufferedEvent]) -> Result<Round, AllocError>
+    ensures { IfOk result (λ round. AreRound (map buffered_view events.now)
+        round.before.items round.starts.items round.ends.items) }
+{
+    Ok(Round {
+        before: sides_before(alloc, events, Counted::Starts)?,
+        starts: sides_ahead(alloc, events, Counted::Starts)?,
+        ends: sides_ahead(alloc, events, Counted::Ends)?,
+    })
+}
+
+/// What stands round events where runs count, and nothing where they don't. An `Err` says that memory
+/// ran out.
+fn round_if(
+    alloc: Global,
+    runs: bool,
+    events: &[BufferedEvent],
+) -> Result<Option<Round>, AllocError>
+    ensures runs { IfOk result (λ round. is_some round ≡ runs) }
+    ensures round { IfOk result (λ round. AreRoundIf (map buffered_view events.now) round) }
+{
+    if runs {
+        Ok(Some(sides_round(alloc, events)?))
+    } else {
+        Ok(None)
+    }
+}
+
+/// The characters beyond the runs round the node that starts at a place and ends at another one.
+fn beyond_runs(round: &Round, place: usize, end: usize) -> Characters
+    ensures before { result.before
+        ≡ (slice_index_or round.now.before.items place no_side).character }
+    ensures first { result.first
+        ≡ (slice_index_or round.now.starts.items (place + 1) no_side).character }
+    ensures after { result.after
+        ≡ (slice_index_or round.now.ends.items (end + 1) no_side).character }
+{
+    Characters {
+        before: character_at(&round.before, place),
+        first: character_behind(&round.starts, place),
+        after: character_behind(&round.ends, end),
+    }
+}
+
+/// The last character of the event before a place, as its neighbour there sees it.
+fn edge_before(events: &[BufferedEvent], place: usize) -> Option<char>
+    requires { place ≤ length events.now }
+    ensures { result
+        ≡ edge_before (front (reverse (take place (map buffered_view events.now)))) }
+{
+    if place == 0 {
+        None
+    } else {
+        edge(&events[place - 1], false)
+    }
+}
+
+/// The first character of the event at a place, as its neighbour before it sees it.
+fn edge_at(events: &[BufferedEvent], place: usize) -> Option<char>
+    ensures { result ≡ edge_after (front (drop place (map buffered_view events.now))) }
+{
+    if place < events.len() {
+        edge(&events[place], true)
+    } else {
+        None
+    }
+}
+
+fn edge_behind(events: &[BufferedEvent], place: usize) -> Option<char>
+    ensures { result ≡ edge_after (front (drop (place + 1) (map buffered_view events.now))) }
+{
+    if place < events.len() {
+        edge_at(events, place + 1)
+    } else {
+        None
+    }
+}
+
+/// The characters of the neighbours of the node that starts at a place and ends at another one.
+fn beside(events: &[BufferedEvent], place: usize, end: usize) -> Characters
+    requires { place ≤ length events.now }
+    ensures before { result.before
+        ≡ edge_before (front (reverse (take place (map buffered_view events.now)))) }
+    ensures first { result.first
+        ≡ edge_after (front (drop (place + 1) (map buffered_view events.now))) }
+    ensures after { result.after
+        ≡ edge_after (front (drop (end + 1) (map buffered_view events.now))) }
+{
+    Characters {
+        before: edge_before(events, place),
+        first: edge_behind(events, place),
+        after: edge_behind(events, end),
+    }
+}
+
+/// The characters round such a node: those beyond the runs there, or of its neighbours where no runs
+/// are given.
+fn characters_round(
+    events: &[BufferedEvent],
+    round: Option<&Round>,
+    place: usize,
+    end: usize,
+) -> Characters
+    requires place { place < length events.now }
+    requires round { AreRoundIf (map buffered_view events.now) (option_copied round) }
+    ensures before { result.before ≡ character_before (is_some round.entry)
+        (reverse (take place (map buffered_view events.now))) }
+    ensures first { result.first ≡ character_after (is_some round.entry) start_width
+        (drop (place + 1) (map buffered_view events.now)) }
+    ensures after { result.after ≡ character_after (is_some round.entry) close_width
+        (drop (end + 1) (map buffered_view events.now)) }
+{
+    match round {
+        None => beside(events, place, end),
+        Some(round) => beyond_runs(round, place, end),
+    }
+}
+
+/// Whether the event at a place starts a node that disturbs, given where its body ends; by its
+/// neighbours alone where no runs are given. Characters are looked at where a node starts that counts.
+///
+/// An `Err` says that memory ran out.
+fn mark_at<R: Reader>(
+    alloc: Global,
+    reader: &R,
+    events: &[BufferedEvent],
+    event: &BufferedEvent,
+    round: Option<&Round>,
+    place: usize,
+    end: usize,
+) -> Result<bool, AllocError>
+    requires place { place < length events.now }
+    requires round { AreRoundIf (map buffered_view events.now) (option_copied round) }
+    ensures { (o : OptionsView) (flags : ParserOptions) (label : Option (List ℕ))
+        → IfOk result (λ mark.
+        mark ≡ mark_of (setting_of o flags (R.reading reader.now) label) (is_some round.entry)
+        (buffered_view event.now)
+        (character_before (is_some round.entry)
+        (reverse (take place (map buffered_view events.now))))
+        (character_after (is_some round.entry) start_width
+        (drop (place + 1) (map buffered_view events.now)))
+        (character_after (is_some round.entry) close_width
+        (drop (end + 1) (map buffered_view events.now)))) }
+{
+    match &event.event {
+        EventOf::Start(tag) => {
+            if counts(tag, round.is_some()) {
+                disturbs_at(alloc, reader, characters_round(events, round, place, end))
+            } else {
+                Ok(false)
+            }
+        }
+        _ => Ok(false),
+    }
+}
+
+/// For each event whether it starts a node whose markers would be asterisks that could close the
+/// emphasis round them; by neighbours alone where no runs are given.
+///
+/// An `Err` says that memory ran out.
+fn disturbers<R: Reader>(
+    alloc: Global,
+    reader: &R,
+    events: &[BufferedEvent],
+    ends: &[Option<usize>],
+    round: Option<&Round>,
+) -> Result<Vec<bool>, AllocError>
+    requires ends { AreEnds (map buffered_view events.now) ends.now }
+    requires round { AreRoundIf (map buffered_view events.now) (option_copied round) }
+    ensures len { IfOk result (λ marks. length marks.items ≡ length events.now) }
+    ensures marks { (o : OptionsView) (flags : ParserOptions) (label : Option (List ℕ))
+        → IfOk result (λ marks.
+        marks.items
+        ≡ disturbers (setting_of o flags (R.reading reader.now) label) (is_some round.entry) []
+        (map buffered_view events.now)) }
+{
+    let mut marks = Vec::with_capacity(alloc, events.len())?;
+    for event in events {
+        let i = marks.len();
+        let mark = mark_at(alloc, reader, events, event, round, i, body_end(ends, i))?;
+        marks.push(mark)?;
+    }
+    Ok(marks)
+}
+
+/// Whether there is a place and it comes before an end; any does where there is no end.
+fn comes_before(place: Option<usize>, end: Option<usize>) -> bool
+    ensures { result ≡ comes_before place end }
+{
+    match (place, end) {
+        (None, _) => false,
+        (Some(_), None) => true,
+        (Some(place), Some(end)) => place < end,
+    }
+}
+
+fn nearer(is_marked: bool, place: usize, nearest: Option<usize>) -> Option<usize>
+    ensures { result ≡ (if is_marked then Some place else nearest) }
+{
+    if is_marked { Some(place) } else { nearest }
+}
+
+/// For each place whether one behind it and before its end is marked, or one behind it where it
+/// has no end.
+///
+/// Where the marks are at the starts that would need asterisks that could close what is round them, that
+/// is whether a container prefers the underscore. An `Err` says that memory ran out.
+pub fn marks_within(
+    alloc: Global,
+    marks: &[bool],
+    ends: &[Option<usize>],
+) -> Result<Vec<bool>, AllocError>
+    requires { length ends.now ≡ length marks.now }
+    ensures marked { IfOk result (λ found. HoldMarks marks.now ends.now found.items) }
+    ensures disturbed { (s : Setting) (runs : Bool) (es : List SourcedEvent)
+        → marks.now ≡ disturbers s runs [] es → AreEnds es ends.now
+        → IfOk result (λ found. AreDisturbed s runs es found.items) }
+{
+    let mut found = vec![in alloc; false; marks.len()]?;
+    let mut nearest = None;
+    let mut i = marks.len();
+    while i > 0 {
+        i -= 1;
+        found[i] = comes_before(nearest, end_at(ends, i));
+        nearest = nearer(marks[i], i, nearest);
+    }
+    Ok(found)
+}
+
+/// For each start whether its body holds a node whose markers would be asterisks that could close the
+/// emphasis round them, so that a container there prefers the underscore; by runs, or by neighbours alone.
+///
+/// An `Err` says that memory ran out.
+pub fn preferences<R: Reader>(
+    alloc: Global,
+    reader: &R,
+    runs: bool,
+    events: &[BufferedEvent],
+    ends: &[Option<usize>],
+) -> Result<Vec<bool>, AllocError>
+    requires { AreEnds (map buffered_view events.now) ends.now }
+    ensures { (o : OptionsView) (flags : ParserOptions) (label : Option (List ℕ))
+        → IfOk result (λ found.
+        AreDisturbed (setting_of o flags (R.reading reader.now) label) runs
+        (map buffered_view events.now) found.items) }
+{
+    let round = round_if(alloc, runs, events)?;
+    let marks = disturbers(alloc, reader, events, ends, round.as_ref())?;
+    marks_within(alloc, &marks, ends)
+}

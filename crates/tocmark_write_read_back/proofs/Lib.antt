@@ -1,0 +1,4 @@
+pub mod SameIsEqual
+pub mod SameKeys
+pub mod Agreements
+pub mod Comparisons

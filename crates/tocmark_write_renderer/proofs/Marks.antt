@@ -1,0 +1,37 @@
+-- What the mark needs is kept where the text grows.
+use Rattle.std.proofs.Common.{◌≡◌, ◌∙◌, ap, sym, [], take, unwrap_or, ℕ, ◌<◌, ◌≤◌, Option, Some, None, List, ◌++◌, length, length-append, refl, subst, arith, string_bytes, IfSome, String, ◌⊎◌, inl, inr}
+use Rattle.std.specs.declared.alloc.Global.{Global}
+use Rattle.std.specs.Str.{IsCharBoundary, IsUtf8}
+use Rattle.std.proofs.lemmas.List.{get_or_append_left, take-append-le}
+use Rattle.std.proofs.lemmas.Str.{IsCharBoundary-at_seam}
+use Rattle.tocmark_write_renderer.specs.RendererOf.{AreCut, Fits}
+use Rattle.tocmark_write_renderer.specs.declared.renderer.Renderer.TheInside.{Inside}
+use Rattle.tocmark_write_renderer.specs.declared.renderer.Snapshot.{Snapshot}
+
+cut-by : (bs more : List ℕ) (n : ℕ) → IsUtf8 more → (n ≤ length bs) → ((n < length bs) ⊎ (n ≡ length bs)) → IsCharBoundary bs n → IsCharBoundary (bs ++ more) n
+cut-by bs more n u l (inl less) c = (
+  omega (arith, length-append bs more),
+  λ _ high. rw (get_or_append_left bs more 0 n less) (c.1 less (subst (λ v. 128 ≤ v) (get_or_append_left bs more 0 n less) high)),
+)
+cut-by bs more n u l (inr same) c = rw same (IsCharBoundary-at_seam (bs ++ more) bs more refl u)
+
+below-or-at : (n m : ℕ) → n ≤ m → ((n < m) ⊎ (n ≡ m))
+below-or-at n m l = grind arith
+
+-- where a text may be cut, it may be cut when it has grown
+pub cut-grows : (bs more : List ℕ) (n : ℕ) → IsUtf8 more → IsCharBoundary bs n → IsCharBoundary (bs ++ more) n
+cut-grows bs more n u c = cut-by bs more n u c.0 (below-or-at n (length bs) c.0) c
+
+-- a renderer whose text has grown
+pub text-grows : (a : Inside) (s : String Global) (more : List ℕ) (o : Option Snapshot) → IsUtf8 more → string_bytes s ≡ string_bytes a.text ++ more → IfSome o (λ m. Fits a m) → IfSome o (λ m. Fits (record a { text = s }) m)
+text-grows a s more None u e f = f
+text-grows a s more (Some m) u e f = record {
+  cut = rw e (cut-grows (string_bytes a.text) more m.text u f.cut);
+  references = f.references;
+  starts = subst (λ t. AreCut t (unwrap_or a.containers.at_mark [])) (sym (ap (take m.text) e ∙ take-append-le m.text (string_bytes a.text) more f.cut.0)) f.starts;
+}
+
+-- another text that is kept for its room
+pub spare-fits : (a : Inside) (s : String Global) (o : Option Snapshot) → IfSome o (λ m. Fits a m) → IfSome o (λ m. Fits (record a { spare = s }) m)
+spare-fits a s None f = f
+spare-fits a s (Some m) f = record { cut = f.cut; references = f.references; starts = f.starts }

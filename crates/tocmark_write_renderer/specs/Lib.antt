@@ -1,0 +1,5 @@
+pub mod RunsOf
+pub mod JobOf
+pub mod WriterOf
+pub mod Changes
+pub mod RendererOf

@@ -1,0 +1,37 @@
+use Rattle.std.proofs.Common.{sym, subst, Option, OnOk, string_bytes}
+use Rattle.tocmark_write_emphasis.specs.Low.{OpensLow}
+use Rattle.tocmark_event.specs.View.{tag_view}
+use Rattle.tocmark_write_renderer.specs.JobOf.{label_in, manner_view, options_in, setting_in}
+use Rattle.tocmark_write_renderer.specs.WriterOf.{levels_of, page_of, Arrives}
+use Rattle.tocmark_spelling.specs.Opening.{opening, opening_of}
+use Rattle.tocmark_spelling.specs.Page.{Page, Path, Site}
+use Rattle.tocmark_write_unit.proofs.Found.{begins, emphasis-row, has-start}
+use Rattle.tocmark_write_unit.specs.NeighboursOf.{look_in, rest_in, unit_in}
+use Rattle.tocmark_write_unit.proofs.turn.start_emphasis.Goals as goal
+
+pub returns-clause-stands : goal.returns-clause-stands
+unfolding opening
+returns-clause-stands g c = λ f forest opens.
+    let a = c.args in
+    let n = a.around in
+    let is = c.requires.around in
+    let t = tag_view string_bytes a.tag.now in
+    let reading = g.R.Reader.reading a.reader.now in
+    let s = setting_in a.job reading in
+    let m = manner_view a.manner in
+    let l = look_in s m t n in
+    let begun = begins f (unit_in n) n.place t (rest_in n) forest is.at c.requires.delimits in
+    let columns = is.found.emphasis (has-start (unit_in n) n.place t (rest_in n) is.at c.requires.delimits) in
+    let node = c.in_ok-node.ensures.node reading columns t (rest_in n) begun in
+    let low = c.in_ok-node.ensures.low reading columns in
+    let told = node.told (options_in a.job) a.job.flags (label_in a.job) m (sym c.is_preferred-preferred.ensures) in
+    let behind = sym (c.next_in_unit-behind.ensures t (rest_in n) begun) in
+    let path = levels_of a.renderer.now in
+    let mid = c.set_last.new.self in
+    let at = c.set_last.ensures.stands in
+    let Low : Path → Type 0 = OpensLow a.manner.delimiters in
+    let O : Option Site → Type 0 = λ o. OnOk c.open_emphasis.result (Arrives c.open_emphasis.new.renderer o) in
+    let P : Path → Type 0 = λ x. O (opening_of s m t l x (page_of mid)) in
+    let Q : Page → Type 0 = λ x. O (opening_of s m t l path x) in
+    let opened = c.open_emphasis.ensures.stands l c.requires.asked (subst Low (sym at.path_is) opens) low (sym node.tag) told behind in
+    subst Q at.page_is (subst P at.path_is (subst O (emphasis-row s m t l (levels_of mid) (page_of mid) c.requires.delimits) opened))

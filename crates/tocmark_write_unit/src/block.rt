@@ -1,0 +1,61 @@
+//! Writes the events of one unit.
+
+ghost use Rattle.std.specs.Prelude.{◌≡◌, [], map};
+ghost use Rattle.tocmark_write_emphasis.specs.Low.{AsksLow, OpensLow};
+ghost use Rattle.tocmark_event.specs.Forest.{flat};
+ghost use Rattle.tocmark_write_renderer.specs.JobOf.{manner_view, options_in, setting_in};
+ghost use Rattle.tocmark_spelling.specs.Body.{Trees};
+ghost use Rattle.tocmark_spelling.specs.Buffered.{buffered_view, following_view};
+ghost use Rattle.tocmark_spelling.specs.Machine.{around};
+ghost use Rattle.tocmark_write_unit.specs.FindingsOf.{AreFindings};
+ghost use Rattle.tocmark_spelling.specs.Spelling.{spelling};
+ghost use Rattle.tocmark_write_renderer.specs.WriterOf.{page_of, levels_of, Comes};
+
+use crate::findings::Findings;
+use crate::turn::{Neighbours, turn};
+use tocmark_event::event::OwnedEvent;
+use tocmark_event::options::Error;
+use tocmark_event::reader::Reader;
+use tocmark_spelling::buffered::BufferedEvent;
+use tocmark_write_renderer::job::{Job, Manner};
+use tocmark_write_renderer::renderer::Renderer;
+
+/// Writes a unit.
+///
+/// `found` are the findings over its events, and `next` is the event after it, if there is one. An `Err` is
+/// `UnexpectedEvent` where the unit has a node that stands where it may not, an End too many or a container that isn't
+/// closed, and `OutOfMemory` where memory ran out; some of the unit may be written then.
+pub fn write_unit<'a, R: Reader>(
+    renderer: &mut Renderer<'a>,
+    job: Job<'_, '_>,
+    reader: &R,
+    unit: &'a [BufferedEvent],
+    found: &Findings,
+    next: Option<&OwnedEvent>,
+    manner: Manner<'_>,
+) -> Result<(), Error>
+    requires found { AreFindings (R.reading reader.now) (options_in job) job.flags
+        (map buffered_view unit.now) found.now }
+    requires asked { AsksLow manner.delimiters }
+    ensures spelled { (f : Trees) → flat f ≡ map buffered_view unit.entry.now
+        → OpensLow manner.entry.delimiters (levels_of renderer.old)
+        → let s = setting_in job.entry (R.reading reader.now) in
+        let m = manner_view manner.entry in
+        let a = around [] [] (following_view next.entry) in
+        Comes result renderer.new
+        (spelling s m f a (levels_of renderer.old) (page_of renderer.old)) }
+    ensures mark { renderer.new.at_mark ≡ renderer.old.at_mark }
+{
+    let mut place = 0usize;
+    while place < unit.len() {
+        let around = Neighbours {
+            unit,
+            place,
+            found,
+            next,
+        };
+        let passed = turn(renderer, job, reader, manner, &unit[place], around)?;
+        place += 1 + passed;
+    }
+    Ok(())
+}
