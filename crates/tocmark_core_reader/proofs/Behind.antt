@@ -4,6 +4,7 @@ use Rattle.std.specs.List.{fold}
 use Rattle.std.specs.Prelude.{nat_le, if◌then◌else◌, get_or, take, length, ◌+◌, ◌<◌}
 use Rattle.std.proofs.lemmas.List.Sums.{fold-append, fold_more}
 use Rattle.tocmark_read_scan.specs.Basic.{plus}
+use Rattle.tocmark_read_syntax.specs.declared.Syntax.{Syntax}
 use Rattle.tocmark_read_scan.specs.Content as content
 use Rattle.tocmark_read_blocks.specs.declared.definition.Piece.{Piece}
 use Rattle.tocmark_read_blocks.specs.declared.page.Block.{Block}
@@ -13,7 +14,7 @@ use Rattle.tocmark_read_inlines.specs.Inlines as inlines
 use Rattle.tocmark_read_spans.specs.declared.definitions.Entry.{Entry}
 use Rattle.tocmark_core_reader.specs.Emitted.{NodeView, Writing, step}
 use Rattle.tocmark_core_reader.specs.Inlines.{inline_node}
-use Rattle.tocmark_core_reader.specs.Pages.{State, Progress, written_behind, written_by, written_alone, content_line, lines_nodes, block_node, pieces_of, with_inlines, leaf_inlines, with_block, with_lines, with_rule, wrapped, paragraph_taken, taken_as, block_taken, is_unwrapped, block_step}
+use Rattle.tocmark_core_reader.specs.Pages.{State, Progress, written_behind, written_by, written_alone, content_line, lines_nodes, block_node, pieces_of, with_inlines, leaf_inlines_in, task_nodes, with_block, with_task, bare_in, with_lines, with_rule, wrapped_in, paragraph_taken_in, taken_as_in, block_taken_in, is_unwrapped, block_step_in}
 
 abbrev pub Find : Type 0
 Find = List ℕ → Option Entry
@@ -37,7 +38,15 @@ adds_one text false y n f g w s = g w s
 
 adds_block : (text : List ℕ) (b : Block) → Adds text (with_block text b)
 unfolding with_block
-adds_block text b w s = ap (progress s.inlines) (fold-append (step text) w s.nodes (block_node text b ∷ []))
+adds_block text b w s =
+    let more : List NodeView = task_nodes b.task (plus b.depth 1) in
+    ap (progress s.inlines)
+    (fold-append (step text) w (s.nodes ++ block_node text b ∷ []) more
+    ∙ ap (λ x. fold (step text) x more) (fold-append (step text) w s.nodes (block_node text b ∷ [])))
+
+adds_task : (text : List ℕ) (b : Block) → Adds text (with_task b)
+unfolding with_task
+adds_task text b w s = ap (progress s.inlines) (fold-append (step text) w s.nodes (task_nodes b.task b.depth))
 
 adds_rule : (text : List ℕ) (b : Block) → Adds text (with_rule b)
 unfolding with_rule
@@ -56,52 +65,63 @@ adds_inlines text found w s =
     ap (progress (record { nodes = []; targets = found.targets; texts = found.texts; missed = found.missed }))
     (fold-append (step text) w s.nodes (map (inline_node found.texts found.targets) found.nodes))
 
-adds_leaf : (text : List ℕ) (find : Find) (pieces : List Piece) (depth : ℕ) → Adds text (leaf_inlines text find pieces depth)
-unfolding leaf_inlines
-adds_leaf text find pieces depth w s =
-    adds_inlines text (inlines.read_inlines (content.content_of text (map content_line pieces)) depth find s.inlines) w s
+adds_leaf : (syntax : Syntax) (text : List ℕ) (find : Find) (pieces : List Piece) (depth : ℕ) → Adds text (leaf_inlines_in syntax text find pieces depth)
+unfolding leaf_inlines_in
+adds_leaf syntax text find pieces depth w s =
+    adds_inlines text (inlines.read_inlines_in syntax (content.content_of text (map content_line pieces)) depth find s.inlines) w s
 
-adds_wrapped : (text : List ℕ) (find : Find) (pieces : List Piece) (b : Block) → Adds text (wrapped text find pieces b)
-unfolding wrapped
-adds_wrapped text find pieces b =
-    adds_both text (with_block text b) (leaf_inlines text find pieces (plus b.depth 1)) (adds_block text b) (adds_leaf text find pieces (plus b.depth 1))
+adds_wrapped : (syntax : Syntax) (text : List ℕ) (find : Find) (pieces : List Piece) (b : Block) → Adds text (wrapped_in syntax text find pieces b)
+unfolding wrapped_in
+adds_wrapped syntax text find pieces b =
+    adds_both text (with_block text b) (leaf_inlines_in syntax text find pieces (plus b.depth 1)) (adds_block text b) (adds_leaf syntax text find pieces (plus b.depth 1))
 
 -- a container with its inlines is written as the container, and then the inlines
-pub wrapped_behind : (text : List ℕ) (find : Find) (pieces : List Piece) (b : Block) (p : Progress) → written_by text (wrapped text find pieces b) p ≡ written_by text (leaf_inlines text find pieces (plus b.depth 1)) (written_by text (with_block text b) p)
-unfolding wrapped
-wrapped_behind text find pieces b p = adds_leaf text find pieces (plus b.depth 1) p.writing (with_block text b (record { nodes = []; inlines = p.inlines }))
+pub wrapped_behind : (syntax : Syntax) (text : List ℕ) (find : Find) (pieces : List Piece) (b : Block) (p : Progress) → written_by text (wrapped_in syntax text find pieces b) p ≡ written_by text (leaf_inlines_in syntax text find pieces (plus b.depth 1)) (written_by text (with_block text b) p)
+unfolding wrapped_in
+wrapped_behind syntax text find pieces b p = adds_leaf syntax text find pieces (plus b.depth 1) p.writing (with_block text b (record { nodes = []; inlines = p.inlines }))
 
-adds_paragraph : (text : List ℕ) (find : Find) (pieces : List Piece) (unwrapped : Bool) (b : Block) → Adds text (paragraph_taken text find pieces unwrapped b)
-unfolding paragraph_taken
-adds_paragraph text find pieces unwrapped b =
-    let leaf : State → State = leaf_inlines text find pieces b.depth in
-    let whole : State → State = wrapped text find pieces b in
-    let some : Adds text (λ s. if unwrapped then leaf s else whole s) = adds_one text unwrapped leaf whole (adds_leaf text find pieces b.depth) (adds_wrapped text find pieces b) in
+adds_bare : (syntax : Syntax) (text : List ℕ) (find : Find) (pieces : List Piece) (b : Block) → Adds text (bare_in syntax text find pieces b)
+unfolding bare_in
+adds_bare syntax text find pieces b =
+    adds_both text (with_task b) (leaf_inlines_in syntax text find pieces b.depth) (adds_task text b) (adds_leaf syntax text find pieces b.depth)
+
+-- a paragraph without its container is written as its box, and then the inlines
+pub bare_behind : (syntax : Syntax) (text : List ℕ) (find : Find) (pieces : List Piece) (b : Block) (p : Progress) → written_by text (bare_in syntax text find pieces b) p ≡ written_by text (leaf_inlines_in syntax text find pieces b.depth) (written_by text (with_task b) p)
+unfolding bare_in
+bare_behind syntax text find pieces b p = adds_leaf syntax text find pieces b.depth p.writing (with_task b (record { nodes = []; inlines = p.inlines }))
+
+adds_paragraph : (syntax : Syntax) (text : List ℕ) (find : Find) (pieces : List Piece) (unwrapped : Bool) (b : Block) → Adds text (paragraph_taken_in syntax text find pieces unwrapped b)
+unfolding paragraph_taken_in
+adds_paragraph syntax text find pieces unwrapped b =
+    let leaf : State → State = bare_in syntax text find pieces b in
+    let whole : State → State = wrapped_in syntax text find pieces b in
+    let some : Adds text (λ s. if unwrapped then leaf s else whole s) = adds_one text unwrapped leaf whole (adds_bare syntax text find pieces b) (adds_wrapped syntax text find pieces b) in
     adds_one text (nat_le b.last b.first) (λ s. s) (λ s. if unwrapped then leaf s else whole s) (λ w s. refl) some
 
-adds_kind : (k : BlockKind) (text : List ℕ) (find : Find) (pieces : List Piece) (unwrapped : Bool) (b : Block) → Adds text (taken_as k text find pieces unwrapped b)
-adds_kind kind.Paragraph text find pieces unwrapped b = adds_paragraph text find pieces unwrapped b
-adds_kind (kind.Heading level) text find pieces unwrapped b = adds_wrapped text find pieces b
-adds_kind kind.Quote text find pieces unwrapped b = adds_block text b
-adds_kind (kind.List first) text find pieces unwrapped b = adds_block text b
-adds_kind kind.Item text find pieces unwrapped b = adds_block text b
-adds_kind kind.Indented text find pieces unwrapped b = adds_lines text false b pieces
-adds_kind (kind.Fenced from to) text find pieces unwrapped b = adds_lines text false b pieces
-adds_kind kind.Html text find pieces unwrapped b = adds_lines text true b pieces
-adds_kind kind.Rule text find pieces unwrapped b = adds_rule text b
+adds_kind : (syntax : Syntax) (k : BlockKind) (text : List ℕ) (find : Find) (pieces : List Piece) (unwrapped : Bool) (b : Block) → Adds text (taken_as_in syntax k text find pieces unwrapped b)
+adds_kind syntax kind.Paragraph text find pieces unwrapped b = adds_paragraph syntax text find pieces unwrapped b
+adds_kind syntax (kind.Heading level) text find pieces unwrapped b = adds_wrapped syntax text find pieces b
+adds_kind syntax kind.Quote text find pieces unwrapped b = adds_block text b
+adds_kind syntax (kind.List first) text find pieces unwrapped b = adds_block text b
+adds_kind syntax kind.Item text find pieces unwrapped b = adds_block text b
+adds_kind syntax kind.Indented text find pieces unwrapped b = adds_lines text false b pieces
+adds_kind syntax (kind.Fenced from to) text find pieces unwrapped b = adds_lines text false b pieces
+adds_kind syntax kind.Html text find pieces unwrapped b = adds_lines text true b pieces
+adds_kind syntax kind.Rule text find pieces unwrapped b = adds_rule text b
+adds_kind syntax (kind.Metadata k) text find pieces unwrapped b = adds_lines text false b pieces
 
 -- one more block, written behind the others
-pub block_behind : (text : List ℕ) (find : Find) (all : List Piece) (unwrapped : Bool) (b : Block) (s : State) → written_alone text (block_taken text find all unwrapped b s) ≡ written_by text (block_taken text find all unwrapped b) (written_alone text s)
-unfolding block_taken
-block_behind text find all unwrapped b s = adds_kind b.kind text find (pieces_of all b.first b.last) unwrapped b (record { events = []; stack = [] }) s
+pub block_behind : (syntax : Syntax) (text : List ℕ) (find : Find) (all : List Piece) (unwrapped : Bool) (b : Block) (s : State) → written_alone text (block_taken_in syntax text find all unwrapped b s) ≡ written_by text (block_taken_in syntax text find all unwrapped b) (written_alone text s)
+unfolding block_taken_in
+block_behind syntax text find all unwrapped b s = adds_kind syntax b.kind text find (pieces_of all b.first b.last) unwrapped b (record { events = []; stack = [] }) s
 
 -- one more of a list of blocks
-pub more_behind : (text : List ℕ) (find : Find) (blocks : List Block) (all : List Piece) (start : State) (i : ℕ) (d : Block) (unwrapped : Bool) (before after : Progress) → i < length blocks → unwrapped ≡ is_unwrapped blocks (get_or blocks i d) → before ≡ written_alone text (fold (block_step text find blocks all) start (take i blocks)) → after ≡ written_by text (block_taken text find all unwrapped (get_or blocks i d)) before → after ≡ written_alone text (fold (block_step text find blocks all) start (take (i + 1) blocks))
-more_behind text find blocks all start i d unwrapped before after lt u b a =
+pub more_behind : (syntax : Syntax) (text : List ℕ) (find : Find) (blocks : List Block) (all : List Piece) (start : State) (i : ℕ) (d : Block) (unwrapped : Bool) (before after : Progress) → i < length blocks → unwrapped ≡ is_unwrapped blocks (get_or blocks i d) → before ≡ written_alone text (fold (block_step_in syntax text find blocks all) start (take i blocks)) → after ≡ written_by text (block_taken_in syntax text find all unwrapped (get_or blocks i d)) before → after ≡ written_alone text (fold (block_step_in syntax text find blocks all) start (take (i + 1) blocks))
+more_behind syntax text find blocks all start i d unwrapped before after lt u b a =
     let block : Block = get_or blocks i d in
-    let s : State = fold (block_step text find blocks all) start (take i blocks) in
+    let s : State = fold (block_step_in syntax text find blocks all) start (take i blocks) in
     a
-    ∙ ap (written_by text (block_taken text find all unwrapped block)) b
-    ∙ ap (λ x. written_by text (block_taken text find all x block) (written_alone text s)) u
-    ∙ sym (block_behind text find all (is_unwrapped blocks block) block s)
-    ∙ ap (written_alone text) (sym (fold_more (block_step text find blocks all) start blocks i d lt))
+    ∙ ap (written_by text (block_taken_in syntax text find all unwrapped block)) b
+    ∙ ap (λ x. written_by text (block_taken_in syntax text find all x block) (written_alone text s)) u
+    ∙ sym (block_behind syntax text find all (is_unwrapped blocks block) block s)
+    ∙ ap (written_alone text) (sym (fold_more (block_step_in syntax text find blocks all) start blocks i d lt))

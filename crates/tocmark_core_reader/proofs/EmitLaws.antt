@@ -15,7 +15,8 @@ use Rattle.tocmark_event.specs.declared.reader.Reading.{Reading}
 use Rattle.tocmark_event.specs.Forest.{Forest, empty, leaf, node, flat_onto, flat, IsBalanced}
 use Rattle.tocmark_event.specs.declared.event.TagEnd.{TagEnd}
 use Rattle.tocmark_core_reader.specs.Emitted.{ItemView, Container, Source, Given, NodeView, shown, end_event, closings, step, put, closed, emitted, Writing}
-use Rattle.tocmark_core_reader.specs.Reading.{core_reading, found_in}
+use Rattle.tocmark_read_syntax.specs.declared.Syntax.{Syntax}
+use Rattle.tocmark_core_reader.specs.Reading.{reading_of, found_under}
 use Rattle.tocmark_core_reader.specs.Range.{is_cut, snapped, IsGoodRange, HasGoodRanges}
 use Rattle.tocmark_core_reader.specs.declared.emit.Open.{Open}
 
@@ -181,10 +182,10 @@ shown_good es text nodes utf8 h =
 
 -- of a reading
 
-pub reading_balanced : (r : Reading) (text : List ℕ) → reading_view r ≡ core_reading text → IsBalanced (map (λ e. event_view text_of e.0) r.events.items)
-unfolding core_reading
-reading_balanced r text h = shown_balanced r.events.items text (found_in text).nodes (ap (λ (v : ReadingView). v.events) h)
+pub reading_balanced : (r : Reading) (syntax : Syntax) (text : List ℕ) → reading_view r ≡ reading_of syntax text → IsBalanced (map (λ e. event_view text_of e.0) r.events.items)
+unfolding reading_of
+reading_balanced r syntax text h = shown_balanced r.events.items text (found_under syntax text).nodes (ap (λ (v : ReadingView). v.events) h)
 
-pub reading_good : (r : Reading) (text : List ℕ) → IsUtf8 text → reading_view r ≡ core_reading text → HasGoodRanges text r.events.items
-unfolding core_reading
-reading_good r text utf8 h = shown_good r.events.items text (found_in text).nodes utf8 (ap (λ (v : ReadingView). v.events) h)
+pub reading_good : (r : Reading) (syntax : Syntax) (text : List ℕ) → IsUtf8 text → reading_view r ≡ reading_of syntax text → HasGoodRanges text r.events.items
+unfolding reading_of
+reading_good r syntax text utf8 h = shown_good r.events.items text (found_under syntax text).nodes utf8 (ap (λ (v : ReadingView). v.events) h)

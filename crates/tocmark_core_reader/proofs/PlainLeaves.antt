@@ -26,8 +26,8 @@ use Rattle.tocmark_read_inlines.proofs.PlainPasses.{AreRead}
 use Rattle.tocmark_read_inlines.proofs.PlainLeaf.{known, parts_inlines}
 use Rattle.tocmark_read_inlines.proofs.PlainNodes.{nodes_of}
 use Rattle.tocmark_core_reader.specs.Emitted.{NodeView, Container, Writing, step, closed, emitted}
-use Rattle.tocmark_core_reader.specs.Pages.{State, start_state, pieces_of, assembled, is_unwrapped, block_taken, paragraph_taken, wrapped, with_block, leaf_inlines, with_inlines, content_line, block_tag}
-use Rattle.tocmark_core_reader.specs.Reading.{core_reading, found_in, FoundView, collected, first_entry}
+use Rattle.tocmark_core_reader.specs.Pages.{State, start_state, pieces_of, assembled, is_unwrapped, block_taken, block_taken_in, paragraph_taken, paragraph_taken_in, wrapped_in, task_nodes, with_block, leaf_inlines_in, with_inlines, content_line, block_tag}
+use Rattle.tocmark_core_reader.specs.Reading.{core_reading, found_in, found_under, reading_of, FoundView, collected, first_entry}
 use Rattle.tocmark_core_reader.proofs.PlainEvents.{Marked, viewed, at, events_of, emit_parts}
 use Rattle.tocmark_core_reader.proofs.PlainSources.{IsClean, AreClean, snapped_clean, all_implied}
 use Rattle.tocmark_read_scan.specs.PlainParts.{Part, spelled}
@@ -46,7 +46,7 @@ found_from text blocks =
 -- one paragraph with these pieces
 abbrev one_block : ℕ → List Piece → BlocksView
 one_block n pieces = record {
-  blocks = record { depth = 0; kind = kind.Paragraph; start = 0; end = n; first = 0; last = length pieces; loose = false; list = None } ∷ [];
+  blocks = record { depth = 0; kind = kind.Paragraph; start = 0; end = n; first = 0; last = length pieces; loose = false; list = None; task = None } ∷ [];
   pieces = pieces;
   definitions = [];
 }
@@ -75,7 +75,7 @@ whole_pieces p ps =
     rw (from, fits, same, take-length (p ∷ ps)) refl
 
 paragraph_block : ℕ → ℕ → Block
-paragraph_block n k = record { depth = 0; kind = kind.Paragraph; start = 0; end = n; first = 0; last = k; loose = false; list = None }
+paragraph_block n k = record { depth = 0; kind = kind.Paragraph; start = 0; end = n; first = 0; last = k; loose = false; list = None; task = None }
 
 -- the nodes and labels of these nodes and inlines
 abbrev found_state : State → FoundView
@@ -86,11 +86,11 @@ abbrev taken : List ℕ → ℕ → ℕ → List Piece → State
 taken text n k pieces = paragraph_taken text (first_entry [] []) pieces false (paragraph_block n k) (start_state [])
 
 found_taken : (text : List ℕ) (n : ℕ) (pieces : List Piece) → found_from text (one_block n pieces) ≡ found_state (taken text n (length pieces) (pieces_of pieces 0 (length pieces)))
-unfolding is_unwrapped block_taken paragraph_block
+unfolding is_unwrapped block_taken_in paragraph_block
 found_taken text n pieces = refl
 
 taken_whole : (text : List ℕ) (n k : ℕ) (pieces : List Piece) → found_state (taken text n (suc k) pieces) ≡ found_of n (inlines.read_inlines (content.content_of text (map content_line pieces)) 1 (first_entry [] []) no_inlines)
-unfolding paragraph_taken wrapped with_block leaf_inlines block_tag paragraph_block
+unfolding paragraph_taken_in wrapped_in with_block task_nodes leaf_inlines_in block_tag paragraph_block
 taken_whole text n k pieces = rw (some_pieces k) refl
 
 found_one : (text : List ℕ) (n : ℕ) (p : Piece) (ps : List Piece) (c : content.State) → content.content_of text (map content_line (p ∷ ps)) ≡ c → found_from text (one_block n (p ∷ ps)) ≡ found_of n (inlines.read_inlines c 1 (first_entry [] []) no_inlines)
@@ -145,7 +145,7 @@ abbrev pub found_parts : ℕ → List Part → FoundView
 found_parts n parts = record { nodes = paragraph_node n ∷ viewed (nodes_of 1 0 None parts); defined = []; unresolved = [] }
 
 pub found_text : (l : List ℕ) (ms : List (List ℕ)) (parts : List Part) → IsReadText l ms parts → found_in (feed_joined l ms) ≡ found_parts (length (feed_joined l ms)) parts
-unfolding found_in
+unfolding found_under
 found_text l ms parts h =
     let text : List ℕ = feed_joined l ms in
     let n : ℕ = length text in
@@ -175,7 +175,7 @@ emitted_parts text parts h =
 
 -- such a text is read as one paragraph
 pub text_is_read : (l : List ℕ) (ms : List (List ℕ)) (parts : List Part) → IsReadText l ms parts → core_reading (feed_joined l ms) ≡ parts_reading (feed_joined l ms) parts
-unfolding core_reading
+unfolding reading_of
 text_is_read l ms parts h =
     let text : List ℕ = feed_joined l ms in
     ap (let g : FoundView → ReadingView = λ f. record { events = emitted text f.nodes; defined = f.defined; unresolved = f.unresolved } in g) (found_text l ms parts h)

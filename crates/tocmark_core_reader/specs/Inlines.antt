@@ -1,6 +1,6 @@
 -- From the nodes of inlines to those of events.
 use Rattle.std.specs.Prelude.{ℕ, List, encode_utf8, slice_get, unwrap_or}
-use Rattle.tocmark_event.specs.View.{TagView, Emphasis, Strong, Link, Image, Text, Code, InlineHtml, SoftBreak, HardBreak}
+use Rattle.tocmark_event.specs.View.{TagView, Emphasis, Strong, Strikethrough, Link, Image, Text, Code, InlineHtml, SoftBreak, HardBreak}
 use Rattle.tocmark_event.specs.declared.event.LinkType.TheVariants.{Inline}
 use Rattle.tocmark_read_spans.specs.Definitions.{stretch_text, no_stretch}
 use Rattle.tocmark_read_spans.specs.declared.role.Leaf.{Leaf}
@@ -30,6 +30,7 @@ image_of texts t = Image t.link_type (stretch_text texts t.destination) (stretch
 unfoldable pub span_tag : List ℕ → List Target → Span → TagView
 span_tag texts targets span.Emphasis = Emphasis
 span_tag texts targets span.Strong = Strong
+span_tag texts targets span.Strikethrough = Strikethrough
 span_tag texts targets (span.Link place) = link_of texts (target_at targets place)
 span_tag texts targets (span.Image place) = image_of texts (target_at targets place)
 

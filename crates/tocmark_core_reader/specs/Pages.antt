@@ -1,13 +1,16 @@
 -- From blocks to nodes.
-use Rattle.std.specs.Prelude.{ℕ, ◌-◌, Bool, true, false, not, ◌&&◌, nat_lt, nat_le, if◌then◌else◌, List, [], ◌∷◌, ◌++◌, length, map, slice_get, slice_range, Option, None}
+use Rattle.std.specs.Prelude.{ℕ, ◌-◌, Bool, true, false, not, ◌&&◌, nat_lt, nat_le, if◌then◌else◌, List, [], ◌∷◌, ◌++◌, length, map, slice_get, slice_range, Option, Some, None}
 use Rattle.std.specs.List.{fold, flat_map}
 use Rattle.std.specs.Option.{option_map_or}
 use Rattle.tocmark_event.specs.View as view
 use Rattle.tocmark_read_scan.specs.Basic.{plus, piece}
+use Rattle.tocmark_read_syntax.specs.declared.TheConstants.{CORE}
+use Rattle.tocmark_read_syntax.specs.declared.Syntax.{Syntax}
 use Rattle.tocmark_read_scan.specs.Content as content
 use Rattle.tocmark_read_scan.specs.declared.content.Line.{Line}
 use Rattle.tocmark_read_blocks.specs.declared.definition.Piece.{Piece}
 use Rattle.tocmark_read_blocks.specs.declared.page.Block.{Block}
+use Rattle.tocmark_read_blocks.specs.declared.page.Task.{Task}
 use Rattle.tocmark_read_blocks.specs.declared.page.BlockKind.{BlockKind}
 use Rattle.tocmark_read_blocks.specs.declared.page.BlockKind.TheVariants as kind
 use Rattle.tocmark_read_inlines.specs.Inlines as inlines
@@ -60,6 +63,7 @@ block_tag text kind.Indented = view.CodeBlock view.Indented
 block_tag text (kind.Fenced from to) = view.CodeBlock (view.Fenced (info_text (piece text from to)))
 block_tag text kind.Html = view.HtmlBlock
 block_tag text kind.Rule = view.Paragraph
+block_tag text (kind.Metadata k) = view.MetadataBlock k
 
 -- a block directly in an item of a tight list
 unfoldable pub is_unwrapped : List Block → Block → Bool
@@ -104,13 +108,26 @@ with_inlines found s = record {
 }
 
 -- the inlines of a leaf
-unfoldable pub leaf_inlines : List ℕ → (List ℕ → Option Entry) → List Piece → ℕ → State → State
-leaf_inlines text find pieces depth s =
-    with_inlines (inlines.read_inlines (content.content_of text (map content_line pieces)) depth find s.inlines) s
+unfoldable pub leaf_inlines_in : Syntax → List ℕ → (List ℕ → Option Entry) → List Piece → ℕ → State → State
+leaf_inlines_in syntax text find pieces depth s =
+    with_inlines (inlines.read_inlines_in syntax (content.content_of text (map content_line pieces)) depth find s.inlines) s
 
--- one more container
+-- the box of a task, at a depth
+unfoldable pub task_nodes : Option Task → ℕ → List NodeView
+task_nodes None depth = []
+task_nodes (Some t) depth = node depth (Given (view.TaskListMarker t.done)) t.start (plus t.start 3) ∷ []
+
+-- one more container, with its box
 unfoldable pub with_block : List ℕ → Block → State → State
-with_block text b s = record s { nodes = s.nodes ++ block_node text b ∷ [] }
+with_block text b s = record s { nodes = (s.nodes ++ block_node text b ∷ []) ++ task_nodes b.task (plus b.depth 1) }
+
+-- the box of a paragraph without its container
+unfoldable pub with_task : Block → State → State
+with_task b s = record s { nodes = s.nodes ++ task_nodes b.task b.depth }
+
+-- the box and the inlines of a paragraph without its container
+unfoldable pub bare_in : Syntax → List ℕ → (List ℕ → Option Entry) → List Piece → Block → State → State
+bare_in syntax text find pieces b s = leaf_inlines_in syntax text find pieces b.depth (with_task b s)
 
 -- a code or HTML block with its lines
 unfoldable pub with_lines : List ℕ → Bool → Block → List Piece → State → State
@@ -121,39 +138,56 @@ unfoldable pub with_rule : Block → State → State
 with_rule b s = record s { nodes = s.nodes ++ node b.depth (Given view.Rule) b.start b.end ∷ [] }
 
 -- a paragraph or a heading with its inlines
-unfoldable pub wrapped : List ℕ → (List ℕ → Option Entry) → List Piece → Block → State → State
-wrapped text find pieces b s = leaf_inlines text find pieces (plus b.depth 1) (with_block text b s)
+unfoldable pub wrapped_in : Syntax → List ℕ → (List ℕ → Option Entry) → List Piece → Block → State → State
+wrapped_in syntax text find pieces b s = leaf_inlines_in syntax text find pieces (plus b.depth 1) (with_block text b s)
 
 -- a paragraph of definitions alone is nothing, and one in a tight list has no container
-unfoldable pub paragraph_taken : List ℕ → (List ℕ → Option Entry) → List Piece → Bool → Block → State → State
-paragraph_taken text find pieces unwrapped b s =
+unfoldable pub paragraph_taken_in : Syntax → List ℕ → (List ℕ → Option Entry) → List Piece → Bool → Block → State → State
+paragraph_taken_in syntax text find pieces unwrapped b s =
     if nat_le b.last b.first then s
-    else (if unwrapped then leaf_inlines text find pieces b.depth s else wrapped text find pieces b s)
+    else (if unwrapped then bare_in syntax text find pieces b s else wrapped_in syntax text find pieces b s)
 
 -- a block of this kind
-abbrev pub taken_as : BlockKind → List ℕ → (List ℕ → Option Entry) → List Piece → Bool → Block → State → State
-taken_as kind.Paragraph text find pieces unwrapped b s = paragraph_taken text find pieces unwrapped b s
-taken_as (kind.Heading level) text find pieces unwrapped b s = wrapped text find pieces b s
-taken_as kind.Quote text find pieces unwrapped b s = with_block text b s
-taken_as (kind.List first) text find pieces unwrapped b s = with_block text b s
-taken_as kind.Item text find pieces unwrapped b s = with_block text b s
-taken_as kind.Indented text find pieces unwrapped b s = with_lines text false b pieces s
-taken_as (kind.Fenced from to) text find pieces unwrapped b s = with_lines text false b pieces s
-taken_as kind.Html text find pieces unwrapped b s = with_lines text true b pieces s
-taken_as kind.Rule text find pieces unwrapped b s = with_rule b s
+abbrev pub taken_as_in : Syntax → BlockKind → List ℕ → (List ℕ → Option Entry) → List Piece → Bool → Block → State → State
+taken_as_in syntax kind.Paragraph text find pieces unwrapped b s = paragraph_taken_in syntax text find pieces unwrapped b s
+taken_as_in syntax (kind.Heading level) text find pieces unwrapped b s = wrapped_in syntax text find pieces b s
+taken_as_in syntax kind.Quote text find pieces unwrapped b s = with_block text b s
+taken_as_in syntax (kind.List first) text find pieces unwrapped b s = with_block text b s
+taken_as_in syntax kind.Item text find pieces unwrapped b s = with_block text b s
+taken_as_in syntax kind.Indented text find pieces unwrapped b s = with_lines text false b pieces s
+taken_as_in syntax (kind.Fenced from to) text find pieces unwrapped b s = with_lines text false b pieces s
+taken_as_in syntax kind.Html text find pieces unwrapped b s = with_lines text true b pieces s
+taken_as_in syntax kind.Rule text find pieces unwrapped b s = with_rule b s
+taken_as_in syntax (kind.Metadata k) text find pieces unwrapped b s = with_lines text false b pieces s
 
 -- one more block
-unfoldable pub block_taken : List ℕ → (List ℕ → Option Entry) → List Piece → Bool → Block → State → State
-block_taken text find all unwrapped b s = taken_as b.kind text find (pieces_of all b.first b.last) unwrapped b s
+unfoldable pub block_taken_in : Syntax → List ℕ → (List ℕ → Option Entry) → List Piece → Bool → Block → State → State
+block_taken_in syntax text find all unwrapped b s = taken_as_in syntax b.kind text find (pieces_of all b.first b.last) unwrapped b s
 
 -- one more block, which may stand in a tight list
-abbrev pub block_step : List ℕ → (List ℕ → Option Entry) → List Block → List Piece → State → Block → State
-block_step text find blocks pieces s b = block_taken text find pieces (is_unwrapped blocks b) b s
+abbrev pub block_step_in : Syntax → List ℕ → (List ℕ → Option Entry) → List Block → List Piece → State → Block → State
+block_step_in syntax text find blocks pieces s b = block_taken_in syntax text find pieces (is_unwrapped blocks b) b s
 
 -- no nodes, and the texts of the definitions
 abbrev pub start_state : List ℕ → State
 start_state texts = record { nodes = []; inlines = record { nodes = []; targets = []; texts = texts; missed = [] } }
 
 -- all blocks with their inlines
+abbrev pub assembled_in : Syntax → List ℕ → (List ℕ → Option Entry) → List Block → List Piece → List ℕ → State
+assembled_in syntax text find blocks pieces texts = fold (block_step_in syntax text find blocks pieces) (start_state texts) blocks
+
+-- the same of CommonMark alone
+abbrev pub leaf_inlines : List ℕ → (List ℕ → Option Entry) → List Piece → ℕ → State → State
+leaf_inlines = leaf_inlines_in CORE
+
+abbrev pub wrapped : List ℕ → (List ℕ → Option Entry) → List Piece → Block → State → State
+wrapped = wrapped_in CORE
+
+abbrev pub paragraph_taken : List ℕ → (List ℕ → Option Entry) → List Piece → Bool → Block → State → State
+paragraph_taken = paragraph_taken_in CORE
+
+abbrev pub block_taken : List ℕ → (List ℕ → Option Entry) → List Piece → Bool → Block → State → State
+block_taken = block_taken_in CORE
+
 abbrev pub assembled : List ℕ → (List ℕ → Option Entry) → List Block → List Piece → List ℕ → State
-assembled text find blocks pieces texts = fold (block_step text find blocks pieces) (start_state texts) blocks
+assembled = assembled_in CORE

@@ -25,6 +25,8 @@ pub enum Item {
     SoftBreak,
     HardBreak,
     Rule,
+    /// The box of a task, true where it is checked.
+    TaskListMarker(bool),
 }
 
 /// A part of a text, in bytes: `end` is the place behind the last one. Nodes stand in the order of
@@ -154,6 +156,7 @@ impl Emission {
             Item::SoftBreak => Event::SoftBreak,
             Item::HardBreak => Event::HardBreak,
             Item::Rule => Event::Rule,
+            Item::TaskListMarker(done) => Event::TaskListMarker(done),
         };
         push(&mut self.events, event, range)
     }

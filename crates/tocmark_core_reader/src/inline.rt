@@ -64,6 +64,7 @@ fn span_tag(
     match span {
         Span::Emphasis => Ok(Tag::Emphasis),
         Span::Strong => Ok(Tag::Strong),
+        Span::Strikethrough => Ok(Tag::Strikethrough),
         Span::Link(place) => link_of(alloc, texts, target_at(targets, place)),
         Span::Image(place) => image_of(alloc, texts, target_at(targets, place)),
     }

@@ -15,4 +15,4 @@ mod reader;
 mod words;
 
 pub use plain::is_plain;
-pub use reader::CoreReader;
+pub use reader::{CoreReader, find};

@@ -7,7 +7,7 @@ ghost use Rattle.tocmark_event.specs.View.{tag_view};
 ghost use Rattle.tocmark_read_spans.specs.Definitions.{entry_of};
 ghost use Rattle.tocmark_read_inlines.specs.Inlines.{inlines_view};
 ghost use Rattle.tocmark_core_reader.specs.Emitted.{item_view, emission_view, step};
-ghost use Rattle.tocmark_core_reader.specs.Pages.{pieces_of, content_line, space_nodes, line_item, line_nodes, lines_nodes, block_tag, is_unwrapped, block_node, assembly_view, leaf_inlines, with_block, with_lines, with_rule, wrapped, paragraph_taken, block_taken, assembled, written_alone, written_by};
+ghost use Rattle.tocmark_core_reader.specs.Pages.{pieces_of, content_line, space_nodes, line_item, line_nodes, lines_nodes, block_tag, is_unwrapped, block_node, assembly_view, task_nodes, leaf_inlines_in, with_block, with_task, bare_in, with_lines, with_rule, wrapped_in, paragraph_taken_in, block_taken_in, assembled_in, written_alone, written_by};
 
 use crate::emit::{Emission, Item, Node};
 use crate::inline::write_inlines;
@@ -15,11 +15,12 @@ use crate::words::{cleaned_part, info_text, spaces_text};
 use std::alloc::{AllocError, Global};
 use std::mem;
 use tocmark_event::event::{CodeBlockKind, CowStr, Tag};
-use tocmark_read_blocks::{Block, BlockKind, Piece};
+use tocmark_read_blocks::{Block, BlockKind, Piece, Task};
 use tocmark_read_inlines::inlines::{Inlines, read_inlines};
 use tocmark_read_scan::basic::piece;
 use tocmark_read_scan::content::{Line, content_of};
 use tocmark_read_spans::definitions::Definitions;
+use tocmark_read_syntax::Syntax;
 
 /// The pieces of a range, none where it is none of the list.
 fn pieces_of(pieces: &[Piece], first: usize, last: usize) -> &[Piece]
@@ -159,6 +160,7 @@ fn block_tag(alloc: Global, text: &str, kind: BlockKind) -> Result<Tag<'static>,
         }
         BlockKind::Html => Ok(Tag::HtmlBlock),
         BlockKind::Rule => Ok(Tag::Paragraph),
+        BlockKind::Metadata(kind) => Ok(Tag::MetadataBlock(kind)),
     }
 }
 
@@ -194,6 +196,30 @@ fn write_block(
     out.write(alloc, text, node)
 }
 
+/// Writes the box of a task.
+#[tactic(auto, unfolding(crate::specs::Pages::task_nodes))]
+fn write_task(
+    alloc: Global,
+    out: &mut Emission,
+    text: &str,
+    task: Option<Task>,
+    depth: usize,
+) -> Result<(), AllocError>
+    ensures { OnOk result (emission_view out.new
+        ≡ fold (step text.now) (emission_view out.old) (task_nodes task depth)) }
+{
+    if let Some(task) = task {
+        let node = Node {
+            depth,
+            item: Item::TaskListMarker(task.done),
+            start: task.start,
+            end: task.start.saturating_add(3),
+        };
+        out.write(alloc, text, node)?;
+    }
+    Ok(())
+}
+
 /// What inlines have beside the source where none is read yet; `texts` are those of the definitions.
 fn no_inlines(alloc: Global, texts: Vec<u8>) -> Inlines
     ensures { inlines_view result
@@ -217,23 +243,24 @@ pub struct Assembly {
 
 impl Assembly {
     /// Reads the inlines of a leaf.
-    #[tactic(auto, unfolding(crate::specs::Pages::leaf_inlines))]
+    #[tactic(auto, unfolding(crate::specs::Pages::leaf_inlines_in))]
     fn read_leaf(
         &mut self,
         alloc: Global,
+        syntax: Syntax,
         text: &str,
         definitions: &Definitions,
         pieces: &[Piece],
         depth: usize,
     ) -> Result<(), AllocError>
         ensures { OnOk result (assembly_view self.new ≡ written_by text.now
-            (leaf_inlines text.now (entry_of definitions.now) pieces.now depth)
+            (leaf_inlines_in syntax text.now (entry_of definitions.now) pieces.now depth)
             (assembly_view self.old)) }
     {
         content_lines(&mut self.lines, pieces)?;
         let content = content_of(alloc, text.as_bytes(), &self.lines)?;
         let before = mem::replace(&mut self.inlines, no_inlines(alloc, Vec::new(alloc)));
-        let mut found = read_inlines(alloc, before, &content, depth, definitions)?;
+        let mut found = read_inlines(alloc, syntax, before, &content, depth, definitions)?;
         write_inlines(
             alloc,
             &mut self.emission,
@@ -252,7 +279,17 @@ impl Assembly {
         ensures { OnOk result (assembly_view self.new
             ≡ written_by text.now (with_block text.now block) (assembly_view self.old)) }
     {
-        write_block(alloc, &mut self.emission, text, block)
+        write_block(alloc, &mut self.emission, text, block)?;
+        let depth = block.depth.saturating_add(1);
+        write_task(alloc, &mut self.emission, text, block.task, depth)
+    }
+
+    #[tactic(auto, unfolding(crate::specs::Pages::with_task))]
+    fn take_task(&mut self, alloc: Global, text: &str, block: Block) -> Result<(), AllocError>
+        ensures { OnOk result (assembly_view self.new
+            ≡ written_by text.now (with_task block) (assembly_view self.old)) }
+    {
+        write_task(alloc, &mut self.emission, text, block.task, block.depth)
     }
 
     #[tactic(auto, unfolding(crate::specs::Pages::with_lines))]
@@ -297,18 +334,20 @@ impl Assembly {
     fn read_wrapped(
         &mut self,
         alloc: Global,
+        syntax: Syntax,
         text: &str,
         definitions: &Definitions,
         pieces: &[Piece],
         block: Block,
     ) -> Result<(), AllocError>
         ensures { OnOk result (assembly_view self.new ≡ written_by text.now
-            (wrapped text.now (entry_of definitions.now) pieces.now block)
+            (wrapped_in syntax text.now (entry_of definitions.now) pieces.now block)
             (assembly_view self.old)) }
     {
         self.open(alloc, text, block)?;
         self.read_leaf(
             alloc,
+            syntax,
             text,
             definitions,
             pieces,
@@ -316,10 +355,29 @@ impl Assembly {
         )
     }
 
-    #[tactic(auto, unfolding(crate::specs::Pages::paragraph_taken))]
+    /// The box and the inlines of a paragraph without its container.
+    fn read_bare(
+        &mut self,
+        alloc: Global,
+        syntax: Syntax,
+        text: &str,
+        definitions: &Definitions,
+        pieces: &[Piece],
+        block: Block,
+    ) -> Result<(), AllocError>
+        ensures { OnOk result (assembly_view self.new ≡ written_by text.now
+            (bare_in syntax text.now (entry_of definitions.now) pieces.now block)
+            (assembly_view self.old)) }
+    {
+        self.take_task(alloc, text, block)?;
+        self.read_leaf(alloc, syntax, text, definitions, pieces, block.depth)
+    }
+
+    #[tactic(auto, unfolding(crate::specs::Pages::paragraph_taken_in))]
     fn read_paragraph(
         &mut self,
         alloc: Global,
+        syntax: Syntax,
         text: &str,
         definitions: &Definitions,
         pieces: &[Piece],
@@ -327,23 +385,24 @@ impl Assembly {
         block: Block,
     ) -> Result<(), AllocError>
         ensures { OnOk result (assembly_view self.new ≡ written_by text.now
-            (paragraph_taken text.now (entry_of definitions.now) pieces.now unwrapped block)
+            (paragraph_taken_in syntax text.now (entry_of definitions.now) pieces.now unwrapped block)
             (assembly_view self.old)) }
     {
         if block.last <= block.first {
             Ok(())
         } else if unwrapped {
-            self.read_leaf(alloc, text, definitions, pieces, block.depth)
+            self.read_bare(alloc, syntax, text, definitions, pieces, block)
         } else {
-            self.read_wrapped(alloc, text, definitions, pieces, block)
+            self.read_wrapped(alloc, syntax, text, definitions, pieces, block)
         }
     }
 
     /// One more block; `all` are the pieces of all blocks.
-    #[tactic(auto, unfolding(crate::specs::Pages::block_taken))]
+    #[tactic(auto, unfolding(crate::specs::Pages::block_taken_in))]
     fn read_block(
         &mut self,
         alloc: Global,
+        syntax: Syntax,
         text: &str,
         definitions: &Definitions,
         all: &[Piece],
@@ -351,15 +410,22 @@ impl Assembly {
         block: Block,
     ) -> Result<(), AllocError>
         ensures { OnOk result (assembly_view self.new ≡ written_by text.now
-            (block_taken text.now (entry_of definitions.now) all.now unwrapped block)
+            (block_taken_in syntax text.now (entry_of definitions.now) all.now unwrapped block)
             (assembly_view self.old)) }
     {
         let pieces = pieces_of(all, block.first, block.last);
         match block.kind {
             BlockKind::Paragraph => {
-                self.read_paragraph(alloc, text, definitions, pieces, unwrapped, block)
+                self.read_paragraph(alloc, syntax, text, definitions, pieces, unwrapped, block)
             }
-            BlockKind::Heading(_) => self.read_wrapped(alloc, text, definitions, pieces, block),
+            BlockKind::Heading(_) => self.read_wrapped(
+                alloc,
+                syntax,
+                text,
+                definitions,
+                pieces,
+                block,
+            ),
             BlockKind::Quote => self.open(alloc, text, block),
             BlockKind::List(_) => self.open(alloc, text, block),
             BlockKind::Item => self.open(alloc, text, block),
@@ -367,6 +433,7 @@ impl Assembly {
             BlockKind::Fenced(_, _) => self.take_lines(alloc, text, false, block, pieces),
             BlockKind::Html => self.take_lines(alloc, text, true, block, pieces),
             BlockKind::Rule => self.take_rule(alloc, text, block),
+            BlockKind::Metadata(_) => self.take_lines(alloc, text, false, block, pieces),
         }
     }
 }
@@ -375,6 +442,7 @@ impl Assembly {
 /// written before the next one is read.
 pub fn assemble(
     alloc: Global,
+    syntax: Syntax,
     text: &str,
     definitions: &Definitions,
     blocks: &[Block],
@@ -382,7 +450,7 @@ pub fn assemble(
     texts: Vec<u8>,
 ) -> Result<Assembly, AllocError>
     ensures { IfOk result (λ a. assembly_view a ≡ written_alone text.now
-        (assembled text.now (entry_of definitions.now) blocks.now pieces.now texts.items)) }
+        (assembled_in syntax text.now (entry_of definitions.now) blocks.now pieces.now texts.items)) }
 {
     let mut assembly = Assembly {
         emission: Emission {
@@ -394,7 +462,7 @@ pub fn assemble(
     };
     for block in blocks {
         let unwrapped = is_unwrapped(blocks, *block);
-        assembly.read_block(alloc, text, definitions, pieces, unwrapped, *block)?;
+        assembly.read_block(alloc, syntax, text, definitions, pieces, unwrapped, *block)?;
     }
     Ok(assembly)
 }

@@ -3,7 +3,7 @@
 ghost use Rattle.std.specs.Prelude.{◌≡◌, map, string_bytes, IfOk, OnOk};
 ghost use Rattle.tocmark_read_blocks.specs.Definitions.{definition_view};
 ghost use Rattle.tocmark_read_spans.specs.Definitions.{collected_view, entry_of};
-ghost use Rattle.tocmark_core_reader.specs.Reading.{define_step, collected, first_entry, core_reading};
+ghost use Rattle.tocmark_core_reader.specs.Reading.{define_step, collected, first_entry, found_under, reading_of};
 ghost use Rattle.tocmark_event.specs.Reading.{reading_view};
 
 use crate::page::assemble;
@@ -12,6 +12,7 @@ use tocmark_event::event::ParserOptions;
 use tocmark_event::reader::{Reader, Reading};
 use tocmark_read_blocks::{LinkDefinition, read_blocks};
 use tocmark_read_spans::definitions::{Collected, Definitions, Entry, distinct_labels};
+use tocmark_read_syntax::{CORE, Syntax};
 use tocmark_read_tokens::label::first_places;
 
 /// Reads CommonMark 0.31.2, under all flags alike.
@@ -53,12 +54,12 @@ fn definitions(
     Ok(Definitions { places, entries })
 }
 
-/// The events of a text, and its labels.
-#[tactic(auto, unfolding(crate::specs::Reading::found_in, crate::specs::Reading::core_reading))]
-fn find(alloc: Global, text: &str) -> Result<Reading, AllocError>
-    ensures { IfOk result (λ found. reading_view found ≡ core_reading text.now) }
+/// The events of a text and its labels, with the extensions of a syntax. An `Err` says that memory ran out.
+#[tactic(auto, unfolding(crate::specs::Reading::found_under, crate::specs::Reading::reading_of))]
+pub fn find(alloc: Global, syntax: Syntax, text: &str) -> Result<Reading, AllocError>
+    ensures { IfOk result (λ found. reading_view found ≡ reading_of syntax text.now) }
 {
-    let blocks = read_blocks(alloc, text.as_bytes())?;
+    let blocks = read_blocks(alloc, syntax, text.as_bytes())?;
     let Collected {
         keys,
         labels,
@@ -69,6 +70,7 @@ fn find(alloc: Global, text: &str) -> Result<Reading, AllocError>
     let definitions = definitions(alloc, &keys, entries)?;
     let page = assemble(
         alloc,
+        syntax,
         text,
         &definitions,
         &blocks.blocks,
@@ -109,7 +111,7 @@ impl Reader for CoreReader {
             → IfOk result (λ found.
             IsReadAs (reading_view found) (lines_paragraph (meant l) (map meant ms))) }
     {
-        let found = find(alloc, text)?;
+        let found = find(alloc, CORE, text)?;
         Ok(found)
     }
 }

@@ -6,7 +6,8 @@ use Rattle.std.specs.Iterator.{DrainsIf, YieldsFirstBy}
 use Rattle.std.specs.List.{FoldsTo, concat}
 use Rattle.tocmark_event.specs.Text.{ParserEvent}
 use Rattle.tocmark_event.specs.declared.event.flags.ParserOptions.{ParserOptions}
-use Rattle.tocmark_core_reader.specs.Reading.{core_reading}
+use Rattle.tocmark_core_reader.specs.Reading.{reading_of}
+use Rattle.tocmark_extended_reader.specs.Flags.{syntax_of}
 use Rattle.tocmark_laws.proofs.Handed.{drained, written_in_parts}
 use Rattle.tocmark_event.specs.Options.{OptionsView}
 use Rattle.tocmark_event.specs.Reading.{lent_pair}
@@ -17,17 +18,17 @@ use Rattle.tocmark_events_program.specs.Events.{IsWritten, places_left, writing}
 use Rattle.tocmark_events_program.specs.declared.pairs.EventPairs.{EventPairs}
 
 abbrev walked : OptionsView → List ℕ → ParserOptions → List Pair → Walk Done
-walked options source flags q = script (rendering options (λ t f. core_reading t)) source (nothing_yet flags) q
+walked options source flags q = script (rendering options (λ t f. reading_of (syntax_of f) t)) source (nothing_yet flags) q
 
 -- the pairs of a call that took all of them
 pub pairs_taken : (xs : List (Bor ParserEvent × Option Range)) (it : EventPairs) → DrainsIf (YieldsFirstBy lent_pair places_left) (Unit {0}) it xs → ranged_pairs xs ≡ places_left it
 pairs_taken xs it h = drained lent_pair places_left xs it h
 
 -- the texts of the script of all pairs, one after the other, are what is written
-pub all_written : (options : OptionsView) (source : List ℕ) (flags : ParserOptions) (q pairs : List Pair) (start output : String Global) → flags ≡ record { 0 = 0 } → q ≡ pairs → string_bytes start ≡ [] → (walked options source flags q).outcome ≡ Ok done → FoldsTo (λ s t u. string_bytes u ≡ string_bytes s ++ t) start (walked options source flags q).texts output → IsWritten options source pairs (string_bytes output)
-all_written options source flags q pairs start output none same empty ended folded =
-    let all : walked options source flags q ≡ writing options source pairs =
-    ap (λ (f : ParserOptions). walked options source f q) none ∙ ap (λ (p : List Pair). walked options source (record { 0 = 0 }) p) same in
+pub all_written : (options : OptionsView) (source : List ℕ) (flags : ParserOptions) (q pairs : List Pair) (start output : String Global) → q ≡ pairs → string_bytes start ≡ [] → (walked options source flags q).outcome ≡ Ok done → FoldsTo (λ s t u. string_bytes u ≡ string_bytes s ++ t) start (walked options source flags q).texts output → IsWritten options flags source pairs (string_bytes output)
+all_written options source flags q pairs start output same empty ended folded =
+    let all : walked options source flags q ≡ writing options flags source pairs =
+    ap (λ (p : List Pair). walked options source flags p) same in
     record {
       ends_well = subst (λ (w : Walk Done). w.outcome ≡ Ok done) all ended;
       joined =

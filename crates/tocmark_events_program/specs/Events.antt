@@ -6,7 +6,9 @@ use Rattle.std.specs.Slice.Iter.{iter_rest}
 use Rattle.serde_json.specs.Data.{Data}
 use Rattle.serde_json.specs.Read.{read}
 use Rattle.serde_json.specs.Written.{IsInOrder}
-use Rattle.tocmark_core_reader.specs.Reading.{core_reading}
+use Rattle.tocmark_core_reader.specs.Reading.{reading_of}
+use Rattle.tocmark_extended_reader.specs.Flags.{syntax_of}
+use Rattle.tocmark_event.specs.declared.event.flags.ParserOptions.{ParserOptions}
 use Rattle.tocmark_event.specs.Text.{text_of}
 use Rattle.tocmark_event.specs.View.{EventView}
 use Rattle.tocmark_json.specs.Json.{events_json, pair_view, pairs_json}
@@ -24,31 +26,31 @@ use Rattle.tocmark_events_program.specs.declared.fault.Fault.TheVariants as faul
 abbrev pub places_left : EventPairs → List Pair
 places_left s = map (pair_view text_of) (iter_rest s.0)
 
--- the JSON of what the core reader finds in a text
-abbrev pub reading_json : List ℕ → Data
-reading_json text = pairs_json (map (λ e. (e.0, Some e.1)) (core_reading text).events)
+-- the JSON of what the reader of extensions finds in a text under these flags
+abbrev pub reading_json : ParserOptions → List ℕ → Data
+reading_json flags text = pairs_json (map (λ e. (e.0, Some e.1)) (reading_of (syntax_of flags) text).events)
 
--- what events with ranges come to over a source, under these options
-abbrev pub writing : OptionsView → List ℕ → List Pair → Walk Done
-writing options source pairs =
-    script (rendering options (λ t flags. core_reading t)) source (nothing_yet (record { 0 = 0 })) pairs
+-- what events with ranges come to over a source, under these options and flags
+abbrev pub writing : OptionsView → ParserOptions → List ℕ → List Pair → Walk Done
+writing options flags source pairs =
+    script (rendering options (λ t f. reading_of (syntax_of f) t)) source (nothing_yet flags) pairs
 
 -- the events, written over the source, are this text
-pub record IsWritten (options : OptionsView) (source : List ℕ) (pairs : List Pair) (output : List ℕ) : Type 0 where
-  pub ends_well : (writing options source pairs).outcome ≡ Ok done
-  pub joined : output ≡ concat (writing options source pairs).texts
+pub record IsWritten (options : OptionsView) (flags : ParserOptions) (source : List ℕ) (pairs : List Pair) (output : List ℕ) : Type 0 where
+  pub ends_well : (writing options flags source pairs).outcome ≡ Ok done
+  pub joined : output ≡ concat (writing options flags source pairs).texts
 
 -- a value is that of these events, with their ranges or, where none has one, without
 abbrev pub IsJsonOf : Data → List Pair → Type 0
 IsJsonOf value pairs = (value ≡ pairs_json pairs) ⊎ ((es : List EventView) × (value ≡ events_json es) × (pairs ≡ map unranged es))
 
 -- the events that a text has as JSON, written over the source, are this text
-pub record IsWrittenFrom (options : OptionsView) (source input output : List ℕ) : Type 0 where
+pub record IsWrittenFrom (options : OptionsView) (flags : ParserOptions) (source input output : List ℕ) : Type 0 where
   pub value : Data
   pub pairs : List Pair
   pub is_read : read input ≡ Some value
   pub is_json : IsJsonOf value pairs
-  pub is_written : IsWritten options source pairs output
+  pub is_written : IsWritten options flags source pairs output
 
 -- the JSON of some events, written again: each item and member once and in order
 pub record IsWrittenAgain (input output : List ℕ) : Type 0 where
@@ -60,9 +62,9 @@ pub record IsWrittenAgain (input output : List ℕ) : Type 0 where
 
 -- what a job makes of its input
 abbrev pub IsAnswer : Job → List ℕ → List ℕ → List ℕ → Type 0
-IsAnswer job.Read source input output = IsInOrder output (reading_json input)
+IsAnswer (job.Read flags) source input output = IsInOrder output (reading_json flags input)
 IsAnswer job.Check source input output = IsWrittenAgain input output
-IsAnswer (job.Write options file) source input output = IsWrittenFrom (options_view options) source input output
+IsAnswer (job.Write flags options file) source input output = IsWrittenFrom (options_view options) flags source input output
 
 -- the output could not be written whole
 abbrev pub IsWriteFault : Fault → Type 0

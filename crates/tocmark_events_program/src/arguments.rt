@@ -9,12 +9,15 @@ use tocmark::event::ParserOptions;
 /// What is to be done.
 #[derive(Clone, Copy, Drop)]
 pub enum Job<'a> {
-    /// Markdown to events.
-    Read,
+    /// Markdown, read under these flags, to events.
+    Read {
+        flags: ParserOptions,
+    },
     /// Events to the one form of their JSON.
     Check,
-    /// Events to Markdown, with the file of their source, if there is one.
+    /// Events, read under these flags, to Markdown, with the file of their source, if there is one.
     Write {
+        flags: ParserOptions,
         options: Options<'static>,
         source: Option<&'a str>,
     },
@@ -29,9 +32,12 @@ fn syntax_arguments<'a>(alloc: Global, command: Command<'a>) -> Result<Command<'
         .long("extension")
         .value_name("NAME")
         .action(ArgAction::Append)
-        .help("An extension that is read too: none is there yet");
+        .help(EXTENSIONS);
     command.arg(syntax)?.arg(extension)
 }
+
+const EXTENSIONS: &str =
+    "An extension that is read too: strikethrough, tasklists, yaml-metadata or pluses-metadata";
 
 const CHECK: &str =
     "Events as JSON on standard input to the same, without spaces and in one order of keys";
@@ -64,12 +70,38 @@ pub fn command<'a>(alloc: Global) -> Result<Command<'a>, AllocError> {
         .subcommand(syntax_arguments(alloc, write)?)
 }
 
-fn has_known_syntax(matches: &ArgMatches<'_>) -> bool {
-    let syntax = matches.get_str("syntax").unwrap_or("commonmark");
-    syntax == "commonmark" && matches.get_strs("extension").is_none()
+/// The flag of an extension that is read.
+fn flag_named(name: &str) -> Option<ParserOptions> {
+    match name {
+        "strikethrough" => Some(ParserOptions::ENABLE_STRIKETHROUGH),
+        "tasklists" => Some(ParserOptions::ENABLE_TASKLISTS),
+        "yaml-metadata" => Some(ParserOptions::ENABLE_YAML_STYLE_METADATA_BLOCKS),
+        "pluses-metadata" => Some(ParserOptions::ENABLE_PLUSES_DELIMITED_METADATA_BLOCKS),
+        _ => None,
+    }
 }
 
-fn options_of(matches: &ArgMatches<'_>) -> Result<Options<'static>, &'static str> {
+/// The flags of the extensions that are named.
+fn flags_of(matches: &ArgMatches<'_>) -> Result<ParserOptions, &'static str> {
+    if matches.get_str("syntax").unwrap_or("commonmark") != "commonmark" {
+        return Err("only --syntax commonmark is there yet");
+    }
+    let mut flags = ParserOptions::empty();
+    if let Some(names) = matches.get_strs("extension") {
+        for name in names {
+            let Some(flag) = flag_named(name) else {
+                return Err("--extension wants a name that --help lists");
+            };
+            flags.insert(flag);
+        }
+    }
+    Ok(flags)
+}
+
+fn options_of(
+    matches: &ArgMatches<'_>,
+    flags: ParserOptions,
+) -> Result<Options<'static>, &'static str> {
     let mut options = Options::default();
     options.check_plain_blocks = matches.get_flag("check-plain-blocks");
     if let Some(words) = matches.get_strs("option") {
@@ -81,7 +113,7 @@ fn options_of(matches: &ArgMatches<'_>) -> Result<Options<'static>, &'static str
             }
         }
     }
-    match options.validate(ParserOptions::empty()) {
+    match options.validate(flags) {
         Ok(()) => Ok(options),
         Err(_error) => Err("an option's value is refused"),
     }
@@ -95,14 +127,13 @@ pub fn asked<'a>(matches: &ArgMatches<'a>) -> Result<Job<'a>, &'static str> {
     if name == "check" {
         return Ok(Job::Check);
     }
-    if !has_known_syntax(matches) {
-        return Err("only --syntax commonmark is there yet, without extensions");
-    }
+    let flags = flags_of(matches)?;
     if name == "read" {
-        return Ok(Job::Read);
+        return Ok(Job::Read { flags });
     }
-    let options = options_of(matches)?;
+    let options = options_of(matches, flags)?;
     Ok(Job::Write {
+        flags,
         options,
         source: matches.get_str("source"),
     })

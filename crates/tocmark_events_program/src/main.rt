@@ -30,22 +30,22 @@ use std::alloc::Global;
 use std::io::{Read, Write};
 use std::process::ExitCode;
 use std::{env, fs, io};
-use tocmark::core_reader::CoreReader;
 use tocmark::event::{Event, ParserOptions};
 use tocmark::reader::Reader;
 use tocmark::{Error, Options, cmark_with_source_range_and_options};
+use tocmark_extended_reader::ExtendedReader;
 use tocmark_json::reading::{events_from_json, pairs_from_json};
 use tocmark_json::writing::{events_to_json, pairs_to_json, ranged_to_json};
 
 /// An event with its range, if it has one.
 type Placed = (Event<'static>, Option<(usize, usize)>);
 
-/// The JSON of the events of a text, with their ranges.
-fn read_events(alloc: Global, text: &str) -> Result<String, Fault>
+/// The JSON of the events of a text under these flags, with their ranges.
+fn read_events(alloc: Global, text: &str, flags: ParserOptions) -> Result<String, Fault>
     ensures fault { IfErr result (λ fault. ¬ (IsWriteFault fault)) }
-    ensures read { IfOk result (λ output. IsInOrder (string_bytes output) (reading_json text.now)) }
+    ensures read { IfOk result (λ output. IsInOrder (string_bytes output) (reading_json flags text.now)) }
 {
-    let reading = CoreReader.read(alloc, text, ParserOptions::empty())?;
+    let reading = ExtendedReader.read(alloc, text, flags)?;
     let value = ranged_to_json(alloc, &reading.events)?;
     Ok(value.to_string(alloc)?)
 }
@@ -170,19 +170,19 @@ fn written<'a>(
     alloc: Global,
     pairs: &'a [(Event<'a>, Option<(usize, usize)>)],
     source: &str,
+    flags: ParserOptions,
     options: Options<'static>,
 ) -> Result<String, Error>
-    ensures { IfOk result (λ output. IsWritten (options_view options.entry) source.now
+    ensures { IfOk result (λ output. IsWritten (options_view options.entry) flags source.now
         (map (pair_view text_of) pairs.now) (string_bytes output)) }
 {
-    let flags = ParserOptions::empty();
     let mut output = String::new(alloc);
     let state = cmark_with_source_range_and_options(
         alloc,
         EventPairs::new(pairs),
         source,
         &mut output,
-        CoreReader,
+        ExtendedReader,
         flags,
         options,
     )?;
@@ -195,15 +195,16 @@ fn write_events(
     alloc: Global,
     text: &str,
     source: &str,
+    flags: ParserOptions,
     options: Options<'static>,
 ) -> Result<String, Fault>
     ensures fault { IfErr result (λ fault. ¬ (IsWriteFault fault)) }
-    ensures written { IfOk result (λ output. IsWrittenFrom (options_view options.entry) source.now text.now
-        (string_bytes output)) }
+    ensures written { IfOk result (λ output. IsWrittenFrom (options_view options.entry) flags source.now
+        text.now (string_bytes output)) }
 {
     let value = value_of(alloc, text)?;
     let pairs = pairs_of(alloc, &value)?;
-    match written(alloc, lent(&pairs), source, options) {
+    match written(alloc, lent(&pairs), source, flags, options) {
         Ok(output) => Ok(output),
         Err(error) => Err(Fault::Markdown(error)),
     }
@@ -236,9 +237,9 @@ fn answered(alloc: Global, job: Job<'_>, source: &str, text: &str) -> Result<Str
         IsAnswer job.entry source.now text.now (string_bytes output)) }
 {
     match job {
-        Job::Read => read_events(alloc, text),
+        Job::Read { flags } => read_events(alloc, text, flags),
         Job::Check => checked_events(alloc, text),
-        Job::Write { options, .. } => write_events(alloc, text, source, options),
+        Job::Write { flags, options, .. } => write_events(alloc, text, source, flags, options),
     }
 }
 
@@ -305,7 +306,7 @@ fn words_of(rt: &HostRuntime) -> io::Result<Vec<String>> {
 
 fn source_of(rt: &HostRuntime, job: Job<'_>) -> Result<String, Fault> {
     let file = match job {
-        Job::Read | Job::Check => None,
+        Job::Read { .. } | Job::Check => None,
         Job::Write { source, .. } => source,
     };
     let Some(file) = file else {

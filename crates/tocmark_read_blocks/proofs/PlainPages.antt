@@ -2,9 +2,10 @@
 use Rattle.std.proofs.Common.{◌≡◌, ℕ, false, ◌==◌, List, [], ◌∷◌, ◌++◌, length, map, ap, sym, ◌∙◌, append_assoc, append-nil, None}
 use Rattle.std.specs.List.{AllByRecursion, fold}
 use Rattle.tocmark_read_scan.specs.Basic.{byte_at}
-use Rattle.tocmark_read_blocks.specs.Blocks.{BlocksView, line_taken, page_of, blocks_of}
+use Rattle.tocmark_read_blocks.specs.Blocks.{BlocksView, line_taken, page_in, blocks_in, blocks_of}
 use Rattle.tocmark_read_blocks.specs.Pages.{State, first_page, closed_to}
 use Rattle.tocmark_read_lines.specs.Lines.{lines_of}
+use Rattle.tocmark_read_lines.specs.Metadata.{known_of}
 use Rattle.tocmark_read_lines.specs.declared.cell.Cell.{Cell}
 use Rattle.tocmark_read_lines.specs.declared.line.Line.{Line}
 use Rattle.tocmark_read_blocks.specs.declared.definition.Piece.{Piece}
@@ -34,11 +35,11 @@ more_lines text p0 pieces start end number (l ∷ ls) h =
 
 -- the blocks of such lines: one paragraph with a piece for each line
 pub plain_blocks : (text : List ℕ) (l : Line) (ls : List Line) → lines_of text ≡ l ∷ ls → ArePlain text (l ∷ ls) → (byte_at text l.start == 91) ≡ false → blocks_of text ≡ record {
-  blocks = record { depth = 0; kind = kind.Paragraph; start = l.start; end = last_end l.end ls; first = 0; last = length (map line_piece (l ∷ ls)); loose = false; list = None } ∷ [];
+  blocks = record { depth = 0; kind = kind.Paragraph; start = l.start; end = last_end l.end ls; first = 0; last = length (map line_piece (l ∷ ls)); loose = false; list = None; task = None } ∷ [];
   pieces = map line_piece (l ∷ ls);
   definitions = [];
 }
-unfolding blocks_of page_of
+unfolding blocks_in page_in known_of
 plain_blocks text l ls e h k =
     let view : State → BlocksView = λ s. record { blocks = s.blocks; pieces = s.pieces; definitions = s.definitions } in
     ap (λ lines. view (closed_to text 0 (fold (line_taken text) first_page lines))) e

@@ -4,7 +4,7 @@ use Rattle.std.proofs.Math.Seq.{take-length}
 use Rattle.tocmark_read_scan.specs.Basic.{byte_at, piece}
 use Rattle.tocmark_read_scan.proofs.Repeats.{repeated_stop}
 use Rattle.tocmark_read_lines.specs.Cells.{cells_of, cell_byte, cell_place, first_cursor}
-use Rattle.tocmark_read_blocks.specs.Blocks.{container_once, containers_opened, leaf_started, started_at, text_taken, text_started, goes_directly, turn_of, touched, cells_taken, line_taken, begun_at, started}
+use Rattle.tocmark_read_blocks.specs.Blocks.{leaf_started_in, started_in, metadata_in, metadata_or, task_in, task_or, cells_taken_in, line_taken_in, container_once, containers_opened, leaf_started, started_at, text_taken, text_started, goes_directly, turn_of, touched, cells_taken, line_taken, begun_at, started}
 use Rattle.tocmark_read_blocks.specs.Codes.{piece_of, text_piece}
 use Rattle.tocmark_read_lines.specs.Containers.{container_at, item_at, raised_at}
 use Rattle.std.proofs.lemmas.Bool.Decides.{nat_tests}
@@ -58,7 +58,7 @@ a_text bytes cells within directly h = rw (h.some, h.heading, h.fence, no_html b
 -- a paragraph at the top is open, with these lines
 abbrev pub paragraph : List Piece → ℕ → ℕ → ℕ → State
 paragraph pieces start end number = record {
-  blocks = record { depth = 0; kind = kind.Paragraph; start = start; end = start; first = 0; last = 0; loose = false; list = None } ∷ [];
+  blocks = record { depth = 0; kind = kind.Paragraph; start = start; end = start; first = 0; last = 0; loose = false; list = None; task = None } ∷ [];
   pieces = pieces;
   definitions = [];
   opened = [];
@@ -87,7 +87,7 @@ opens_none text cells l s h =
     (sym (ap (begun_at text cells l here s) (no_container (piece text l.start l.end) cells (goes_directly 0 s) h)))
 
 starts_text : (text : List ℕ) (cells : List Cell) (l : Line) (s : State) → cell_place cells 0 l.end ≡ l.start → BeginsNothing (piece text l.start l.end) cells → leaf_started text cells l here s ≡ text_taken text cells l here s
-unfolding leaf_started started
+unfolding leaf_started_in started_in metadata_in metadata_or task_in task_or
 starts_text text cells l s p h =
     ap (started_at text cells l (tail_of cells)) (opens_none text cells l s h)
     ∙ ap (λ at. started (leaf_at cells (piece text at l.end) (tail_of cells) front (is_paragraph s.leaf) (goes_directly 0 s)) text cells l (tail_of cells) here s) p
@@ -123,7 +123,7 @@ text_goes_on text cells l p0 pieces start end number p h =
 
 -- the first line begins a paragraph
 pub line_begins : (text : List ℕ) (cells : List Cell) (l : Line) → IsPlainLine text cells l → line_taken text first_page l ≡ paragraph (line_piece l ∷ []) l.start l.end l.number
-unfolding line_taken cells_taken touched turn_of leaf_turn
+unfolding line_taken_in cells_taken_in touched turn_of leaf_turn
 line_begins text cells l h =
     ap (λ c. cells_taken text c l first_page) h.columns
     ∙ ap (λ c. leaf_started text cells l (record { cursor = c; depth = 0 }) first_page) (h.begins).ink
@@ -132,7 +132,7 @@ line_begins text cells l h =
 
 -- a further line goes into it
 pub line_goes_on : (text : List ℕ) (cells : List Cell) (l : Line) (p0 : Piece) (pieces : List Piece) (start end number : ℕ) → IsPlainLine text cells l → line_taken text (paragraph (p0 ∷ pieces) start end number) l ≡ paragraph ((p0 ∷ pieces) ++ line_piece l ∷ []) start l.end l.number
-unfolding line_taken cells_taken touched turn_of leaf_turn
+unfolding line_taken_in cells_taken_in touched turn_of leaf_turn
 line_goes_on text cells l p0 pieces start end number h =
     let s = paragraph (p0 ∷ pieces) start end number in
     ap (λ c. cells_taken text c l s) h.columns
@@ -143,7 +143,7 @@ line_goes_on text cells l p0 pieces start end number h =
 -- what is left at the end: one paragraph with all lines
 abbrev pub whole : List Piece → ℕ → ℕ → ℕ → State
 whole pieces start end number = record (paragraph pieces start end number) {
-  blocks = record { depth = 0; kind = kind.Paragraph; start = start; end = end; first = 0; last = length pieces; loose = false; list = None } ∷ [];
+  blocks = record { depth = 0; kind = kind.Paragraph; start = start; end = end; first = 0; last = length pieces; loose = false; list = None; task = None } ∷ [];
   leaf = leaf.Nothing;
 }
 

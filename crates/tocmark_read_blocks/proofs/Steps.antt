@@ -1,7 +1,7 @@
 -- How recursions over lists go on from a place.
 use Rattle.std.proofs.Common.{◌≡◌, ℕ, zero, suc, ◌-◌, ◌<◌, List, length, ap, refl, ◌∙◌, arith}
 use native.Mathlib.Numerals.{unary_clauses}
-use Rattle.std.specs.Prelude.{true}
+use Rattle.std.specs.Prelude.{Bool, true, false, ◌&&◌}
 use Rattle.tocmark_read_scan.specs.Repeat.{repeated}
 use Rattle.tocmark_read_lines.specs.Cells.{is_blank_at}
 use Rattle.tocmark_read_lines.specs.Containers.{container_at}
@@ -9,8 +9,9 @@ use Rattle.tocmark_read_blocks.specs.Leaves.{leaf_at}
 use Rattle.tocmark_read_lines.specs.Marks.{tail_of}
 use Rattle.tocmark_read_lines.specs.declared.cell.Cell.{Cell}
 use Rattle.tocmark_read_lines.specs.declared.line.Line.{Line}
+use Rattle.tocmark_read_lines.specs.declared.metadata.Known.{Known}
 use Rattle.tocmark_read_lines.specs.declared.mark.Tail.{Tail}
-use Rattle.tocmark_read_blocks.specs.Blocks.{container_once, started, started_at, leaf_started}
+use Rattle.tocmark_read_blocks.specs.Blocks.{container_once, started_in, started_at_in, leaf_started_in, is_front, metadata_in, metadata_or, task_in, task_or}
 use Rattle.tocmark_read_blocks.specs.Pages.{State, closed_to, times}
 use Rattle.tocmark_read_blocks.specs.declared.block.Place.{Place}
 
@@ -30,6 +31,13 @@ unfolding repeated container_once container_at
 blank_opens text cells line tail place s zero h = refl
 blank_opens text cells line tail place s (suc n) h = rw h refl
 
-pub blank_started : (text : List ℕ) (cells : List Cell) (line : Line) (place : Place) (s : State) → is_blank_at cells place.cursor ≡ true → leaf_started text cells line place s ≡ closed_to text place.depth s
-unfolding leaf_started leaf_at started
-blank_started text cells line place s h = ap (started_at text cells line (tail_of cells)) (blank_opens text cells line (tail_of cells) place s (length cells) h) ∙ rw h refl
+-- no extension begins where a test is false
+never : (flag : Bool) → flag && false ≡ false
+never true = refl
+never false = refl
+
+pub blank_started : (known : Known) (text : List ℕ) (cells : List Cell) (line : Line) (place : Place) (s : State) → is_blank_at cells place.cursor ≡ true → leaf_started_in known text cells line place s ≡ closed_to text place.depth s
+unfolding leaf_started_in leaf_at started_in is_front metadata_in metadata_or task_in task_or
+blank_started known text cells line place s h =
+    ap (started_at_in known text cells line (tail_of cells)) (blank_opens text cells line (tail_of cells) place s (length cells) h)
+    ∙ rw (h, never known.syntax.task_lists, never known.syntax.yaml_metadata, never known.syntax.pluses_metadata) refl

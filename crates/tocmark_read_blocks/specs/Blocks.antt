@@ -1,19 +1,26 @@
 -- How a line changes a page (CommonMark, appendix "A parsing strategy").
-use Rattle.std.specs.Prelude.{ℕ, ◌-◌, Bool, true, false, ◌==◌, ◌&&◌, nat_lt, nat_le, if◌then◌else◌, List, [], length, map, slice_get, slice_set, Option, Some, None}
+use Rattle.std.specs.Prelude.{ℕ, ◌-◌, Bool, true, false, not, ◌==◌, ◌&&◌, ◌||◌, nat_lt, nat_le, if◌then◌else◌, List, [], length, map, slice_get, slice_set, Option, Some, None, unwrap_or}
 use Rattle.std.specs.List.{fold}
-use Rattle.std.specs.Option.{option_map_or}
+use Rattle.std.specs.Option.{option_map, option_map_or}
 use Rattle.tocmark_event.specs.declared.event.HeadingLevel.{HeadingLevel}
+use Rattle.tocmark_event.specs.declared.event.MetadataBlockKind.{MetadataBlockKind}
+use Rattle.tocmark_event.specs.declared.event.MetadataBlockKind.TheVariants as metadata
 use Rattle.tocmark_read_scan.specs.Basic.{plus, piece}
 use Rattle.tocmark_read_scan.specs.Repeat.{repeated}
+use Rattle.tocmark_read_syntax.specs.declared.Syntax.{Syntax}
+use Rattle.tocmark_read_syntax.specs.declared.TheConstants.{CORE}
 use Rattle.tocmark_read_lines.specs.Lines.{lines_of}
-use Rattle.tocmark_read_lines.specs.Cells.{cells_of, cell_place, ink_from, moved, trimmed}
-use Rattle.tocmark_read_blocks.specs.Codes.{code_piece, text_piece, heading_piece, keeps_line}
+use Rattle.tocmark_read_lines.specs.Cells.{cells_of, cell_place, indent_of, ink_from, is_blank_at, moved, trimmed}
+use Rattle.tocmark_read_blocks.specs.Codes.{code_piece, piece_of, text_piece, heading_piece, keeps_line}
 use Rattle.tocmark_read_blocks.specs.Definitions.{DefinitionView, definition_view}
-use Rattle.tocmark_read_lines.specs.Containers.{after_quote, container_at, matched, touched_from}
+use Rattle.tocmark_read_lines.specs.Containers.{after_quote, container_at, is_empty_item, matched, touched_from}
 use Rattle.tocmark_read_lines.specs.Html.{html_ends}
+use Rattle.tocmark_read_lines.specs.Metadata.{begins_metadata, behind_blanks, known_of}
+use Rattle.tocmark_read_lines.specs.Tasks.{box_at}
+use Rattle.tocmark_read_lines.specs.declared.metadata.Known.{Known}
 use Rattle.tocmark_read_blocks.specs.Leaves.{is_paragraph, leaf_at, leaf_turn, rule_at}
 use Rattle.tocmark_read_lines.specs.Marks.{tail_of}
-use Rattle.tocmark_read_blocks.specs.Pages.{State, first_page, innermost, leaf_finished, settled, closed_to, list_left, opened_with, leaf_opened, piece_taken}
+use Rattle.tocmark_read_blocks.specs.Pages.{State, first_page, innermost, is_list, leaf_finished, settled, closed_to, list_left, opened_with, leaf_opened, piece_taken}
 use Rattle.tocmark_read_lines.specs.declared.line.Line.{Line}
 use Rattle.tocmark_read_lines.specs.declared.cell.Cell.{Cell}
 use Rattle.tocmark_read_lines.specs.declared.cell.Cursor.{Cursor}
@@ -114,6 +121,7 @@ html_ended_as leaf.Paragraph rest s = s
 html_ended_as leaf.Indented rest s = s
 html_ended_as (leaf.Fenced f) rest s = s
 html_ended_as (leaf.Html k) rest s = if html_ends k rest then leaf_finished s else s
+html_ended_as (leaf.Metadata k) rest s = s
 
 -- the open HTML block ends if this line has its end
 unfoldable pub html_ended : List ℕ → State → State
@@ -185,7 +193,72 @@ of_kind k blocks = option_map_or (λ (b : Block). slice_set blocks (length block
 unfoldable pub underlined : HeadingLevel → Line → State → State
 underlined level line s = leaf_finished (record s { blocks = of_kind (kind.Heading level) s.blocks; end = line.end; line = line.number })
 
--- a thematic break where one stands, and text elsewhere
+-- metadata begins (outside of all containers)
+unfoldable pub metadata_started : List ℕ → List Cell → Line → Place → MetadataBlockKind → State → State
+metadata_started text cells line place k s =
+    leaf_opened (leaf.Metadata k) (kind.Metadata k) (start_of cells place line) line (closed_to text 0 s)
+
+-- no container goes on at a depth, but for a list that waits for an item
+unfoldable pub is_outside : ℕ → State → Bool
+is_outside depth s =
+    (depth == 0) || ((depth == 1) && option_map_or (λ (o : Opened). is_list o.container) (slice_get s.opened 0) false)
+
+-- a place at the first byte of a line that stands in no container
+unfoldable pub is_front : List Cell → Place → State → Bool
+is_front cells place s = not (is_blank_at cells place.cursor) && (place.cursor.ink == 0) && is_outside place.depth s
+
+-- dashes below a paragraph underline it, and pluses go on with it
+unfoldable pub metadata_in : Known → List ℕ → List Cell → Line → Place → Bool → State → Option MetadataBlockKind
+metadata_in known text cells line place directly s =
+    if known.syntax.yaml_metadata && (is_front cells place s && not directly && begins_metadata metadata.YamlStyle known.yaml_end text line)
+    then Some metadata.YamlStyle
+    else (if known.syntax.pluses_metadata
+    && (is_front cells place s && not (is_paragraph s.leaf) && begins_metadata metadata.PlusesStyle known.pluses_end text line)
+    then Some metadata.PlusesStyle else None)
+
+-- metadata, or what CommonMark has there
+unfoldable pub metadata_or : Option MetadataBlockKind → LeafStart → LeafStart
+metadata_or found other = option_map_or (λ k. start.Metadata k) found other
+
+-- the container of this line is an item that began in it
+unfoldable pub is_new_item : Line → ℕ → State → Bool
+is_new_item line depth s =
+    nat_le (length s.opened) depth
+    && option_map_or (λ (o : Opened). is_empty_item o && (o.line == line.number)) (innermost s.opened) false
+
+-- the box just behind the marker of an item
+unfoldable pub task_in : Known → List ℕ → List Cell → Line → Place → State → Option Bool
+task_in known text cells line place s =
+    if known.syntax.task_lists
+    && (not (is_blank_at cells place.cursor) && (indent_of place.cursor == 0) && is_new_item line place.depth s)
+    then box_at text line (start_of cells place line) else None
+
+-- a box, or what else stands there
+unfoldable pub task_or : Option Bool → LeafStart → LeafStart
+task_or found other = option_map_or (λ done. start.Task done) found other
+
+-- the last block has a box
+unfoldable pub with_task : Bool → ℕ → State → State
+with_task done start s =
+    record s {
+      blocks = option_map_or (λ (b : Block). slice_set s.blocks (length s.blocks - 1) (record b { task = Some (record { done = done; start = start }) }))
+          (slice_get s.blocks (length s.blocks - 1)) s.blocks;
+    }
+
+-- a paragraph begins with a box, and goes on behind it
+unfoldable pub boxed_taken : List ℕ → Line → Place → Bool → ℕ → ℕ → State → State
+boxed_taken text line place done start behind s =
+    piece_taken (piece_of 0 behind line.end line.next) line true
+    (with_task done start (leaf_opened leaf.Paragraph kind.Paragraph start line (closed_to text place.depth s)))
+
+-- a box that is all of its line is one of its item, and else one of the paragraph behind it
+unfoldable pub task_started : List ℕ → List Cell → Line → Place → Bool → State → State
+task_started text cells line place done s =
+    let start = start_of cells place line in
+    let behind = behind_blanks text (plus start 3) in
+    if nat_lt behind line.end then boxed_taken text line place done start behind s else with_task done start s
+
+-- a thematic break or metadata where one stands, and text elsewhere
 abbrev pub rule_or_text : LeafStart → List ℕ → List Cell → Line → Place → State → State
 rule_or_text start.Rule text cells line place s = rule_started text cells line place s
 rule_or_text start.Blank text cells line place s = text_taken text cells line place s
@@ -195,46 +268,54 @@ rule_or_text (start.Heading h) text cells line place s = text_taken text cells l
 rule_or_text (start.Fence f) text cells line place s = text_taken text cells line place s
 rule_or_text (start.Html k) text cells line place s = text_taken text cells line place s
 rule_or_text (start.Underline l) text cells line place s = text_taken text cells line place s
+rule_or_text (start.Metadata k) text cells line place s = metadata_started text cells line place k s
+rule_or_text (start.Task d) text cells line place s = text_taken text cells line place s
 
 -- a heading is underlined only if it has text (CommonMark 4.3)
-abbrev pub underlined_if : Bool → List ℕ → List Cell → Line → Tail → Place → HeadingLevel → State → State
-underlined_if true text cells line tail place level s = underlined level line s
-underlined_if false text cells line tail place level s = rule_or_text (rule_at cells tail place.cursor.ink) text cells line place s
+abbrev pub underlined_if : Bool → LeafStart → List ℕ → List Cell → Line → Place → HeadingLevel → State → State
+underlined_if true other text cells line place level s = underlined level line s
+underlined_if false other text cells line place level s = rule_or_text other text cells line place s
 
--- behind definitions alone, an underline is a thematic break or text
-unfoldable pub underline_taken : List ℕ → List Cell → Line → Tail → Place → HeadingLevel → State → State
-underline_taken text cells line tail place level s =
+-- behind definitions alone, an underline is metadata, a thematic break or text
+unfoldable pub underline_taken_in : Known → List ℕ → List Cell → Line → Tail → Place → HeadingLevel → State → State
+underline_taken_in known text cells line tail place level s =
     let t = settled text s in
-    underlined_if (has_text t) text cells line tail place level t
+    underlined_if (has_text t) (metadata_or (metadata_in known text cells line place false t) (rule_at cells tail place.cursor.ink))
+    text cells line place level t
 
 -- what the rest of a line begins comes into the page
-unfoldable pub started : LeafStart → List ℕ → List Cell → Line → Tail → Place → State → State
-started start.Blank text cells line tail place s = closed_to text place.depth s
-started start.Text text cells line tail place s = text_taken text cells line place s
-started (start.Indented column) text cells line tail place s = indented_started text cells line place column s
-started (start.Heading heading) text cells line tail place s = heading_started text cells line place heading s
-started (start.Fence fence) text cells line tail place s = fence_started text cells line place fence s
-started (start.Html k) text cells line tail place s = html_started text cells line place k s
-started (start.Underline level) text cells line tail place s = underline_taken text cells line tail place level s
-started start.Rule text cells line tail place s = rule_started text cells line place s
+unfoldable pub started_in : Known → LeafStart → List ℕ → List Cell → Line → Tail → Place → State → State
+started_in known start.Blank text cells line tail place s = closed_to text place.depth s
+started_in known start.Text text cells line tail place s = text_taken text cells line place s
+started_in known (start.Indented column) text cells line tail place s = indented_started text cells line place column s
+started_in known (start.Heading heading) text cells line tail place s = heading_started text cells line place heading s
+started_in known (start.Fence fence) text cells line tail place s = fence_started text cells line place fence s
+started_in known (start.Html k) text cells line tail place s = html_started text cells line place k s
+started_in known (start.Underline level) text cells line tail place s = underline_taken_in known text cells line tail place level s
+started_in known start.Rule text cells line tail place s = rule_started text cells line place s
+started_in known (start.Metadata k) text cells line tail place s = metadata_started text cells line place k s
+started_in known (start.Task done) text cells line tail place s = task_started text cells line place done s
 
 -- the leaf that begins behind the containers that began
-abbrev pub started_at : List ℕ → List Cell → Line → Tail → State × Place → State
-started_at text cells line tail found =
+abbrev pub started_at_in : Known → List ℕ → List Cell → Line → Tail → State × Place → State
+started_at_in known text cells line tail found =
     let s = found.0 in
     let place = found.1 in
-    started
-    (leaf_at cells (piece text (start_of cells place line) line.end) tail place.cursor (is_paragraph s.leaf) (goes_directly place.depth s))
+    let directly = goes_directly place.depth s in
+    started_in known
+    (task_or (task_in known text cells line place s)
+    (metadata_or (metadata_in known text cells line place directly s)
+    (leaf_at cells (piece text (start_of cells place line) line.end) tail place.cursor (is_paragraph s.leaf) directly)))
     text cells line tail place s
 
 -- first containers begin, then a leaf
-unfoldable pub leaf_started : List ℕ → List Cell → Line → Place → State → State
-leaf_started text cells line place s =
-    started_at text cells line (tail_of cells) (containers_opened text cells line (tail_of cells) place s)
+unfoldable pub leaf_started_in : Known → List ℕ → List Cell → Line → Place → State → State
+leaf_started_in known text cells line place s =
+    started_at_in known text cells line (tail_of cells) (containers_opened text cells line (tail_of cells) place s)
 
 -- the open leaf has its turn only where all containers round it go on
-unfoldable pub turn_of : List Cell → Place → State → Turn
-turn_of cells place s = if nat_le (length s.opened) place.depth then leaf_turn cells place.cursor s.leaf else turn.Passes
+unfoldable pub turn_of : List ℕ → List Cell → Line → Place → State → Turn
+turn_of text cells line place s = if nat_le (length s.opened) place.depth then leaf_turn text cells line place.cursor s.leaf else turn.Passes
 
 -- the open leaf ends with this line
 unfoldable pub leaf_ended : Line → State → State
@@ -245,28 +326,28 @@ unfoldable pub touched : Line → ℕ → State → State
 touched line depth s = record s { opened = touched_from depth line.end line.number s.quotes s.opened }
 
 -- the open leaf ends with the line, takes it, or lets something else begin
-abbrev pub turn_taken : Turn → List ℕ → List Cell → Line → Place → State → State
-turn_taken turn.Closes text cells line place s = leaf_ended line s
-turn_taken (turn.Takes column) text cells line place s = code_taken text cells column line s
-turn_taken turn.Passes text cells line place s = leaf_started text cells line place s
+abbrev pub turn_taken_in : Known → Turn → List ℕ → List Cell → Line → Place → State → State
+turn_taken_in known turn.Closes text cells line place s = leaf_ended line s
+turn_taken_in known (turn.Takes column) text cells line place s = code_taken text cells column line s
+turn_taken_in known turn.Passes text cells line place s = leaf_started_in known text cells line place s
 
 -- a line is taken from the place behind the containers that go on
-abbrev pub taken_at : List ℕ → List Cell → Line → Place → State → State
-taken_at text cells line place s = turn_taken (turn_of cells place s) text cells line place s
+abbrev pub taken_at_in : Known → List ℕ → List Cell → Line → Place → State → State
+taken_at_in known text cells line place s = turn_taken_in known (turn_of text cells line place s) text cells line place s
 
 -- which containers go on, then what the open leaf does with the line, then what begins
-unfoldable pub cells_taken : List ℕ → List Cell → Line → State → State
-cells_taken text cells line s =
+unfoldable pub cells_taken_in : Known → List ℕ → List Cell → Line → State → State
+cells_taken_in known text cells line s =
     let found = matched cells s.opened s.quotes in
-    taken_at text cells line (record { cursor = found.1; depth = found.0 }) (touched line (found.0) s)
+    taken_at_in known text cells line (record { cursor = found.1; depth = found.0 }) (touched line (found.0) s)
 
 -- a line comes in
-unfoldable pub line_taken : List ℕ → State → Line → State
-line_taken text s line = cells_taken text (cells_of [] line.start (piece text line.start line.end)) line s
+unfoldable pub line_taken_in : Known → List ℕ → State → Line → State
+line_taken_in known text s line = cells_taken_in known text (cells_of [] line.start (piece text line.start line.end)) line s
 
 -- all lines come in, and then all blocks end
-unfoldable pub page_of : List ℕ → State
-page_of text = closed_to text 0 (fold (line_taken text) first_page (lines_of text))
+unfoldable pub page_in : Syntax → List ℕ → State
+page_in syntax text = closed_to text 0 (fold (line_taken_in (known_of syntax text (lines_of text)) text) first_page (lines_of text))
 
 -- what a text is made of, as plain values
 pub record BlocksView : Type 0 where
@@ -279,7 +360,30 @@ abbrev pub blocks_view : Blocks → BlocksView
 blocks_view b = record { blocks = b.blocks.items; pieces = b.pieces.items; definitions = map definition_view b.definitions.items }
 
 -- the blocks of a text
-unfoldable pub blocks_of : List ℕ → BlocksView
-blocks_of text =
-    let s = page_of text in
+unfoldable pub blocks_in : Syntax → List ℕ → BlocksView
+blocks_in syntax text =
+    let s = page_in syntax text in
     record { blocks = s.blocks; pieces = s.pieces; definitions = s.definitions }
+
+-- what is known of a text where no extension is read
+abbrev pub core_known : Known
+core_known = record { syntax = CORE; yaml_end = 0; pluses_end = 0 }
+
+-- the same of CommonMark alone
+abbrev pub started : LeafStart → List ℕ → List Cell → Line → Tail → Place → State → State
+started = started_in core_known
+
+abbrev pub started_at : List ℕ → List Cell → Line → Tail → State × Place → State
+started_at = started_at_in core_known
+
+abbrev pub leaf_started : List ℕ → List Cell → Line → Place → State → State
+leaf_started = leaf_started_in core_known
+
+abbrev pub cells_taken : List ℕ → List Cell → Line → State → State
+cells_taken = cells_taken_in core_known
+
+abbrev pub line_taken : List ℕ → State → Line → State
+line_taken = line_taken_in core_known
+
+abbrev pub blocks_of : List ℕ → BlocksView
+blocks_of = blocks_in CORE

@@ -6,6 +6,8 @@ use Rattle.tocmark_read_scan.specs.Basic.{plus}
 use Rattle.tocmark_read_lines.specs.Cells.{indent_of, is_blank_at}
 use Rattle.tocmark_read_lines.specs.Marks.{closes_fence, fence_at, heading_at, is_rule, underline_at}
 use Rattle.tocmark_read_lines.specs.Html.{html_kind}
+use Rattle.tocmark_read_lines.specs.Metadata.{closes_metadata}
+use Rattle.tocmark_read_lines.specs.declared.line.Line.{Line}
 use Rattle.tocmark_read_lines.specs.declared.cell.Cell.{Cell}
 use Rattle.tocmark_read_lines.specs.declared.cell.Cursor.{Cursor}
 use Rattle.tocmark_read_lines.specs.declared.mark.Tail.{Tail}
@@ -25,6 +27,7 @@ is_paragraph leaf.Nothing = false
 is_paragraph leaf.Indented = false
 is_paragraph (leaf.Fenced f) = false
 is_paragraph (leaf.Html k) = false
+is_paragraph (leaf.Metadata k) = false
 
 -- a blank line ends the last two kinds of HTML blocks
 unfoldable pub goes_past_blank : HtmlKind → Bool
@@ -37,17 +40,19 @@ goes_past_blank kind.Named = false
 goes_past_blank kind.Alone = false
 
 -- what the open leaf does with a line in which all containers round it go on
-unfoldable pub leaf_turn : List Cell → Cursor → Leaf → Turn
-leaf_turn cells cursor leaf.Nothing = turn.Passes
-leaf_turn cells cursor leaf.Paragraph = turn.Passes
-leaf_turn cells cursor leaf.Indented =
+unfoldable pub leaf_turn : List ℕ → List Cell → Line → Cursor → Leaf → Turn
+leaf_turn text cells line cursor leaf.Nothing = turn.Passes
+leaf_turn text cells line cursor leaf.Paragraph = turn.Passes
+leaf_turn text cells line cursor leaf.Indented =
     if nat_le 4 (indent_of cursor) then turn.Takes (plus cursor.column 4)
     else (if is_blank_at cells cursor then turn.Takes cursor.ink else turn.Passes)
-leaf_turn cells cursor (leaf.Fenced fence) =
+leaf_turn text cells line cursor (leaf.Fenced fence) =
     if closes_fence cells cursor fence then turn.Closes
     else turn.Takes (plus cursor.column (min fence.indent (indent_of cursor)))
-leaf_turn cells cursor (leaf.Html k) =
+leaf_turn text cells line cursor (leaf.Html k) =
     if is_blank_at cells cursor && not (goes_past_blank k) then turn.Passes else turn.Takes cursor.column
+leaf_turn text cells line cursor (leaf.Metadata k) =
+    if closes_metadata k text line.start then turn.Closes else turn.Takes cursor.column
 
 -- a tag alone on its line cannot interrupt a paragraph
 abbrev pub interrupting : Bool → HtmlKind → Option HtmlKind

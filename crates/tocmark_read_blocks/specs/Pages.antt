@@ -1,5 +1,5 @@
 -- The blocks of a page as its lines come in.
-use Rattle.std.specs.Prelude.{ℕ, zero, suc, ◌-◌, Bool, true, false, ◌&&◌, ◌||◌, nat_lt, if◌then◌else◌, List, [], ◌∷◌, ◌++◌, length, map, take, drop, slice_get, slice_set, Option, Some, None}
+use Rattle.std.specs.Prelude.{ℕ, zero, suc, ◌-◌, Bool, true, false, ◌&&◌, ◌||◌, nat_lt, if◌then◌else◌, List, [], ◌∷◌, ◌++◌, length, map, take, drop, slice_get, slice_set, Option, Some, None, is_some}
 use Rattle.std.specs.Option.{option_map, option_map_or, option_and_then}
 use Rattle.tocmark_read_scan.specs.Basic.{plus}
 use Rattle.tocmark_read_lines.specs.Containers.{raised_at}
@@ -74,10 +74,14 @@ shortened b pieces count =
     record b { first = first; start = option_map_or (λ (p : Piece). p.start) (slice_get pieces first) b.start }
 
 -- the definitions at the front of a paragraph are taken from it
-abbrev pub settled_as : List ℕ → State → Block → State
-settled_as text s b =
+abbrev pub defined_as : List ℕ → State → Block → State
+defined_as text s b =
     let found = definitions_from text (drop b.first s.pieces) s.definitions in
     record s { definitions = found.0; blocks = slice_set s.blocks (length s.blocks - 1) (shortened b s.pieces (found.1)) }
+
+-- no definition stands behind a box
+abbrev pub settled_as : List ℕ → State → Block → State
+settled_as text s b = if is_some b.task then s else defined_as text s b
 
 -- the definitions at the front of the open paragraph are taken
 unfoldable pub settled : List ℕ → State → State
@@ -90,6 +94,7 @@ leaf_closed_as leaf.Paragraph text s = leaf_finished (settled text s)
 leaf_closed_as leaf.Indented text s = leaf_finished s
 leaf_closed_as (leaf.Fenced f) text s = leaf_finished s
 leaf_closed_as (leaf.Html k) text s = leaf_finished s
+leaf_closed_as (leaf.Metadata k) text s = leaf_finished s
 
 -- the open leaf ends, if there is one
 unfoldable pub leaf_closed : List ℕ → State → State
@@ -172,6 +177,7 @@ begun kind start number s = record s {
     last = length s.pieces;
     loose = false;
     list = list_of s.opened;
+    task = None;
   } ∷ [];
   opened = had_marked s.opened;
 }

@@ -3,22 +3,27 @@
 ghost use Rattle.std.specs.Prelude.{◌≡◌, IfOk, OnOk};
 ghost use Rattle.std.specs.List.{fold};
 ghost use Rattle.tocmark_read_blocks.specs.Pages.{page};
-ghost use Rattle.tocmark_read_blocks.specs.Blocks.{info_of, goes_directly, quote_opened, is_in_list, list_started, item_opened, container_once, containers_opened, code_taken, html_ended, text_taken, text_started, indented_started, heading_started, fence_started, html_started, rule_started, has_text, underlined, underline_taken, started, leaf_started, turn_of, leaf_ended, touched, cells_taken, line_taken, page_of, blocks_view, blocks_of};
+ghost use Rattle.tocmark_read_blocks.specs.Blocks.{info_of, goes_directly, quote_opened, is_in_list, list_started, item_opened, container_once, containers_opened, code_taken, html_ended, text_taken, text_started, indented_started, heading_started, fence_started, html_started, rule_started, metadata_started, is_outside, is_front, metadata_in, metadata_or, is_new_item, task_in, task_or, with_task, boxed_taken, task_started, has_text, underlined, underline_taken_in, started_in, leaf_started_in, turn_of, leaf_ended, touched, cells_taken_in, line_taken_in, page_in, blocks_view, blocks_in};
 
 use crate::code::{code_piece, heading_piece, keeps_line, text_piece};
 use crate::definition::{LinkDefinition, Piece};
 use crate::leaf::{Leaf, LeafStart, Turn, is_paragraph, leaf_at, leaf_turn, rule_at};
-use crate::page::{Block, BlockKind, Page};
+use crate::page::{Block, BlockKind, Page, Task, is_list};
 use std::alloc::{AllocError, Global};
-use tocmark_event::event::HeadingLevel;
-use tocmark_read_lines::cell::{Cells, Cursor, cell_place, ink_from, is_blank_at, moved, trimmed};
+use tocmark_event::event::{HeadingLevel, MetadataBlockKind};
+use tocmark_read_lines::cell::{
+    Cells, Cursor, cell_place, indent_of, ink_from, is_blank_at, moved, trimmed,
+};
 use tocmark_read_lines::container::{
-    Container, ContainerStart, ItemStart, after_quote, container_at, matched, touch,
+    Container, ContainerStart, ItemStart, after_quote, container_at, is_empty_item, matched, touch,
 };
 use tocmark_read_lines::html::{HtmlKind, html_ends};
 use tocmark_read_lines::line::{Line, lines};
 use tocmark_read_lines::mark::{Fence, Heading, Tail, tail_of};
+use tocmark_read_lines::metadata::{Known, begins_metadata, behind_blanks, known_of};
+use tocmark_read_lines::task::box_at;
 use tocmark_read_scan::basic::{piece, set};
+use tocmark_read_syntax::Syntax;
 
 /// What a text is made of, but for the inlines of paragraphs and headings.
 #[derive(Drop)]
@@ -35,9 +40,10 @@ pub struct Place {
     pub depth: usize,
 }
 
-/// A line with its columns, and the text that it stands in.
+/// A line with its columns, the text that it stands in, and what is known of that.
 #[derive(Clone, Copy)]
 pub struct Row<'t, 'c> {
+    pub known: Known,
     pub text: &'t [u8],
     pub cells: &'c Cells,
     pub line: Line,
@@ -347,6 +353,181 @@ impl Page {
         Ok(())
     }
 
+    /// Begins metadata, outside of all containers.
+    #[tactic(auto, unfolding(crate::specs::Blocks::metadata_started))]
+    fn start_metadata(
+        &mut self,
+        alloc: Global,
+        row: &Row<'_, '_>,
+        place: Place,
+        kind: MetadataBlockKind,
+    ) -> Result<(), AllocError>
+        ensures { OnOk result (page self.new
+            ≡ metadata_started row.now.text.now row.now.cells.now row.now.line place kind
+            (page self.old)) }
+    {
+        self.close_to(alloc, row.text, 0)?;
+        let start = cell_place(row.cells, place.cursor.ink, row.line.end);
+        self.open_leaf(
+            Leaf::Metadata(kind),
+            BlockKind::Metadata(kind),
+            start,
+            row.line,
+        )
+    }
+
+    /// Whether no container goes on at a depth, but for a list that waits for an item.
+    #[tactic(auto, unfolding(crate::specs::Blocks::is_outside))]
+    fn is_outside(&self, depth: usize) -> bool
+        ensures { result ≡ is_outside depth (page self.now) }
+    {
+        let waits = match self.opened.get(0).copied() {
+            None => false,
+            Some(first) => is_list(first.container),
+        };
+        depth == 0 || depth == 1 && waits
+    }
+
+    /// Whether a place is the first byte of a line that stands in no container.
+    #[tactic(auto, unfolding(crate::specs::Blocks::is_front))]
+    fn is_front(&self, cells: &Cells, place: Place) -> bool
+        ensures { result ≡ is_front cells.now place (page self.now) }
+    {
+        !is_blank_at(cells, place.cursor) && place.cursor.ink == 0 && self.is_outside(place.depth)
+    }
+
+    /// The metadata that a line opens. Dashes below a paragraph underline it, and pluses go on with it.
+    #[tactic(auto, unfolding(crate::specs::Blocks::metadata_in))]
+    fn metadata_in(
+        &self,
+        row: &Row<'_, '_>,
+        place: Place,
+        directly: bool,
+    ) -> Option<MetadataBlockKind>
+        ensures { result ≡ metadata_in row.now.known row.now.text.now row.now.cells.now row.now.line
+            place directly (page self.now) }
+    {
+        let Known {
+            syntax,
+            yaml_end,
+            pluses_end,
+        } = row.known;
+        let dashes = MetadataBlockKind::YamlStyle;
+        let pluses = MetadataBlockKind::PlusesStyle;
+        if syntax.yaml_metadata
+            && self.is_front(row.cells, place)
+            && !directly
+            && begins_metadata(dashes, yaml_end, row.text, row.line)
+        {
+            return Some(dashes);
+        }
+        if syntax.pluses_metadata
+            && self.is_front(row.cells, place)
+            && !is_paragraph(self.leaf)
+            && begins_metadata(pluses, pluses_end, row.text, row.line)
+        {
+            return Some(pluses);
+        }
+        None
+    }
+
+    /// Whether the innermost container is an item that began in this line and has no block yet.
+    #[tactic(auto, unfolding(crate::specs::Blocks::is_new_item))]
+    fn is_new_item(&self, line: Line, depth: usize) -> bool
+        ensures { result ≡ is_new_item line depth (page self.now) }
+    {
+        if depth < self.opened.len() {
+            return false;
+        }
+        match self
+            .opened
+            .get(self.opened.len().saturating_sub(1))
+            .copied()
+        {
+            None => false,
+            Some(one) => is_empty_item(one) && one.line == line.number,
+        }
+    }
+
+    /// The box just behind the marker of an item, true where it is checked.
+    #[tactic(auto, unfolding(crate::specs::Blocks::task_in))]
+    fn task_in(&self, row: &Row<'_, '_>, place: Place) -> Option<bool>
+        ensures { result ≡ task_in row.now.known row.now.text.now row.now.cells.now row.now.line
+            place (page self.now) }
+    {
+        if row.known.syntax.task_lists
+            && !is_blank_at(row.cells, place.cursor)
+            && indent_of(place.cursor) == 0
+            && self.is_new_item(row.line, place.depth)
+        {
+            let start = cell_place(row.cells, place.cursor.ink, row.line.end);
+            box_at(row.text, row.line, start)
+        } else {
+            None
+        }
+    }
+
+    /// Gives the last block a box.
+    #[tactic(auto, unfolding(crate::specs::Blocks::with_task))]
+    fn set_task(&mut self, done: bool, start: usize)
+        ensures { page self.new ≡ with_task done start (page self.old) }
+    {
+        let index = self.blocks.len().saturating_sub(1);
+        if let Some(block) = self.blocks.get(index).copied() {
+            let task = Some(Task { done, start });
+            set(&mut self.blocks, index, Block { task, ..block });
+        }
+    }
+
+    /// Begins a paragraph with a box, and the rest of its line.
+    #[tactic(auto, unfolding(crate::specs::Blocks::boxed_taken))]
+    fn take_boxed(
+        &mut self,
+        alloc: Global,
+        row: &Row<'_, '_>,
+        place: Place,
+        done: bool,
+        start: usize,
+        behind: usize,
+    ) -> Result<(), AllocError>
+        ensures { OnOk result (page self.new
+            ≡ boxed_taken row.now.text.now row.now.line place done start behind
+            (page self.old)) }
+    {
+        self.close_to(alloc, row.text, place.depth)?;
+        self.open_leaf(Leaf::Paragraph, BlockKind::Paragraph, start, row.line)?;
+        self.set_task(done, start);
+        let words = Piece {
+            spaces: 0,
+            start: behind,
+            end: row.line.end,
+            next: row.line.next,
+        };
+        self.take_piece(words, row.line, true)
+    }
+
+    /// Takes a box: of the item where it is all of its line, and else of the paragraph behind it.
+    #[tactic(auto, unfolding(crate::specs::Blocks::task_started))]
+    fn start_task(
+        &mut self,
+        alloc: Global,
+        row: &Row<'_, '_>,
+        place: Place,
+        done: bool,
+    ) -> Result<(), AllocError>
+        ensures { OnOk result (page self.new
+            ≡ task_started row.now.text.now row.now.cells.now row.now.line place done
+            (page self.old)) }
+    {
+        let start = cell_place(row.cells, place.cursor.ink, row.line.end);
+        let behind = behind_blanks(row.text, start.saturating_add(3));
+        if behind < row.line.end {
+            return self.take_boxed(alloc, row, place, done, start, behind);
+        }
+        self.set_task(done, start);
+        Ok(())
+    }
+
     /// Whether the open paragraph has a line behind its definitions.
     #[tactic(auto, unfolding(crate::specs::Blocks::has_text))]
     fn has_text(&self) -> bool
@@ -377,9 +558,9 @@ impl Page {
         self.finish_leaf();
     }
 
-    /// Takes a line that would underline a heading: where the paragraph has definitions alone it is a
-    /// thematic break or text.
-    #[tactic(auto, unfolding(crate::specs::Blocks::underline_taken))]
+    /// Takes a line that would underline a heading: where the paragraph has definitions alone it is
+    /// metadata, a thematic break or text.
+    #[tactic(auto, unfolding(crate::specs::Blocks::underline_taken_in))]
     fn take_underline(
         &mut self,
         alloc: Global,
@@ -389,7 +570,8 @@ impl Page {
         level: HeadingLevel,
     ) -> Result<(), AllocError>
         ensures { OnOk result (page self.new
-            ≡ underline_taken row.now.text.now row.now.cells.now row.now.line tail place level
+            ≡ underline_taken_in row.now.known row.now.text.now row.now.cells.now row.now.line tail
+            place level
             (page self.old)) }
     {
         self.settle(alloc, row.text)?;
@@ -397,14 +579,16 @@ impl Page {
             self.underline(level, row.line);
             return Ok(());
         }
-        match rule_at(row.cells, tail, place.cursor.ink) {
+        let metadata = self.metadata_in(row, place, false);
+        match metadata_or(metadata, rule_at(row.cells, tail, place.cursor.ink)) {
             LeafStart::Rule => self.start_rule(alloc, row, place),
+            LeafStart::Metadata(kind) => self.start_metadata(alloc, row, place, kind),
             _ => self.take_text(alloc, row, place),
         }
     }
 
     /// Begins the leaf that the rest of a line begins, or puts it into the open paragraph.
-    #[tactic(auto, unfolding(crate::specs::Blocks::started))]
+    #[tactic(auto, unfolding(crate::specs::Blocks::started_in))]
     fn start(
         &mut self,
         alloc: Global,
@@ -414,8 +598,8 @@ impl Page {
         leaf: LeafStart,
     ) -> Result<(), AllocError>
         ensures { OnOk result (page self.new
-            ≡ started leaf row.now.text.now row.now.cells.now row.now.line tail place
-            (page self.old)) }
+            ≡ started_in row.now.known leaf row.now.text.now row.now.cells.now row.now.line tail
+            place (page self.old)) }
     {
         match leaf {
             LeafStart::Blank => self.close_to(alloc, row.text, place.depth),
@@ -426,10 +610,12 @@ impl Page {
             LeafStart::Html(kind) => self.start_html(alloc, row, place, kind),
             LeafStart::Underline(level) => { self.take_underline(alloc, row, tail, place, level) }
             LeafStart::Rule => self.start_rule(alloc, row, place),
+            LeafStart::Metadata(kind) => self.start_metadata(alloc, row, place, kind),
+            LeafStart::Task(done) => self.start_task(alloc, row, place, done),
         }
     }
 
-    #[tactic(auto, unfolding(crate::specs::Blocks::leaf_started))]
+    #[tactic(auto, unfolding(crate::specs::Blocks::leaf_started_in))]
     fn start_inked(
         &mut self,
         alloc: Global,
@@ -437,7 +623,8 @@ impl Page {
         first: Place,
     ) -> Result<(), AllocError>
         ensures { OnOk result (page self.new
-            ≡ leaf_started row.now.text.now row.now.cells.now row.now.line first (page self.old)) }
+            ≡ leaf_started_in row.now.known row.now.text.now row.now.cells.now row.now.line first
+            (page self.old)) }
     {
         let tail = tail_of(row.cells);
         let place = self.open_all(alloc, row, tail, first)?;
@@ -448,7 +635,10 @@ impl Page {
             cell_place(row.cells, place.cursor.ink, row.line.end),
             row.line.end,
         );
-        let leaf = leaf_at(row.cells, rest, tail, place.cursor, in_paragraph, directly);
+        let metadata = self.metadata_in(row, place, directly);
+        let core = leaf_at(row.cells, rest, tail, place.cursor, in_paragraph, directly);
+        let task = self.task_in(row, place);
+        let leaf = task_or(task, metadata_or(metadata, core));
         self.start(alloc, row, tail, place, leaf)
     }
 
@@ -461,7 +651,8 @@ impl Page {
         first: Place,
     ) -> Result<(), AllocError>
         ensures { OnOk result (page self.new
-            ≡ leaf_started row.now.text.now row.now.cells.now row.now.line first (page self.old)) }
+            ≡ leaf_started_in row.now.known row.now.text.now row.now.cells.now row.now.line first
+            (page self.old)) }
     {
         if is_blank_at(row.cells, first.cursor) {
             self.close_to(alloc, row.text, first.depth)
@@ -471,11 +662,12 @@ impl Page {
     }
 
     #[tactic(auto, unfolding(crate::specs::Blocks::turn_of))]
-    fn turn_of(&self, cells: &Cells, place: Place) -> Turn
-        ensures { result ≡ turn_of cells.now place (page self.now) }
+    fn turn_of(&self, row: &Row<'_, '_>, place: Place) -> Turn
+        ensures { result
+            ≡ turn_of row.now.text.now row.now.cells.now row.now.line place (page self.now) }
     {
         if self.opened.len() <= place.depth {
-            leaf_turn(cells, place.cursor, self.leaf)
+            leaf_turn(row.text, row.cells, row.line, place.cursor, self.leaf)
         } else {
             Turn::Passes
         }
@@ -500,15 +692,16 @@ impl Page {
     }
 
     /// Takes the columns of a line.
-    #[tactic(auto, unfolding(crate::specs::Blocks::cells_taken))]
+    #[tactic(auto, unfolding(crate::specs::Blocks::cells_taken_in))]
     fn take_cells(&mut self, alloc: Global, row: &Row<'_, '_>) -> Result<(), AllocError>
         ensures { OnOk result (page self.new
-            ≡ cells_taken row.now.text.now row.now.cells.now row.now.line (page self.old)) }
+            ≡ cells_taken_in row.now.known row.now.text.now row.now.cells.now row.now.line
+            (page self.old)) }
     {
         let (depth, cursor) = matched(row.cells, &self.opened, &self.quotes);
         let place = Place { cursor, depth };
         self.touch_line(row.line, depth);
-        match self.turn_of(row.cells, place) {
+        match self.turn_of(row, place) {
             Turn::Closes => {
                 self.end_leaf(row.line);
                 Ok(())
@@ -519,50 +712,85 @@ impl Page {
     }
 
     /// Takes a line. Its columns are written over those of the line before.
-    #[tactic(auto, unfolding(crate::specs::Blocks::line_taken))]
+    #[tactic(auto, unfolding(crate::specs::Blocks::line_taken_in))]
     fn take_line(
         &mut self,
         alloc: Global,
+        known: Known,
         text: &[u8],
         cells: &mut Cells,
         line: Line,
     ) -> Result<(), AllocError>
-        ensures { OnOk result (page self.new ≡ line_taken text.now (page self.old) line) }
+        ensures { OnOk result (page self.new ≡ line_taken_in known text.now (page self.old) line) }
     {
         cells.read(text, line)?;
-        self.take_cells(alloc, &Row { text, cells, line })
+        let row = Row {
+            known,
+            text,
+            cells,
+            line,
+        };
+        self.take_cells(alloc, &row)
     }
 
-    fn take_lines(&mut self, alloc: Global, text: &[u8], lines: &[Line]) -> Result<(), AllocError>
+    fn take_lines(
+        &mut self,
+        alloc: Global,
+        known: Known,
+        text: &[u8],
+        lines: &[Line],
+    ) -> Result<(), AllocError>
         ensures { OnOk result (page self.new
-            ≡ fold (line_taken text.now) (page self.old) lines.now) }
+            ≡ fold (line_taken_in known text.now) (page self.old) lines.now) }
     {
         let mut cells = Cells::new(alloc);
         for line in lines {
-            self.take_line(alloc, text, &mut cells, *line)?;
+            self.take_line(alloc, known, text, &mut cells, *line)?;
         }
         Ok(())
     }
 }
 
-#[tactic(auto, unfolding(crate::specs::Blocks::page_of))]
-fn read_page(alloc: Global, text: &[u8]) -> Result<Page, AllocError>
-    ensures { IfOk result (λ found. page found ≡ page_of text.now) }
+#[tactic(auto, unfolding(crate::specs::Blocks::metadata_or))]
+fn metadata_or(found: Option<MetadataBlockKind>, other: LeafStart) -> LeafStart
+    ensures { result ≡ metadata_or found other }
+{
+    match found {
+        None => other,
+        Some(kind) => LeafStart::Metadata(kind),
+    }
+}
+
+#[tactic(auto, unfolding(crate::specs::Blocks::task_or))]
+fn task_or(found: Option<bool>, other: LeafStart) -> LeafStart
+    ensures { result ≡ task_or found other }
+{
+    match found {
+        None => other,
+        Some(done) => LeafStart::Task(done),
+    }
+}
+
+#[tactic(auto, unfolding(crate::specs::Blocks::page_in))]
+fn read_page(alloc: Global, syntax: Syntax, text: &[u8]) -> Result<Page, AllocError>
+    ensures { IfOk result (λ found. page found ≡ page_in syntax text.now) }
 {
     let lines = lines(alloc, text)?;
+    let known = known_of(syntax, text, &lines);
     let mut page = Page::new(alloc);
-    page.take_lines(alloc, text, &lines)?;
+    page.take_lines(alloc, known, text, &lines)?;
     page.close_to(alloc, text, 0)?;
     Ok(page)
 }
 
 /// The blocks of a text in the order of their starts, their pieces, and the link reference definitions
-/// in the order of the text. The text is UTF-8. Places are bytes. An `Err` says that memory ran out.
-#[tactic(auto, unfolding(crate::specs::Blocks::blocks_of))]
-pub fn read_blocks(alloc: Global, text: &[u8]) -> Result<Blocks, AllocError>
-    ensures { IfOk result (λ found. blocks_view found ≡ blocks_of text.now) }
+/// in the order of the text, with the extensions of a syntax. The text is UTF-8. Places are bytes. An
+/// `Err` says that memory ran out.
+#[tactic(auto, unfolding(crate::specs::Blocks::blocks_in))]
+pub fn read_blocks(alloc: Global, syntax: Syntax, text: &[u8]) -> Result<Blocks, AllocError>
+    ensures { IfOk result (λ found. blocks_view found ≡ blocks_in syntax text.now) }
 {
-    let page = read_page(alloc, text)?;
+    let page = read_page(alloc, syntax, text)?;
     Ok(Blocks {
         blocks: page.blocks,
         pieces: page.pieces,

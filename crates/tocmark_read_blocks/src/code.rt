@@ -94,5 +94,6 @@ pub fn keeps_line(cells: &Cells, column: usize, leaf: Leaf) -> bool
         Leaf::Paragraph => true,
         Leaf::Fenced(_) => true,
         Leaf::Html(_) => true,
+        Leaf::Metadata(_) => true,
     }
 }

@@ -3,12 +3,14 @@
 ghost use Rattle.std.specs.Prelude.{◌≡◌};
 ghost use Rattle.tocmark_read_blocks.specs.Leaves.{is_paragraph, goes_past_blank, leaf_turn, html_at, underline_in, rule_at, mark_at, leaf_at};
 
-use tocmark_event::event::HeadingLevel;
+use tocmark_event::event::{HeadingLevel, MetadataBlockKind};
 use tocmark_read_lines::cell::{Cells, Cursor, indent_of, is_blank_at};
 use tocmark_read_lines::html::{HtmlKind, html_kind};
+use tocmark_read_lines::line::Line;
 use tocmark_read_lines::mark::{
     Fence, Heading, Tail, closes_fence, fence_at, heading_at, is_rule, underline_at,
 };
+use tocmark_read_lines::metadata::closes_metadata;
 
 /// The leaf block that is open.
 #[derive(Clone, Copy)]
@@ -23,6 +25,8 @@ pub enum Leaf {
     Fenced(Fence),
     /// An HTML block of this kind.
     Html(HtmlKind),
+    /// Metadata of this kind.
+    Metadata(MetadataBlockKind),
 }
 
 /// What the open leaf does with a line.
@@ -55,6 +59,10 @@ pub enum LeafStart {
     Underline(HeadingLevel),
     /// A thematic break.
     Rule,
+    /// The line that opens metadata of this kind.
+    Metadata(MetadataBlockKind),
+    /// The box of a task, true where it is checked.
+    Task(bool),
 }
 
 /// Whether the leaf that is open is a paragraph.
@@ -68,6 +76,7 @@ pub fn is_paragraph(leaf: Leaf) -> bool
         Leaf::Indented => false,
         Leaf::Fenced(_) => false,
         Leaf::Html(_) => false,
+        Leaf::Metadata(_) => false,
     }
 }
 
@@ -88,8 +97,8 @@ fn goes_past_blank(kind: HtmlKind) -> bool
 
 /// What the open leaf does with a line in which all containers round it go on.
 #[tactic(auto, unfolding(crate::specs::Leaves::leaf_turn))]
-pub fn leaf_turn(cells: &Cells, cursor: Cursor, leaf: Leaf) -> Turn
-    ensures { result ≡ leaf_turn cells.now cursor leaf }
+pub fn leaf_turn(text: &[u8], cells: &Cells, line: Line, cursor: Cursor, leaf: Leaf) -> Turn
+    ensures { result ≡ leaf_turn text.now cells.now line cursor leaf }
 {
     let blank = is_blank_at(cells, cursor);
     let indent = indent_of(cursor);
@@ -115,6 +124,13 @@ pub fn leaf_turn(cells: &Cells, cursor: Cursor, leaf: Leaf) -> Turn
         Leaf::Html(kind) => {
             if blank && !goes_past_blank(kind) {
                 Turn::Passes
+            } else {
+                Turn::Takes(cursor.column)
+            }
+        }
+        Leaf::Metadata(kind) => {
+            if closes_metadata(kind, text, line.start) {
+                Turn::Closes
             } else {
                 Turn::Takes(cursor.column)
             }

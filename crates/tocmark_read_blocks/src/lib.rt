@@ -14,4 +14,4 @@ mod page;
 
 pub use block::{Blocks, read_blocks};
 pub use definition::{LinkDefinition, Piece};
-pub use page::{Block, BlockKind};
+pub use page::{Block, BlockKind, Task};

@@ -6,7 +6,7 @@ ghost use Rattle.tocmark_read_blocks.specs.Pages.{page, first_page, raised_last,
 use crate::definition::{LinkDefinition, Piece, take_definitions};
 use crate::leaf::Leaf;
 use std::alloc::{AllocError, Global};
-use tocmark_event::event::HeadingLevel;
+use tocmark_event::event::{HeadingLevel, MetadataBlockKind};
 use tocmark_read_lines::container::{Container, Opened, raise_at};
 use tocmark_read_lines::line::Line;
 use tocmark_read_scan::basic::set;
@@ -25,12 +25,20 @@ pub enum BlockKind {
     Fenced(usize, usize),
     Html,
     Rule,
+    Metadata(MetadataBlockKind),
+}
+
+/// The box of a task, with the place of its first byte.
+#[derive(Clone, Copy)]
+pub struct Task {
+    pub done: bool,
+    pub start: usize,
 }
 
 /// A block with its depth and its range in bytes, line ending left out. A leaf has the pieces from
 /// `first` to before `last`; a paragraph that has none holds definitions alone. `loose` says of a list
 /// that its paragraphs aren't unwrapped; `list` is the list of an item, and of a block that stands
-/// directly in an item.
+/// directly in an item. `task` is the box of a paragraph, a heading, or an item.
 #[derive(Clone, Copy)]
 pub struct Block {
     pub depth: usize,
@@ -41,6 +49,7 @@ pub struct Block {
     pub last: usize,
     pub loose: bool,
     pub list: Option<usize>,
+    pub task: Option<Task>,
 }
 
 /// The blocks so far. The open leaf, if there is one, is the last block: its last line ends at `end` and
@@ -136,7 +145,7 @@ fn mark_had(opened: &mut Vec<Opened>)
 }
 
 #[tactic(auto, unfolding(crate::specs::Pages::is_list))]
-fn is_list(container: Container) -> bool
+pub fn is_list(container: Container) -> bool
     ensures { result ≡ is_list container }
 {
     match container {
@@ -226,6 +235,9 @@ impl Page {
     {
         let index = self.blocks.len().saturating_sub(1);
         if let Some(block) = self.blocks.get(index).copied() {
+            if block.task.is_some() {
+                return Ok(());
+            }
             let lines = pieces_from(&self.pieces, block.first);
             let count = take_definitions(alloc, text, lines, &mut self.definitions)?;
             let rest = shortened(block, &self.pieces, count);
@@ -248,6 +260,7 @@ impl Page {
             Leaf::Indented => self.finish_leaf(),
             Leaf::Fenced(_) => self.finish_leaf(),
             Leaf::Html(_) => self.finish_leaf(),
+            Leaf::Metadata(_) => self.finish_leaf(),
         }
         Ok(())
     }
@@ -325,6 +338,7 @@ impl Page {
             last: self.pieces.len(),
             loose: false,
             list,
+            task: None,
         })?;
         Ok(())
     }

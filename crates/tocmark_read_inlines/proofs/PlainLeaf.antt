@@ -25,7 +25,7 @@ abbrev pub known : List ℕ → s.Known
 known bytes = s.ahead_of bytes
 
 scanned_parts : (parts : List Part) (defs : List ℕ → Option Entry) (targets : List Target) (texts : List ℕ) (missed : List Stretch) → AreRead (spelled parts) (known (spelled parts)) defs 0 parts → length (spelled parts) < 2 ^ 64 → (r : ℕ) × (s.scanned (spelled parts) defs (scan_start (length (spelled parts)) targets texts missed) ≡ record (scan_start (length (spelled parts)) targets texts missed) { roles = roles 0 parts; place = 0 + length (spelled parts); resume = r })
-unfolding s.scanned s.settled scan_start emphasized
+unfolding s.scanned_in s.settled scan_start emphasized
 scanned_parts parts defs targets texts missed h fits =
     let read = scan_parts (spelled parts) (known (spelled parts)) defs parts (scan_start (length (spelled parts)) targets texts missed) [] h (omega arith) (omega arith) refl refl in
     (read.0, ap (s.settled 0) (read.1))
@@ -78,7 +78,7 @@ moved_nodes bytes d p o (Feed ∷ parts) h k = moved_then bytes d o p _ h (omega
 
 -- the inlines of such a leaf, whose content is the source
 pub parts_inlines : (parts : List Part) (depth : ℕ) (defs : List ℕ → Option Entry) (t : inlines.State) → AreRead (spelled parts) (known (spelled parts)) defs 0 parts → length (spelled parts) < 2 ^ 64 → inlines.read_inlines (record { bytes = spelled parts; places = places_of 0 (spelled parts) }) depth defs t ≡ record t { nodes = t.nodes ++ nodes_of depth 0 None parts }
-unfolding inlines.read_inlines scan_start
+unfolding inlines.read_inlines_in scan_start
 parts_inlines parts depth defs t h fits =
     let leaf : content.State = record { bytes = spelled parts; places = places_of 0 (spelled parts) } in
     let read = scanned_parts parts defs t.targets t.texts t.missed h fits in

@@ -1,6 +1,8 @@
 -- The inlines of a document's leaves, one after the other.
 use Rattle.std.specs.Prelude.{ℕ, List, [], ◌++◌, length, map, replicate, Option}
 use Rattle.tocmark_read_scan.specs.Content as content
+use Rattle.tocmark_read_syntax.specs.declared.TheConstants.{CORE}
+use Rattle.tocmark_read_syntax.specs.declared.Syntax.{Syntax}
 use Rattle.tocmark_read_inlines.specs.Scan as scan
 use Rattle.tocmark_read_inlines.specs.Write.{written, moved}
 use Rattle.tocmark_read_spans.specs.declared.definitions.Entry.{Entry}
@@ -45,6 +47,10 @@ inlines_from leaf depth after s = record {
 }
 
 -- one more leaf: what each byte is, nodes, their ranges in the source
-unfoldable pub read_inlines : content.State → ℕ → (List ℕ → Option Entry) → State → State
-read_inlines leaf depth definitions s =
-    inlines_from leaf depth (scan.scanned leaf.bytes definitions (scan_start (length leaf.bytes) s.targets s.texts s.missed)) s
+unfoldable pub read_inlines_in : Syntax → content.State → ℕ → (List ℕ → Option Entry) → State → State
+read_inlines_in syntax leaf depth definitions s =
+    inlines_from leaf depth (scan.scanned_in syntax leaf.bytes definitions (scan_start (length leaf.bytes) s.targets s.texts s.missed)) s
+
+-- the same of CommonMark alone
+abbrev pub read_inlines : content.State → ℕ → (List ℕ → Option Entry) → State → State
+read_inlines = read_inlines_in CORE

@@ -2,6 +2,8 @@
 use Rattle.std.specs.Prelude.{ℕ, Bool, true, false, not, ◌-◌, ◌==◌, ◌&&◌, ◌||◌, min, nat_lt, nat_le, if◌then◌else◌, List, [], ◌∷◌, ◌++◌, length, take, drop, fold, codes, slice_get, slice_set, Option, Some, None}
 use Rattle.std.specs.List.{list_any}
 use Rattle.tocmark_read_scan.specs.Basic.{plus, byte_at, piece, starts_at}
+use Rattle.tocmark_read_syntax.specs.declared.TheConstants.{CORE}
+use Rattle.tocmark_read_syntax.specs.declared.Syntax.{Syntax}
 use Rattle.tocmark_read_scan.specs.Class.{run_end}
 use Rattle.tocmark_read_scan.specs.Repeat.{iterated}
 use Rattle.tocmark_read_tokens.specs.Html.{last_ends, raw_html}
@@ -15,7 +17,7 @@ use Rattle.tocmark_event.specs.declared.event.LinkType.{LinkType}
 use Rattle.tocmark_event.specs.declared.event.LinkType.TheVariants.{Inline, Autolink, Email}
 use Rattle.tocmark_read_spans.specs.Role.{roles_of}
 use Rattle.tocmark_read_spans.specs.Tick.{last_ticks, tick_end, push_shown, stripped}
-use Rattle.tocmark_read_spans.specs.Run.{run_at}
+use Rattle.tocmark_read_spans.specs.Run.{run_at, tildes_at}
 use Rattle.tocmark_read_spans.specs.Emphasis.{emphasized}
 use Rattle.tocmark_read_spans.specs.Link.{inline_target, label_asked}
 use Rattle.tocmark_read_spans.specs.declared.definitions.Entry.{Entry}
@@ -153,6 +155,14 @@ with_run r s = if r.opens || r.closes then record s { runs = s.runs ++ r ∷ [] 
 -- delimiters of emphasis (CommonMark 6.2)
 unfoldable pub run_taken : List ℕ → ℕ → State → State
 run_taken bytes byte s = let r = run_at bytes s.place byte in with_run r (record s { resume = plus s.place r.count })
+
+-- a run that opens or closes is kept, and the pass goes on behind it
+unfoldable pub run_kept : Run → State → State
+run_kept r s = with_run r (record s { resume = plus s.place r.count })
+
+-- tildes of strikethrough
+unfoldable pub tildes_taken : List ℕ → State → State
+tildes_taken bytes s = run_kept (tildes_at bytes s.place) s
 
 -- the innermost bracket, if there is one, has another in it
 abbrev pub marked_last : State → Option Bracket → State
@@ -354,15 +364,38 @@ next_place s = record s { place = plus s.place 1 }
 abbrev pub with_place : ℕ → State → State
 with_place place s = record s { place = place }
 
+-- a tilde is a mark where strikethrough is read
+unfoldable pub is_tilde_in : Syntax → ℕ → Bool
+is_tilde_in syntax b = syntax.strikethrough && (b == 126)
+
+-- a byte that can be more than one of a text, in an extension or in CommonMark
+unfoldable pub is_mark_in : Syntax → ℕ → Bool
+is_mark_in syntax b = is_tilde_in syntax b || is_mark b
+
+-- the byte at the place, in an extension or in CommonMark
+unfoldable pub looked_in : Syntax → List ℕ → Known → (List ℕ → Option Entry) → ℕ → State → State
+looked_in syntax bytes ahead definitions b s =
+    if is_tilde_in syntax b then tildes_taken bytes s else looked bytes ahead definitions b s
+
 -- one byte further
-unfoldable pub scan_step : List ℕ → Known → (List ℕ → Option Entry) → State → ℕ → State
-scan_step bytes ahead definitions s b =
-    next_place (if is_mark b && nat_le s.resume s.place then looked bytes ahead definitions b s else s)
+unfoldable pub scan_step_in : Syntax → List ℕ → Known → (List ℕ → Option Entry) → State → ℕ → State
+scan_step_in syntax bytes ahead definitions s b =
+    next_place (if is_mark_in syntax b && nat_le s.resume s.place then looked_in syntax bytes ahead definitions b s else s)
 
 -- all bytes are read
-abbrev pub ran : List ℕ → Known → (List ℕ → Option Entry) → State → State
-ran bytes ahead definitions s = fold (scan_step bytes ahead definitions) s bytes
+abbrev pub ran_in : Syntax → List ℕ → Known → (List ℕ → Option Entry) → State → State
+ran_in syntax bytes ahead definitions s = fold (scan_step_in syntax bytes ahead definitions) s bytes
 
 -- all bytes of a text
-unfoldable pub scanned : List ℕ → (List ℕ → Option Entry) → State → State
-scanned bytes definitions s = settled 0 (ran bytes (ahead_of bytes) definitions s)
+unfoldable pub scanned_in : Syntax → List ℕ → (List ℕ → Option Entry) → State → State
+scanned_in syntax bytes definitions s = settled 0 (ran_in syntax bytes (ahead_of bytes) definitions s)
+
+-- the same of CommonMark alone
+abbrev pub scan_step : List ℕ → Known → (List ℕ → Option Entry) → State → ℕ → State
+scan_step = scan_step_in CORE
+
+abbrev pub ran : List ℕ → Known → (List ℕ → Option Entry) → State → State
+ran = ran_in CORE
+
+abbrev pub scanned : List ℕ → (List ℕ → Option Entry) → State → State
+scanned = scanned_in CORE

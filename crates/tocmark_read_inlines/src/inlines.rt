@@ -4,7 +4,7 @@ ghost use Rattle.std.specs.Prelude.{◌≡◌, IfOk};
 ghost use Rattle.tocmark_read_scan.specs.Content.{content_view};
 ghost use Rattle.tocmark_read_spans.specs.Definitions.{entry_of};
 ghost use Rattle.tocmark_read_inlines.specs.Scan.{scan};
-ghost use Rattle.tocmark_read_inlines.specs.Inlines.{inlines_view, scan_start, read_inlines};
+ghost use Rattle.tocmark_read_inlines.specs.Inlines.{inlines_view, scan_start, read_inlines_in};
 
 use crate::scan::Scanner;
 use crate::write::{Node, push_moved, write};
@@ -12,6 +12,7 @@ use std::alloc::{AllocError, Global};
 use tocmark_read_scan::content::Content;
 use tocmark_read_spans::definitions::Definitions;
 use tocmark_read_spans::role::{Roles, Stretch, Target};
+use tocmark_read_syntax::Syntax;
 
 /// The nodes of leaves in the order of the document, with ranges in bytes of its source; the targets of
 /// their links and images; the texts that stand nowhere in the source; and the labels that were looked
@@ -53,9 +54,10 @@ fn scanner(
 }
 
 /// Reads the inlines of one more leaf, at a depth. An `Err` says that memory ran out.
-#[tactic(auto, unfolding(crate::specs::Inlines::read_inlines))]
+#[tactic(auto, unfolding(crate::specs::Inlines::read_inlines_in))]
 pub fn read_inlines(
     alloc: Global,
+    syntax: Syntax,
     before: Inlines,
     content: &Content,
     depth: usize,
@@ -63,7 +65,7 @@ pub fn read_inlines(
 ) -> Result<Inlines, AllocError>
     ensures { IfOk result (λ v.
         inlines_view v
-        ≡ read_inlines (content_view content.now) depth (entry_of definitions.now)
+        ≡ read_inlines_in syntax (content_view content.now) depth (entry_of definitions.now)
         (inlines_view before)) }
 {
     let bytes = content.bytes();
@@ -75,7 +77,7 @@ pub fn read_inlines(
         before.texts,
         before.missed,
     );
-    machine.read(alloc, bytes, definitions)?;
+    machine.read(alloc, syntax, bytes, definitions)?;
     let found = write(alloc, &machine.roles, depth)?;
     push_moved(&mut nodes, content, &found)?;
     Ok(Inlines {

@@ -3,7 +3,7 @@
 ghost use Rattle.std.specs.Prelude.{◌≡◌, IfOk, OnOk, length, drop};
 ghost use Rattle.tocmark_read_scan.specs.Repeat.{iterated};
 ghost use Rattle.tocmark_read_spans.specs.Definitions.{entry_of};
-ghost use Rattle.tocmark_read_inlines.specs.Scan.{before_space, scan, ahead_view, ends_of, ticks_of, stretch, kept, kept_code, kept_resolved, targeted, put_leaf, escaped, referred, code_put, coded, run_taken, marked, opened, imaged, addressed, html_put, tagged, mailed, angled, line_ended, spanned, settled, linked, closed_inline, missing, looked_up, closed_by_label, closed_active, popped, closed, looked_mark, looked, is_mark, with_place, scan_step, ran, scanned};
+ghost use Rattle.tocmark_read_inlines.specs.Scan.{before_space, scan, ahead_view, ends_of, ticks_of, stretch, kept, kept_code, kept_resolved, targeted, put_leaf, escaped, referred, code_put, coded, run_taken, run_kept, tildes_taken, marked, opened, imaged, addressed, html_put, tagged, mailed, angled, line_ended, spanned, settled, linked, closed_inline, missing, looked_up, closed_by_label, closed_active, popped, closed, looked_mark, looked, is_mark, is_tilde_in, is_mark_in, looked_in, with_place, scan_step_in, ran_in, scanned_in};
 
 use std::alloc::{AllocError, Global};
 use tocmark_event::event::LinkType;
@@ -13,8 +13,9 @@ use tocmark_read_spans::definitions::Definitions;
 use tocmark_read_spans::emphasis::emphasize;
 use tocmark_read_spans::link::{Asked, Bracket, InlineTarget, inline_target, label_asked};
 use tocmark_read_spans::role::{Leaf, Role, Roles, Span, Stretch, Target};
-use tocmark_read_spans::run::{Run, run_at};
+use tocmark_read_spans::run::{Run, run_at, tildes_at};
 use tocmark_read_spans::tick::{last_ticks, push_code, tick_end};
+use tocmark_read_syntax::Syntax;
 use tocmark_read_tokens::autolink::{mail_end, uri_end};
 use tocmark_read_tokens::html::{LastEnds, last_ends, raw_html};
 use tocmark_read_tokens::label::{collapsed, key_of};
@@ -122,6 +123,22 @@ fn is_mark(byte: u8) -> bool
     let bracket = byte == b'[' || byte == b'!' || byte == b']' || byte == b'<';
     let delimiter = byte == b'`' || byte == b'*' || byte == b'_';
     bracket || delimiter || byte == b'\\' || byte == b'&' || byte == b'\n'
+}
+
+/// Whether a byte is a tilde, where strikethrough is read.
+#[tactic(auto, unfolding(crate::specs::Scan::is_tilde_in))]
+fn is_tilde_in(syntax: Syntax, byte: u8) -> bool
+    ensures { result ≡ is_tilde_in syntax byte }
+{
+    syntax.strikethrough && byte == b'~'
+}
+
+/// Whether a byte can be more than one of a text, in an extension or in CommonMark.
+#[tactic(auto, unfolding(crate::specs::Scan::is_mark_in))]
+fn is_mark_in(syntax: Syntax, byte: u8) -> bool
+    ensures { result ≡ is_mark_in syntax byte }
+{
+    is_tilde_in(syntax, byte) || is_mark(byte)
 }
 
 fn empty() -> Stretch
@@ -257,6 +274,26 @@ impl Scanner {
             self.runs.push(run)?;
         }
         Ok(())
+    }
+
+    /// Keeps a run that opens or closes, and goes on behind it.
+    #[tactic(auto, unfolding(crate::specs::Scan::run_kept))]
+    fn keep_run(&mut self, run: Run) -> Result<(), AllocError>
+        ensures { OnOk result (scan self.new ≡ run_kept run (scan self.old)) }
+    {
+        self.resume = self.place.saturating_add(run.count);
+        if run.opens || run.closes {
+            self.runs.push(run)?;
+        }
+        Ok(())
+    }
+
+    /// Reads tildes.
+    #[tactic(auto, unfolding(crate::specs::Scan::tildes_taken))]
+    fn tildes(&mut self, bytes: &[u8]) -> Result<(), AllocError>
+        ensures { OnOk result (scan self.new ≡ tildes_taken bytes.now (scan self.old)) }
+    {
+        self.keep_run(tildes_at(bytes, self.place))
     }
 
     /// Marks the innermost bracket as one with another in it.
@@ -623,11 +660,34 @@ impl Scanner {
         }
     }
 
+    /// Reads the byte at the place, in an extension or in CommonMark.
+    #[tactic(auto, unfolding(crate::specs::Scan::looked_in))]
+    fn look_in(
+        &mut self,
+        alloc: Global,
+        syntax: Syntax,
+        bytes: &[u8],
+        ahead: &Ahead,
+        definitions: &Definitions,
+        byte: u8,
+    ) -> Result<(), AllocError>
+        ensures { OnOk result (scan self.new
+            ≡ looked_in syntax bytes.now (ahead_view ahead.now) (entry_of definitions.now) byte
+            (scan self.old)) }
+    {
+        if is_tilde_in(syntax, byte) {
+            self.tildes(bytes)
+        } else {
+            self.look(alloc, bytes, ahead, definitions, byte)
+        }
+    }
+
     /// One byte further, from a place that is kept apart; gives the next one.
-    #[tactic(auto, unfolding(crate::specs::Scan::scan_step))]
+    #[tactic(auto, unfolding(crate::specs::Scan::scan_step_in))]
     fn step(
         &mut self,
         alloc: Global,
+        syntax: Syntax,
         bytes: &[u8],
         ahead: &Ahead,
         definitions: &Definitions,
@@ -636,14 +696,14 @@ impl Scanner {
     ) -> Result<usize, AllocError>
         ensures { IfOk result (λ next.
             with_place next (scan self.new)
-            ≡ scan_step bytes.now (ahead_view ahead.now) (entry_of definitions.now)
+            ≡ scan_step_in syntax bytes.now (ahead_view ahead.now) (entry_of definitions.now)
             (with_place place (scan self.old)) byte) }
     {
-        if !is_mark(byte) || place < self.resume {
+        if !is_mark_in(syntax, byte) || place < self.resume {
             return Ok(place.saturating_add(1));
         }
         self.place = place;
-        self.look(alloc, bytes, ahead, definitions, byte)?;
+        self.look_in(alloc, syntax, bytes, ahead, definitions, byte)?;
         Ok(self.place.saturating_add(1))
     }
 
@@ -651,37 +711,39 @@ impl Scanner {
     fn run(
         &mut self,
         alloc: Global,
+        syntax: Syntax,
         bytes: &[u8],
         ahead: &Ahead,
         definitions: &Definitions,
     ) -> Result<(), AllocError>
         ensures { OnOk result (scan self.new
-            ≡ ran bytes.now (ahead_view ahead.now) (entry_of definitions.now) (scan self.old)) }
+            ≡ ran_in syntax bytes.now (ahead_view ahead.now) (entry_of definitions.now) (scan self.old)) }
     {
         let mut place = self.place;
         for byte in bytes {
-            place = self.step(alloc, bytes, ahead, definitions, place, *byte)?;
+            place = self.step(alloc, syntax, bytes, ahead, definitions, place, *byte)?;
         }
         self.place = place;
         Ok(())
     }
 
     /// Reads a text from its front, and gives each of its bytes a role. An `Err` says that memory ran out.
-    #[tactic(auto, unfolding(crate::specs::Scan::scanned))]
+    #[tactic(auto, unfolding(crate::specs::Scan::scanned_in))]
     pub fn read(
         &mut self,
         alloc: Global,
+        syntax: Syntax,
         bytes: &[u8],
         definitions: &Definitions,
     ) -> Result<(), AllocError>
         ensures { OnOk result (scan self.new
-            ≡ scanned bytes.now (entry_of definitions.now) (scan self.old)) }
+            ≡ scanned_in syntax bytes.now (entry_of definitions.now) (scan self.old)) }
     {
         let ahead = Ahead {
             ends: ends_of(bytes),
             ticks: ticks_of(alloc, bytes)?,
         };
-        self.run(alloc, bytes, &ahead, definitions)?;
+        self.run(alloc, syntax, bytes, &ahead, definitions)?;
         self.settle(alloc, 0)
     }
 }

@@ -3,3 +3,5 @@ pub mod Cells
 pub mod Marks
 pub mod Html
 pub mod Containers
+pub mod Metadata
+pub mod Tasks

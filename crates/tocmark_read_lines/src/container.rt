@@ -130,8 +130,9 @@ fn going_on(cells: &Cells, cursor: Cursor, one: Opened) -> Option<Cursor>
     }
 }
 
+/// Whether a container is an item in which no block stands.
 #[tactic(auto, unfolding(crate::specs::Containers::is_empty_item))]
-fn is_empty_item(one: Opened) -> bool
+pub fn is_empty_item(one: Opened) -> bool
     ensures { result ≡ is_empty_item one }
 {
     match one.container {

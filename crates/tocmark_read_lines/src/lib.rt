@@ -11,3 +11,5 @@ pub mod container;
 pub mod html;
 pub mod line;
 pub mod mark;
+pub mod metadata;
+pub mod task;

@@ -4,7 +4,8 @@ use Rattle.tocmark_read_scan.specs.Basic.{plus}
 use Rattle.tocmark_read_scan.specs.Repeat.{repeated}
 use Rattle.tocmark_read_spans.specs.declared.role.Role.{Role}
 use Rattle.tocmark_read_spans.specs.declared.role.Role.TheVariants.{Hidden, Open, Close}
-use Rattle.tocmark_read_spans.specs.declared.role.Span.TheVariants.{Emphasis, Strong}
+use Rattle.tocmark_read_spans.specs.declared.role.Span.{Span}
+use Rattle.tocmark_read_spans.specs.declared.role.Span.TheVariants.{Emphasis, Strong, Strikethrough}
 use Rattle.tocmark_read_spans.specs.declared.run.Run.{Run}
 use Rattle.tocmark_read_spans.specs.declared.emphasis.Openers.{Openers}
 
@@ -18,15 +19,20 @@ pub record State : Type 0 where
 abbrev pub openers : List Role → Openers → State
 openers roles o = record { roles = roles; stack = o.stack.items; bottoms = o.bottoms.items }
 
--- whether one run may open what another closes: the rule of three
-unfoldable pub fits : Run → Run → Bool
-fits opener closer =
+-- whether one run of `*` or `_` may open what another closes: the rule of three
+unfoldable pub emphasis_fits : Run → Run → Bool
+emphasis_fits opener closer =
     (opener.byte == closer.byte) &&
     not ((opener.closes || closer.opens) && (plus opener.length closer.length % 3 == 0) && not ((opener.length % 3 == 0) && (closer.length % 3 == 0)))
 
--- closers of one class fit the same openers
+-- tildes are closed by as many tildes, all at once
+unfoldable pub fits : Run → Run → Bool
+fits opener closer =
+    if closer.byte == 126 then (opener.byte == 126) && (opener.length == closer.length) else emphasis_fits opener closer
+
+-- closers of one class fit the same openers; tildes have one, so that one that finds no opener bars those of both lengths
 unfoldable pub class_of : Run → ℕ
-class_of closer = (if closer.byte == 42 then 0 else 6) + (if closer.opens then 0 else 3) + closer.length % 3
+class_of closer = if closer.byte == 126 then 12 else (if closer.byte == 42 then 0 else 6) + (if closer.opens then 0 else 3) + closer.length % 3
 
 -- what one run of the stack says of a search: stop, here, or go on
 abbrev pub found_at : Option Run → Run → ℕ → ℕ → Option ℕ → Option ℕ
@@ -42,6 +48,14 @@ found stack closer bottom (suc k) = found_at (slice_get stack k) closer bottom k
 abbrev pub with_count : ℕ → Run → Run
 with_count n r = record r { count = n }
 
+-- what a match of so many delimiters is
+unfoldable pub span_of : ℕ → Run → Span
+span_of width closer = if closer.byte == 126 then Strikethrough else (if width == 2 then Strong else Emphasis)
+
+-- how many delimiters are matched at once
+unfoldable pub width_of : Run → Run → ℕ
+width_of opener closer = if nat_le 2 opener.count && nat_le 2 closer.count then 2 else 1
+
 -- a match of so many delimiters
 abbrev pub matching : ℕ → ℕ → Run → Run → State → State × Run
 matching width k opener closer s =
@@ -49,7 +63,7 @@ matching width k opener closer s =
     let end = plus closer.place width in
     let left = opener.count - width in (
       record s {
-        roles = slice_set (slice_set (slice_set (slice_set s.roles (plus opener.place opener.count - 1) Hidden) inner (Open (if width == 2 then Strong else Emphasis) end)) closer.place Hidden) (end - 1) (Close end);
+        roles = slice_set (slice_set (slice_set (slice_set s.roles (plus opener.place opener.count - 1) Hidden) inner (Open (span_of width closer) end)) closer.place Hidden) (end - 1) (Close end);
         stack = (if left == 0 then take k s.stack else slice_set (take (plus k 1) s.stack) k (with_count left opener));
       },
       record closer { place = end; count = closer.count - width },
@@ -57,7 +71,7 @@ matching width k opener closer s =
 
 -- a run of the stack and a closer are matched
 unfoldable pub matched : ℕ → Run → Run → State → State × Run
-matched k opener closer s = matching (if nat_le 2 opener.count && nat_le 2 closer.count then 2 else 1) k opener closer s
+matched k opener closer s = matching (width_of opener closer) k opener closer s
 
 -- no run fits: the closer's class has a new bottom
 abbrev pub barred : Run → State → State
@@ -89,7 +103,7 @@ run_step s run = stacked (if run.closes then repeated once run.count run s else 
 
 -- no run may open yet
 abbrev pub emphasis_start : List Role → State
-emphasis_start roles = record { roles = roles; stack = []; bottoms = replicate 12 0 }
+emphasis_start roles = record { roles = roles; stack = []; bottoms = replicate 13 0 }
 
 -- the roles after all runs
 unfoldable pub emphasized : List Role → List Run → List Role

@@ -1,5 +1,6 @@
 -- Runs of delimiters (CommonMark 6.2).
-use Rattle.std.specs.Prelude.{ℕ, Bool, true, false, not, ◌-◌, ◌==◌, ◌&&◌, ◌||◌, List}
+use Rattle.std.specs.Prelude.{ℕ, Bool, true, false, not, ◌-◌, ◌==◌, ◌&&◌, ◌||◌, nat_lt, List}
+use Rattle.tocmark_read_scan.specs.Basic.{byte_at}
 use Rattle.tocmark_read_scan.specs.Class.{run_end}
 use Rattle.tocmark_read_scan.specs.Side.{side_at, side_before}
 use Rattle.tocmark_read_scan.specs.declared.class.Class.TheVariants.{Only}
@@ -41,3 +42,29 @@ run_between bytes place end byte = record {
 -- the run of a byte that begins at a place
 unfoldable pub run_at : List ℕ → ℕ → ℕ → Run
 run_at bytes place byte = run_between bytes place (run_end bytes place (Only byte)) byte
+
+-- one or two tildes open before what is no white space; a single one not within a word
+unfoldable pub tildes_open : ℕ → Side → Side → Bool
+tildes_open count before after =
+    not (is_space after) && ((count == 2) || ((count == 1) && (is_space before || is_punctuation before)))
+
+-- they close behind what is no white space: before white space or punctuation, two behind no punctuation, or behind a tilde
+unfoldable pub tildes_close : ℕ → Bool → Side → Side → Bool
+tildes_close count behind_tilde before after =
+    ((count == 1) || (count == 2)) && not (is_space before)
+    && (is_space after || is_punctuation after || ((count == 2) && not (is_punctuation before)) || behind_tilde)
+
+-- the run of tildes between two places
+unfoldable pub tildes_between : List ℕ → ℕ → ℕ → Run
+tildes_between bytes place end = record {
+  place = place;
+  count = end - place;
+  length = end - place;
+  byte = 126;
+  opens = tildes_open (end - place) (side_before bytes place) (side_at bytes end);
+  closes = tildes_close (end - place) (nat_lt 0 place && (byte_at bytes (place - 1) == 126)) (side_before bytes place) (side_at bytes end);
+}
+
+-- the run of tildes that begins at a place
+unfoldable pub tildes_at : List ℕ → ℕ → Run
+tildes_at bytes place = tildes_between bytes place (run_end bytes place (Only 126))

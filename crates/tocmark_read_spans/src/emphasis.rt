@@ -1,9 +1,9 @@
-//! Emphasis and strong emphasis: runs of delimiters are matched with one another.
+//! Emphasis, strong emphasis and strikethrough: runs of delimiters are matched with one another.
 
 ghost use Rattle.std.specs.Prelude.{◌≡◌, IfOk, OnOk, length};
 ghost use Rattle.tocmark_read_scan.specs.Repeat.{repeated};
 ghost use Rattle.tocmark_read_spans.specs.Role.{roles_of};
-ghost use Rattle.tocmark_read_spans.specs.Emphasis.{openers, fits, class_of, found, matched, once, run_step, emphasized, emphasis_start};
+ghost use Rattle.tocmark_read_spans.specs.Emphasis.{openers, emphasis_fits, fits, class_of, span_of, width_of, found, matched, once, run_step, emphasized, emphasis_start};
 
 use crate::role::{Role, Roles, Span};
 use crate::run::Run;
@@ -20,11 +20,11 @@ pub struct Openers {
     pub bottoms: Vec<usize>,
 }
 
-/// Whether one run may open what another closes: where one of them could do both, the sum of their
+/// Whether one run of `*` or `_` may open what another closes: where one of them could do both, the sum of their
 /// lengths is no multiple of 3, or both lengths are.
-#[tactic(auto, unfolding(crate::specs::Emphasis::fits))]
-fn fits(opener: Run, closer: Run) -> bool
-    ensures { result ≡ fits opener closer }
+#[tactic(auto, unfolding(crate::specs::Emphasis::emphasis_fits))]
+fn emphasis_fits(opener: Run, closer: Run) -> bool
+    ensures { result ≡ emphasis_fits opener closer }
 {
     opener.byte == closer.byte
         && !((opener.closes || closer.opens)
@@ -32,11 +32,27 @@ fn fits(opener: Run, closer: Run) -> bool
             && !(opener.length % 3 == 0 && closer.length % 3 == 0))
 }
 
-/// The class of a closer: closers of one class fit the same openers.
+/// Whether one run may open what another closes: tildes are closed by as many.
+#[tactic(auto, unfolding(crate::specs::Emphasis::fits))]
+fn fits(opener: Run, closer: Run) -> bool
+    ensures { result ≡ fits opener closer }
+{
+    if closer.byte == b'~' {
+        opener.byte == b'~' && opener.length == closer.length
+    } else {
+        emphasis_fits(opener, closer)
+    }
+}
+
+/// The class of a closer: closers of one class fit the same openers. Tildes have one of their own: one
+/// that finds no opener bars those of both lengths.
 #[tactic(auto, unfolding(crate::specs::Emphasis::class_of))]
 fn class_of(closer: Run) -> usize
     ensures { result ≡ class_of closer }
 {
+    if closer.byte == b'~' {
+        return 12;
+    }
     let by_byte = if closer.byte == b'*' { 0 } else { 6 };
     let by_side = if closer.opens { 0 } else { 3 };
     by_byte + by_side + closer.length % 3
@@ -59,6 +75,32 @@ fn find(stack: &[Run], closer: Run, bottom: usize) -> Option<usize>
     None
 }
 
+/// How many delimiters are matched at once.
+#[tactic(auto, unfolding(crate::specs::Emphasis::width_of))]
+fn width_of(opener: Run, closer: Run) -> usize
+    ensures { result ≡ width_of opener closer }
+{
+    if opener.count >= 2 && closer.count >= 2 {
+        2
+    } else {
+        1
+    }
+}
+
+/// What a match of so many delimiters is.
+#[tactic(auto, unfolding(crate::specs::Emphasis::span_of))]
+fn span_of(width: usize, closer: Run) -> Span
+    ensures { result ≡ span_of width closer }
+{
+    if closer.byte == b'~' {
+        Span::Strikethrough
+    } else if width == 2 {
+        Span::Strong
+    } else {
+        Span::Emphasis
+    }
+}
+
 impl Openers {
     /// Matches the run at a place of the stack with a closer, and gives what is left of the closer.
     #[tactic(auto, unfolding(crate::specs::Emphasis::matched))]
@@ -73,13 +115,12 @@ impl Openers {
             (openers (roles_of roles.new) self.new, left)
             ≡ matched k opener closer (openers (roles_of roles.old) self.old)) }
     {
-        let two = opener.count >= 2 && closer.count >= 2;
-        let width: usize = if two { 2 } else { 1 };
+        let width = width_of(opener, closer);
         let inner = opener
             .place
             .saturating_add(opener.count)
             .saturating_sub(width);
-        let span = if two { Span::Strong } else { Span::Emphasis };
+        let span = span_of(width, closer);
         let end = closer.place.saturating_add(width);
         let last = opener.place.saturating_add(opener.count).saturating_sub(1);
         roles.put_behind(last, inner, Role::Open(span, end))?;
@@ -176,7 +217,7 @@ pub fn emphasize(alloc: Global, roles: &mut Roles, runs: &[Run]) -> Result<(), A
     }
     let mut machine = Openers {
         stack: Vec::new(alloc),
-        bottoms: vec![in alloc; 0; 12]?,
+        bottoms: vec![in alloc; 0; 13]?,
     };
     for run in runs {
         machine.take(roles, *run)?;

@@ -39,6 +39,8 @@ pub enum Span {
     Emphasis,
     /// Strong emphasis.
     Strong,
+    /// Strikethrough.
+    Strikethrough,
     /// A link with its number.
     Link(usize),
     /// An image with its number.

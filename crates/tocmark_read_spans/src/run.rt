@@ -1,8 +1,9 @@
-//! Runs of `*` and `_`, and what they can open and close.
+//! Runs of `*`, `_` and `~`, and what they can open and close.
 
 ghost use Rattle.std.specs.Prelude.{◌≡◌};
-ghost use Rattle.tocmark_read_spans.specs.Run.{is_space, is_punctuation, flanks, acts, run_between, run_at};
+ghost use Rattle.tocmark_read_spans.specs.Run.{is_space, is_punctuation, flanks, acts, run_between, run_at, tildes_open, tildes_close, tildes_between, tildes_at};
 
+use tocmark_read_scan::basic::byte_at;
 use tocmark_read_scan::class::{Class, run_end};
 use tocmark_read_scan::side::{Side, side_at, side_before};
 
@@ -15,11 +16,11 @@ pub struct Run {
     pub count: usize,
     /// The number of bytes that it had at first.
     pub length: usize,
-    /// Its byte, `*` or `_`.
+    /// Its byte, `*`, `_` or `~`.
     pub byte: u8,
-    /// Whether it can open emphasis.
+    /// Whether it can open emphasis, or strikethrough.
     pub opens: bool,
-    /// Whether it can close emphasis.
+    /// Whether it can close emphasis, or strikethrough.
     pub closes: bool,
 }
 
@@ -88,4 +89,50 @@ pub fn run_at(bytes: &[u8], place: usize, byte: u8) -> Run
     ensures { result ≡ run_at bytes.now place byte }
 {
     run_between(bytes, place, run_end(bytes, place, Class::Only(byte)), byte)
+}
+
+/// Whether a run of so many tildes opens: one or two before what is no white space, a single one not
+/// within a word.
+#[tactic(auto, unfolding(crate::specs::Run::tildes_open))]
+fn tildes_open(count: usize, before: Side, after: Side) -> bool
+    ensures { result ≡ tildes_open count before after }
+{
+    let free = is_space(before) || is_punctuation(before);
+    !is_space(after) && (count == 2 || count == 1 && free)
+}
+
+/// Whether a run of so many tildes closes: one or two behind what is no white space.
+#[tactic(auto, unfolding(crate::specs::Run::tildes_close))]
+fn tildes_close(count: usize, behind_tilde: bool, before: Side, after: Side) -> bool
+    ensures { result ≡ tildes_close count behind_tilde before after }
+{
+    let two = count == 2 && !is_punctuation(before);
+    let free = is_space(after) || is_punctuation(after) || two || behind_tilde;
+    (count == 1 || count == 2) && !is_space(before) && free
+}
+
+#[tactic(auto, unfolding(crate::specs::Run::tildes_between))]
+fn tildes_between(bytes: &[u8], place: usize, end: usize) -> Run
+    ensures { result ≡ tildes_between bytes.now place end }
+{
+    let before = side_before(bytes, place);
+    let after = side_at(bytes, end);
+    let count = end.saturating_sub(place);
+    let behind_tilde = 0 < place && byte_at(bytes, place.saturating_sub(1)) == b'~';
+    Run {
+        place,
+        count,
+        length: count,
+        byte: b'~',
+        opens: tildes_open(count, before, after),
+        closes: tildes_close(count, behind_tilde, before, after),
+    }
+}
+
+/// The run of tildes that begins at a place.
+#[tactic(auto, unfolding(crate::specs::Run::tildes_at))]
+pub fn tildes_at(bytes: &[u8], place: usize) -> Run
+    ensures { result ≡ tildes_at bytes.now place }
+{
+    tildes_between(bytes, place, run_end(bytes, place, Class::Only(b'~')))
 }

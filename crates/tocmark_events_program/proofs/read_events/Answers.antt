@@ -12,6 +12,6 @@ use Rattle.tocmark_events_program.proofs.read_events.Goals as goal
 
 pub returns-clause-read : goal.returns-clause-read
 returns-clause-read c =
-    let all : view c.in_ok-value.value ≡ reading_json c.args.text.now =
+    let all : view c.in_ok-value.value ≡ reading_json c.args.flags c.args.text.now =
     c.in_ok-value.ensures ∙ ap pairs_json (ap (map (ranged_view text_of)) c.deref.ensures.value ∙ sym (map-map (λ (e : EventView × (ℕ × ℕ)). (e.0, Some e.1)) (λ e. (event_view text_of e.0, e.1)) c.in_ok-reading.reading.events.items)) ∙ ap (λ (r : ReadingView). pairs_json (map (λ e. (e.0, Some e.1)) r.events)) c.in_ok-reading.ensures.reading in
     subst (λ (d : Data). IsInOrder (string_bytes c.in_ok-to_string.field-0) d) all c.in_ok-to_string.ensures.order

@@ -12,4 +12,4 @@ returns c =
     let h = c.in_ok-state.ensures.made in
     let same : ranged_pairs h.1 ≡ map (pair_view text_of) c.args.pairs.now =
     pairs_taken h.1 h.0 (h.3.0, h.3.1, λ _. h.3.2 tt) ∙ ap places_left h.2 ∙ c.new.ensures in
-    all_written (options_view c.args.options) c.args.source.now c.empty-flags.result (ranged_pairs h.1) (map (pair_view text_of) c.args.pairs.now) c.new-output.result c.cmark_with_source_range_and_options.new.writer c.empty-flags.ensures same c.new-output.ensures.bytes h.4.0 h.4.1
+    all_written (options_view c.args.options) c.args.source.now c.args.flags (ranged_pairs h.1) (map (pair_view text_of) c.args.pairs.now) c.new-output.result c.cmark_with_source_range_and_options.new.writer same c.new-output.ensures.bytes h.4.0 h.4.1

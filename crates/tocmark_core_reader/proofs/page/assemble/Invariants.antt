@@ -1,10 +1,10 @@
 use Rattle.std.proofs.Common.{◌≡◌, take}
 use Rattle.std.specs.List.{fold}
 use Rattle.tocmark_read_spans.specs.Definitions.{entry_of}
-use Rattle.tocmark_core_reader.specs.Pages.{assembly_view, block_step, start_state, written_alone}
+use Rattle.tocmark_core_reader.specs.Pages.{assembly_view, block_step_in, start_state, written_alone}
 use Rattle.tocmark_core_reader.proofs.page.assemble.Given as goal
 
 abbrev pub invariant-loop-block : goal.invariant-loop-block
 invariant-loop-block l =
     assembly_view l.assembly
-    ≡ written_alone l.text (fold (block_step l.text (entry_of l.definitions) l.blocks l.pieces) (start_state l.fn.texts.items) (take l.block-index l.blocks))
+    ≡ written_alone l.text (fold (block_step_in l.syntax l.text (entry_of l.definitions) l.blocks l.pieces) (start_state l.fn.texts.items) (take l.block-index l.blocks))

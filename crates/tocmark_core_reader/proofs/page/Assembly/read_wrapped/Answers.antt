@@ -1,7 +1,7 @@
 use Rattle.std.proofs.Common.{ap, sym, ◌∙◌}
 use Rattle.std.proofs.lemmas.Result.{on_ok_weaker}
 use Rattle.tocmark_read_spans.specs.Definitions.{entry_of}
-use Rattle.tocmark_core_reader.specs.Pages.{assembly_view, leaf_inlines, written_by}
+use Rattle.tocmark_core_reader.specs.Pages.{assembly_view, leaf_inlines_in, written_by}
 use Rattle.tocmark_core_reader.proofs.Behind.{Find, wrapped_behind}
 use Rattle.tocmark_core_reader.proofs.page.Assembly.read_wrapped.Goals as goal
 
@@ -11,7 +11,7 @@ returns c =
     on_ok_weaker c.read_leaf.result
     (λ read.
     read
-    ∙ ap (λ n. written_by c.args.text.now (leaf_inlines c.args.text.now find c.args.pieces.now n) (assembly_view c.open.new.self)) c.saturating_add.ensures
-    ∙ ap (written_by c.args.text.now (leaf_inlines c.args.text.now find c.args.pieces.now _)) c.in_ok-open.ensures
-    ∙ sym (wrapped_behind c.args.text.now find c.args.pieces.now c.args.block (assembly_view c.args.self.now)))
+    ∙ ap (λ n. written_by c.args.text.now (leaf_inlines_in c.args.syntax c.args.text.now find c.args.pieces.now n) (assembly_view c.open.new.self)) c.saturating_add.ensures
+    ∙ ap (written_by c.args.text.now (leaf_inlines_in c.args.syntax c.args.text.now find c.args.pieces.now _)) c.in_ok-open.ensures
+    ∙ sym (wrapped_behind c.args.syntax c.args.text.now find c.args.pieces.now c.args.block (assembly_view c.args.self.now)))
     c.read_leaf.ensures
