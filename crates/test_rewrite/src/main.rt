@@ -1,0 +1,170 @@
+//! Rewrites texts: what stays where nothing is changed, and what changes with one thing.
+//!
+//! Standard input has texts, each as a JSON string on a line of its own. For each there are three lines: whether it stays
+//! as it is where no event was changed; what it becomes where each `http:` destination is one by `https:`; and what it
+//! becomes where each heading moves one level down. Behind a line `%` the texts are only counted. Empty lines and those
+//! that begin with `#` say nothing.
+#![tactic(auto)]
+
+use serde_json::Value;
+use std::alloc::{AllocError, Global};
+use std::io::{self, ErrorKind, Read, Write};
+use tocmark::Options;
+use tocmark::core_reader::CoreReader;
+use tocmark::event::{CowStr, Event, ParserOptions, Tag};
+use tocmark::reader::Reader;
+use tocmark_rewrite::edits::{Shift, set_destination, shift_headings};
+use tocmark_rewrite::{Fault, rewritten};
+
+/// What is done with the events of a text.
+#[derive(Clone, Copy)]
+enum Edit {
+    Nothing,
+    Secure,
+    Lower,
+}
+
+/// The destination of a link or an image behind `http:`, if it begins so.
+fn without_scheme<'e>(event: &'e Event<'static>) -> Option<&'e str> {
+    match event {
+        Event::Start(Tag::Link { dest_url, .. }) => dest_url.as_ref().strip_prefix("http:"),
+        Event::Start(Tag::Image { dest_url, .. }) => dest_url.as_ref().strip_prefix("http:"),
+        _ => None,
+    }
+}
+
+/// The same destination by `https:`, if an event has one by `http:`.
+fn secure(alloc: Global, event: &Event<'static>) -> Result<Option<String>, AllocError> {
+    match without_scheme(event) {
+        None => Ok(None),
+        Some(rest) => Ok(Some(format!(in alloc; "https:{rest}")?)),
+    }
+}
+
+fn make_edit(
+    alloc: Global,
+    events: &mut [(Event<'static>, (usize, usize))],
+    edit: Edit,
+) -> Result<(), AllocError> {
+    match edit {
+        Edit::Nothing => {}
+        Edit::Secure => {
+            for (event, _range) in events.iter_mut() {
+                if let Some(destination) = secure(alloc, event)? {
+                    set_destination(event, CowStr::Owned(destination));
+                }
+            }
+        }
+        Edit::Lower => shift_headings(events, Shift::Down(1)),
+    }
+    Ok(())
+}
+
+/// What a text becomes.
+fn edited(alloc: Global, text: &str, how: Edit) -> Result<String, Fault> {
+    let flags = ParserOptions::empty();
+    let mut reading = CoreReader.read(alloc, text, flags)?;
+    make_edit(alloc, &mut reading.events, how)?;
+    let options = Options::default();
+    let answer = rewritten(alloc, text, &reading.events, &CoreReader, flags, options)?;
+    Ok(answer.text)
+}
+
+/// The text of a JSON string.
+fn text_of(alloc: Global, line: &str) -> io::Result<String> {
+    match Value::from_str(alloc, line) {
+        Ok(Value::String(text)) => Ok(text),
+        _ => Err(io::Error::from(ErrorKind::InvalidData)),
+    }
+}
+
+/// A line for what a text becomes.
+fn write_edited<W: Write>(alloc: Global, output: &mut W, text: &str, how: Edit) -> io::Result<()> {
+    match edited(alloc, text, how) {
+        Ok(text) => {
+            let value = Value::String(text);
+            writeln!(output, "{value}")
+        }
+        Err(fault) => writeln!(output, "{fault}"),
+    }
+}
+
+/// Whether a text stays as it is where no event was changed.
+fn stays(alloc: Global, text: &str) -> bool {
+    match edited(alloc, text, Edit::Nothing) {
+        Ok(made) => made.as_str() == text,
+        Err(_fault) => false,
+    }
+}
+
+/// The three lines of a text.
+fn answer<W: Write>(alloc: Global, output: &mut W, text: &str) -> io::Result<()> {
+    if stays(alloc, text) {
+        writeln!(output, "stays")?;
+    } else {
+        writeln!(output, "doesn't stay")?;
+    }
+    write_edited(alloc, output, text, Edit::Secure)?;
+    write_edited(alloc, output, text, Edit::Lower)
+}
+
+/// How many texts there were, how many stayed, and of how many all headings moved.
+#[derive(Clone, Copy)]
+struct Counts {
+    texts: usize,
+    stayed: usize,
+    secured: usize,
+    lowered: usize,
+}
+
+fn with_one(count: usize, counts: bool) -> usize {
+    count.saturating_add(usize::from(counts))
+}
+
+fn counted(alloc: Global, counts: Counts, text: &str) -> Counts {
+    Counts {
+        texts: with_one(counts.texts, true),
+        stayed: with_one(counts.stayed, stays(alloc, text)),
+        secured: with_one(counts.secured, edited(alloc, text, Edit::Secure).is_ok()),
+        lowered: with_one(counts.lowered, edited(alloc, text, Edit::Lower).is_ok()),
+    }
+}
+
+fn answer_all<W: Write>(alloc: Global, output: &mut W, lines: &str) -> io::Result<()> {
+    let mut counts = None;
+    for line in lines.split('\n') {
+        if line == "%" {
+            counts = Some(Counts {
+                texts: 0,
+                stayed: 0,
+                secured: 0,
+                lowered: 0,
+            });
+        } else if !line.is_empty() && !line.starts_with('#') {
+            let text = text_of(alloc, line)?;
+            match counts {
+                None => answer(alloc, output, text.as_str())?,
+                Some(so_far) => counts = Some(counted(alloc, so_far, text.as_str())),
+            }
+        }
+    }
+    if let Some(counts) = counts {
+        let Counts {
+            texts,
+            stayed,
+            secured,
+            lowered,
+        } = counts;
+        writeln!(
+            output,
+            "{texts} texts: {stayed} stay, {secured} and {lowered} are rewritten"
+        )?;
+    }
+    Ok(())
+}
+
+fn main(rt: HostRuntime) -> io::Result<()> {
+    let mut lines = String::new(rt.alloc());
+    rt.stdin().read_to_string(&mut lines)?;
+    answer_all(rt.alloc(), &mut rt.stdout(), lines.as_str())
+}

@@ -1,0 +1,4 @@
+pub mod Fronts
+pub mod Parts
+pub mod Readings
+pub mod Slices

@@ -1,0 +1,4 @@
+pub mod Edits
+pub mod Given
+pub mod Kept
+pub mod Parts

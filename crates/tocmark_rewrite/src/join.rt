@@ -1,0 +1,300 @@
+//! Blocks side by side: those that are kept as they stand in the source, those that were written between them.
+
+ghost use Rattle.std.specs.Prelude.{IfOk, OnOk, string_bytes};
+ghost use Rattle.tocmark_rewrite.specs.Parts.{IsMadeOf};
+
+use crate::output::Output;
+use crate::patch::Patch;
+use crate::pieces::{Definitions, Piece, label_of};
+use crate::plan::Plan;
+use crate::trees::{Block, has_text, trimmed};
+use std::alloc::{AllocError, Global};
+
+/// The source with its patches, whose places grow; none that begins before the end of another is made.
+pub(crate) fn patched(alloc: Global, source: &str, patches: &[Patch]) -> Result<Output, AllocError>
+    ensures { IfOk result (λ output.
+        IsMadeOf source.now (string_bytes output.text) output.parts.items) }
+{
+    let mut output = Output::new(alloc, source);
+    let mut at = 0usize;
+    for patch in patches {
+        if at <= patch.from {
+            output.copy(source, at, patch.from)?;
+            output.put(source, patch.text.clone()?)?;
+            at = patch.to;
+        }
+    }
+    output.copy(source, at, source.len())?;
+    output.is_patched = true;
+    Ok(output)
+}
+
+/// The source between the tree before this one and this one.
+fn gap(source: &str, blocks: &[Block], k: usize) -> (usize, usize) {
+    let from = match k.checked_sub(1) {
+        None => 0,
+        Some(before) => match blocks.get(before) {
+            None => source.len(),
+            Some(block) => block.to,
+        },
+    };
+    let to = match blocks.get(k) {
+        None => source.len(),
+        Some(block) => block.from,
+    };
+    (from, to)
+}
+
+/// Two line ends, if something stands before.
+fn separate(alloc: Global, source: &str, output: &mut Output) -> Result<(), AllocError>
+    requires { IsMadeOf source.now (string_bytes output.old.text) output.old.parts.items }
+    ensures { OnOk result (IsMadeOf source.now (string_bytes output.new.text) output.new.parts.items) }
+{
+    if output.text.is_empty() {
+        return Ok(());
+    }
+    let end = output.line_end();
+    output.put(source, String::from_str(alloc, end)?)?;
+    output.put(source, String::from_str(alloc, end)?)
+}
+
+/// What stands in the gaps from one tree of the source on to another: definitions.
+fn put_gaps(
+    alloc: Global,
+    source: &str,
+    blocks: &[Block],
+    definitions: &Definitions,
+    first: usize,
+    last: usize,
+    output: &mut Output,
+) -> Result<(), AllocError>
+    requires { IsMadeOf source.now (string_bytes output.old.text) output.old.parts.items }
+    ensures { OnOk result (IsMadeOf source.now (string_bytes output.new.text) output.new.parts.items) }
+{
+    for k in first..last {
+        let (from, to) = gap(source, blocks, k);
+        if has_text(source.as_bytes(), from, to) {
+            separate(alloc, source, output)?;
+            let (start, past) = trimmed(source.as_bytes(), from, to);
+            copy_lines(alloc, source, definitions, start, past, output)?;
+        }
+    }
+    Ok(())
+}
+
+/// A line of a gap, or the definition that stands in its place.
+fn copy_line(
+    alloc: Global,
+    source: &str,
+    definitions: &Definitions,
+    from: usize,
+    to: usize,
+    output: &mut Output,
+) -> Result<(), AllocError>
+    requires { IsMadeOf source.now (string_bytes output.old.text) output.old.parts.items }
+    ensures { OnOk result (IsMadeOf source.now (string_bytes output.new.text) output.new.parts.items) }
+{
+    let line = source.get(from..to).unwrap_or("");
+    let Some(label) = label_of(line) else {
+        return output.copy(source, from, to);
+    };
+    let Some(other) = definitions.line_of(label) else {
+        return output.copy(source, from, to);
+    };
+    output.put(source, String::from_str(alloc, other)?)?;
+    if line.ends_with("\r\n") {
+        output.put(source, String::from_str(alloc, "\r\n")?)
+    } else if line.ends_with("\n") {
+        output.put(source, String::from_str(alloc, "\n")?)
+    } else {
+        Ok(())
+    }
+}
+
+/// Lines of the source between blocks; definitions of labels that written trees define anew are
+/// replaced.
+fn copy_lines(
+    alloc: Global,
+    source: &str,
+    definitions: &Definitions,
+    from: usize,
+    to: usize,
+    output: &mut Output,
+) -> Result<(), AllocError>
+    requires { IsMadeOf source.now (string_bytes output.old.text) output.old.parts.items }
+    ensures { OnOk result (IsMadeOf source.now (string_bytes output.new.text) output.new.parts.items) }
+{
+    let bytes = source.as_bytes();
+    let mut start = from;
+    for k in from..to {
+        if let Some(b'\n') = bytes.get(k) {
+            let past = k.saturating_add(1);
+            copy_line(alloc, source, definitions, start, past, output)?;
+            start = past;
+        }
+    }
+    copy_line(alloc, source, definitions, start, to, output)
+}
+
+/// How the blocks are put side by side.
+#[derive(Clone, Copy, Debug)]
+pub(crate) struct Manner {
+    /// Whether two line ends stand before and behind a written block, in place of the source's.
+    pub(crate) apart: bool,
+    /// Whether they take the place of the source's definitions of these labels.
+    pub(crate) redefines: bool,
+    /// Whether the definitions that written blocks ask for stand at the end.
+    pub(crate) defines: bool,
+}
+
+/// A line end, and another one if no line has ended; then the definitions and a line end.
+fn put_definitions(
+    alloc: Global,
+    source: &str,
+    definitions: &Definitions,
+    output: &mut Output,
+) -> Result<(), AllocError>
+    requires { IsMadeOf source.now (string_bytes output.old.text) output.old.parts.items }
+    ensures { OnOk result (IsMadeOf source.now (string_bytes output.new.text) output.new.parts.items) }
+{
+    let end = output.line_end();
+    let text = definitions.text(alloc, end)?;
+    if text.is_empty() {
+        return Ok(());
+    }
+    if !output.text.as_str().ends_with("\n") {
+        output.put(source, String::from_str(alloc, end)?)?;
+    }
+    output.put(source, String::from_str(alloc, end)?)?;
+    output.put(source, text)?;
+    output.put(source, String::from_str(alloc, end)?)
+}
+
+/// The source's end, or what is left of it.
+fn put_tail(
+    alloc: Global,
+    source: &str,
+    blocks: &[Block],
+    definitions: &Definitions,
+    next: usize,
+    output: &mut Output,
+) -> Result<(), AllocError>
+    requires { IsMadeOf source.now (string_bytes output.old.text) output.old.parts.items }
+    ensures { OnOk result (IsMadeOf source.now (string_bytes output.new.text) output.new.parts.items) }
+{
+    if next == blocks.len() {
+        let (from, to) = gap(source, blocks, next);
+        return copy_lines(alloc, source, definitions, from, to, output);
+    }
+    put_gaps(
+        alloc,
+        source,
+        blocks,
+        definitions,
+        next,
+        blocks.len().saturating_add(1),
+        output,
+    )?;
+    if source.ends_with("\r\n") {
+        output.put(source, String::from_str(alloc, "\r\n")?)?;
+    } else if source.ends_with("\n") {
+        output.put(source, String::from_str(alloc, "\n")?)?;
+    }
+    Ok(())
+}
+
+/// What stands before a block.
+fn put_before(
+    alloc: Global,
+    source: &str,
+    blocks: &[Block],
+    definitions: &Definitions,
+    next: usize,
+    stands_for: Option<usize>,
+    raw: bool,
+    output: &mut Output,
+) -> Result<(), AllocError>
+    requires { IsMadeOf source.now (string_bytes output.old.text) output.old.parts.items }
+    ensures { OnOk result (IsMadeOf source.now (string_bytes output.new.text) output.new.parts.items) }
+{
+    match stands_for {
+        None => separate(alloc, source, output),
+        Some(place) => {
+            if raw && place == next {
+                let (from, to) = gap(source, blocks, place);
+                return copy_lines(alloc, source, definitions, from, to, output);
+            }
+            put_gaps(
+                alloc,
+                source,
+                blocks,
+                definitions,
+                next,
+                place.saturating_add(1),
+                output,
+            )?;
+            separate(alloc, source, output)
+        }
+    }
+}
+
+/// A block, kept or written.
+fn put_block(
+    source: &str,
+    plan: &Plan,
+    piece: &Piece,
+    output: &mut Output,
+) -> Result<(), AllocError>
+    requires { IsMadeOf source.now (string_bytes output.old.text) output.old.parts.items }
+    ensures { OnOk result (IsMadeOf source.now (string_bytes output.new.text) output.new.parts.items) }
+{
+    match plan.kept {
+        Some(block) => output.copy(source, block.from, block.to),
+        None => output.put(source, piece.body.clone()?),
+    }
+}
+
+/// The blocks side by side.
+pub(crate) fn joined(
+    alloc: Global,
+    source: &str,
+    blocks: &[Block],
+    plans: &[Plan],
+    pieces: &[Piece],
+    definitions: &Definitions,
+    manner: Manner,
+) -> Result<Output, AllocError>
+    ensures { IfOk result (λ output.
+        IsMadeOf source.now (string_bytes output.text) output.parts.items) }
+{
+    let mut output = Output::new(alloc, source);
+    let none = Definitions::none(alloc);
+    let redefined = if manner.redefines { definitions } else { &none };
+    // the first block of the source that isn't passed, and whether the one before was kept
+    let mut next = 0usize;
+    let mut follows = true;
+    for (plan, piece) in plans.iter().zip(pieces) {
+        let raw = !manner.apart || (follows && plan.kept.is_some());
+        let place = plan.stands_for;
+        put_before(
+            alloc,
+            source,
+            blocks,
+            redefined,
+            next,
+            place,
+            raw,
+            &mut output,
+        )?;
+        put_block(source, plan, piece, &mut output)?;
+        if let Some(place) = place {
+            next = place.saturating_add(1);
+        }
+        follows = plan.kept.is_some();
+    }
+    put_tail(alloc, source, blocks, redefined, next, &mut output)?;
+    if manner.defines {
+        put_definitions(alloc, source, definitions, &mut output)?;
+    }
+    Ok(output)
+}

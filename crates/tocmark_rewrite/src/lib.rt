@@ -1,0 +1,35 @@
+//! Writes an edited document again: what wasn't changed stays byte for byte, and the answer is read as the edited
+//! events.
+//!
+//! Below it stand the writer (`tocmark_state`), of which it takes the text of blocks that it has to write, and the
+//! comparison of events (`tocmark_write_read_back`); above it stand programs that change documents. Enter at
+//! `rewritten` (`rewrite`). `plan` finds which trees stand in the source as they are, `patch` replaces the bytes of
+//! single events, `pieces` and `join` write changed trees and put them between the kept ones; all leave a list of
+//! parts (`output`), which is read back. `answer` says what became of each tree, `fault` why there is no answer, and
+//! `edits` has changes of events that such programs make.
+//!
+//! ```
+//! let mut reading = CoreReader.read(alloc, source, flags)?;
+//! shift_headings(&mut reading.events, Shift::Down(1));
+//! let answer = rewritten(alloc, source, &reading.events, &CoreReader, flags, Options::default())?;
+//! ```
+#![tactic(auto)]
+
+pub mod answer;
+pub mod edits;
+pub mod fault;
+pub mod given;
+mod join;
+pub mod output;
+mod patch;
+mod pieces;
+mod plan;
+pub mod rewrite;
+mod same;
+mod texts;
+mod trees;
+
+pub use answer::{Fate, Kept, Rewritten, RewrittenTree};
+pub use fault::{Fault, Place};
+pub use output::Part;
+pub use rewrite::rewritten;

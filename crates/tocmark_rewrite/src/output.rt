@@ -1,0 +1,66 @@
+//! What is written so far: a list of parts.
+
+ghost use Rattle.std.specs.Prelude.{◌≡◌, OnOk, string_bytes};
+ghost use Rattle.tocmark_rewrite.specs.Parts.{IsMadeOf};
+
+use std::alloc::{AllocError, Global};
+
+/// A part of the new text.
+#[derive(Debug, Drop)]
+pub enum Part {
+    /// These bytes of the source: the first one, and the one behind the last.
+    Source(usize, usize),
+    /// A text that was written.
+    Written(String),
+}
+
+/// The new text, and its parts.
+#[derive(Debug, Drop)]
+pub(crate) struct Output {
+    pub(crate) text: String,
+    pub(crate) parts: Vec<Part>,
+    /// Whether lines of the source end with a carriage return and a line feed.
+    pub(crate) has_returns: bool,
+    /// Whether it is the source with patches.
+    pub(crate) is_patched: bool,
+}
+
+impl Output {
+    pub(crate) fn new(alloc: Global, source: &str) -> Output
+        ensures { IsMadeOf source.now (string_bytes result.text) result.parts.items }
+    {
+        Output {
+            text: String::new(alloc),
+            parts: Vec::new(alloc),
+            has_returns: source.contains("\r\n"),
+            is_patched: false,
+        }
+    }
+
+    /// What ends a line.
+    pub(crate) fn line_end(&self) -> &'static str {
+        if self.has_returns { "\r\n" } else { "\n" }
+    }
+
+    /// Copies bytes of the source; nothing if they are no slice of it.
+    pub(crate) fn copy(&mut self, source: &str, from: usize, to: usize) -> Result<(), AllocError>
+        requires { IsMadeOf source.now (string_bytes self.old.text) self.old.parts.items }
+        ensures { OnOk result (IsMadeOf source.now (string_bytes self.new.text) self.new.parts.items) }
+    {
+        if let Some(slice) = source.get(from..to) {
+            self.parts.push(Part::Source(from, to))?;
+            self.text.push_str(slice)?;
+        }
+        Ok(())
+    }
+
+    /// Adds a text that was written.
+    pub(crate) fn put(&mut self, source: &str, text: String) -> Result<(), AllocError>
+        requires { IsMadeOf source.now (string_bytes self.old.text) self.old.parts.items }
+        ensures { OnOk result (IsMadeOf source.now (string_bytes self.new.text) self.new.parts.items) }
+    {
+        self.text.push_str(text.as_str())?;
+        self.parts.push(Part::Written(text))?;
+        Ok(())
+    }
+}

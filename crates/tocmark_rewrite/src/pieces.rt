@@ -1,0 +1,207 @@
+//! The trees that were changed, each written by itself.
+
+use crate::fault::Fault;
+use crate::given::GivenPairs;
+use crate::plan::{Plan, place_of};
+use crate::texts::Texts;
+use crate::trees::{Block, Tree};
+use std::alloc::{AllocError, Global};
+use std::collections::HashMap;
+use tocmark_event::event::{Event, ParserOptions};
+use tocmark_event::options::{Error, Options};
+use tocmark_event::reader::Reader;
+use tocmark_state::state::State;
+
+/// A changed tree as it is written; empty for a kept one.
+#[derive(Drop)]
+pub(crate) struct Piece {
+    pub(crate) body: String,
+    /// The definitions that it asks for, a line each.
+    definitions: String,
+}
+
+/// The definitions that written trees ask for.
+#[derive(Drop)]
+pub(crate) struct Definitions {
+    /// A line for each, in the order in which they are asked for.
+    lines: Vec<String>,
+    /// The line of each label.
+    places: HashMap<String, usize>,
+}
+
+/// A text with the line ends of the source, without line feeds before it.
+fn in_manner_of(alloc: Global, source: &str, text: &str) -> Result<String, AllocError> {
+    let bare = text.trim_start_matches('\n');
+    if source.contains("\r\n") {
+        bare.replace(alloc, "\n", "\r\n")
+    } else {
+        String::from_str(alloc, bare)
+    }
+}
+
+/// The options with the bullet with which a tree begins in the source.
+fn with_bullet<'o>(source: &str, begins: usize, options: Options<'o>) -> Options<'o> {
+    match source.as_bytes().get(begins) {
+        Some(b'-') => Options {
+            list_token: '-',
+            ..options
+        },
+        Some(b'+') => Options {
+            list_token: '+',
+            ..options
+        },
+        Some(b'*') => Options {
+            list_token: '*',
+            ..options
+        },
+        _ => options,
+    }
+}
+
+/// Hands the events of a tree to a state, and its end: the tree's text, and then the definitions that
+/// it asks for.
+fn hand<'a, R: Reader + Drop>(
+    state: &mut State<R>,
+    source: &str,
+    events: &'a [(Event<'a>, (usize, usize))],
+    texts: &mut Texts,
+) -> Result<(), Error> {
+    state.process_with_source_range(GivenPairs::new(events), source, texts)?;
+    state.finish(texts)?;
+    Ok(())
+}
+
+/// A tree and the definitions that it asks for, written by a state of its own.
+pub(crate) fn write_tree<'a, R: Reader>(
+    alloc: Global,
+    source: &str,
+    events: &'a [(Event<'a>, (usize, usize))],
+    reader: &R,
+    flags: ParserOptions,
+    options: Options<'_>,
+) -> Result<Piece, Error> {
+    let mut texts = Texts::new(alloc);
+    let mut state = State::new(alloc, reader, flags, options)?;
+    let handed = hand(&mut state, source, events, &mut texts);
+    drop(state);
+    handed?;
+    let body = in_manner_of(alloc, source, texts.text_at(0))?;
+    let ends = in_manner_of(alloc, source, texts.text_at(1))?;
+    Ok(Piece {
+        body,
+        definitions: ends,
+    })
+}
+
+/// The events of a tree.
+pub(crate) fn events_of<'e>(
+    events: &'e [(Event<'e>, (usize, usize))],
+    tree: Tree,
+) -> &'e [(Event<'e>, (usize, usize))] {
+    events.get(tree.first..tree.past).unwrap_or(&[])
+}
+
+/// The piece of a tree, or why and where it is refused.
+fn piece_of<'a, R: Reader>(
+    alloc: Global,
+    source: &str,
+    blocks: &[Block],
+    plan: &Plan,
+    events: &'a [(Event<'a>, (usize, usize))],
+    reader: &R,
+    flags: ParserOptions,
+    options: Options<'_>,
+) -> Result<Piece, Fault> {
+    if plan.kept.is_some() {
+        return Ok(Piece {
+            body: String::new(alloc),
+            definitions: String::new(alloc),
+        });
+    }
+    let some = events_of(events, plan.tree);
+    let options = with_bullet(source, plan.tree.begins, options);
+    match write_tree(alloc, source, some, reader, flags, options) {
+        Ok(piece) => Ok(piece),
+        Err(Error::OutOfMemory) => Err(Fault::OutOfMemory),
+        Err(error) => Err(Fault::Refused(place_of(blocks, plan), error)),
+    }
+}
+
+/// The trees that aren't kept, each written by itself. An `Err` names the first one that is refused.
+pub(crate) fn make_pieces<'a, R: Reader>(
+    alloc: Global,
+    source: &str,
+    blocks: &[Block],
+    plans: &[Plan],
+    events: &'a [(Event<'a>, (usize, usize))],
+    reader: &R,
+    flags: ParserOptions,
+    options: Options<'_>,
+) -> Result<Vec<Piece>, Fault> {
+    let mut all = Vec::new(alloc);
+    for plan in plans {
+        let piece = piece_of(alloc, source, blocks, plan, events, reader, flags, options)?;
+        all.push(piece)?;
+    }
+    Ok(all)
+}
+
+/// The label with which a line begins that may be a definition.
+pub(crate) fn label_of(line: &str) -> Option<&str> {
+    if !line.starts_with("[") {
+        return None;
+    }
+    let end = line.find("]:")?;
+    line.get(..end)
+}
+
+impl Definitions {
+    /// No definitions.
+    pub(crate) fn none(alloc: Global) -> Definitions {
+        Definitions {
+            lines: Vec::new(alloc),
+            places: HashMap::new(alloc),
+        }
+    }
+
+    fn add(&mut self, alloc: Global, line: &str) -> Result<(), AllocError> {
+        let label = label_of(line).unwrap_or(line);
+        if self.places.contains_key(label) {
+            return Ok(());
+        }
+        self.places
+            .insert(String::from_str(alloc, label)?, self.lines.len())?;
+        self.lines.push(String::from_str(alloc, line)?)?;
+        Ok(())
+    }
+
+    /// Those of all pieces, one for each label.
+    pub(crate) fn of(alloc: Global, pieces: &[Piece]) -> Result<Definitions, AllocError> {
+        let mut all = Definitions::none(alloc);
+        for piece in pieces {
+            for line in piece.definitions.as_str().lines() {
+                all.add(alloc, line)?;
+            }
+        }
+        Ok(all)
+    }
+
+    /// The line that defines a label.
+    pub(crate) fn line_of(&self, label: &str) -> Option<&str> {
+        let place = self.places.get(label)?;
+        let line = self.lines.get(*place)?;
+        Some(line.as_str())
+    }
+
+    /// All lines, with line ends between them.
+    pub(crate) fn text(&self, alloc: Global, line_end: &str) -> Result<String, AllocError> {
+        let mut text = String::new(alloc);
+        for line in &self.lines {
+            if !text.is_empty() {
+                text.push_str(line_end)?;
+            }
+            text.push_str(line.as_str())?;
+        }
+        Ok(text)
+    }
+}

@@ -1,0 +1,383 @@
+//! Rewrites a document: what wasn't changed stays byte for byte.
+
+ghost use Rattle.std.specs.Prelude.{◌≡◌, ◌↔◌, IfOk, IfSome, IsTrue, List, string_bytes};
+ghost use Rattle.std.specs.List.{All};
+ghost use Rattle.tocmark_event.specs.Merged.{merged};
+ghost use Rattle.tocmark_event.specs.View.{EventView};
+ghost use Rattle.tocmark_rewrite.specs.Given.{found_events, given_events};
+ghost use Rattle.tocmark_rewrite.specs.Kept.{IsHonest, IsTold};
+ghost use Rattle.tocmark_rewrite.specs.Parts.{IsMadeOf};
+
+use crate::answer::{Rewritten, told};
+use crate::fault::{Fault, Place};
+use crate::join::{Manner, joined, patched};
+use crate::output::{Output, Part};
+use crate::patch::{Patch, Patches};
+use crate::pieces::{Definitions, Piece, events_of, make_pieces, write_tree};
+use crate::plan::{Plan, place_of, planned};
+use crate::same::are_same;
+use crate::trees::{Block, Tree, blocks, trees};
+use std::alloc::{AllocError, Global};
+use tocmark_event::event::{Event, ParserOptions};
+use tocmark_event::options::Options;
+use tocmark_event::reader::Reader;
+
+/// The source as it was read, and what becomes of the trees that were given.
+#[derive(Clone, Copy)]
+struct Work<'w> {
+    found: &'w [(Event<'w>, (usize, usize))],
+    blocks: &'w [Block],
+    plans: &'w [Plan],
+}
+
+/// Whether a text is read as the events, on either side with each longest stretch of texts as one.
+fn is_read_as<R: Reader>(
+    alloc: Global,
+    reader: &R,
+    flags: ParserOptions,
+    text: &str,
+    events: &[(Event<'_>, (usize, usize))],
+) -> Result<bool, AllocError>
+    ensures { IfOk result (λ same. IsTrue same
+        ↔ (merged (found_events (R.reading reader.now text.now flags))
+        ≡ merged (given_events events.now))) }
+{
+    let reading = reader.read(alloc, text, flags)?;
+    let same = are_same(alloc, &reading.events, events)?;
+    Ok(same)
+}
+
+/// The new text, if it is read as the events.
+fn accepted<R: Reader>(
+    alloc: Global,
+    source: &str,
+    output: Output,
+    reader: &R,
+    flags: ParserOptions,
+    events: &[(Event<'_>, (usize, usize))],
+) -> Result<Option<Output>, AllocError>
+    requires { IsMadeOf source.now (string_bytes output.text) output.parts.items }
+    ensures same { IfOk result (λ answer. IfSome answer (λ output.
+        merged (found_events (R.reading reader.now (string_bytes output.text) flags))
+        ≡ merged (given_events events.now))) }
+    ensures parts { IfOk result (λ answer. IfSome answer (λ output.
+        IsMadeOf source.now (string_bytes output.text) output.parts.items)) }
+{
+    if is_read_as(alloc, reader, flags, output.text.as_str(), events)? {
+        Ok(Some(output))
+    } else {
+        Ok(None)
+    }
+}
+
+/// The source as it stands.
+fn whole(alloc: Global, source: &str) -> Result<Output, AllocError>
+    ensures text { IfOk result (λ output. string_bytes output.text ≡ source.now) }
+    ensures parts { IfOk result (λ output.
+        IsMadeOf source.now (string_bytes output.text) output.parts.items) }
+{
+    let text = String::from_str(alloc, source)?;
+    let mut parts = Vec::new(alloc);
+    parts.push(Part::Source(0, source.len()))?;
+    Ok(Output {
+        text,
+        parts,
+        has_returns: false,
+        is_patched: false,
+    })
+}
+
+/// The answer with this text.
+fn answer(alloc: Global, work: &Work<'_>, output: Output) -> Result<Rewritten, AllocError>
+    ensures text { IfOk result (λ answer. (string_bytes answer.text ≡ string_bytes output.text)
+        × (answer.parts.items ≡ output.parts.items)) }
+    ensures told { IfOk result (λ answer. (found given : List EventView)
+        → All (IsHonest found given) work.now.plans.now
+        → All (IsTold found given answer.parts.items) answer.trees.items) }
+{
+    let trees = told(
+        alloc,
+        work.blocks,
+        &output.parts,
+        work.plans,
+        output.is_patched,
+    )?;
+    let Output { text, parts, .. } = output;
+    Ok(Rewritten { text, parts, trees })
+}
+
+/// Whether each tree stands for the block of the source in its place.
+fn are_in_place(work: &Work<'_>) -> bool {
+    if work.plans.len() != work.blocks.len() {
+        return false;
+    }
+    for (at, plan) in work.plans.iter().enumerate() {
+        if plan.stands_for != Some(at) {
+            return false;
+        }
+    }
+    true
+}
+
+/// Adds the patches of a tree; none and false if there are no small ones.
+fn add_small<'a>(
+    alloc: Global,
+    source: &str,
+    patches: &mut Patches,
+    old: &[(Event<'_>, (usize, usize))],
+    new: &'a [(Event<'a>, (usize, usize))],
+) -> Result<bool, AllocError> {
+    let before = patches.list.len();
+    let all = patches.tree(alloc, source, old, new)?;
+    if !all {
+        patches.list.truncate(before);
+    }
+    Ok(all)
+}
+
+/// Adds the patch that replaces a block's lines by its tree as it is written; false if it is refused.
+fn add_written<'a, R: Reader>(
+    alloc: Global,
+    source: &str,
+    patches: &mut Patches,
+    block: Block,
+    new: &'a [(Event<'a>, (usize, usize))],
+    reader: &R,
+    flags: ParserOptions,
+    options: Options<'_>,
+) -> Result<bool, AllocError> {
+    let Ok(piece) = write_tree(alloc, source, new, reader, flags, options) else {
+        return Ok(false);
+    };
+    patches.list.push(Patch {
+        from: block.from,
+        to: block.to,
+        text: piece.body,
+    })?;
+    Ok(true)
+}
+
+/// The patches of all trees, where each stands for the block in its place; none if one is refused.
+fn all_patches<'a, R: Reader>(
+    alloc: Global,
+    source: &str,
+    work: &Work<'_>,
+    events: &'a [(Event<'a>, (usize, usize))],
+    reader: &R,
+    flags: ParserOptions,
+    options: Options<'_>,
+) -> Result<Option<Patches>, AllocError> {
+    if !are_in_place(work) {
+        return Ok(None);
+    }
+    let mut patches = Patches::new(alloc);
+    for (plan, block) in work.plans.iter().zip(work.blocks) {
+        if plan.kept.is_none() {
+            let old = work.found.get(block.first..block.past).unwrap_or(&[]);
+            let new = events_of(events, plan.tree);
+            if !add_small(alloc, source, &mut patches, old, new)?
+                && !add_written(
+                    alloc,
+                    source,
+                    &mut patches,
+                    *block,
+                    new,
+                    reader,
+                    flags,
+                    options,
+                )?
+            {
+                return Ok(None);
+            }
+        }
+    }
+    patches.add_definitions(alloc, source)?;
+    Ok(Some(patches))
+}
+
+/// The source with just what was edited replaced, if it is read as the events.
+fn patched_text<'a, R: Reader>(
+    alloc: Global,
+    source: &str,
+    work: &Work<'_>,
+    events: &'a [(Event<'a>, (usize, usize))],
+    reader: &R,
+    flags: ParserOptions,
+    options: Options<'_>,
+) -> Result<Option<Output>, AllocError>
+    ensures same { IfOk result (λ answer. IfSome answer (λ output.
+        merged (found_events (R.reading reader.now (string_bytes output.text) flags))
+        ≡ merged (given_events events.now))) }
+    ensures parts { IfOk result (λ answer. IfSome answer (λ output.
+        IsMadeOf source.now (string_bytes output.text) output.parts.items)) }
+{
+    let Some(patches) = all_patches(alloc, source, work, events, reader, flags, options)? else {
+        return Ok(None);
+    };
+    let output = patched(alloc, source, &patches.list)?;
+    drop(patches);
+    accepted(alloc, source, output, reader, flags, events)
+}
+
+/// Whether a tree that was read is one that was given.
+fn is_tree<'e>(
+    alloc: Global,
+    found: &'e [(Event<'e>, (usize, usize))],
+    tree: Tree,
+    events: &[(Event<'_>, (usize, usize))],
+    other: Tree,
+) -> Result<bool, AllocError> {
+    let read = events_of(found, tree);
+    match events.get(other.first..other.past) {
+        Some(given) => are_same(alloc, read, given),
+        None => Ok(false),
+    }
+}
+
+/// The first tree at which a text is read otherwise.
+fn difference<R: Reader>(
+    alloc: Global,
+    work: &Work<'_>,
+    events: &[(Event<'_>, (usize, usize))],
+    reader: &R,
+    flags: ParserOptions,
+    text: &str,
+) -> Result<Place, AllocError> {
+    let reading = reader.read(alloc, text, flags)?;
+    let found = trees(alloc, &reading.events)?;
+    let mut place = Place {
+        event: 0,
+        lines: None,
+    };
+    for (at, plan) in work.plans.iter().enumerate() {
+        place = place_of(work.blocks, plan);
+        let is_read = match found.get(at) {
+            Some(tree) => is_tree(alloc, &reading.events, *tree, events, plan.tree)?,
+            None => false,
+        };
+        if !is_read {
+            return Ok(place);
+        }
+    }
+    Ok(place)
+}
+
+/// Kept blocks and written ones side by side, in the first manner in which they are read as the events.
+fn joined_text<'a, R: Reader>(
+    alloc: Global,
+    source: &str,
+    work: &Work<'_>,
+    events: &'a [(Event<'a>, (usize, usize))],
+    reader: &R,
+    flags: ParserOptions,
+    options: Options<'_>,
+) -> Result<Output, Fault>
+    ensures same { IfOk result (λ output.
+        merged (found_events (R.reading reader.now (string_bytes output.text) flags))
+        ≡ merged (given_events events.now)) }
+    ensures parts { IfOk result (λ output.
+        IsMadeOf source.now (string_bytes output.text) output.parts.items) }
+{
+    let (blocks, plans) = (work.blocks, work.plans);
+    let pieces = make_pieces(alloc, source, blocks, plans, events, reader, flags, options)?;
+    let definitions = Definitions::of(alloc, &pieces)?;
+    let mut manner = Manner {
+        apart: false,
+        redefines: false,
+        defines: false,
+    };
+    for apart in [false, true] {
+        for (redefines, defines) in [(false, false), (true, false), (false, true), (true, true)] {
+            manner = Manner {
+                apart,
+                redefines,
+                defines,
+            };
+            let output = joined(alloc, source, blocks, plans, &pieces, &definitions, manner)?;
+            if let Some(output) = accepted(alloc, source, output, reader, flags, events)? {
+                return Ok(output);
+            }
+        }
+    }
+    let last = joined(alloc, source, blocks, plans, &pieces, &definitions, manner)?;
+    let place = difference(alloc, work, events, reader, flags, last.text.as_str())?;
+    Err(Fault::ReadOtherwise(place))
+}
+
+/// The new text: the source if nothing was changed, else with patches, else kept and written blocks.
+fn new_text<'a, R: Reader>(
+    alloc: Global,
+    source: &str,
+    work: &Work<'_>,
+    events: &'a [(Event<'a>, (usize, usize))],
+    reader: &R,
+    flags: ParserOptions,
+    options: Options<'_>,
+) -> Result<Output, Fault>
+    requires { given_events work.now.found.now
+        ≡ found_events (R.reading reader.now source.now flags) }
+    ensures same { IfOk result (λ output.
+        merged (found_events (R.reading reader.now (string_bytes output.text) flags))
+        ≡ merged (given_events events.now)) }
+    ensures parts { IfOk result (λ output.
+        IsMadeOf source.now (string_bytes output.text) output.parts.items) }
+{
+    if are_same(alloc, work.found, events)? {
+        let output = whole(alloc, source)?;
+        return Ok(output);
+    }
+    if let Some(output) = patched_text(alloc, source, work, events, reader, flags, options)? {
+        return Ok(output);
+    }
+    joined_text(alloc, source, work, events, reader, flags, options)
+}
+
+/// The edited document: what wasn't changed stays byte for byte.
+///
+/// `events` are those that `reader` finds in `source` under `flags`, each with its range, in which the
+/// caller has changed, added or taken away some; an event that is new has the range of what it replaces,
+/// or an empty one at its place. The options say how trees are written that can't be patched.
+///
+/// - If nothing was changed, the answer is the source.
+/// - Where a link's or an image's destination or title, a text, a heading's level or the info string of a
+///   code block was changed, the bytes of just that are replaced, if the whole is read as the events then.
+/// - Else trees at the top whose events are those of the source keep their lines, and what stands between
+///   them, and the others are written.
+///
+/// The new text is read as the events that were given, on either side with each longest stretch of texts
+/// as one (the clause `same`). It is its parts one after the other, each a slice of the source or a text
+/// that was written (`parts`). Of a tree that is said to be kept, the events are those of the source, and
+/// its lines were copied (`kept`).
+///
+/// An `Err` says that memory ran out, or which tree is refused by the writer, or at which tree the last
+/// text that was tried is read otherwise; the source and the events are the caller's, as before.
+pub fn rewritten<'a, R: Reader>(
+    alloc: Global,
+    source: &str,
+    events: &'a [(Event<'a>, (usize, usize))],
+    reader: &R,
+    flags: ParserOptions,
+    options: Options<'_>,
+) -> Result<Rewritten, Fault>
+    ensures same { IfOk result (λ answer.
+        merged (found_events (R.reading reader.now (string_bytes answer.text) flags))
+        ≡ merged (given_events events.now)) }
+    ensures parts { IfOk result (λ answer.
+        IsMadeOf source.now (string_bytes answer.text) answer.parts.items) }
+    ensures kept { IfOk result (λ answer.
+        All (IsTold (found_events (R.reading reader.now source.now flags))
+        (given_events events.now) answer.parts.items) answer.trees.items) }
+{
+    let reading = reader.read(alloc, source, flags)?;
+    let blocks = blocks(alloc, source, &reading.events)?;
+    let trees = trees(alloc, events)?;
+    let plans = planned(alloc, &reading.events, &blocks, events, &trees)?;
+    let work = Work {
+        found: &reading.events,
+        blocks: &blocks,
+        plans: &plans,
+    };
+    let output = new_text(alloc, source, &work, events, reader, flags, options)?;
+    let answer = answer(alloc, &work, output)?;
+    Ok(answer)
+}
