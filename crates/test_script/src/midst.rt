@@ -3,23 +3,23 @@
 use std::alloc::{AllocError, Global};
 use tocmark_event::event::{EventOf, OwnedEvent, TagOf};
 use tocmark_spelling::list_choice::ListChoice;
-use tocmark_write_containers::content::Content;
+use tocmark_write_containers::content::OpeningChoice;
 use tocmark_write_renderer::parts::{Held, Reference};
 use tocmark_write_renderer::renderer::Renderer;
 
 /// What is kept of an open container with this tag, so that what its children change shows.
-fn content_of(alloc: Global, tag: &TagOf<String>) -> Content {
+fn content_of(alloc: Global, tag: &TagOf<String>) -> OpeningChoice {
     match tag {
-        TagOf::List(number) => Content::Listed(ListChoice {
+        TagOf::List(number) => OpeningChoice::Listed(ListChoice {
             number: *number,
             token: '-',
             tight: true,
             wide: false,
             labelled: false,
         }),
-        TagOf::Table(_) => Content::Headers(Vec::new(alloc)),
-        TagOf::TableCell => Content::Width(0),
-        _ => Content::Plain,
+        TagOf::Table(_) => OpeningChoice::Headers(Vec::new(alloc)),
+        TagOf::TableCell => OpeningChoice::Width(0),
+        _ => OpeningChoice::Plain,
     }
 }
 

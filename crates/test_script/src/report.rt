@@ -6,7 +6,7 @@ use std::io::{self, Write};
 
 /// Which trial of a unit it is.
 #[derive(Clone, Copy)]
-pub struct Place {
+pub struct TrialName {
     /// How many of the unit's events stand before the mark.
     pub first: usize,
     /// The number of the manner, counted from 1.
@@ -88,7 +88,7 @@ impl Report {
     /// What differs in a trial, if anything, before or behind its writing.
     pub fn note_difference(
         &mut self,
-        place: Place,
+        place: TrialName,
         side: &str,
         different: Option<&'static str>,
     ) -> Result<(), AllocError> {
@@ -97,7 +97,7 @@ impl Report {
         };
         self.different = self.different.saturating_add(1);
         let (row, unit) = (self.rows, self.units_of_row);
-        let Place { first, manner } = place;
+        let TrialName { first, manner } = place;
         writeln!(
             self.lines,
             "row {row}, unit {unit}, mark at {first}, manner {manner}: different {side} in {what}"

@@ -4,7 +4,7 @@ ghost use Rattle.std.specs.Prelude.{◌≡◌};
 
 use crate::alike::{difference, difference_in_taken};
 use crate::midst::enter;
-use crate::report::{Place, Report};
+use crate::report::{Report, TrialName};
 use crate::unit::{Outcome, Unit, write};
 use std::alloc::{AllocError, Global};
 use tocmark_event::event::OwnedEvent;
@@ -88,7 +88,7 @@ fn try_beside<'u>(
     rest: &Unit<'u, '_>,
     renderer: &mut Renderer<'u>,
     alone: &mut Renderer<'u>,
-    place: Place,
+    place: TrialName,
     manner: &Manner<'_>,
     report: &mut Report,
 ) -> Result<(), AllocError> {
@@ -115,7 +115,7 @@ fn try_one<'u>(
     let mut alone = begun(trial)?;
     let first = usize::from(trial.entered.is_some());
     let rest = trial.unit.rest(first);
-    let place = Place {
+    let place = TrialName {
         first,
         manner: number,
     };

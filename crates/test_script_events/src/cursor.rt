@@ -16,7 +16,7 @@ const A_CHARACTER: &str = "a string of one character";
 
 /// What is left of a line: words and strings that are parted by one space, or nothing.
 #[derive(Clone, Copy)]
-pub struct Cursor<'a> {
+pub struct WordsLeft<'a> {
     rest: Option<&'a str>,
     /// The byte of the line behind what is left.
     end: usize,
@@ -33,10 +33,10 @@ fn only_character(text: &str) -> Option<char> {
     }
 }
 
-impl<'a> Cursor<'a> {
+impl<'a> WordsLeft<'a> {
     /// The whole line.
-    pub fn new(line: &'a str) -> Cursor<'a> {
-        Cursor {
+    pub fn new(line: &'a str) -> WordsLeft<'a> {
+        WordsLeft {
             rest: Some(line),
             end: line.len(),
             behind: line.len(),

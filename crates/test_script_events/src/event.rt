@@ -1,6 +1,6 @@
 //! Events, read from a line, and lists of them.
 
-use crate::cursor::Cursor;
+use crate::cursor::WordsLeft;
 use crate::fault::LineFault;
 use crate::names::known;
 use crate::tag::{tag, tag_end, truth};
@@ -109,21 +109,21 @@ fn event_of_text(name: TextName, text: CowStr<'static>) -> Event<'static> {
 fn text(
     alloc: Global,
     name: TextName,
-    cursor: &mut Cursor<'_>,
+    cursor: &mut WordsLeft<'_>,
 ) -> Result<Event<'static>, LineFault> {
     let text = cursor.string(alloc)?;
     Ok(event_of_text(name, CowStr::Owned(text)))
 }
 
-fn start(alloc: Global, cursor: &mut Cursor<'_>) -> Result<Event<'static>, LineFault> {
+fn start(alloc: Global, cursor: &mut WordsLeft<'_>) -> Result<Event<'static>, LineFault> {
     tag(alloc, cursor).map(Event::Start)
 }
 
-fn end(cursor: &mut Cursor<'_>) -> Result<Event<'static>, LineFault> {
+fn end(cursor: &mut WordsLeft<'_>) -> Result<Event<'static>, LineFault> {
     Ok(Event::End(tag_end(cursor)?))
 }
 
-fn marker(cursor: &mut Cursor<'_>) -> Result<Event<'static>, LineFault> {
+fn marker(cursor: &mut WordsLeft<'_>) -> Result<Event<'static>, LineFault> {
     Ok(Event::TaskListMarker(truth(cursor, "true (done) or false (open)")?))
 }
 
@@ -131,7 +131,7 @@ fn marker(cursor: &mut Cursor<'_>) -> Result<Event<'static>, LineFault> {
 fn event_of_parts(
     alloc: Global,
     name: EventName,
-    cursor: &mut Cursor<'_>,
+    cursor: &mut WordsLeft<'_>,
 ) -> Result<Event<'static>, LineFault> {
     let event = match name {
         EventName::Start => return start(alloc, cursor),
@@ -150,7 +150,7 @@ fn event_with_range(
     alloc: Global,
     name: EventName,
     range: Option<(usize, usize)>,
-    cursor: &mut Cursor<'_>,
+    cursor: &mut WordsLeft<'_>,
 ) -> Result<RangedEvent<'static>, LineFault> {
     match event_of_parts(alloc, name, cursor) {
         Ok(event) => cursor.ended((event, range)),
@@ -161,7 +161,7 @@ fn event_with_range(
 /// The event that is all that is left of a line, with its range, or nothing where no event comes next.
 pub fn event_in_line(
     alloc: Global,
-    line: &Cursor<'_>,
+    line: &WordsLeft<'_>,
 ) -> Result<Option<RangedEvent<'static>>, LineFault> {
     let mut cursor = *line;
     let Some(name) = known(&EVENTS, cursor.word().unwrap_or("")) else {

@@ -1,6 +1,6 @@
 //! Tags and their ends, read from a line.
 
-use crate::cursor::Cursor;
+use crate::cursor::WordsLeft;
 use crate::fault::LineFault;
 use crate::number::decimal;
 use std::alloc::{AllocError, Global};
@@ -119,11 +119,11 @@ const TAGS: [(&str, (TagEnd, EndPart)); 23] = [
     ),
 ];
 
-fn level(cursor: &mut Cursor<'_>) -> Result<HeadingLevel, LineFault> {
+fn level(cursor: &mut WordsLeft<'_>) -> Result<HeadingLevel, LineFault> {
     cursor.expect_known(&LEVELS, "a heading level from 1 to 6")
 }
 
-fn quote_kind(cursor: &mut Cursor<'_>) -> Result<Option<BlockQuoteKind>, LineFault> {
+fn quote_kind(cursor: &mut WordsLeft<'_>) -> Result<Option<BlockQuoteKind>, LineFault> {
     if cursor.is_at_end() {
         return Ok(None);
     }
@@ -131,17 +131,17 @@ fn quote_kind(cursor: &mut Cursor<'_>) -> Result<Option<BlockQuoteKind>, LineFau
     cursor.expect_known(&QUOTE_KINDS, expected).map(Some)
 }
 
-fn metadata_kind(cursor: &mut Cursor<'_>) -> Result<MetadataBlockKind, LineFault> {
+fn metadata_kind(cursor: &mut WordsLeft<'_>) -> Result<MetadataBlockKind, LineFault> {
     cursor.expect_known(&METADATA_KINDS, "YamlStyle or PlusesStyle")
 }
 
 /// The type of a link, by its name.
-pub fn link_type(cursor: &mut Cursor<'_>) -> Result<LinkType, LineFault> {
+pub fn link_type(cursor: &mut WordsLeft<'_>) -> Result<LinkType, LineFault> {
     cursor.expect_known(&LINK_TYPES, "the type of a link")
 }
 
 /// `true` or `false`. What is expected says which means what.
-pub fn truth(cursor: &mut Cursor<'_>, expected: &'static str) -> Result<bool, LineFault> {
+pub fn truth(cursor: &mut WordsLeft<'_>, expected: &'static str) -> Result<bool, LineFault> {
     cursor.expect_known(&TRUTHS, expected)
 }
 
@@ -149,7 +149,7 @@ pub fn truth(cursor: &mut Cursor<'_>, expected: &'static str) -> Result<bool, Li
 fn named(
     alloc: Global,
     name: &str,
-    cursor: &mut Cursor<'_>,
+    cursor: &mut WordsLeft<'_>,
 ) -> Result<Option<CowStr<'static>>, LineFault> {
     Ok(cursor.named(alloc, name)?.map(owned))
 }
@@ -158,7 +158,7 @@ fn named(
 type Attribute = (CowStr<'static>, Option<CowStr<'static>>);
 
 /// The attribute that comes next, if one does.
-fn attribute(alloc: Global, cursor: &mut Cursor<'_>) -> Result<Option<Attribute>, LineFault> {
+fn attribute(alloc: Global, cursor: &mut WordsLeft<'_>) -> Result<Option<Attribute>, LineFault> {
     match cursor.attribute(alloc)? {
         Some((name, value)) => Ok(Some((owned(name), value.map(owned)))),
         None => Ok(None),
@@ -177,7 +177,7 @@ fn adds<T: Drop>(list: &mut Vec<T>, item: Option<T>) -> Result<bool, AllocError>
 }
 
 /// The classes that come next. Each takes some bytes of the line.
-fn classes(alloc: Global, cursor: &mut Cursor<'_>) -> Result<Vec<CowStr<'static>>, LineFault> {
+fn classes(alloc: Global, cursor: &mut WordsLeft<'_>) -> Result<Vec<CowStr<'static>>, LineFault> {
     let mut classes = Vec::new(alloc);
     for _ in 0..cursor.len() {
         if !adds(&mut classes, named(alloc, "class", cursor)?)? {
@@ -188,7 +188,7 @@ fn classes(alloc: Global, cursor: &mut Cursor<'_>) -> Result<Vec<CowStr<'static>
 }
 
 /// The attributes that come next. Each takes some bytes of the line.
-fn attributes(alloc: Global, cursor: &mut Cursor<'_>) -> Result<Vec<Attribute>, LineFault> {
+fn attributes(alloc: Global, cursor: &mut WordsLeft<'_>) -> Result<Vec<Attribute>, LineFault> {
     let mut attributes = Vec::new(alloc);
     for _ in 0..cursor.len() {
         if !adds(&mut attributes, attribute(alloc, cursor)?)? {
@@ -203,7 +203,7 @@ fn heading_with(
     alloc: Global,
     level: HeadingLevel,
     id: Option<CowStr<'static>>,
-    cursor: &mut Cursor<'_>,
+    cursor: &mut WordsLeft<'_>,
 ) -> Result<Tag<'static>, LineFault> {
     let classes = classes(alloc, cursor)?;
     let attrs = attributes(alloc, cursor)?;
@@ -215,13 +215,13 @@ fn heading_with(
     })
 }
 
-fn heading(alloc: Global, cursor: &mut Cursor<'_>) -> Result<Tag<'static>, LineFault> {
+fn heading(alloc: Global, cursor: &mut WordsLeft<'_>) -> Result<Tag<'static>, LineFault> {
     let level = level(cursor)?;
     let id = named(alloc, "id", cursor)?;
     heading_with(alloc, level, id, cursor)
 }
 
-fn fenced(alloc: Global, cursor: &mut Cursor<'_>) -> Result<Tag<'static>, LineFault> {
+fn fenced(alloc: Global, cursor: &mut WordsLeft<'_>) -> Result<Tag<'static>, LineFault> {
     let info = owned(cursor.string(alloc)?);
     Ok(Tag::CodeBlock(CodeBlockKind::Fenced(info)))
 }
@@ -229,14 +229,14 @@ fn fenced(alloc: Global, cursor: &mut Cursor<'_>) -> Result<Tag<'static>, LineFa
 /// The words behind the name of a code block, each with whether the block is a fenced one.
 const CODE_BLOCKS: [(&str, bool); 2] = [("Indented", false), ("Fenced", true)];
 
-fn code_block(alloc: Global, cursor: &mut Cursor<'_>) -> Result<Tag<'static>, LineFault> {
+fn code_block(alloc: Global, cursor: &mut WordsLeft<'_>) -> Result<Tag<'static>, LineFault> {
     if cursor.expect_known(&CODE_BLOCKS, "Indented or Fenced")? {
         return fenced(alloc, cursor);
     }
     Ok(Tag::CodeBlock(CodeBlockKind::Indented))
 }
 
-fn list(cursor: &mut Cursor<'_>) -> Result<Tag<'static>, LineFault> {
+fn list(cursor: &mut WordsLeft<'_>) -> Result<Tag<'static>, LineFault> {
     let fault = cursor.expected("a list's first number, below 2^64");
     let Some(word) = cursor.word() else {
         return Ok(Tag::List(None));
@@ -248,7 +248,7 @@ fn list(cursor: &mut Cursor<'_>) -> Result<Tag<'static>, LineFault> {
 }
 
 /// A table with an alignment for each column. Each takes some bytes of the line.
-fn table(alloc: Global, cursor: &mut Cursor<'_>) -> Result<Tag<'static>, LineFault> {
+fn table(alloc: Global, cursor: &mut WordsLeft<'_>) -> Result<Tag<'static>, LineFault> {
     let mut alignments = Vec::new(alloc);
     for _ in 0..cursor.len() {
         if cursor.is_at_end() {
@@ -262,7 +262,7 @@ fn table(alloc: Global, cursor: &mut Cursor<'_>) -> Result<Tag<'static>, LineFau
 /// The type, destination, title and label of a link or an image.
 fn target(
     alloc: Global,
-    cursor: &mut Cursor<'_>,
+    cursor: &mut WordsLeft<'_>,
 ) -> Result<(LinkType, CowStr<'static>, CowStr<'static>, CowStr<'static>), LineFault> {
     let link_type = link_type(cursor)?;
     let dest_url = cursor.expect_named(alloc, "dest", "dest= and a string")?;
@@ -271,7 +271,7 @@ fn target(
     Ok((link_type, owned(dest_url), owned(title), owned(id)))
 }
 
-fn link(alloc: Global, cursor: &mut Cursor<'_>) -> Result<Tag<'static>, LineFault> {
+fn link(alloc: Global, cursor: &mut WordsLeft<'_>) -> Result<Tag<'static>, LineFault> {
     let (link_type, dest_url, title, id) = target(alloc, cursor)?;
     Ok(Tag::Link {
         link_type,
@@ -281,7 +281,7 @@ fn link(alloc: Global, cursor: &mut Cursor<'_>) -> Result<Tag<'static>, LineFaul
     })
 }
 
-fn image(alloc: Global, cursor: &mut Cursor<'_>) -> Result<Tag<'static>, LineFault> {
+fn image(alloc: Global, cursor: &mut WordsLeft<'_>) -> Result<Tag<'static>, LineFault> {
     let (link_type, dest_url, title, id) = target(alloc, cursor)?;
     Ok(Tag::Image {
         link_type,
@@ -291,20 +291,24 @@ fn image(alloc: Global, cursor: &mut Cursor<'_>) -> Result<Tag<'static>, LineFau
     })
 }
 
-fn quote(cursor: &mut Cursor<'_>) -> Result<Tag<'static>, LineFault> {
+fn quote(cursor: &mut WordsLeft<'_>) -> Result<Tag<'static>, LineFault> {
     Ok(Tag::BlockQuote(quote_kind(cursor)?))
 }
 
-fn footnote(alloc: Global, cursor: &mut Cursor<'_>) -> Result<Tag<'static>, LineFault> {
+fn footnote(alloc: Global, cursor: &mut WordsLeft<'_>) -> Result<Tag<'static>, LineFault> {
     cursor.string(alloc).map(owned).map(Tag::FootnoteDefinition)
 }
 
-fn metadata(cursor: &mut Cursor<'_>) -> Result<Tag<'static>, LineFault> {
+fn metadata(cursor: &mut WordsLeft<'_>) -> Result<Tag<'static>, LineFault> {
     Ok(Tag::MetadataBlock(metadata_kind(cursor)?))
 }
 
 /// A tag with this end, up to the parts of both, which come next.
-fn tag_of(alloc: Global, end: TagEnd, cursor: &mut Cursor<'_>) -> Result<Tag<'static>, LineFault> {
+fn tag_of(
+    alloc: Global,
+    end: TagEnd,
+    cursor: &mut WordsLeft<'_>,
+) -> Result<Tag<'static>, LineFault> {
     let tag = match end {
         TagEnd::Heading(_) => return heading(alloc, cursor),
         TagEnd::BlockQuote(_) => return quote(cursor),
@@ -334,13 +338,17 @@ fn tag_of(alloc: Global, end: TagEnd, cursor: &mut Cursor<'_>) -> Result<Tag<'st
 }
 
 /// A tag with its parts.
-pub fn tag(alloc: Global, cursor: &mut Cursor<'_>) -> Result<Tag<'static>, LineFault> {
+pub fn tag(alloc: Global, cursor: &mut WordsLeft<'_>) -> Result<Tag<'static>, LineFault> {
     let (end, _) = cursor.expect_known(&TAGS, A_TAG)?;
     tag_of(alloc, end, cursor)
 }
 
 /// This end, or where such ends have a part, the end with the part that comes next.
-fn end_of_part(end: TagEnd, part: EndPart, cursor: &mut Cursor<'_>) -> Result<TagEnd, LineFault> {
+fn end_of_part(
+    end: TagEnd,
+    part: EndPart,
+    cursor: &mut WordsLeft<'_>,
+) -> Result<TagEnd, LineFault> {
     match part {
         EndPart::Level => level(cursor).map(TagEnd::Heading),
         EndPart::QuoteKind => quote_kind(cursor).map(TagEnd::BlockQuote),
@@ -351,7 +359,7 @@ fn end_of_part(end: TagEnd, part: EndPart, cursor: &mut Cursor<'_>) -> Result<Ta
 }
 
 /// The end of a tag, with a level, a kind or a truth value where it has one.
-pub fn tag_end(cursor: &mut Cursor<'_>) -> Result<TagEnd, LineFault> {
+pub fn tag_end(cursor: &mut WordsLeft<'_>) -> Result<TagEnd, LineFault> {
     let (end, part) = cursor.expect_known(&TAGS, A_TAG)?;
     end_of_part(end, part, cursor)
 }

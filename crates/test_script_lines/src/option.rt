@@ -1,7 +1,7 @@
 //! The options of a script.
 
 use std::alloc::Global;
-use test_script_events::cursor::Cursor;
+use test_script_events::cursor::WordsLeft;
 use test_script_events::fault::LineFault;
 use test_script_events::number::size;
 use test_script_events::tag::truth;
@@ -127,7 +127,7 @@ fn size_of_word(word: &str) -> Option<usize> {
     }
 }
 
-fn expect_size(cursor: &mut Cursor<'_>) -> Result<usize, LineFault> {
+fn expect_size(cursor: &mut WordsLeft<'_>) -> Result<usize, LineFault> {
     let fault = cursor.expected(A_SIZE);
     match size_of_word(cursor.word().unwrap_or("")) {
         Some(size) => Ok(size),
@@ -135,14 +135,17 @@ fn expect_size(cursor: &mut Cursor<'_>) -> Result<usize, LineFault> {
     }
 }
 
-fn size_setting(option: SizeOption, cursor: &mut Cursor<'_>) -> Result<OptionSetting, LineFault> {
+fn size_setting(
+    option: SizeOption,
+    cursor: &mut WordsLeft<'_>,
+) -> Result<OptionSetting, LineFault> {
     let size = expect_size(cursor)?;
     Ok(OptionSetting::Size(option, size))
 }
 
 fn choice_setting(
     option: ChoiceOption,
-    cursor: &mut Cursor<'_>,
+    cursor: &mut WordsLeft<'_>,
 ) -> Result<OptionSetting, LineFault> {
     let choice = truth(cursor, "true or false")?;
     Ok(OptionSetting::Choice(option, choice))
@@ -151,14 +154,17 @@ fn choice_setting(
 fn token_setting(
     alloc: Global,
     option: TokenOption,
-    cursor: &mut Cursor<'_>,
+    cursor: &mut WordsLeft<'_>,
 ) -> Result<OptionSetting, LineFault> {
     let token = cursor.character(alloc)?;
     Ok(OptionSetting::Token(option, token))
 }
 
 /// An option's name and its value.
-pub fn option_setting(alloc: Global, cursor: &mut Cursor<'_>) -> Result<OptionSetting, LineFault> {
+pub fn option_setting(
+    alloc: Global,
+    cursor: &mut WordsLeft<'_>,
+) -> Result<OptionSetting, LineFault> {
     match cursor.expect_known(&OPTIONS, "the name of an option")? {
         OptionName::Size(option) => size_setting(option, cursor),
         OptionName::Choice(option) => choice_setting(option, cursor),

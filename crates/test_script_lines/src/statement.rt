@@ -4,7 +4,7 @@ use crate::option::option_setting;
 use crate::script::{EventsQuestion, Question, Setting};
 use bitflags::Flags;
 use std::alloc::Global;
-use test_script_events::cursor::Cursor;
+use test_script_events::cursor::WordsLeft;
 use test_script_events::event::{RangedEvent, event_in_line};
 use test_script_events::fault::LineFault;
 use test_script_events::names::known;
@@ -177,7 +177,7 @@ fn bits(word: &str) -> Option<u32> {
     }
 }
 
-fn expect_bits(cursor: &mut Cursor<'_>) -> Result<u32, LineFault> {
+fn expect_bits(cursor: &mut WordsLeft<'_>) -> Result<u32, LineFault> {
     let fault = cursor.expected(FLAGS);
     match bits(cursor.word().unwrap_or("")) {
         Some(bits) => Ok(bits),
@@ -186,7 +186,7 @@ fn expect_bits(cursor: &mut Cursor<'_>) -> Result<u32, LineFault> {
 }
 
 /// Flags with `|` between them. Each takes some bytes of the line.
-fn flags(cursor: &mut Cursor<'_>) -> Result<ParserOptions, LineFault> {
+fn flags(cursor: &mut WordsLeft<'_>) -> Result<ParserOptions, LineFault> {
     let mut all = expect_bits(cursor)?;
     for _ in 0..cursor.len() {
         if cursor.is_at_end() {
@@ -198,7 +198,7 @@ fn flags(cursor: &mut Cursor<'_>) -> Result<ParserOptions, LineFault> {
     Ok(ParserOptions(all))
 }
 
-fn number(cursor: &mut Cursor<'_>, expected: &'static str) -> Result<usize, LineFault> {
+fn number(cursor: &mut WordsLeft<'_>, expected: &'static str) -> Result<usize, LineFault> {
     let fault = cursor.expected(expected);
     match size(cursor.word().unwrap_or("")) {
         Some(number) => Ok(number),
@@ -210,7 +210,7 @@ fn number(cursor: &mut Cursor<'_>, expected: &'static str) -> Result<usize, Line
 fn repeated_event(
     alloc: Global,
     times: usize,
-    cursor: &mut Cursor<'_>,
+    cursor: &mut WordsLeft<'_>,
 ) -> Result<Statement, LineFault> {
     let event = event_in_line(alloc, cursor)?;
     let fault = cursor.expected("an event");
@@ -221,16 +221,16 @@ fn repeated_event(
     }
 }
 
-fn repeat(alloc: Global, cursor: &mut Cursor<'_>) -> Result<Statement, LineFault> {
+fn repeat(alloc: Global, cursor: &mut WordsLeft<'_>) -> Result<Statement, LineFault> {
     let times = number(cursor, "how often the event comes")?;
     repeated_event(alloc, times, cursor)
 }
 
-fn unresolved(alloc: Global, cursor: &mut Cursor<'_>) -> Result<Setting, LineFault> {
+fn unresolved(alloc: Global, cursor: &mut WordsLeft<'_>) -> Result<Setting, LineFault> {
     cursor.string(alloc).map(Setting::Unresolved)
 }
 
-fn reader(alloc: Global, cursor: &mut Cursor<'_>) -> Result<Other, LineFault> {
+fn reader(alloc: Global, cursor: &mut WordsLeft<'_>) -> Result<Other, LineFault> {
     let readers = [("nothing", false), ("unresolved", true)];
     if cursor.expect_known(&readers, "nothing, or unresolved and a string")? {
         return unresolved(alloc, cursor).map(Other::Set);
@@ -238,7 +238,7 @@ fn reader(alloc: Global, cursor: &mut Cursor<'_>) -> Result<Other, LineFault> {
     Ok(Other::ReaderNothing)
 }
 
-fn reads(alloc: Global, cursor: &mut Cursor<'_>) -> Result<Other, LineFault> {
+fn reads(alloc: Global, cursor: &mut WordsLeft<'_>) -> Result<Other, LineFault> {
     if cursor.is_at_string() {
         return cursor.string(alloc).map(Some).map(Other::Reads);
     }
@@ -247,7 +247,7 @@ fn reads(alloc: Global, cursor: &mut Cursor<'_>) -> Result<Other, LineFault> {
 }
 
 /// The number of a text or of a reading, counted from 1.
-fn place(cursor: &mut Cursor<'_>, expected: &'static str) -> Result<usize, LineFault> {
+fn place(cursor: &mut WordsLeft<'_>, expected: &'static str) -> Result<usize, LineFault> {
     let fault = cursor.expected(expected);
     match size(cursor.word().unwrap_or("")) {
         Some(0) | None => Err(fault),
@@ -273,18 +273,18 @@ fn question_of_text(question: TextQuestion, text: String) -> Question {
 fn question_of_string(
     alloc: Global,
     question: TextQuestion,
-    cursor: &mut Cursor<'_>,
+    cursor: &mut WordsLeft<'_>,
 ) -> Result<Question, LineFault> {
     let text = cursor.string(alloc)?;
     Ok(question_of_text(question, text))
 }
 
-fn escape(alloc: Global, cursor: &mut Cursor<'_>) -> Result<Question, LineFault> {
+fn escape(alloc: Global, cursor: &mut WordsLeft<'_>) -> Result<Question, LineFault> {
     let question = cursor.expect_known(&ESCAPED, "dest or title")?;
     question_of_string(alloc, question, cursor)
 }
 
-fn close(alloc: Global, cursor: &mut Cursor<'_>) -> Result<Question, LineFault> {
+fn close(alloc: Global, cursor: &mut WordsLeft<'_>) -> Result<Question, LineFault> {
     let link_type = link_type(cursor)?;
     let dest_url = cursor.string(alloc)?;
     let title = cursor.string(alloc)?;
@@ -295,13 +295,17 @@ fn close(alloc: Global, cursor: &mut Cursor<'_>) -> Result<Question, LineFault> 
     })
 }
 
-fn longest(alloc: Global, cursor: &mut Cursor<'_>) -> Result<Question, LineFault> {
+fn longest(alloc: Global, cursor: &mut WordsLeft<'_>) -> Result<Question, LineFault> {
     let search = cursor.character(alloc)?;
     let text = cursor.string(alloc)?;
     Ok(Question::LongestRun { search, text })
 }
 
-fn push_string(text: &mut String, alloc: Global, cursor: &mut Cursor<'_>) -> Result<(), LineFault> {
+fn push_string(
+    text: &mut String,
+    alloc: Global,
+    cursor: &mut WordsLeft<'_>,
+) -> Result<(), LineFault> {
     let string = cursor.string(alloc)?;
     Ok(text.push_str(string.as_str())?)
 }
@@ -310,7 +314,7 @@ fn push_string(text: &mut String, alloc: Global, cursor: &mut Cursor<'_>) -> Res
 fn push_strings(
     text: &mut String,
     alloc: Global,
-    cursor: &mut Cursor<'_>,
+    cursor: &mut WordsLeft<'_>,
 ) -> Result<(), LineFault> {
     for _ in 0..cursor.len() {
         if cursor.is_at_end() {
@@ -322,7 +326,7 @@ fn push_strings(
 }
 
 /// The strings up to the end of the line, joined.
-fn joined_strings(alloc: Global, cursor: &mut Cursor<'_>) -> Result<String, LineFault> {
+fn joined_strings(alloc: Global, cursor: &mut WordsLeft<'_>) -> Result<String, LineFault> {
     let mut text = cursor.string(alloc)?;
     push_strings(&mut text, alloc, cursor)?;
     Ok(text)
@@ -332,7 +336,7 @@ fn joined_strings(alloc: Global, cursor: &mut Cursor<'_>) -> Result<String, Line
 fn question_of_strings(
     alloc: Global,
     question: TextQuestion,
-    cursor: &mut Cursor<'_>,
+    cursor: &mut WordsLeft<'_>,
 ) -> Result<Question, LineFault> {
     let text = joined_strings(alloc, cursor)?;
     Ok(question_of_text(question, text))
@@ -342,7 +346,7 @@ fn question_of_strings(
 fn question(
     alloc: Global,
     name: QuestionName,
-    cursor: &mut Cursor<'_>,
+    cursor: &mut WordsLeft<'_>,
 ) -> Result<Question, LineFault> {
     let question = match name {
         QuestionName::Escape => return escape(alloc, cursor),
@@ -362,7 +366,7 @@ fn question(
 fn setting(
     alloc: Global,
     name: SettingName,
-    cursor: &mut Cursor<'_>,
+    cursor: &mut WordsLeft<'_>,
 ) -> Result<Setting, LineFault> {
     match name {
         SettingName::Flags => flags(cursor).map(Setting::Flags),
@@ -375,11 +379,11 @@ fn setting(
     }
 }
 
-fn set(alloc: Global, name: SettingName, cursor: &mut Cursor<'_>) -> Result<Other, LineFault> {
+fn set(alloc: Global, name: SettingName, cursor: &mut WordsLeft<'_>) -> Result<Other, LineFault> {
     setting(alloc, name, cursor).map(Other::Set)
 }
 
-fn ask(alloc: Global, name: QuestionName, cursor: &mut Cursor<'_>) -> Result<Other, LineFault> {
+fn ask(alloc: Global, name: QuestionName, cursor: &mut WordsLeft<'_>) -> Result<Other, LineFault> {
     question(alloc, name, cursor).map(Other::Ask)
 }
 
@@ -387,7 +391,7 @@ fn ask(alloc: Global, name: QuestionName, cursor: &mut Cursor<'_>) -> Result<Oth
 fn other_of_parts(
     alloc: Global,
     name: OtherName,
-    cursor: &mut Cursor<'_>,
+    cursor: &mut WordsLeft<'_>,
 ) -> Result<Other, LineFault> {
     let statement = match name {
         OtherName::Reader => return reader(alloc, cursor),
@@ -403,7 +407,11 @@ fn other_of_parts(
 }
 
 /// The statement of this name, which can't stand in a reading.
-fn other_statement(alloc: Global, name: &str, cursor: &mut Cursor<'_>) -> Result<Other, LineFault> {
+fn other_statement(
+    alloc: Global,
+    name: &str,
+    cursor: &mut WordsLeft<'_>,
+) -> Result<Other, LineFault> {
     match known(&OTHERS, name) {
         Some(name) => other_of_parts(alloc, name, cursor),
         None => Err(LineFault::Expected {
@@ -417,7 +425,7 @@ fn other_statement(alloc: Global, name: &str, cursor: &mut Cursor<'_>) -> Result
 fn statement_of_parts(
     alloc: Global,
     name: &str,
-    cursor: &mut Cursor<'_>,
+    cursor: &mut WordsLeft<'_>,
 ) -> Result<Statement, LineFault> {
     if name == "Repeat" {
         return repeat(alloc, cursor);
@@ -426,7 +434,7 @@ fn statement_of_parts(
 }
 
 /// What a line says that is no event.
-fn statement_without_event(alloc: Global, line: &Cursor<'_>) -> Result<Statement, LineFault> {
+fn statement_without_event(alloc: Global, line: &WordsLeft<'_>) -> Result<Statement, LineFault> {
     let mut cursor = *line;
     let name = cursor.word().unwrap_or("");
     match statement_of_parts(alloc, name, &mut cursor) {
@@ -436,7 +444,7 @@ fn statement_without_event(alloc: Global, line: &Cursor<'_>) -> Result<Statement
 }
 
 /// What a line says from its first word on.
-fn statement_of_words(alloc: Global, line: &Cursor<'_>) -> Result<Statement, LineFault> {
+fn statement_of_words(alloc: Global, line: &WordsLeft<'_>) -> Result<Statement, LineFault> {
     match event_in_line(alloc, line)? {
         Some(event) => Ok(Statement::Event(event)),
         None => statement_without_event(alloc, line),
@@ -451,7 +459,7 @@ fn said(alloc: Global, line: &str) -> Result<Statement, LineFault> {
     if line == "End of reading" {
         return Ok(Statement::EndOfReading);
     }
-    statement_of_words(alloc, &Cursor::new(line))
+    statement_of_words(alloc, &WordsLeft::new(line))
 }
 
 /// What a line says, or nothing where it is empty or a comment.

@@ -97,7 +97,7 @@ fn plain_tag(letter: u8) -> Tag<'static> {
 
 /// Where an event stands.
 #[derive(Clone, Copy)]
-struct Place {
+struct EventSurroundings {
     /// How often what is in braces is repeated.
     count: usize,
     /// How many of these repeats stand before it.
@@ -111,7 +111,7 @@ fn reference(alloc: Global, repeat: usize) -> Result<Tag<'static>, AllocError> {
 }
 
 /// A container, by its letter; a paragraph for an unknown one.
-fn tag_of(alloc: Global, letter: u8, place: Place) -> Result<Tag<'static>, AllocError> {
+fn tag_of(alloc: Global, letter: u8, place: EventSurroundings) -> Result<Tag<'static>, AllocError> {
     match letter {
         b'H' => heading(alloc, 0),
         b'A' => heading(alloc, place.count),
@@ -195,7 +195,11 @@ fn leaf_of(alloc: Global, letter: u8, count: usize) -> Result<Event<'static>, Al
 }
 
 /// The event of a letter.
-fn event_of(alloc: Global, letter: u8, place: Place) -> Result<Event<'static>, AllocError> {
+fn event_of(
+    alloc: Global,
+    letter: u8,
+    place: EventSurroundings,
+) -> Result<Event<'static>, AllocError> {
     if letter.is_ascii_uppercase() {
         Ok(EventOf::Start(tag_of(alloc, letter, place)?))
     } else if letter.is_ascii_lowercase() {
@@ -210,7 +214,7 @@ fn add(
     alloc: Global,
     events: &mut Vec<Event<'static>>,
     letters: &str,
-    place: Place,
+    place: EventSurroundings,
 ) -> Result<(), AllocError> {
     for letter in letters.as_bytes() {
         events.push(event_of(alloc, *letter, place)?)?;
@@ -228,7 +232,12 @@ pub fn events_of(
     for (at, letters) in shape.split(['{', '}']).enumerate() {
         let times = if at % 2 == 0 { 1 } else { count };
         for repeat in 0..times {
-            add(alloc, &mut events, letters, Place { count, repeat })?;
+            add(
+                alloc,
+                &mut events,
+                letters,
+                EventSurroundings { count, repeat },
+            )?;
         }
     }
     Ok(events)

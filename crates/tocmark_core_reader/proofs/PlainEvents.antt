@@ -8,7 +8,7 @@ use Rattle.tocmark_event.specs.Merged.{merged, after_text, with_text}
 use Rattle.tocmark_event.specs.View.{EventView, Leaf, LeafView, Text, SoftBreak}
 use Rattle.tocmark_read_spans.specs.declared.role.Leaf.TheVariants as leaf
 use Rattle.tocmark_read_inlines.specs.declared.write.Node.{Node}
-use Rattle.tocmark_read_inlines.specs.declared.write.Item.TheVariants as item
+use Rattle.tocmark_read_inlines.specs.declared.write.InlineKind.TheVariants as item
 use Rattle.tocmark_read_inlines.proofs.PlainNodes.{node, nodes_of, text_until, begun}
 use Rattle.tocmark_core_reader.specs.Emitted.{NodeView, Given, Writing, step, source_text}
 use Rattle.tocmark_core_reader.specs.Inlines.{inline_node, inline_item, leaf_item}

@@ -10,7 +10,7 @@ use Rattle.tocmark_read_scan.specs.Basic.{byte_at}
 use Rattle.tocmark_read_scan.specs.Class.{is_in}
 use Rattle.tocmark_read_scan.specs.Content as content
 use Rattle.tocmark_read_scan.specs.declared.class.Class.TheVariants.{White}
-use Rattle.tocmark_read_scan.specs.declared.content.Line.{Line as ContentLine}
+use Rattle.tocmark_read_scan.specs.declared.content.ContentLine.{ContentLine}
 use Rattle.tocmark_read_scan.proofs.PlainContent.{places_of}
 use Rattle.tocmark_read_scan.proofs.PlainPieces.{feed_joined, line_places, AreNoZeros, content_of_lines}
 use Rattle.tocmark_read_blocks.specs.Blocks.{BlocksView, blocks_of}

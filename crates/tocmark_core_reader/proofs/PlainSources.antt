@@ -4,7 +4,7 @@ use Rattle.std.proofs.lemmas.Bool.Decides.{nat_tests}
 use Rattle.std.proofs.lemmas.Str.{IsUtf8-from_ascii, utf8_lossy-IsUtf8}
 use Rattle.std.specs.List.{AllByRecursion}
 use Rattle.std.specs.Str.Lossy.{utf8_lossy}
-use Rattle.tocmark_read_scan.specs.Basic.{piece}
+use Rattle.tocmark_read_scan.specs.Basic.{bytes_between}
 use Rattle.tocmark_read_scan.proofs.PlainPieces.{piece_between}
 use Rattle.tocmark_read_blocks.specs.Definitions.{replaced}
 use Rattle.tocmark_core_reader.specs.Range.{snapped, is_cut}
@@ -77,7 +77,7 @@ pub source_between : (text pre l rest : List ℕ) (start end : ℕ) → text ≡
 source_between text pre l rest start end e s t h =
     let all : length text ≡ length pre + (length l + length rest) = ap length e ∙ length-append pre (l ++ rest) ∙ ap (λ n. length pre + n) (length-append l rest) in
     let clean : AreClean l = all_front IsClean l rest (all_behind IsClean pre (l ++ rest) (subst AreClean e h)) in
-    ap (λ (r : ℕ × ℕ). cleaned (piece text (r.0) (r.1)) false) (snapped_clean text start end h (omega arith) (omega arith))
+    ap (λ (r : ℕ × ℕ). cleaned (bytes_between text (r.0) (r.1)) false) (snapped_clean text start end h (omega arith) (omega arith))
     ∙ ap (λ (xs : List ℕ). cleaned xs false) (piece_between text pre l rest start end e s t)
     ∙ cleaned_clean l clean
 

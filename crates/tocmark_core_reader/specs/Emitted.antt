@@ -1,14 +1,14 @@
 -- The events of a list of nodes.
 use Rattle.std.specs.Prelude.{ℕ, false, List, [], ◌∷◌, ◌++◌, map, reverse, take, drop}
 use Rattle.std.specs.List.{fold}
-use Rattle.tocmark_read_scan.specs.Basic.{piece}
+use Rattle.tocmark_read_scan.specs.Basic.{bytes_between}
 use Rattle.tocmark_core_reader.specs.Words.{cleaned}
 use Rattle.tocmark_event.specs.Text.{ParserEvent, text_of}
 use Rattle.tocmark_event.specs.View.{EventView, Start, End, Leaf, TagView, LeafView, Text, Code, Html, InlineHtml, SoftBreak, HardBreak, Rule, TaskListMarker, tag_view, event_view, end_of}
 use Rattle.tocmark_core_reader.specs.Range.{snapped}
 use Rattle.tocmark_core_reader.specs.declared.emit.Emission.{Emission}
-use Rattle.tocmark_core_reader.specs.declared.emit.Item.{Item}
-use Rattle.tocmark_core_reader.specs.declared.emit.Item.TheVariants as item
+use Rattle.tocmark_core_reader.specs.declared.emit.NodeKind.{NodeKind}
+use Rattle.tocmark_core_reader.specs.declared.emit.NodeKind.TheVariants as item
 use Rattle.tocmark_core_reader.specs.declared.emit.Node.{Node}
 use Rattle.tocmark_core_reader.specs.declared.emit.Open.{Open}
 
@@ -26,7 +26,7 @@ pub record NodeView : Type 0 where
   pub end : ℕ
 
 -- an item whose texts are their bytes
-abbrev pub item_view : Item → ItemView
+abbrev pub item_view : NodeKind → ItemView
 item_view (item.Container tag) = Container (tag_view text_of tag)
 item_view item.Source = Source
 item_view (item.Text t) = Given (Text (text_of t))
@@ -73,7 +73,7 @@ with_leaf leaf range w = record { events = w.events ++ (Leaf leaf, range) ∷ []
 
 -- the text of a range of the source
 abbrev pub source_text : List ℕ → ℕ × ℕ → List ℕ
-source_text text range = cleaned (piece text (range.0) (range.1)) false
+source_text text range = cleaned (bytes_between text (range.0) (range.1)) false
 
 -- one more item, with this range
 abbrev pub put : List ℕ → ItemView → ℕ × ℕ → Writing → Writing

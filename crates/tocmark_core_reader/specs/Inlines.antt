@@ -8,8 +8,8 @@ use Rattle.tocmark_read_spans.specs.declared.role.Leaf.TheVariants as leaf
 use Rattle.tocmark_read_spans.specs.declared.role.Span.{Span}
 use Rattle.tocmark_read_spans.specs.declared.role.Span.TheVariants as span
 use Rattle.tocmark_read_spans.specs.declared.role.Target.{Target}
-use Rattle.tocmark_read_inlines.specs.declared.write.Item.{Item}
-use Rattle.tocmark_read_inlines.specs.declared.write.Item.TheVariants as item
+use Rattle.tocmark_read_inlines.specs.declared.write.InlineKind.{InlineKind}
+use Rattle.tocmark_read_inlines.specs.declared.write.InlineKind.TheVariants as item
 use Rattle.tocmark_read_inlines.specs.declared.write.Node.{Node}
 use Rattle.tocmark_core_reader.specs.Emitted.{ItemView, NodeView, Container, Source, Given}
 
@@ -43,7 +43,7 @@ leaf_item texts leaf.SoftBreak = Given SoftBreak
 leaf_item texts leaf.HardBreak = Given HardBreak
 
 -- the item that an inline is
-unfoldable pub inline_item : List ℕ → List Target → Item → ItemView
+unfoldable pub inline_item : List ℕ → List Target → InlineKind → ItemView
 inline_item texts targets item.Text = Source
 inline_item texts targets (item.Span s) = Container (span_tag texts targets s)
 inline_item texts targets (item.Leaf l) = leaf_item texts l

@@ -3,11 +3,11 @@ use Rattle.std.specs.Prelude.{ℕ, ◌-◌, Bool, true, false, not, ◌&&◌, na
 use Rattle.std.specs.List.{fold, flat_map}
 use Rattle.std.specs.Option.{option_map_or}
 use Rattle.tocmark_event.specs.View as view
-use Rattle.tocmark_read_scan.specs.Basic.{plus, piece}
+use Rattle.tocmark_read_scan.specs.Basic.{plus, bytes_between}
 use Rattle.tocmark_read_syntax.specs.declared.TheConstants.{CORE}
 use Rattle.tocmark_read_syntax.specs.declared.Syntax.{Syntax}
 use Rattle.tocmark_read_scan.specs.Content as content
-use Rattle.tocmark_read_scan.specs.declared.content.Line.{Line}
+use Rattle.tocmark_read_scan.specs.declared.content.ContentLine.{ContentLine}
 use Rattle.tocmark_read_blocks.specs.declared.definition.Piece.{Piece}
 use Rattle.tocmark_read_blocks.specs.declared.page.Block.{Block}
 use Rattle.tocmark_read_blocks.specs.declared.page.Task.{Task}
@@ -18,14 +18,14 @@ use Rattle.tocmark_read_spans.specs.declared.definitions.Entry.{Entry}
 use Rattle.tocmark_core_reader.specs.Emitted.{ItemView, NodeView, Container, Given, Writing, emission_view, step}
 use Rattle.tocmark_core_reader.specs.Inlines.{inline_node}
 use Rattle.tocmark_core_reader.specs.Words.{cleaned, info_text, spaces_text}
-use Rattle.tocmark_core_reader.specs.declared.page.Assembly.{Assembly}
+use Rattle.tocmark_core_reader.specs.declared.block_events.Assembly.{Assembly}
 
 -- the pieces of a range
 abbrev pub pieces_of : List Piece → ℕ → ℕ → List Piece
 pieces_of pieces first last = if nat_le first last && nat_le last (length pieces) then slice_range pieces first last else []
 
 -- a piece as a line of a text
-unfoldable pub content_line : Piece → Line
+unfoldable pub content_line : Piece → ContentLine
 content_line p = record { start = p.start; end = p.end; next = p.next }
 
 -- a node
@@ -40,7 +40,7 @@ space_nodes depth p =
 -- a line of HTML, or of code
 unfoldable pub line_item : List ℕ → Bool → Piece → ItemView
 line_item text html p =
-    let words = cleaned (piece text p.start p.end) (nat_lt p.end p.next) in
+    let words = cleaned (bytes_between text p.start p.end) (nat_lt p.end p.next) in
     if html then Given (view.Html words) else Given (view.Text words)
 
 -- a line of code or HTML
@@ -60,7 +60,7 @@ block_tag text kind.Item = view.Item
 block_tag text kind.Paragraph = view.Paragraph
 block_tag text (kind.Heading level) = view.Heading level None [] []
 block_tag text kind.Indented = view.CodeBlock view.Indented
-block_tag text (kind.Fenced from to) = view.CodeBlock (view.Fenced (info_text (piece text from to)))
+block_tag text (kind.Fenced from to) = view.CodeBlock (view.Fenced (info_text (bytes_between text from to)))
 block_tag text kind.Html = view.HtmlBlock
 block_tag text kind.Rule = view.Paragraph
 block_tag text (kind.Metadata k) = view.MetadataBlock k

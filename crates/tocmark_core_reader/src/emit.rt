@@ -12,7 +12,7 @@ use tocmark_event::event::{CowStr, Event, Tag, TagEnd};
 
 /// What stands at a node.
 #[derive(Drop)]
-pub enum Item {
+pub enum NodeKind {
     /// A container; what lies in it are the nodes behind it that are deeper.
     Container(Tag<'static>),
     /// A text: the bytes of the node's range, but U+FFFD for U+0000.
@@ -34,7 +34,7 @@ pub enum Item {
 #[derive(Drop)]
 pub struct Node {
     pub depth: usize,
-    pub item: Item,
+    pub item: NodeKind,
     pub start: usize,
     pub end: usize,
 }
@@ -140,23 +140,23 @@ impl Emission {
         &mut self,
         alloc: Global,
         text: &str,
-        item: Item,
+        item: NodeKind,
         range: (usize, usize),
     ) -> Result<(), AllocError>
         ensures { OnOk result (emission_view self.new
             ≡ put text.now (item_view item) range (emission_view self.old)) }
     {
         let event = match item {
-            Item::Container(tag) => return self.begin(text, tag, range),
-            Item::Source => Event::Text(source_text(alloc, text, range)?),
-            Item::Text(words) => Event::Text(words),
-            Item::Code(words) => Event::Code(words),
-            Item::Html(words) => Event::Html(words),
-            Item::InlineHtml(words) => Event::InlineHtml(words),
-            Item::SoftBreak => Event::SoftBreak,
-            Item::HardBreak => Event::HardBreak,
-            Item::Rule => Event::Rule,
-            Item::TaskListMarker(done) => Event::TaskListMarker(done),
+            NodeKind::Container(tag) => return self.begin(text, tag, range),
+            NodeKind::Source => Event::Text(source_text(alloc, text, range)?),
+            NodeKind::Text(words) => Event::Text(words),
+            NodeKind::Code(words) => Event::Code(words),
+            NodeKind::Html(words) => Event::Html(words),
+            NodeKind::InlineHtml(words) => Event::InlineHtml(words),
+            NodeKind::SoftBreak => Event::SoftBreak,
+            NodeKind::HardBreak => Event::HardBreak,
+            NodeKind::Rule => Event::Rule,
+            NodeKind::TaskListMarker(done) => Event::TaskListMarker(done),
         };
         push(&mut self.events, event, range)
     }

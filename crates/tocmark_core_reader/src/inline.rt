@@ -8,7 +8,7 @@ ghost use Rattle.tocmark_core_reader.specs.Emitted.{item_view, node_view, emissi
 ghost use Rattle.tocmark_core_reader.specs.Inlines.{target_at, link_of, image_of, span_tag, leaf_item, inline_item, inline_node};
 ghost use Rattle.std.specs.Prelude.{encode_utf8};
 
-use crate::emit::{Emission, Item, Node};
+use crate::emit::{Emission, Node, NodeKind};
 use crate::words::stretch_text;
 use std::alloc::{AllocError, Global};
 use tocmark_event::event::{CowStr, LinkType, Tag};
@@ -79,15 +79,15 @@ fn character_text(alloc: Global, character: char) -> Result<CowStr<'static>, All
 }
 
 #[tactic(auto, unfolding(crate::specs::Inlines::leaf_item))]
-fn leaf_item(alloc: Global, texts: &[u8], leaf: Leaf) -> Result<Item, AllocError>
+fn leaf_item(alloc: Global, texts: &[u8], leaf: Leaf) -> Result<NodeKind, AllocError>
     ensures { IfOk result (λ i. item_view i ≡ leaf_item texts.now leaf) }
 {
     match leaf {
-        Leaf::Character(character) => Ok(Item::Text(character_text(alloc, character)?)),
-        Leaf::Code(stretch) => Ok(Item::Code(stretch_text(alloc, texts, stretch)?)),
-        Leaf::Html(stretch) => Ok(Item::InlineHtml(stretch_text(alloc, texts, stretch)?)),
-        Leaf::SoftBreak => Ok(Item::SoftBreak),
-        Leaf::HardBreak => Ok(Item::HardBreak),
+        Leaf::Character(character) => Ok(NodeKind::Text(character_text(alloc, character)?)),
+        Leaf::Code(stretch) => Ok(NodeKind::Code(stretch_text(alloc, texts, stretch)?)),
+        Leaf::Html(stretch) => Ok(NodeKind::InlineHtml(stretch_text(alloc, texts, stretch)?)),
+        Leaf::SoftBreak => Ok(NodeKind::SoftBreak),
+        Leaf::HardBreak => Ok(NodeKind::HardBreak),
     }
 }
 
@@ -96,14 +96,16 @@ fn inline_item(
     alloc: Global,
     texts: &[u8],
     targets: &[Target],
-    item: inline::Item,
-) -> Result<Item, AllocError>
+    item: inline::InlineKind,
+) -> Result<NodeKind, AllocError>
     ensures { IfOk result (λ i. item_view i ≡ inline_item texts.now targets.now item) }
 {
     match item {
-        inline::Item::Text => Ok(Item::Source),
-        inline::Item::Span(span) => Ok(Item::Container(span_tag(alloc, texts, targets, span)?)),
-        inline::Item::Leaf(leaf) => leaf_item(alloc, texts, leaf),
+        inline::InlineKind::Text => Ok(NodeKind::Source),
+        inline::InlineKind::Span(span) => Ok(NodeKind::Container(span_tag(
+            alloc, texts, targets, span,
+        )?)),
+        inline::InlineKind::Leaf(leaf) => leaf_item(alloc, texts, leaf),
     }
 }
 

@@ -1,15 +1,15 @@
 //! A reader of CommonMark 0.31.2: `CoreReader`, which reads a text into events with their ranges.
 //!
 //! Below it stand `tocmark_read_blocks` and `tocmark_read_inlines`, above it the library, which hands it to its
-//! users. Enter at `CoreReader` (`reader`). `page` makes the events of the blocks, `inline` those of the lines in
+//! users. Enter at `CoreReader` (`reader`). `block_events` makes the events of the blocks, `inline` those of the lines in
 //! them, `words` their texts, and `emit` writes them out. `is_plain` (`plain`) tells the texts that it reads as they
 //! stand.
 #![tactic(auto)]
 
+pub mod block_events;
 mod emit;
 mod inline;
 pub mod laws;
-pub mod page;
 mod plain;
 mod reader;
 mod words;

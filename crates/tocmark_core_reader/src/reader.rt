@@ -6,7 +6,7 @@ ghost use Rattle.tocmark_read_spans.specs.Definitions.{collected_view, entry_of}
 ghost use Rattle.tocmark_core_reader.specs.Reading.{define_step, collected, first_entry, found_under, reading_of};
 ghost use Rattle.tocmark_event.specs.Reading.{reading_view};
 
-use crate::page::assemble;
+use crate::block_events::assemble;
 use std::alloc::{AllocError, Global};
 use tocmark_event::event::ParserOptions;
 use tocmark_event::reader::{Reader, Reading};

@@ -2,7 +2,7 @@
 
 ghost use Rattle.std.specs.Prelude.{◌≡◌, ◌++◌, true, string_bytes, IfOk, OnOk};
 ghost use Rattle.std.specs.List.{flat_map};
-ghost use Rattle.tocmark_read_scan.specs.Basic.{piece};
+ghost use Rattle.tocmark_read_scan.specs.Basic.{bytes_between};
 ghost use Rattle.tocmark_read_tokens.specs.Reference.{unescaped};
 ghost use Rattle.tocmark_event.specs.Text.{text_of};
 ghost use Rattle.tocmark_read_blocks.specs.Definitions.{replaced};
@@ -11,7 +11,7 @@ ghost use Rattle.tocmark_core_reader.specs.Words.{feed_if, cleaned, info_text, s
 
 use std::alloc::{AllocError, Global};
 use tocmark_event::event::CowStr;
-use tocmark_read_scan::basic::piece;
+use tocmark_read_scan::basic::bytes_between;
 use tocmark_read_spans::role::Stretch;
 use tocmark_read_tokens::reference::unescaped;
 
@@ -100,11 +100,11 @@ pub fn cleaned_part(
     end: usize,
     feed: bool,
 ) -> Result<String, AllocError>
-    ensures { IfOk result (λ t. string_bytes t ≡ cleaned (piece text.now start end) feed) }
+    ensures { IfOk result (λ t. string_bytes t ≡ cleaned (bytes_between text.now start end) feed) }
 {
     match text.get(start..end) {
         Some(part) => cleaned_text(alloc, part, feed),
-        None => cleaned(alloc, piece(text.as_bytes(), start, end), feed),
+        None => cleaned(alloc, bytes_between(text.as_bytes(), start, end), feed),
     }
 }
 
@@ -135,6 +135,6 @@ pub fn stretch_text(
 ) -> Result<CowStr<'static>, AllocError>
     ensures { IfOk result (λ t. text_of t ≡ stretch_text texts.now stretch) }
 {
-    let bytes = piece(texts, stretch.start, stretch.end);
+    let bytes = bytes_between(texts, stretch.start, stretch.end);
     Ok(CowStr::Owned(String::from_utf8_lossy(alloc, bytes)?))
 }

@@ -5,7 +5,7 @@ use Rattle.std.specs.Prelude.{◌≢◌, slice_get, is_none}
 use Rattle.std.specs.Char.{encode_utf8}
 use Rattle.tocmark_event.specs.Options.{OptionsView}
 use Rattle.tocmark_event.specs.declared.event.flags.ParserOptions.{ParserOptions}
-use Rattle.tocmark_write_texts.specs.Escape.{Place, spot, is_encoded, is_last, escape_after, escaped, needs_backslash, reference, with_backslash, written}
+use Rattle.tocmark_write_texts.specs.Escape.{Surroundings, spot, is_encoded, is_last, escape_after, escaped, needs_backslash, reference, with_backslash, written}
 use Rattle.tocmark_write_renderer.specs.WriterOf.{HasNoFeed}
 use Rattle.tocmark_laws.specs.TextBlocks.{Kind, place_in}
 
@@ -98,7 +98,7 @@ no_code false true c = refl
 no_code false false c = refl
 
 module _ (o : OptionsView) (flags : ParserOptions) (kind : Kind) where
-  abbrev place : Place
+  abbrev place : Surroundings
   place = place_in o flags kind
 
   written_filled : (before : List ℕ) (c : ℕ) (cs : List ℕ) → IsFilled (written place (spot before c cs))

@@ -4,13 +4,13 @@ use Rattle.std.proofs.lemmas.Str.{chars-nil}
 use Rattle.std.specs.List.{concat}
 use Rattle.tocmark_event.specs.Forest.{empty, leaf, node, flat}
 use Rattle.tocmark_event.specs.View.{EventView, Start, End, Leaf, Text, SourcedEvent, SourcedLeaf, end_of}
-use Rattle.tocmark_write_texts.specs.Escape.{Place, escaped}
+use Rattle.tocmark_write_texts.specs.Escape.{Surroundings, escaped}
 use Rattle.tocmark_spelling.specs.Body.{Trees, is_broken, some_leaf}
 use Rattle.tocmark_spelling.specs.Closing.{closing}
 use Rattle.tocmark_spelling.specs.Gap.{gap}
 use Rattle.tocmark_spelling.specs.Look.{look}
 use Rattle.tocmark_spelling.specs.Opening.{opening, heading_mark}
-use Rattle.tocmark_spelling.specs.Page.{Sheet, laid, Path, Page, Site, Around, Trail, Content, Plain, Underlined, Held}
+use Rattle.tocmark_spelling.specs.Page.{Sheet, laid, Path, Page, Site, Around, Trail, OpeningChoice, Plain, Underlined, Held}
 use Rattle.tocmark_spelling.specs.declared.trail.Last.{Last}
 use Rattle.tocmark_spelling.specs.declared.trail.Last.TheVariants.{Inline, Other, BlockEnd}
 use Rattle.tocmark_spelling.specs.Plan.{Setting, Manner}
@@ -62,7 +62,7 @@ abbrev pub blank : Sheet
 blank = record { text = []; feeds = 0 }
 
 -- what the opening of a block chooses
-abbrev content_of : Kind → Content
+abbrev content_of : Kind → OpeningChoice
 content_of ParagraphKind = Plain
 content_of (HeadingKind level) = Underlined false
 
@@ -118,7 +118,7 @@ module _ (s : Setting) where
   written_site kind start sheet text = site (in_block kind start) (page_of (laid [] (escaped (place_in s.options s.flags kind) text) sheet) 0 Inline None)
 
   -- the same with the place where the text stands
-  abbrev placed_site : Kind → ℕ → Place → Page → List ℕ → Site
+  abbrev placed_site : Kind → ℕ → Surroundings → Page → List ℕ → Site
   placed_site kind start p here text = site (in_block kind start) (record here { sheet = laid [] (escaped p text) here.sheet; trail = record here.trail { last = Inline } })
 
   stretch_is : (kind : Kind) (h : Held) (start : ℕ) (next : Option EventView) (p here : Page) → gap (Leaf (Text h.text)) (in_block kind start) (record p { held = None }) ≡ here → stretch_on s m h next (in_block kind start) p ≡ placed_site kind start (place s m h.after_close next (in_block kind start) here) here h.text

@@ -11,7 +11,7 @@ use Rattle.tocmark_event.specs.declared.event.flags.ParserOptions.{ParserOptions
 use Rattle.tocmark_event.specs.declared.options.Error.{Error}
 use Rattle.tocmark_spelling.specs.Body.{Trees}
 use Rattle.tocmark_spelling.specs.Closing.{closing}
-use Rattle.tocmark_write_texts.specs.Escape.{Place, escaped}
+use Rattle.tocmark_write_texts.specs.Escape.{Surroundings, escaped}
 use Rattle.tocmark_spelling.specs.Opening.{opening}
 use Rattle.tocmark_spelling.specs.ById.{by_id}
 use Rattle.tocmark_write_texts.specs.Leaves.{code_span, unspan}
@@ -77,7 +77,7 @@ blank = record { text = []; feeds = 0 }
 
 module _ (o : OptionsView) (reading : List ℕ → ParserOptions → ReadingView) (flags : ParserOptions) (off : o.check_plain_blocks ≡ false) where
   -- the place of the text
-  abbrev place_in : Place
+  abbrev place_in : Surroundings
   place_in = record { flags = flags; token = o.emphasis_token; literal = false; first_encoded = false; last_encoded = false; at_front = true; in_table = false; in_heading = false; next = Some (End end.Paragraph) }
 
   -- the preferred spelling of the unit is a text that is laid with no prefix, and leaves no definition
@@ -115,7 +115,7 @@ module _ (o : OptionsView) (reading : List ℕ → ParserOptions → ReadingView
       ∙ ap (λ (defs : List ℕ). record { texts = last_texts (holds_raw_block (flat (unit l))) defs text; outcome = Ok done }) w.undefined
 
   pub read_back : (source text : List ℕ)
-      → ((place : Place) → place.token ≡ o.emphasis_token → unescape (chars (escaped place text)) ≡ chars text)
+      → ((place : Surroundings) → place.token ≡ o.emphasis_token → unescape (chars (escaped place text)) ≡ chars text)
       → ReadsAs text (script (rendering o reading) source (nothing_yet flags) (paragraph_of text))
   read_back source text law =
       let m = made source (Text text) (escaped place_in text) refl (written-text text) in

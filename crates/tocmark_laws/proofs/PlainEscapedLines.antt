@@ -3,7 +3,7 @@ use Rattle.std.proofs.Common.{◌≡◌, ℕ, ◌+◌, ◌<◌, ◌≤◌, Bool,
 use Rattle.std.proofs.lemmas.Str.{encode_ascii}
 use Rattle.std.specs.Prelude.{is_none}
 use Rattle.std.specs.Char.{char_set_contains, is_ascii_digit}
-use Rattle.tocmark_write_texts.specs.Escape.{Place, spot_from, is_read_as_marker, is_alone, goes_on_marker}
+use Rattle.tocmark_write_texts.specs.Escape.{Surroundings, spot_from, is_read_as_marker, is_alone, goes_on_marker}
 use Rattle.tocmark_read_blocks.proofs.PlainStarts.{IsQuiet}
 use Rattle.tocmark_read_blocks.proofs.PlainFronts.{BeginsPlainly, GoesOn}
 use Rattle.tocmark_core_reader.proofs.PlainReading.{IsPrintable, IsPlainLine}
@@ -18,7 +18,7 @@ printed : (b : ℕ) → 32 ≤ b → b < 127 → IsPrintable b
 printed b h k = record { low = h; high = k }
 
 -- what is written is printable
-parts_printable : (p : Place) (before : Option ℕ) (o : Bool) (cs : List ℕ) → ArePrintable cs → ArePrintable (spelled (parts_on p before o cs))
+parts_printable : (p : Surroundings) (before : Option ℕ) (o : Bool) (cs : List ℕ) → ArePrintable cs → ArePrintable (spelled (parts_on p before o cs))
 parts_printable p before o [] h = tt
 parts_printable p before o (c ∷ cs) h =
     let q : Bool = is_ascii_digit c && o in
@@ -31,7 +31,7 @@ parts_printable p before o (c ∷ cs) h =
     (λ _ _ _. (h.0, more))
 
 -- what is written ends with a space only if the line does
-parts_end : (p : Place) (before : Option ℕ) (o : Bool) (c : ℕ) (cs : List ℕ) (b : ℕ) → (last_byte c cs == 32) ≡ false → (last_byte b (spelled (parts_on p before o (c ∷ cs))) == 32) ≡ false
+parts_end : (p : Surroundings) (before : Option ℕ) (o : Bool) (c : ℕ) (cs : List ℕ) (b : ℕ) → (last_byte c cs == 32) ≡ false → (last_byte b (spelled (parts_on p before o (c ∷ cs))) == 32) ≡ false
 parts_end p before o c [] b h =
     part_elim (λ a. (last_byte b (spelled_part a ++ []) == 32) ≡ false) p before o c []
     (λ _. refl) (λ _. refl) (λ _. h) (λ _ _ _. h)
@@ -41,7 +41,7 @@ parts_end p before o c (d ∷ ds) b h =
     ∙ parts_end p (Some c) q d ds (last_byte b (spelled_part (part_of p before o c (d ∷ ds)))) h
 
 -- what is written means the characters
-parts_mean : (p : Place) (before : Option ℕ) (o : Bool) (cs : List ℕ) → meant (parts_on p before o cs) ≡ cs
+parts_mean : (p : Surroundings) (before : Option ℕ) (o : Bool) (cs : List ℕ) → meant (parts_on p before o cs) ≡ cs
 parts_mean p before o [] = refl
 parts_mean p before o (c ∷ cs) =
     let q : Bool = is_ascii_digit c && o in
@@ -57,11 +57,11 @@ parts_mean p before o (c ∷ cs) =
     first_true false b h = h
 
 -- a line's parts mean its characters
-pub line_means : (p : Place) (cs : List ℕ) → meant (parts_of p cs) ≡ cs
+pub line_means : (p : Surroundings) (cs : List ℕ) → meant (parts_of p cs) ≡ cs
 line_means p cs = parts_mean p None true cs
 
 -- behind digits stands neither `.` nor `)`
-no_number : (p : Place) (b : ℕ) (cs : List ℕ) → IsInParagraph p → ends_number (spelled (parts_on p (Some b) true cs)) ≡ false
+no_number : (p : Surroundings) (b : ℕ) (cs : List ℕ) → IsInParagraph p → ends_number (spelled (parts_on p (Some b) true cs)) ≡ false
 no_number p b [] h = refl
 no_number p b (d ∷ ds) h =
     by_digit (no_number p d ds h) (is_ascii_digit d) refl
@@ -77,7 +77,7 @@ no_number p b (d ∷ ds) h =
         bare false e m = rw (e, no_such p (Some b) true d 46 ds (at_dot p b ds h) m, no_such p (Some b) true d 41 ds (at_parenthesis p b ds h) m) refl
 
 -- behind a mark that isn't escaped stands a byte that goes on
-mark_goes_on : (p : Place) (o q : Bool) (c : ℕ) (cs : List ℕ) → IsInParagraph p → is_alone p (spot_from None o c cs) ≡ false → GoesOn (spelled (parts_on p (Some c) q cs))
+mark_goes_on : (p : Surroundings) (o q : Bool) (c : ℕ) (cs : List ℕ) → IsInParagraph p → is_alone p (spot_from None o c cs) ≡ false → GoesOn (spelled (parts_on p (Some c) q cs))
 mark_goes_on p o q c [] h e = absurd (true≢false (sym h.line ∙ e))
 mark_goes_on p o q c (d ∷ ds) h e =
     part_elim (λ a. GoesOn (spelled_part a ++ spelled (parts_on p (Some d) (is_ascii_digit d && q) ds))) p (Some c) q d ds
@@ -93,7 +93,7 @@ quiet_ampersand = record { space = refl; greater = refl; less = refl; star = ref
 quiet_backslash : IsQuiet 92
 quiet_backslash = record { space = refl; greater = refl; less = refl; star = refl; minus = refl; plus = refl; equals = refl; underscore = refl; hash = refl; backtick = refl; tilde = refl; digit = refl }
 
-no_underscore : (p : Place) (o : Bool) (c : ℕ) (cs : List ℕ) → is_read_as_marker p (spot_from None o c cs) ≡ false → (c == 95) ≡ false
+no_underscore : (p : Surroundings) (o : Bool) (c : ℕ) (cs : List ℕ) → is_read_as_marker p (spot_from None o c cs) ≡ false → (c == 95) ≡ false
 no_underscore p o c cs m = not_char c 95 (λ e. true≢false (at_underscore p None o cs (subst (λ x. is_read_as_marker p (spot_from None o x cs) ≡ false) e m)))
 
 space_first : (a : Bool) → (a && true) ≡ false → a ≡ false
@@ -101,7 +101,7 @@ space_first true h = h
 space_first false h = h
 
 -- a character that is written as it is in front begins nothing
-bare_begins : (p : Place) (c : ℕ) (cs : List ℕ) → IsInParagraph p → is_read_as_marker p (spot_from None true c cs) ≡ false → (c == 32) ≡ false → BeginsPlainly (c ∷ spelled (parts_on p (Some c) (is_ascii_digit c && true) cs))
+bare_begins : (p : Surroundings) (c : ℕ) (cs : List ℕ) → IsInParagraph p → is_read_as_marker p (spot_from None true c cs) ≡ false → (c == 32) ≡ false → BeginsPlainly (c ∷ spelled (parts_on p (Some c) (is_ascii_digit c && true) cs))
 bare_begins p c cs h m s = by_tests (is_ascii_digit c) refl (c == 45) refl (c == 43) refl (c == 61) refl
   where
     mark : char_set_contains (codes "*[]<~`") c ≡ false
@@ -131,14 +131,14 @@ bare_begins p c cs h m s = by_tests (is_ascii_digit c) refl (c == 45) refl (c ==
     })
 
 -- a line's parts begin nothing
-line_begins : (p : Place) (c : ℕ) (cs : List ℕ) → IsInParagraph p → BeginsPlainly (spelled (parts_of p (c ∷ cs)))
+line_begins : (p : Surroundings) (c : ℕ) (cs : List ℕ) → IsInParagraph p → BeginsPlainly (spelled (parts_of p (c ∷ cs)))
 line_begins p c cs h =
     part_elim (λ a. BeginsPlainly (spelled_part a ++ spelled (parts_on p (Some c) (is_ascii_digit c && true) cs))) p None true c cs
     (λ _. inl quiet_ampersand) (λ _. inl quiet_ampersand) (λ _. inl quiet_backslash)
     (λ n _ s. bare_begins p c cs h (no_marker p None true c cs n) (space_first (c == 32) s))
 
 -- the escape of a line is a plain line
-pub line_is_plain : (p : Place) (c : ℕ) (cs : List ℕ) → IsInParagraph p → ArePrintable (c ∷ cs) → (last_byte c cs == 32) ≡ false → IsPlainLine (parts_of p (c ∷ cs))
+pub line_is_plain : (p : Surroundings) (c : ℕ) (cs : List ℕ) → IsInParagraph p → ArePrintable (c ∷ cs) → (last_byte c cs == 32) ≡ false → IsPlainLine (parts_of p (c ∷ cs))
 line_is_plain p c cs h k e = record {
   printable = parts_printable p None true (c ∷ cs) k;
   begins = line_begins p c cs h;

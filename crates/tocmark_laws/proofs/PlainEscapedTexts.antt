@@ -7,7 +7,7 @@ use Rattle.tocmark_read_scan.proofs.PlainPieces.{feed_joined}
 use Rattle.tocmark_read_inlines.proofs.PlainNeighbours.{ArePlainParts}
 use Rattle.tocmark_core_reader.specs.Reading.{core_reading}
 use Rattle.tocmark_core_reader.proofs.PlainReading.{spelled_text, IsPlainLine, IsPlainText, plain_text_is_meant}
-use Rattle.tocmark_write_texts.specs.Escape.{Place, escape}
+use Rattle.tocmark_write_texts.specs.Escape.{Surroundings, escape}
 use Rattle.tocmark_laws.proofs.PlainCharacters.{parts_of}
 use Rattle.tocmark_laws.proofs.PlainEscapes.{ArePrintable, escape_is, line_parts_plain}
 use Rattle.tocmark_laws.proofs.PlainEscapedLines.{line_is_plain, line_means}
@@ -34,7 +34,7 @@ line_parts l = parts_of l.0 l.1
 abbrev all_parts : PlacedLine → List PlacedLine → List Part
 all_parts l ms = text_parts (line_parts l) (map line_parts ms)
 
-pub plain_line : (p : Place) (cs : List ℕ) → IsLine (p, cs) → IsPlainLine (parts_of p cs)
+pub plain_line : (p : Surroundings) (cs : List ℕ) → IsLine (p, cs) → IsPlainLine (parts_of p cs)
 plain_line p [] h = let some : 0 < 0 = h.some in absurd (omega arith)
 plain_line p (c ∷ cs) h = line_is_plain p c cs h.place h.printable h.last
 

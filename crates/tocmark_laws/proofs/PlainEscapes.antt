@@ -7,7 +7,7 @@ use Rattle.std.specs.List.{AllByRecursion, list_all}
 use Rattle.std.specs.Option.{option_map_or}
 use Rattle.tocmark_read_scan.specs.Basic.{byte_at}
 use Rattle.tocmark_write_texts.specs.Characters.{is_alphanumeric}
-use Rattle.tocmark_write_texts.specs.Escape.{Place, spot_from, needs_backslash, is_read_as_marker, escape_after, escape, doubles_backslash}
+use Rattle.tocmark_write_texts.specs.Escape.{Surroundings, spot_from, needs_backslash, is_read_as_marker, escape_after, escape, doubles_backslash}
 use Rattle.tocmark_read_inlines.proofs.PlainNeighbours.{IsPlainByte, IsPlainPart, ArePlainParts}
 use Rattle.tocmark_core_reader.proofs.PlainReading.{IsPrintable}
 use Rattle.tocmark_read_scan.proofs.PlainTests.{eq_of, differs}
@@ -19,18 +19,18 @@ abbrev pub ArePrintable : List ℕ → Type 0
 ArePrintable cs = AllByRecursion IsPrintable cs
 
 -- characters are written as their parts are spelled
-written_on : (p : Place) (before cs : List ℕ) → IsInParagraph p → ArePrintable cs → escape_after p before cs ≡ spelled (parts_on p (slice_get before 0) (list_all is_ascii_digit before) cs)
+written_on : (p : Surroundings) (before cs : List ℕ) → IsInParagraph p → ArePrintable cs → escape_after p before cs ≡ spelled (parts_on p (slice_get before 0) (list_all is_ascii_digit before) cs)
 written_on p before [] h k = refl
 written_on p before (c ∷ cs) h k =
     ap (λ (xs : List ℕ). xs ++ escape_after p (c ∷ before) cs) (written_is p (slice_get before 0) (list_all is_ascii_digit before) c cs h (k.0))
     ∙ ap (λ (xs : List ℕ). spelled_part (part_of p (slice_get before 0) (list_all is_ascii_digit before) c cs) ++ xs) (written_on p (c ∷ before) cs h (k.1))
 
 -- a line is written as its parts are spelled
-pub escape_is : (p : Place) (cs : List ℕ) → IsInParagraph p → ArePrintable cs → escape p cs ≡ spelled (parts_of p cs)
+pub escape_is : (p : Surroundings) (cs : List ℕ) → IsInParagraph p → ArePrintable cs → escape p cs ≡ spelled (parts_of p cs)
 escape_is p cs h k = written_on p [] cs h k
 
 -- a byte that no character before it makes a letter of, and no character behind it a mark of
-record Sides (p : Place) (before : Option ℕ) (o : Bool) (c : ℕ) (cs : List ℕ) (b f : ℕ) : Type 0 where
+record Sides (p : Surroundings) (before : Option ℕ) (o : Bool) (c : ℕ) (cs : List ℕ) (b f : ℕ) : Type 0 where
   letter_before : option_map_or is_alphanumeric before false ≡ true → is_ascii_alphanumeric b ≡ true
   letter_behind : option_map_or is_alphanumeric (slice_get cs 0) false ≡ true → is_ascii_alphanumeric f ≡ true
   bracket : (f == 91) ≡ false
@@ -42,7 +42,7 @@ both_letters true false h = absurd (true≢false h)
 both_letters false b h = absurd (true≢false h)
 
 -- a character that is written as it is means itself
-bare_is_plain : (p : Place) (before : Option ℕ) (o : Bool) (c : ℕ) (cs : List ℕ) (b f : ℕ) → IsPrintable c → needs_backslash p (spot_from before o c cs) ≡ false → (c == 38) ≡ false → Sides p before o c cs b f → IsPlainByte b c f
+bare_is_plain : (p : Surroundings) (before : Option ℕ) (o : Bool) (c : ℕ) (cs : List ℕ) (b f : ℕ) → IsPrintable c → needs_backslash p (spot_from before o c cs) ≡ false → (c == 38) ≡ false → Sides p before o c cs b f → IsPlainByte b c f
 bare_is_plain p before o c cs b f print n amp sides = by_tests (c == 92) refl (c == 95) refl (c == 33) refl
   where
     marker : is_read_as_marker p (spot_from before o c cs) ≡ false
@@ -81,16 +81,16 @@ bare_is_plain p before o c cs b f print n amp sides = by_tests (c == 92) refl (c
     })
 
 -- the first byte behind a character
-abbrev first_behind : Place → ℕ → Bool → List ℕ → List Part → ℕ
+abbrev first_behind : Surroundings → ℕ → Bool → List ℕ → List Part → ℕ
 first_behind p c o cs more = byte_at (spelled (parts_on p (Some c) o cs ++ more)) 0
 
-behind_letter : (p : Place) (c : ℕ) (o : Bool) (cs : List ℕ) (more : List Part) → IsInParagraph p → ArePrintable cs → option_map_or is_alphanumeric (slice_get cs 0) false ≡ true → is_ascii_alphanumeric (first_behind p c o cs more) ≡ true
+behind_letter : (p : Surroundings) (c : ℕ) (o : Bool) (cs : List ℕ) (more : List Part) → IsInParagraph p → ArePrintable cs → option_map_or is_alphanumeric (slice_get cs 0) false ≡ true → is_ascii_alphanumeric (first_behind p c o cs more) ≡ true
 behind_letter p c o [] more h k e = absurd (true≢false (sym e))
 behind_letter p c o (d ∷ ds) more h k e =
     let letter : is_ascii_alphanumeric d ≡ true = letter_ascii d (k.0) e in
     ap (λ a. is_ascii_alphanumeric (byte_at (spelled_part a ++ spelled (parts_on p (Some d) (is_ascii_digit d && o) ds ++ more)) 0)) (bare_letter p (Some c) o d ds h letter) ∙ letter
 
-behind_bracket : (p : Place) (c : ℕ) (o : Bool) (cs : List ℕ) (more : List Part) → byte_at (spelled more) 0 ≡ 10 → (first_behind p c o cs more == 91) ≡ false
+behind_bracket : (p : Surroundings) (c : ℕ) (o : Bool) (cs : List ℕ) (more : List Part) → byte_at (spelled more) 0 ≡ 10 → (first_behind p c o cs more == 91) ≡ false
 behind_bracket p c o [] more e = rw e refl
 behind_bracket p c o (d ∷ ds) more e =
     part_elim (λ a. (byte_at (spelled_part a ++ spelled (parts_on p (Some d) (is_ascii_digit d && o) ds ++ more)) 0 == 91) ≡ false) p (Some c) o d ds
@@ -101,7 +101,7 @@ last_false : (a b c d : Bool) → (a || b || c || d) ≡ false → a ≡ false
 last_false false b c d h = refl
 last_false true b c d h = absurd (true≢false h)
 
-behind_backslash : (p : Place) (before : Option ℕ) (c : ℕ) (o q : Bool) (cs : List ℕ) (more : List Part) → IsInParagraph p → ArePrintable cs → doubles_backslash p (spot_from before o c cs) ≡ false → let f = first_behind p c q cs more in (is_ascii_punctuation f ≡ false) × ((f == 10) ≡ false)
+behind_backslash : (p : Surroundings) (before : Option ℕ) (c : ℕ) (o q : Bool) (cs : List ℕ) (more : List Part) → IsInParagraph p → ArePrintable cs → doubles_backslash p (spot_from before o c cs) ≡ false → let f = first_behind p c q cs more in (is_ascii_punctuation f ≡ false) × ((f == 10) ≡ false)
 unfolding doubles_backslash
 behind_backslash p before c o q [] more h k e = absurd (true≢false e)
 behind_backslash p before c o q (d ∷ ds) more h k e =
@@ -119,13 +119,13 @@ behind_backslash p before c o q (d ∷ ds) more h k e =
 abbrev IsLetterBefore : Option ℕ → ℕ → Type 0
 IsLetterBefore before b = option_map_or is_alphanumeric before false ≡ true → is_ascii_alphanumeric b ≡ true
 
-letter_written : (p : Place) (before : Option ℕ) (o : Bool) (c : ℕ) (cs : List ℕ) (b : ℕ) → IsInParagraph p → IsPrintable c → IsLetterBefore (Some c) (last_byte b (spelled_part (part_of p before o c cs)))
+letter_written : (p : Surroundings) (before : Option ℕ) (o : Bool) (c : ℕ) (cs : List ℕ) (b : ℕ) → IsInParagraph p → IsPrintable c → IsLetterBefore (Some c) (last_byte b (spelled_part (part_of p before o c cs)))
 letter_written p before o c cs b h k e =
     let letter : is_ascii_alphanumeric c ≡ true = letter_ascii c k e in
     ap (λ a. is_ascii_alphanumeric (last_byte b (spelled_part a))) (bare_letter p before o c cs h letter) ∙ letter
 
 -- the part of a character is plain
-part_plain : (p : Place) (before : Option ℕ) (o : Bool) (c : ℕ) (cs : List ℕ) (b f : ℕ) → IsInParagraph p → IsPrintable c → Sides p before o c cs b f → IsPlainPart b (part_of p before o c cs) f
+part_plain : (p : Surroundings) (before : Option ℕ) (o : Bool) (c : ℕ) (cs : List ℕ) (b f : ℕ) → IsInParagraph p → IsPrintable c → Sides p before o c cs b f → IsPlainPart b (part_of p before o c cs) f
 part_plain p before o c cs b f h k sides =
     part_elim (λ a. IsPlainPart b a f) p before o c cs
     (λ _. inl (refl, refl))
@@ -138,7 +138,7 @@ last_append b [] ys = refl
 last_append b (x ∷ xs) ys = last_append x xs ys
 
 -- parts of a line, with plain parts behind them, are plain
-pub line_parts_plain : (p : Place) (before : Option ℕ) (o : Bool) (cs : List ℕ) (b : ℕ) (more : List Part) → IsInParagraph p → ArePrintable cs → IsLetterBefore before b → byte_at (spelled more) 0 ≡ 10 → ArePlainParts (last_byte b (spelled (parts_on p before o cs))) more → ArePlainParts b (parts_on p before o cs ++ more)
+pub line_parts_plain : (p : Surroundings) (before : Option ℕ) (o : Bool) (cs : List ℕ) (b : ℕ) (more : List Part) → IsInParagraph p → ArePrintable cs → IsLetterBefore before b → byte_at (spelled more) 0 ≡ 10 → ArePlainParts (last_byte b (spelled (parts_on p before o cs))) more → ArePlainParts b (parts_on p before o cs ++ more)
 line_parts_plain p before o [] b more h k e f rest = rest
 line_parts_plain p before o (c ∷ cs) b more h k e f rest =
     let q : Bool = is_ascii_digit c && o in

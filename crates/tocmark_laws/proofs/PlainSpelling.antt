@@ -6,7 +6,7 @@ use Rattle.tocmark_event.specs.View.{EventView, Start, End, Leaf, Text, SoftBrea
 use Rattle.tocmark_event.specs.declared.event.TagEnd.TheVariants as end
 use Rattle.tocmark_core_reader.proofs.PlainReading.{IsPrintable}
 use Rattle.tocmark_spelling.specs.Body.{Trees}
-use Rattle.tocmark_write_texts.specs.Escape.{Place, escaped}
+use Rattle.tocmark_write_texts.specs.Escape.{Surroundings, escaped}
 use Rattle.tocmark_spelling.specs.Kinds.{is_emphasis_or_strong, starts, and_is}
 use Rattle.tocmark_spelling.specs.Page.{Sheet, laid, put_byte, Path, Page, Site, Around, Trail, Plain, Reference}
 use Rattle.tocmark_spelling.specs.declared.trail.Last.{Last}
@@ -51,7 +51,7 @@ next_of [] = End end.Paragraph
 next_of (m ∷ ms) = Leaf SoftBreak
 
 -- the place of a line
-abbrev pub line_place : Setting → Manner → EventView → Place
+abbrev pub line_place : Setting → Manner → EventView → Surroundings
 line_place s m next = record {
   flags = s.flags;
   token = s.options.emphasis_token;

@@ -7,7 +7,7 @@ use Rattle.tocmark_event.specs.declared.event.LinkType.TheVariants as link
 use Rattle.tocmark_event.specs.declared.event.TagEnd.TheVariants as end
 use Rattle.tocmark_event.specs.declared.event.flags.ParserOptions.{ParserOptions}
 use Rattle.tocmark_write_texts.specs.Destination.{inline_closing}
-use Rattle.tocmark_write_texts.specs.Escape.{Place, escaped}
+use Rattle.tocmark_write_texts.specs.Escape.{Surroundings, escaped}
 use Rattle.tocmark_state.specs.Ranges.{Pair, unranged}
 use Rattle.tocmark_state.specs.WorkView.{rendering}
 use Rattle.tocmark_state.specs.Walk.{Walk, Done, done, nothing_yet, script}
@@ -19,7 +19,7 @@ link_events dest title id text =
     ∷ unranged (End end.Link) ∷ unranged (End end.Paragraph) ∷ []
 
 -- where the text stands: at the front of a link, and before its End
-abbrev pub place_in_link : OptionsView → ParserOptions → Place
+abbrev pub place_in_link : OptionsView → ParserOptions → Surroundings
 place_in_link o flags = record {
   flags = flags;
   token = o.emphasis_token;

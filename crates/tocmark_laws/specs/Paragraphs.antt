@@ -3,7 +3,7 @@ use Rattle.std.specs.Prelude.{◌≡◌, ℕ, ◌<◌, false, List, [], ◌∷�
 use Rattle.std.specs.List.{concat}
 use Rattle.tocmark_event.specs.View.{Start, End, Leaf, LeafView, Paragraph, Text}
 use Rattle.tocmark_event.specs.declared.event.TagEnd.TheVariants as end
-use Rattle.tocmark_write_texts.specs.Escape.{Place, escaped}
+use Rattle.tocmark_write_texts.specs.Escape.{Surroundings, escaped}
 use Rattle.tocmark_write_texts.specs.Leaves.{code_span, unspan}
 use Rattle.tocmark_write_texts.specs.Unescape.{unescape}
 use Rattle.tocmark_state.specs.Ranges.{Pair, unranged}
@@ -20,7 +20,7 @@ paragraph_of text = paragraph_with (Text text)
 -- the texts of a walk join to an escape of the text, which is read as the text
 pub record ReadsAs (text : List ℕ) (walk : Walk Done) : Type 0 where
   pub ends_well : walk.outcome ≡ Ok done
-  pub place : Place
+  pub place : Surroundings
   pub escape : concat walk.texts ≡ escaped place text
   pub read : unescape (chars (concat walk.texts)) ≡ chars text
 

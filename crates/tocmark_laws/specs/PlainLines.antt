@@ -7,7 +7,7 @@ use Rattle.tocmark_event.specs.declared.options.Error.{Error}
 use Rattle.tocmark_core_reader.specs.PlainTexts.{text_parts, is_printable, is_plain_text, lines_paragraph, IsReadAs}
 use Rattle.tocmark_core_reader.specs.Reading.{core_reading}
 use Rattle.tocmark_read_scan.specs.PlainParts.{Part, spelled, meant, last_byte}
-use Rattle.tocmark_write_texts.specs.Escape.{Place, ends_line, escaped}
+use Rattle.tocmark_write_texts.specs.Escape.{Surroundings, ends_line, escaped}
 use Rattle.tocmark_state.specs.Ranges.{Pair, unranged}
 use Rattle.tocmark_state.specs.Walk.{Walk, Done, done}
 use Rattle.tocmark_state.specs.Writes.{Makes}
@@ -35,7 +35,7 @@ HandsLines gives refuses w v r l ms =
     × (length text < 2 ^ 64 → IsReadAs (core_reading text) (lines_paragraph l ms))
 
 -- the place of a line of a paragraph whose text is escaped, beside emphasis by `*` or `_`
-pub record IsInParagraph (p : Place) : Type 0 where
+pub record IsInParagraph (p : Surroundings) : Type 0 where
   pub literal : p.literal ≡ false
   pub first : p.first_encoded ≡ false
   pub last : p.last_encoded ≡ false
@@ -46,7 +46,7 @@ pub record IsInParagraph (p : Place) : Type 0 where
 
 -- a text and the place where it is escaped
 abbrev pub PlacedLine : Type 0
-PlacedLine = Place × List ℕ
+PlacedLine = Surroundings × List ℕ
 
 -- a line at a place in a paragraph
 pub record IsPlaced (l : PlacedLine) : Type 0 where

@@ -7,7 +7,7 @@ use Rattle.tocmark_event.specs.View.{EventView, Start, End, Leaf, TagView, Parag
 use Rattle.tocmark_event.specs.declared.event.HeadingLevel.{HeadingLevel}
 use Rattle.tocmark_event.specs.declared.event.flags.ParserOptions.{ParserOptions}
 use Rattle.tocmark_event.specs.declared.options.Error.{Error}
-use Rattle.tocmark_write_texts.specs.Escape.{Place, escaped}
+use Rattle.tocmark_write_texts.specs.Escape.{Surroundings, escaped}
 use Rattle.tocmark_spelling.specs.Opening.{level_number}
 use Rattle.tocmark_state.specs.Ranges.{Pair, unranged}
 use Rattle.tocmark_state.specs.WorkView.{rendering}
@@ -43,7 +43,7 @@ is_heading_kind ParagraphKind = false
 is_heading_kind (HeadingKind level) = true
 
 -- where the text of a block stands: at its front, in no table, in a heading if it is one, and before its End
-abbrev pub place_in : OptionsView → ParserOptions → Kind → Place
+abbrev pub place_in : OptionsView → ParserOptions → Kind → Surroundings
 place_in o flags kind = record {
   flags = flags;
   token = o.emphasis_token;

@@ -11,8 +11,8 @@ use Rattle.tocmark_read_scan.specs.Basic.{plus}
 use Rattle.tocmark_read_lines.specs.Cells.{cell, cell_byte, trailing, first_cursor}
 use Rattle.tocmark_read_lines.specs.Marks.{is_rule, is_rule_byte, marker_at, bullet_at, ordered_at, is_behind, underline_at, is_underline_byte, tail_length, tail_of, digit_count}
 use Rattle.tocmark_read_lines.specs.declared.cell.Cell.{Cell}
-use Rattle.tocmark_read_lines.specs.declared.mark.Marker.{Marker}
-use Rattle.tocmark_read_lines.specs.declared.mark.Tail.{Tail}
+use Rattle.tocmark_read_lines.specs.declared.beginnings.Marker.{Marker}
+use Rattle.tocmark_read_lines.specs.declared.beginnings.Tail.{Tail}
 use Rattle.tocmark_read_blocks.proofs.PlainLines.{numbered}
 use Rattle.tocmark_read_blocks.proofs.PlainSteps.{BeginsNothing}
 use Rattle.tocmark_read_blocks.proofs.PlainStarts.{IsQuiet, quiet_begins_nothing, some_cells, no_heading, no_fence, no_underline}

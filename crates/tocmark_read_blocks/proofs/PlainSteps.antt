@@ -1,7 +1,7 @@
 -- A line that begins nothing: it begins a paragraph, or goes into the one that is open.
 use Rattle.std.proofs.Common.{◌≡◌, ℕ, suc, ◌-◌, ◌<◌, Bool, true, false, ◌==◌, nat_lt, nat_le, List, [], ◌∷◌, ◌++◌, length, refl, ap, sym, ◌∙◌, arith, None}
 use Rattle.std.proofs.Math.Seq.{take-length}
-use Rattle.tocmark_read_scan.specs.Basic.{byte_at, piece}
+use Rattle.tocmark_read_scan.specs.Basic.{byte_at, bytes_between}
 use Rattle.tocmark_read_scan.proofs.Repeats.{repeated_stop}
 use Rattle.tocmark_read_lines.specs.Cells.{cells_of, cell_byte, cell_place, first_cursor}
 use Rattle.tocmark_read_blocks.specs.Blocks.{leaf_started_in, started_in, metadata_in, metadata_or, task_in, task_or, cells_taken_in, line_taken_in, container_once, containers_opened, leaf_started, started_at, text_taken, text_started, goes_directly, turn_of, touched, cells_taken, line_taken, begun_at, started}
@@ -13,7 +13,7 @@ use Rattle.tocmark_read_blocks.specs.Leaves.{leaf_at, mark_at, html_at, underlin
 use Rattle.tocmark_read_lines.specs.Html.{html_kind}
 use Rattle.tocmark_read_lines.specs.Marks.{is_rule, marker_at, heading_at, fence_at, underline_at, tail_of}
 use Rattle.tocmark_read_blocks.specs.Pages.{State, first_page, leaf_opened, leaf_closed, closed_to, times, list_left, begun, loosened, had_marked, list_of, is_apart, leaf_finished, finished, settled, shortened, piece_taken, one_closed}
-use Rattle.tocmark_read_blocks.specs.declared.block.Place.{Place}
+use Rattle.tocmark_read_blocks.specs.declared.block.LineStart.{LineStart}
 use Rattle.tocmark_read_lines.specs.declared.cell.Cell.{Cell}
 use Rattle.tocmark_read_lines.specs.declared.cell.Cursor.{Cursor}
 use Rattle.tocmark_read_lines.specs.declared.line.Line.{Line}
@@ -71,27 +71,27 @@ paragraph pieces start end number = record {
 
 -- the columns of a line, and that nothing begins with them
 pub record IsPlainLine (text : List ℕ) (cells : List Cell) (l : Line) : Type 0 where
-  pub columns : cells_of [] l.start (piece text l.start l.end) ≡ cells
+  pub columns : cells_of [] l.start (bytes_between text l.start l.end) ≡ cells
   pub place : cell_place cells 0 l.end ≡ l.start
   pub order : nat_lt l.start l.next ≡ true
-  pub begins : BeginsNothing (piece text l.start l.end) cells
+  pub begins : BeginsNothing (bytes_between text l.start l.end) cells
 
-abbrev here : Place
+abbrev here : LineStart
 here = record { cursor = front; depth = 0 }
 
-opens_none : (text : List ℕ) (cells : List Cell) (l : Line) (s : State) → BeginsNothing (piece text l.start l.end) cells → containers_opened text cells l (tail_of cells) here s ≡ (s, here)
+opens_none : (text : List ℕ) (cells : List Cell) (l : Line) (s : State) → BeginsNothing (bytes_between text l.start l.end) cells → containers_opened text cells l (tail_of cells) here s ≡ (s, here)
 unfolding container_once
 opens_none text cells l s h =
     let some : 0 < length cells = grind (arith, h.some) in
     repeated_stop (container_once text cells l (tail_of cells)) (length cells) here s s some
-    (sym (ap (begun_at text cells l here s) (no_container (piece text l.start l.end) cells (goes_directly 0 s) h)))
+    (sym (ap (begun_at text cells l here s) (no_container (bytes_between text l.start l.end) cells (goes_directly 0 s) h)))
 
-starts_text : (text : List ℕ) (cells : List Cell) (l : Line) (s : State) → cell_place cells 0 l.end ≡ l.start → BeginsNothing (piece text l.start l.end) cells → leaf_started text cells l here s ≡ text_taken text cells l here s
+starts_text : (text : List ℕ) (cells : List Cell) (l : Line) (s : State) → cell_place cells 0 l.end ≡ l.start → BeginsNothing (bytes_between text l.start l.end) cells → leaf_started text cells l here s ≡ text_taken text cells l here s
 unfolding leaf_started_in started_in metadata_in metadata_or task_in task_or
 starts_text text cells l s p h =
     ap (started_at text cells l (tail_of cells)) (opens_none text cells l s h)
-    ∙ ap (λ at. started (leaf_at cells (piece text at l.end) (tail_of cells) front (is_paragraph s.leaf) (goes_directly 0 s)) text cells l (tail_of cells) here s) p
-    ∙ ap (λ k. started k text cells l (tail_of cells) here s) (a_text (piece text l.start l.end) cells (is_paragraph s.leaf) (goes_directly 0 s) h)
+    ∙ ap (λ at. started (leaf_at cells (bytes_between text at l.end) (tail_of cells) front (is_paragraph s.leaf) (goes_directly 0 s)) text cells l (tail_of cells) here s) p
+    ∙ ap (λ k. started k text cells l (tail_of cells) here s) (a_text (bytes_between text l.start l.end) cells (is_paragraph s.leaf) (goes_directly 0 s) h)
 
 -- a line's piece of a paragraph
 abbrev pub line_piece : Line → Piece

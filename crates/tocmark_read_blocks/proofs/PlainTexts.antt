@@ -2,7 +2,7 @@
 use Rattle.std.proofs.Common.{◌≡◌, ℕ, zero, suc, ◌+◌, ◌-◌, ◌^◌, ◌<◌, Bool, true, false, ◌==◌, ◌&&◌, if◌then◌else◌, nat_lt, List, [], ◌∷◌, ◌++◌, length, refl, ap, sym, subst, ◌∙◌, arith, append_assoc, append-nil, length-append}
 use Rattle.std.proofs.lemmas.Bool.Decides.{nat_tests}
 use Rattle.std.specs.List.{AllByRecursion}
-use Rattle.tocmark_read_scan.specs.Basic.{plus, byte_at, piece}
+use Rattle.tocmark_read_scan.specs.Basic.{plus, byte_at, bytes_between}
 use Rattle.tocmark_read_scan.proofs.PlainPieces.{feed_joined, piece_between}
 use Rattle.tocmark_read_lines.specs.Lines.{ends_here, line_stop, line, lines_from}
 use Rattle.tocmark_read_lines.specs.Cells.{cells_of, cell_place}
@@ -61,7 +61,7 @@ first_place_of [] start end h = absurd (omega arith)
 first_place_of (b ∷ bs) start end h = refl
 
 -- such a line that stands in a text is plain
-line_plain : (text l : List ℕ) (start next number : ℕ) → piece text start (start + length l) ≡ l → IsTextLine l → start + length l < 2 ^ 64 → start < next → IsPlainLine text (numbered start l) (record { number = number; start = start; end = start + length l; next = next })
+line_plain : (text l : List ℕ) (start next number : ℕ) → bytes_between text start (start + length l) ≡ l → IsTextLine l → start + length l < 2 ^ 64 → start < next → IsPlainLine text (numbered start l) (record { number = number; start = start; end = start + length l; next = next })
 line_plain text l start next number e h fits order =
     record {
       columns = ap (cells_of [] start) e ∙ cells_within start l h.within fits;

@@ -10,10 +10,10 @@ use Rattle.tocmark_read_lines.specs.Marks.{tail_of}
 use Rattle.tocmark_read_lines.specs.declared.cell.Cell.{Cell}
 use Rattle.tocmark_read_lines.specs.declared.line.Line.{Line}
 use Rattle.tocmark_read_lines.specs.declared.metadata.Known.{Known}
-use Rattle.tocmark_read_lines.specs.declared.mark.Tail.{Tail}
+use Rattle.tocmark_read_lines.specs.declared.beginnings.Tail.{Tail}
 use Rattle.tocmark_read_blocks.specs.Blocks.{container_once, started_in, started_at_in, leaf_started_in, is_front, metadata_in, metadata_or, task_in, task_or}
 use Rattle.tocmark_read_blocks.specs.Pages.{State, closed_to, times}
-use Rattle.tocmark_read_blocks.specs.declared.block.Place.{Place}
+use Rattle.tocmark_read_blocks.specs.declared.block.LineStart.{LineStart}
 
 pub times_zero : {S : Type 0} (step : S → S) (n : ℕ) (s : S) → n ≡ 0 → times step n s ≡ s
 unfolding times
@@ -26,7 +26,7 @@ times_more step zero s h = absurd (omega arith)
 times_more step (suc n) s h = simp unary_clauses refl
 
 -- a blank line begins nothing
-blank_opens : (text : List ℕ) (cells : List Cell) (line : Line) (tail : Tail) (place : Place) (s : State) (n : ℕ) → is_blank_at cells place.cursor ≡ true → repeated (container_once text cells line tail) n place s ≡ (s, place)
+blank_opens : (text : List ℕ) (cells : List Cell) (line : Line) (tail : Tail) (place : LineStart) (s : State) (n : ℕ) → is_blank_at cells place.cursor ≡ true → repeated (container_once text cells line tail) n place s ≡ (s, place)
 unfolding repeated container_once container_at
 blank_opens text cells line tail place s zero h = refl
 blank_opens text cells line tail place s (suc n) h = rw h refl
@@ -36,7 +36,7 @@ never : (flag : Bool) → flag && false ≡ false
 never true = refl
 never false = refl
 
-pub blank_started : (known : Known) (text : List ℕ) (cells : List Cell) (line : Line) (place : Place) (s : State) → is_blank_at cells place.cursor ≡ true → leaf_started_in known text cells line place s ≡ closed_to text place.depth s
+pub blank_started : (known : Known) (text : List ℕ) (cells : List Cell) (line : Line) (place : LineStart) (s : State) → is_blank_at cells place.cursor ≡ true → leaf_started_in known text cells line place s ≡ closed_to text place.depth s
 unfolding leaf_started_in leaf_at started_in is_front metadata_in metadata_or task_in task_or
 blank_started known text cells line place s h =
     ap (started_at_in known text cells line (tail_of cells)) (blank_opens text cells line (tail_of cells) place s (length cells) h)

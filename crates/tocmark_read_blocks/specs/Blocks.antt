@@ -5,7 +5,7 @@ use Rattle.std.specs.Option.{option_map, option_map_or}
 use Rattle.tocmark_event.specs.declared.event.HeadingLevel.{HeadingLevel}
 use Rattle.tocmark_event.specs.declared.event.MetadataBlockKind.{MetadataBlockKind}
 use Rattle.tocmark_event.specs.declared.event.MetadataBlockKind.TheVariants as metadata
-use Rattle.tocmark_read_scan.specs.Basic.{plus, piece}
+use Rattle.tocmark_read_scan.specs.Basic.{plus, bytes_between}
 use Rattle.tocmark_read_scan.specs.Repeat.{repeated}
 use Rattle.tocmark_read_syntax.specs.declared.Syntax.{Syntax}
 use Rattle.tocmark_read_syntax.specs.declared.TheConstants.{CORE}
@@ -24,7 +24,7 @@ use Rattle.tocmark_read_blocks.specs.Pages.{State, first_page, innermost, is_lis
 use Rattle.tocmark_read_lines.specs.declared.line.Line.{Line}
 use Rattle.tocmark_read_lines.specs.declared.cell.Cell.{Cell}
 use Rattle.tocmark_read_lines.specs.declared.cell.Cursor.{Cursor}
-use Rattle.tocmark_read_blocks.specs.declared.block.Place.{Place}
+use Rattle.tocmark_read_blocks.specs.declared.block.LineStart.{LineStart}
 use Rattle.tocmark_read_blocks.specs.declared.block.Blocks.{Blocks}
 use Rattle.tocmark_read_blocks.specs.declared.definition.Piece.{Piece}
 use Rattle.tocmark_read_lines.specs.declared.container.Container.{Container}
@@ -40,15 +40,15 @@ use Rattle.tocmark_read_blocks.specs.declared.leaf.LeafStart.{LeafStart}
 use Rattle.tocmark_read_blocks.specs.declared.leaf.LeafStart.TheVariants as start
 use Rattle.tocmark_read_blocks.specs.declared.leaf.Turn.{Turn}
 use Rattle.tocmark_read_blocks.specs.declared.leaf.Turn.TheVariants as turn
-use Rattle.tocmark_read_lines.specs.declared.mark.Fence.{Fence}
-use Rattle.tocmark_read_lines.specs.declared.mark.Heading.{Heading}
-use Rattle.tocmark_read_lines.specs.declared.mark.Tail.{Tail}
+use Rattle.tocmark_read_lines.specs.declared.beginnings.Fence.{Fence}
+use Rattle.tocmark_read_lines.specs.declared.beginnings.Heading.{Heading}
+use Rattle.tocmark_read_lines.specs.declared.beginnings.Tail.{Tail}
 use Rattle.tocmark_read_blocks.specs.declared.page.Block.{Block}
 use Rattle.tocmark_read_blocks.specs.declared.page.BlockKind.{BlockKind}
 use Rattle.tocmark_read_blocks.specs.declared.page.BlockKind.TheVariants as kind
 
 -- the place of the first byte of a line that is no space, at a place of it
-abbrev pub start_of : List Cell → Place → Line → ℕ
+abbrev pub start_of : List Cell → LineStart → Line → ℕ
 start_of cells place line = cell_place cells place.cursor.ink line.end
 
 -- the info string is the rest of the fence's line without spaces around it
@@ -63,11 +63,11 @@ unfoldable pub goes_directly : ℕ → State → Bool
 goes_directly depth s = is_paragraph s.leaf && nat_le (length s.opened) depth
 
 -- all containers that are open now go on at this cursor
-abbrev pub with_place : Cursor → State → State × Place
+abbrev pub with_place : Cursor → State → State × LineStart
 with_place cursor s = (s, record { cursor = cursor; depth = length s.opened })
 
 -- a block quote begins (CommonMark 5.1)
-unfoldable pub quote_opened : List ℕ → List Cell → Line → Place → State → State × Place
+unfoldable pub quote_opened : List ℕ → List Cell → Line → LineStart → State → State × LineStart
 quote_opened text cells line place s =
     with_place (after_quote cells place.cursor)
     (opened_with container.Quote kind.Quote (start_of cells place line) line (list_left (closed_to text place.depth s)))
@@ -89,29 +89,29 @@ list_started item start line s =
     else opened_with (container.List item.sort) (kind.List item.number) start line (list_left s)
 
 -- an item begins, in its list (CommonMark 5.2)
-unfoldable pub item_opened : List ℕ → List Cell → Line → Place → ItemStart → State → State × Place
+unfoldable pub item_opened : List ℕ → List Cell → Line → LineStart → ItemStart → State → State × LineStart
 item_opened text cells line place item s =
     with_place (moved cells place.cursor item.next)
     (opened_with (container.Item item.width) kind.Item (start_of cells place line) line
     (list_started item (start_of cells place line) line (closed_to text place.depth s)))
 
 -- a state with a place to go on at
-abbrev pub some_place : State × Place → State × Option Place
+abbrev pub some_place : State × LineStart → State × Option LineStart
 some_place p = (p.0, Some (p.1))
 
 -- the container that was found begins
-abbrev pub begun_at : List ℕ → List Cell → Line → Place → State → Option ContainerStart → State × Option Place
+abbrev pub begun_at : List ℕ → List Cell → Line → LineStart → State → Option ContainerStart → State × Option LineStart
 begun_at text cells line place s None = (s, None)
 begun_at text cells line place s (Some begins.Quote) = some_place (quote_opened text cells line place s)
 begun_at text cells line place s (Some (begins.Item item)) = some_place (item_opened text cells line place item s)
 
 -- the container that begins at a place opens
-unfoldable pub container_once : List ℕ → List Cell → Line → Tail → Place → State → State × Option Place
+unfoldable pub container_once : List ℕ → List Cell → Line → Tail → LineStart → State → State × Option LineStart
 container_once text cells line tail place s =
     begun_at text cells line place s (container_at cells tail place.cursor (goes_directly place.depth s))
 
 -- containers begin one after the other, as many as the line has columns at most
-abbrev pub containers_opened : List ℕ → List Cell → Line → Tail → Place → State → State × Place
+abbrev pub containers_opened : List ℕ → List Cell → Line → Tail → LineStart → State → State × LineStart
 containers_opened text cells line tail place s = repeated (container_once text cells line tail) (length cells) place s
 
 -- an HTML block of these kinds ends with a line that has its end
@@ -131,7 +131,7 @@ html_ended rest s = html_ended_as s.leaf rest s
 unfoldable pub code_taken : List ℕ → List Cell → ℕ → Line → State → State
 code_taken text cells column line s =
     let code = code_piece cells column line in
-    html_ended (piece text code.start code.end) (piece_taken code line (keeps_line cells column s.leaf) s)
+    html_ended (bytes_between text code.start code.end) (piece_taken code line (keeps_line cells column s.leaf) s)
 
 -- where the open paragraph has no line, it begins with this one
 unfoldable pub text_started : ℕ → State → State
@@ -141,43 +141,43 @@ text_started start s =
     (slice_get s.blocks (length s.blocks - 1)) s
 
 -- a paragraph begins, if none is open
-abbrev pub in_paragraph : List ℕ → List Cell → Line → Place → State → State
+abbrev pub in_paragraph : List ℕ → List Cell → Line → LineStart → State → State
 in_paragraph text cells line place s =
     if is_paragraph s.leaf then s
     else leaf_opened leaf.Paragraph kind.Paragraph (text_piece cells place.cursor line).start line (closed_to text place.depth s)
 
 -- the rest of a line goes into the open paragraph, or into a new one (CommonMark 4.8)
-unfoldable pub text_taken : List ℕ → List Cell → Line → Place → State → State
+unfoldable pub text_taken : List ℕ → List Cell → Line → LineStart → State → State
 text_taken text cells line place s =
     let words = text_piece cells place.cursor line in
     piece_taken words line true (text_started words.start (in_paragraph text cells line place s))
 
 -- indented code begins (CommonMark 4.4)
-unfoldable pub indented_started : List ℕ → List Cell → Line → Place → ℕ → State → State
+unfoldable pub indented_started : List ℕ → List Cell → Line → LineStart → ℕ → State → State
 indented_started text cells line place column s =
     code_taken text cells column line
     (leaf_opened leaf.Indented kind.Indented (cell_place cells column line.end) line (closed_to text place.depth s))
 
 -- a heading on one line (CommonMark 4.2)
-unfoldable pub heading_started : List ℕ → List Cell → Line → Place → Heading → State → State
+unfoldable pub heading_started : List ℕ → List Cell → Line → LineStart → Heading → State → State
 heading_started text cells line place heading s =
     leaf_finished
     (piece_taken (heading_piece cells heading line) line true
     (leaf_opened leaf.Nothing (kind.Heading heading.level) (start_of cells place line) line (closed_to text place.depth s)))
 
 -- a fenced code block begins (CommonMark 4.5)
-unfoldable pub fence_started : List ℕ → List Cell → Line → Place → Fence → State → State
+unfoldable pub fence_started : List ℕ → List Cell → Line → LineStart → Fence → State → State
 fence_started text cells line place fence s =
     leaf_opened (leaf.Fenced fence) (info_of cells place.cursor fence line) (start_of cells place line) line (closed_to text place.depth s)
 
 -- the indentation of an HTML block belongs to it
-unfoldable pub html_started : List ℕ → List Cell → Line → Place → HtmlKind → State → State
+unfoldable pub html_started : List ℕ → List Cell → Line → LineStart → HtmlKind → State → State
 html_started text cells line place k s =
     code_taken text cells place.cursor.column line
     (leaf_opened (leaf.Html k) kind.Html (cell_place cells place.cursor.column line.end) line (closed_to text place.depth s))
 
 -- a thematic break (CommonMark 4.1)
-unfoldable pub rule_started : List ℕ → List Cell → Line → Place → State → State
+unfoldable pub rule_started : List ℕ → List Cell → Line → LineStart → State → State
 rule_started text cells line place s =
     leaf_finished (leaf_opened leaf.Nothing kind.Rule (start_of cells place line) line (closed_to text place.depth s))
 
@@ -194,7 +194,7 @@ unfoldable pub underlined : HeadingLevel → Line → State → State
 underlined level line s = leaf_finished (record s { blocks = of_kind (kind.Heading level) s.blocks; end = line.end; line = line.number })
 
 -- metadata begins (outside of all containers)
-unfoldable pub metadata_started : List ℕ → List Cell → Line → Place → MetadataBlockKind → State → State
+unfoldable pub metadata_started : List ℕ → List Cell → Line → LineStart → MetadataBlockKind → State → State
 metadata_started text cells line place k s =
     leaf_opened (leaf.Metadata k) (kind.Metadata k) (start_of cells place line) line (closed_to text 0 s)
 
@@ -204,11 +204,11 @@ is_outside depth s =
     (depth == 0) || ((depth == 1) && option_map_or (λ (o : Opened). is_list o.container) (slice_get s.opened 0) false)
 
 -- a place at the first byte of a line that stands in no container
-unfoldable pub is_front : List Cell → Place → State → Bool
+unfoldable pub is_front : List Cell → LineStart → State → Bool
 is_front cells place s = not (is_blank_at cells place.cursor) && (place.cursor.ink == 0) && is_outside place.depth s
 
 -- dashes below a paragraph underline it, and pluses go on with it
-unfoldable pub metadata_in : Known → List ℕ → List Cell → Line → Place → Bool → State → Option MetadataBlockKind
+unfoldable pub metadata_in : Known → List ℕ → List Cell → Line → LineStart → Bool → State → Option MetadataBlockKind
 metadata_in known text cells line place directly s =
     if known.syntax.yaml_metadata && (is_front cells place s && not directly && begins_metadata metadata.YamlStyle known.yaml_end text line)
     then Some metadata.YamlStyle
@@ -227,7 +227,7 @@ is_new_item line depth s =
     && option_map_or (λ (o : Opened). is_empty_item o && (o.line == line.number)) (innermost s.opened) false
 
 -- the box just behind the marker of an item
-unfoldable pub task_in : Known → List ℕ → List Cell → Line → Place → State → Option Bool
+unfoldable pub task_in : Known → List ℕ → List Cell → Line → LineStart → State → Option Bool
 task_in known text cells line place s =
     if known.syntax.task_lists
     && (not (is_blank_at cells place.cursor) && (indent_of place.cursor == 0) && is_new_item line place.depth s)
@@ -246,20 +246,20 @@ with_task done start s =
     }
 
 -- a paragraph begins with a box, and goes on behind it
-unfoldable pub boxed_taken : List ℕ → Line → Place → Bool → ℕ → ℕ → State → State
+unfoldable pub boxed_taken : List ℕ → Line → LineStart → Bool → ℕ → ℕ → State → State
 boxed_taken text line place done start behind s =
     piece_taken (piece_of 0 behind line.end line.next) line true
     (with_task done start (leaf_opened leaf.Paragraph kind.Paragraph start line (closed_to text place.depth s)))
 
 -- a box that is all of its line is one of its item, and else one of the paragraph behind it
-unfoldable pub task_started : List ℕ → List Cell → Line → Place → Bool → State → State
+unfoldable pub task_started : List ℕ → List Cell → Line → LineStart → Bool → State → State
 task_started text cells line place done s =
     let start = start_of cells place line in
     let behind = behind_blanks text (plus start 3) in
     if nat_lt behind line.end then boxed_taken text line place done start behind s else with_task done start s
 
 -- a thematic break or metadata where one stands, and text elsewhere
-abbrev pub rule_or_text : LeafStart → List ℕ → List Cell → Line → Place → State → State
+abbrev pub rule_or_text : LeafStart → List ℕ → List Cell → Line → LineStart → State → State
 rule_or_text start.Rule text cells line place s = rule_started text cells line place s
 rule_or_text start.Blank text cells line place s = text_taken text cells line place s
 rule_or_text start.Text text cells line place s = text_taken text cells line place s
@@ -272,19 +272,19 @@ rule_or_text (start.Metadata k) text cells line place s = metadata_started text 
 rule_or_text (start.Task d) text cells line place s = text_taken text cells line place s
 
 -- a heading is underlined only if it has text (CommonMark 4.3)
-abbrev pub underlined_if : Bool → LeafStart → List ℕ → List Cell → Line → Place → HeadingLevel → State → State
+abbrev pub underlined_if : Bool → LeafStart → List ℕ → List Cell → Line → LineStart → HeadingLevel → State → State
 underlined_if true other text cells line place level s = underlined level line s
 underlined_if false other text cells line place level s = rule_or_text other text cells line place s
 
 -- behind definitions alone, an underline is metadata, a thematic break or text
-unfoldable pub underline_taken_in : Known → List ℕ → List Cell → Line → Tail → Place → HeadingLevel → State → State
+unfoldable pub underline_taken_in : Known → List ℕ → List Cell → Line → Tail → LineStart → HeadingLevel → State → State
 underline_taken_in known text cells line tail place level s =
     let t = settled text s in
     underlined_if (has_text t) (metadata_or (metadata_in known text cells line place false t) (rule_at cells tail place.cursor.ink))
     text cells line place level t
 
 -- what the rest of a line begins comes into the page
-unfoldable pub started_in : Known → LeafStart → List ℕ → List Cell → Line → Tail → Place → State → State
+unfoldable pub started_in : Known → LeafStart → List ℕ → List Cell → Line → Tail → LineStart → State → State
 started_in known start.Blank text cells line tail place s = closed_to text place.depth s
 started_in known start.Text text cells line tail place s = text_taken text cells line place s
 started_in known (start.Indented column) text cells line tail place s = indented_started text cells line place column s
@@ -297,7 +297,7 @@ started_in known (start.Metadata k) text cells line tail place s = metadata_star
 started_in known (start.Task done) text cells line tail place s = task_started text cells line place done s
 
 -- the leaf that begins behind the containers that began
-abbrev pub started_at_in : Known → List ℕ → List Cell → Line → Tail → State × Place → State
+abbrev pub started_at_in : Known → List ℕ → List Cell → Line → Tail → State × LineStart → State
 started_at_in known text cells line tail found =
     let s = found.0 in
     let place = found.1 in
@@ -305,16 +305,16 @@ started_at_in known text cells line tail found =
     started_in known
     (task_or (task_in known text cells line place s)
     (metadata_or (metadata_in known text cells line place directly s)
-    (leaf_at cells (piece text (start_of cells place line) line.end) tail place.cursor (is_paragraph s.leaf) directly)))
+    (leaf_at cells (bytes_between text (start_of cells place line) line.end) tail place.cursor (is_paragraph s.leaf) directly)))
     text cells line tail place s
 
 -- first containers begin, then a leaf
-unfoldable pub leaf_started_in : Known → List ℕ → List Cell → Line → Place → State → State
+unfoldable pub leaf_started_in : Known → List ℕ → List Cell → Line → LineStart → State → State
 leaf_started_in known text cells line place s =
     started_at_in known text cells line (tail_of cells) (containers_opened text cells line (tail_of cells) place s)
 
 -- the open leaf has its turn only where all containers round it go on
-unfoldable pub turn_of : List ℕ → List Cell → Line → Place → State → Turn
+unfoldable pub turn_of : List ℕ → List Cell → Line → LineStart → State → Turn
 turn_of text cells line place s = if nat_le (length s.opened) place.depth then leaf_turn text cells line place.cursor s.leaf else turn.Passes
 
 -- the open leaf ends with this line
@@ -326,13 +326,13 @@ unfoldable pub touched : Line → ℕ → State → State
 touched line depth s = record s { opened = touched_from depth line.end line.number s.quotes s.opened }
 
 -- the open leaf ends with the line, takes it, or lets something else begin
-abbrev pub turn_taken_in : Known → Turn → List ℕ → List Cell → Line → Place → State → State
+abbrev pub turn_taken_in : Known → Turn → List ℕ → List Cell → Line → LineStart → State → State
 turn_taken_in known turn.Closes text cells line place s = leaf_ended line s
 turn_taken_in known (turn.Takes column) text cells line place s = code_taken text cells column line s
 turn_taken_in known turn.Passes text cells line place s = leaf_started_in known text cells line place s
 
 -- a line is taken from the place behind the containers that go on
-abbrev pub taken_at_in : Known → List ℕ → List Cell → Line → Place → State → State
+abbrev pub taken_at_in : Known → List ℕ → List Cell → Line → LineStart → State → State
 taken_at_in known text cells line place s = turn_taken_in known (turn_of text cells line place s) text cells line place s
 
 -- which containers go on, then what the open leaf does with the line, then what begins
@@ -343,7 +343,7 @@ cells_taken_in known text cells line s =
 
 -- a line comes in
 unfoldable pub line_taken_in : Known → List ℕ → State → Line → State
-line_taken_in known text s line = cells_taken_in known text (cells_of [] line.start (piece text line.start line.end)) line s
+line_taken_in known text s line = cells_taken_in known text (cells_of [] line.start (bytes_between text line.start line.end)) line s
 
 -- all lines come in, and then all blocks end
 unfoldable pub page_in : Syntax → List ℕ → State
@@ -370,13 +370,13 @@ abbrev pub core_known : Known
 core_known = record { syntax = CORE; yaml_end = 0; pluses_end = 0 }
 
 -- the same of CommonMark alone
-abbrev pub started : LeafStart → List ℕ → List Cell → Line → Tail → Place → State → State
+abbrev pub started : LeafStart → List ℕ → List Cell → Line → Tail → LineStart → State → State
 started = started_in core_known
 
-abbrev pub started_at : List ℕ → List Cell → Line → Tail → State × Place → State
+abbrev pub started_at : List ℕ → List Cell → Line → Tail → State × LineStart → State
 started_at = started_at_in core_known
 
-abbrev pub leaf_started : List ℕ → List Cell → Line → Place → State → State
+abbrev pub leaf_started : List ℕ → List Cell → Line → LineStart → State → State
 leaf_started = leaf_started_in core_known
 
 abbrev pub cells_taken : List ℕ → List Cell → Line → State → State

@@ -6,7 +6,7 @@ use Rattle.tocmark_read_lines.specs.declared.cell.Cell.{Cell}
 use Rattle.tocmark_read_lines.specs.declared.cell.Cursor.{Cursor}
 use Rattle.tocmark_read_blocks.specs.declared.definition.Piece.{Piece}
 use Rattle.tocmark_read_lines.specs.declared.line.Line.{Line}
-use Rattle.tocmark_read_lines.specs.declared.mark.Heading.{Heading}
+use Rattle.tocmark_read_lines.specs.declared.beginnings.Heading.{Heading}
 use Rattle.tocmark_read_blocks.specs.declared.leaf.Leaf.{Leaf}
 use Rattle.tocmark_read_blocks.specs.declared.leaf.Leaf.TheVariants as leaf
 

@@ -2,7 +2,7 @@
 use Rattle.std.specs.Prelude.{ℕ, Bool, false, ◌==◌, if◌then◌else◌, List, [], ◌∷◌, ◌++◌, length, take, filter, Option, Some, None}
 use Rattle.std.specs.List.{flat_map}
 use Rattle.std.specs.Option.{option_map_or}
-use Rattle.tocmark_read_scan.specs.Basic.{byte_at, piece}
+use Rattle.tocmark_read_scan.specs.Basic.{byte_at, bytes_between}
 use Rattle.tocmark_read_scan.specs.Repeat.{repeated}
 use Rattle.tocmark_read_tokens.specs.Word.{definition_at}
 use Rattle.tocmark_read_tokens.specs.declared.word.Definition.{Definition}
@@ -22,9 +22,9 @@ definition_view d = record { label = d.label.items; destination = d.destination.
 -- the texts of a definition that stands in this content
 abbrev pub found_view : List ℕ → Definition → DefinitionView
 found_view content d = record {
-  label = piece content d.label.start d.label.end;
-  destination = piece content d.destination.start d.destination.end;
-  title = piece content d.title.start d.title.end;
+  label = bytes_between content d.label.start d.label.end;
+  destination = bytes_between content d.destination.start d.destination.end;
+  title = bytes_between content d.title.start d.title.end;
 }
 
 -- the first line begins with a bracket
@@ -38,7 +38,7 @@ replaced b = if b == 0 then 0xef ∷ 0xbf ∷ 0xbd ∷ [] else b ∷ []
 
 -- a line and a line feed
 abbrev pub joined_line : List ℕ → Piece → List ℕ
-joined_line text l = flat_map replaced (piece text l.start l.end) ++ 10 ∷ []
+joined_line text l = flat_map replaced (bytes_between text l.start l.end) ++ 10 ∷ []
 
 -- the lines, each with a line feed behind it
 abbrev pub joined : List ℕ → List Piece → List ℕ

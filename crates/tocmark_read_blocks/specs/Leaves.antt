@@ -10,7 +10,7 @@ use Rattle.tocmark_read_lines.specs.Metadata.{closes_metadata}
 use Rattle.tocmark_read_lines.specs.declared.line.Line.{Line}
 use Rattle.tocmark_read_lines.specs.declared.cell.Cell.{Cell}
 use Rattle.tocmark_read_lines.specs.declared.cell.Cursor.{Cursor}
-use Rattle.tocmark_read_lines.specs.declared.mark.Tail.{Tail}
+use Rattle.tocmark_read_lines.specs.declared.beginnings.Tail.{Tail}
 use Rattle.tocmark_read_lines.specs.declared.html.HtmlKind.{HtmlKind}
 use Rattle.tocmark_read_lines.specs.declared.html.HtmlKind.TheVariants as kind
 use Rattle.tocmark_read_blocks.specs.declared.leaf.Leaf.{Leaf}

@@ -13,7 +13,7 @@ use Rattle.tocmark_read_blocks.specs.declared.leaf.Leaf.{Leaf}
 use Rattle.tocmark_read_blocks.specs.declared.leaf.Leaf.TheVariants as leaf
 use Rattle.tocmark_read_blocks.specs.declared.page.BlockKind.{BlockKind}
 use Rattle.tocmark_read_blocks.specs.declared.page.Block.{Block}
-use Rattle.tocmark_read_blocks.specs.declared.page.Page.{Page}
+use Rattle.tocmark_read_blocks.specs.declared.page.BlocksSoFar.{BlocksSoFar}
 
 pub record State : Type 0 where
   pub blocks : List Block
@@ -27,7 +27,7 @@ pub record State : Type 0 where
   pub kept : ℕ
 
 -- a page as plain values
-abbrev pub page : Page → State
+abbrev pub page : BlocksSoFar → State
 page p = record {
   blocks = p.blocks.items;
   pieces = p.pieces.items;

@@ -8,9 +8,10 @@ ghost use Rattle.tocmark_read_blocks.specs.Blocks.{info_of, goes_directly, quote
 use crate::code::{code_piece, heading_piece, keeps_line, text_piece};
 use crate::definition::{LinkDefinition, Piece};
 use crate::leaf::{Leaf, LeafStart, Turn, is_paragraph, leaf_at, leaf_turn, rule_at};
-use crate::page::{Block, BlockKind, Page, Task, is_list};
+use crate::page::{Block, BlockKind, BlocksSoFar, Task, is_list};
 use std::alloc::{AllocError, Global};
 use tocmark_event::event::{HeadingLevel, MetadataBlockKind};
+use tocmark_read_lines::beginnings::{Fence, Heading, Tail, tail_of};
 use tocmark_read_lines::cell::{
     Cells, Cursor, cell_place, indent_of, ink_from, is_blank_at, moved, trimmed,
 };
@@ -19,10 +20,9 @@ use tocmark_read_lines::container::{
 };
 use tocmark_read_lines::html::{HtmlKind, html_ends};
 use tocmark_read_lines::line::{Line, lines};
-use tocmark_read_lines::mark::{Fence, Heading, Tail, tail_of};
 use tocmark_read_lines::metadata::{Known, begins_metadata, behind_blanks, known_of};
 use tocmark_read_lines::task::box_at;
-use tocmark_read_scan::basic::{piece, set};
+use tocmark_read_scan::basic::{bytes_between, set};
 use tocmark_read_syntax::Syntax;
 
 /// What a text is made of, but for the inlines of paragraphs and headings.
@@ -35,7 +35,7 @@ pub struct Blocks {
 
 /// A cursor of a line, and how many of the open containers go on there.
 #[derive(Clone, Copy)]
-pub struct Place {
+pub struct LineStart {
     pub cursor: Cursor,
     pub depth: usize,
 }
@@ -62,7 +62,7 @@ fn info_of(cells: &Cells, cursor: Cursor, fence: Fence, line: Line) -> BlockKind
     )
 }
 
-impl Page {
+impl BlocksSoFar {
     /// Whether the open paragraph stands in the innermost container that goes on.
     #[tactic(auto, unfolding(crate::specs::Blocks::goes_directly))]
     fn goes_directly(&self, depth: usize) -> bool
@@ -76,8 +76,8 @@ impl Page {
         &mut self,
         alloc: Global,
         row: &Row<'_, '_>,
-        place: Place,
-    ) -> Result<Place, AllocError>
+        place: LineStart,
+    ) -> Result<LineStart, AllocError>
         ensures { IfOk result (λ next.
             (page self.new, next)
             ≡ quote_opened row.now.text.now row.now.cells.now row.now.line place (page self.old)) }
@@ -86,7 +86,7 @@ impl Page {
         self.leave_list();
         let start = cell_place(row.cells, place.cursor.ink, row.line.end);
         self.open(Container::Quote, BlockKind::Quote, start, row.line)?;
-        Ok(Place {
+        Ok(LineStart {
             cursor: after_quote(row.cells, place.cursor),
             depth: self.opened.len(),
         })
@@ -128,9 +128,9 @@ impl Page {
         &mut self,
         alloc: Global,
         row: &Row<'_, '_>,
-        place: Place,
+        place: LineStart,
         item: ItemStart,
-    ) -> Result<Place, AllocError>
+    ) -> Result<LineStart, AllocError>
         ensures { IfOk result (λ next.
             (page self.new, next)
             ≡ item_opened row.now.text.now row.now.cells.now row.now.line place item
@@ -145,7 +145,7 @@ impl Page {
             start,
             row.line,
         )?;
-        Ok(Place {
+        Ok(LineStart {
             cursor: moved(row.cells, place.cursor, item.next),
             depth: self.opened.len(),
         })
@@ -158,8 +158,8 @@ impl Page {
         alloc: Global,
         row: &Row<'_, '_>,
         tail: Tail,
-        place: Place,
-    ) -> Result<Option<Place>, AllocError>
+        place: LineStart,
+    ) -> Result<Option<LineStart>, AllocError>
         ensures { IfOk result (λ next.
             (page self.new, next)
             ≡ container_once row.now.text.now row.now.cells.now row.now.line tail place
@@ -186,8 +186,8 @@ impl Page {
         alloc: Global,
         row: &Row<'_, '_>,
         tail: Tail,
-        first: Place,
-    ) -> Result<Place, AllocError>
+        first: LineStart,
+    ) -> Result<LineStart, AllocError>
         ensures { IfOk result (λ last.
             (page self.new, last)
             ≡ containers_opened row.now.text.now row.now.cells.now row.now.line tail first
@@ -224,7 +224,7 @@ impl Page {
         let code = code_piece(row.cells, column, row.line);
         let keeps = keeps_line(row.cells, column, self.leaf);
         self.take_piece(code, row.line, keeps)?;
-        self.end_html(piece(row.text, code.start, code.end));
+        self.end_html(bytes_between(row.text, code.start, code.end));
         Ok(())
     }
 
@@ -247,7 +247,7 @@ impl Page {
         &mut self,
         alloc: Global,
         row: &Row<'_, '_>,
-        place: Place,
+        place: LineStart,
     ) -> Result<(), AllocError>
         ensures { OnOk result (page self.new
             ≡ text_taken row.now.text.now row.now.cells.now row.now.line place (page self.old)) }
@@ -266,7 +266,7 @@ impl Page {
         &mut self,
         alloc: Global,
         row: &Row<'_, '_>,
-        place: Place,
+        place: LineStart,
         column: usize,
     ) -> Result<(), AllocError>
         ensures { OnOk result (page self.new
@@ -284,7 +284,7 @@ impl Page {
         &mut self,
         alloc: Global,
         row: &Row<'_, '_>,
-        place: Place,
+        place: LineStart,
         heading: Heading,
     ) -> Result<(), AllocError>
         ensures { OnOk result (page self.new
@@ -305,7 +305,7 @@ impl Page {
         &mut self,
         alloc: Global,
         row: &Row<'_, '_>,
-        place: Place,
+        place: LineStart,
         fence: Fence,
     ) -> Result<(), AllocError>
         ensures { OnOk result (page self.new
@@ -323,7 +323,7 @@ impl Page {
         &mut self,
         alloc: Global,
         row: &Row<'_, '_>,
-        place: Place,
+        place: LineStart,
         kind: HtmlKind,
     ) -> Result<(), AllocError>
         ensures { OnOk result (page self.new
@@ -341,7 +341,7 @@ impl Page {
         &mut self,
         alloc: Global,
         row: &Row<'_, '_>,
-        place: Place,
+        place: LineStart,
     ) -> Result<(), AllocError>
         ensures { OnOk result (page self.new
             ≡ rule_started row.now.text.now row.now.cells.now row.now.line place (page self.old)) }
@@ -359,7 +359,7 @@ impl Page {
         &mut self,
         alloc: Global,
         row: &Row<'_, '_>,
-        place: Place,
+        place: LineStart,
         kind: MetadataBlockKind,
     ) -> Result<(), AllocError>
         ensures { OnOk result (page self.new
@@ -390,7 +390,7 @@ impl Page {
 
     /// Whether a place is the first byte of a line that stands in no container.
     #[tactic(auto, unfolding(crate::specs::Blocks::is_front))]
-    fn is_front(&self, cells: &Cells, place: Place) -> bool
+    fn is_front(&self, cells: &Cells, place: LineStart) -> bool
         ensures { result ≡ is_front cells.now place (page self.now) }
     {
         !is_blank_at(cells, place.cursor) && place.cursor.ink == 0 && self.is_outside(place.depth)
@@ -401,7 +401,7 @@ impl Page {
     fn metadata_in(
         &self,
         row: &Row<'_, '_>,
-        place: Place,
+        place: LineStart,
         directly: bool,
     ) -> Option<MetadataBlockKind>
         ensures { result ≡ metadata_in row.now.known row.now.text.now row.now.cells.now row.now.line
@@ -451,7 +451,7 @@ impl Page {
 
     /// The box just behind the marker of an item, true where it is checked.
     #[tactic(auto, unfolding(crate::specs::Blocks::task_in))]
-    fn task_in(&self, row: &Row<'_, '_>, place: Place) -> Option<bool>
+    fn task_in(&self, row: &Row<'_, '_>, place: LineStart) -> Option<bool>
         ensures { result ≡ task_in row.now.known row.now.text.now row.now.cells.now row.now.line
             place (page self.now) }
     {
@@ -485,7 +485,7 @@ impl Page {
         &mut self,
         alloc: Global,
         row: &Row<'_, '_>,
-        place: Place,
+        place: LineStart,
         done: bool,
         start: usize,
         behind: usize,
@@ -512,7 +512,7 @@ impl Page {
         &mut self,
         alloc: Global,
         row: &Row<'_, '_>,
-        place: Place,
+        place: LineStart,
         done: bool,
     ) -> Result<(), AllocError>
         ensures { OnOk result (page self.new
@@ -566,7 +566,7 @@ impl Page {
         alloc: Global,
         row: &Row<'_, '_>,
         tail: Tail,
-        place: Place,
+        place: LineStart,
         level: HeadingLevel,
     ) -> Result<(), AllocError>
         ensures { OnOk result (page self.new
@@ -594,7 +594,7 @@ impl Page {
         alloc: Global,
         row: &Row<'_, '_>,
         tail: Tail,
-        place: Place,
+        place: LineStart,
         leaf: LeafStart,
     ) -> Result<(), AllocError>
         ensures { OnOk result (page self.new
@@ -620,7 +620,7 @@ impl Page {
         &mut self,
         alloc: Global,
         row: &Row<'_, '_>,
-        first: Place,
+        first: LineStart,
     ) -> Result<(), AllocError>
         ensures { OnOk result (page self.new
             ≡ leaf_started_in row.now.known row.now.text.now row.now.cells.now row.now.line first
@@ -630,7 +630,7 @@ impl Page {
         let place = self.open_all(alloc, row, tail, first)?;
         let in_paragraph = is_paragraph(self.leaf);
         let directly = self.goes_directly(place.depth);
-        let rest = piece(
+        let rest = bytes_between(
             row.text,
             cell_place(row.cells, place.cursor.ink, row.line.end),
             row.line.end,
@@ -648,7 +648,7 @@ impl Page {
         &mut self,
         alloc: Global,
         row: &Row<'_, '_>,
-        first: Place,
+        first: LineStart,
     ) -> Result<(), AllocError>
         ensures { OnOk result (page self.new
             ≡ leaf_started_in row.now.known row.now.text.now row.now.cells.now row.now.line first
@@ -662,7 +662,7 @@ impl Page {
     }
 
     #[tactic(auto, unfolding(crate::specs::Blocks::turn_of))]
-    fn turn_of(&self, row: &Row<'_, '_>, place: Place) -> Turn
+    fn turn_of(&self, row: &Row<'_, '_>, place: LineStart) -> Turn
         ensures { result
             ≡ turn_of row.now.text.now row.now.cells.now row.now.line place (page self.now) }
     {
@@ -699,7 +699,7 @@ impl Page {
             (page self.old)) }
     {
         let (depth, cursor) = matched(row.cells, &self.opened, &self.quotes);
-        let place = Place { cursor, depth };
+        let place = LineStart { cursor, depth };
         self.touch_line(row.line, depth);
         match self.turn_of(row, place) {
             Turn::Closes => {
@@ -772,12 +772,12 @@ fn task_or(found: Option<bool>, other: LeafStart) -> LeafStart
 }
 
 #[tactic(auto, unfolding(crate::specs::Blocks::page_in))]
-fn read_page(alloc: Global, syntax: Syntax, text: &[u8]) -> Result<Page, AllocError>
+fn read_page(alloc: Global, syntax: Syntax, text: &[u8]) -> Result<BlocksSoFar, AllocError>
     ensures { IfOk result (λ found. page found ≡ page_in syntax text.now) }
 {
     let lines = lines(alloc, text)?;
     let known = known_of(syntax, text, &lines);
-    let mut page = Page::new(alloc);
+    let mut page = BlocksSoFar::new(alloc);
     page.take_lines(alloc, known, text, &lines)?;
     page.close_to(alloc, text, 0)?;
     Ok(page)

@@ -5,9 +5,9 @@ ghost use Rattle.tocmark_read_blocks.specs.Codes.{same_place, is_split, code_pie
 
 use crate::definition::Piece;
 use crate::leaf::Leaf;
+use tocmark_read_lines::beginnings::Heading;
 use tocmark_read_lines::cell::{Cells, Cursor, cell_place, ink_from};
 use tocmark_read_lines::line::Line;
-use tocmark_read_lines::mark::Heading;
 
 /// The number of columns from one on that are of the byte at a place.
 #[tactic(auto, using(crate::proofs::Places::same_more, crate::proofs::Places::same_stop, crate::proofs::Places::same_end))]

@@ -6,7 +6,7 @@ ghost use Rattle.tocmark_read_scan.specs.Repeat.{repeated};
 ghost use Rattle.tocmark_read_blocks.specs.Definitions.{begins_definition, replaced, joined_line, joined, definition_view, found_view, define_once, definitions_from, line_count};
 
 use std::alloc::{AllocError, Global};
-use tocmark_read_scan::basic::{byte_at, piece};
+use tocmark_read_scan::basic::{byte_at, bytes_between};
 use tocmark_read_tokens::word::{Definition, definition_at};
 
 /// A line of a leaf, without the prefixes of its containers. Places are bytes of the text.
@@ -71,7 +71,7 @@ fn push_bytes(content: &mut Vec<u8>, bytes: &[u8]) -> Result<(), AllocError>
 fn push_line(content: &mut Vec<u8>, text: &[u8], line: Piece) -> Result<(), AllocError>
     ensures { OnOk result (content.new.items ≡ content.old.items ++ joined_line text.now line) }
 {
-    push_bytes(content, piece(text, line.start, line.end))?;
+    push_bytes(content, bytes_between(text, line.start, line.end))?;
     content.push(b'\n')?;
     Ok(())
 }
@@ -99,12 +99,18 @@ fn taken(alloc: Global, content: &[u8], found: Definition) -> Result<LinkDefinit
     ensures { IfOk result (λ d. definition_view d ≡ found_view content.now found) }
 {
     Ok(LinkDefinition {
-        label: copied(alloc, piece(content, found.label.start, found.label.end))?,
+        label: copied(
+            alloc,
+            bytes_between(content, found.label.start, found.label.end),
+        )?,
         destination: copied(
             alloc,
-            piece(content, found.destination.start, found.destination.end),
+            bytes_between(content, found.destination.start, found.destination.end),
         )?,
-        title: copied(alloc, piece(content, found.title.start, found.title.end))?,
+        title: copied(
+            alloc,
+            bytes_between(content, found.title.start, found.title.end),
+        )?,
     })
 }
 

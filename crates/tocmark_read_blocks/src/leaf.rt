@@ -4,12 +4,12 @@ ghost use Rattle.std.specs.Prelude.{◌≡◌};
 ghost use Rattle.tocmark_read_blocks.specs.Leaves.{is_paragraph, goes_past_blank, leaf_turn, html_at, underline_in, rule_at, mark_at, leaf_at};
 
 use tocmark_event::event::{HeadingLevel, MetadataBlockKind};
+use tocmark_read_lines::beginnings::{
+    Fence, Heading, Tail, closes_fence, fence_at, heading_at, is_rule, underline_at,
+};
 use tocmark_read_lines::cell::{Cells, Cursor, indent_of, is_blank_at};
 use tocmark_read_lines::html::{HtmlKind, html_kind};
 use tocmark_read_lines::line::Line;
-use tocmark_read_lines::mark::{
-    Fence, Heading, Tail, closes_fence, fence_at, heading_at, is_rule, underline_at,
-};
 use tocmark_read_lines::metadata::closes_metadata;
 
 /// The leaf block that is open.

@@ -55,7 +55,7 @@ pub struct Block {
 /// The blocks so far. The open leaf, if there is one, is the last block: its last line ends at `end` and
 /// has the number `line`, and of the pieces the first `kept` ones stay if it is closed now.
 #[derive(Drop)]
-pub struct Page {
+pub struct BlocksSoFar {
     pub blocks: Vec<Block>,
     pub pieces: Vec<Piece>,
     pub definitions: Vec<LinkDefinition>,
@@ -190,12 +190,12 @@ fn shortened(block: Block, pieces: &[Piece], count: usize) -> Block
     }
 }
 
-impl Page {
+impl BlocksSoFar {
     /// A page without blocks.
-    pub fn new(alloc: Global) -> Page
+    pub fn new(alloc: Global) -> BlocksSoFar
         ensures { page result ≡ first_page }
     {
-        Page {
+        BlocksSoFar {
             blocks: Vec::new(alloc),
             pieces: Vec::new(alloc),
             definitions: Vec::new(alloc),

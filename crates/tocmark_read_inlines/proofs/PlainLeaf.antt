@@ -14,8 +14,8 @@ use Rattle.tocmark_read_spans.specs.declared.definitions.Entry.{Entry}
 use Rattle.tocmark_read_spans.specs.declared.role.Stretch.{Stretch}
 use Rattle.tocmark_read_spans.specs.declared.role.Target.{Target}
 use Rattle.tocmark_read_inlines.specs.declared.write.Node.{Node}
-use Rattle.tocmark_read_inlines.specs.declared.write.Item.{Item}
-use Rattle.tocmark_read_inlines.specs.declared.write.Item.TheVariants as item
+use Rattle.tocmark_read_inlines.specs.declared.write.InlineKind.{InlineKind}
+use Rattle.tocmark_read_inlines.specs.declared.write.InlineKind.TheVariants as item
 use Rattle.tocmark_read_inlines.proofs.PlainPasses.{roles, AreRead, scan_parts}
 use Rattle.tocmark_read_inlines.proofs.PlainNodes.{node, nodes_of, text_until, begun, written_parts}
 use Rattle.tocmark_read_scan.specs.PlainParts.{Part, Bare, Escaped, Referred, Feed, spelled_part, spelled}
@@ -37,7 +37,7 @@ place_at start (x ∷ xs) (suc k) h =
     let same : start + 1 + k ≡ start + suc k = omega arith in
     place_at (start + 1) xs k (omega arith) ∙ rw same refl
 
-moved_one : (bytes : List ℕ) (d : ℕ) (i : Item) (start end : ℕ) → start < end → end ≤ length bytes → w.moved (places_of 0 bytes) (node d i start end) ≡ node d i start end
+moved_one : (bytes : List ℕ) (d : ℕ) (i : InlineKind) (start end : ℕ) → start < end → end ≤ length bytes → w.moved (places_of 0 bytes) (node d i start end) ≡ node d i start end
 unfolding w.moved
 moved_one bytes d i start end h k =
     let first : 0 + start ≡ start = omega arith in
@@ -63,7 +63,7 @@ moved_then bytes d o p ns h k e =
     ∙ ap (λ (xs : List Node). xs ++ map (w.moved (places_of 0 bytes)) ns) (moved_until bytes d o p h k)
     ∙ ap (λ (xs : List Node). text_until d o p ++ xs) e
 
-moved_leaf : (bytes : List ℕ) (d : ℕ) (i : Item) (start end : ℕ) (ns : List Node) → start < end → end ≤ length bytes → map (w.moved (places_of 0 bytes)) ns ≡ ns → map (w.moved (places_of 0 bytes)) (node d i start end ∷ ns) ≡ node d i start end ∷ ns
+moved_leaf : (bytes : List ℕ) (d : ℕ) (i : InlineKind) (start end : ℕ) (ns : List Node) → start < end → end ≤ length bytes → map (w.moved (places_of 0 bytes)) ns ≡ ns → map (w.moved (places_of 0 bytes)) (node d i start end ∷ ns) ≡ node d i start end ∷ ns
 moved_leaf bytes d i start end ns h k e = ap (λ (n : Node). n ∷ map (w.moved (places_of 0 bytes)) ns) (moved_one bytes d i start end h k) ∙ ap (λ (xs : List Node). node d i start end ∷ xs) e
 
 -- where the content is the source, the nodes stay where they are

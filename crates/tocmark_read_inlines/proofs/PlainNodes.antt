@@ -10,12 +10,12 @@ use Rattle.tocmark_read_spans.specs.declared.role.Role.TheVariants.{Plain, Hidde
 use Rattle.tocmark_read_spans.specs.declared.role.Leaf.{Leaf}
 use Rattle.tocmark_read_spans.specs.declared.role.Leaf.TheVariants.{Character, SoftBreak}
 use Rattle.tocmark_read_inlines.specs.declared.write.Node.{Node}
-use Rattle.tocmark_read_inlines.specs.declared.write.Item.{Item}
-use Rattle.tocmark_read_inlines.specs.declared.write.Item.TheVariants as item
+use Rattle.tocmark_read_inlines.specs.declared.write.InlineKind.{InlineKind}
+use Rattle.tocmark_read_inlines.specs.declared.write.InlineKind.TheVariants as item
 use Rattle.tocmark_read_inlines.proofs.PlainPasses.{roles, roles_one}
 use Rattle.tocmark_read_scan.specs.PlainParts.{Part, Bare, Escaped, Referred, Feed, spelled_part, spelled}
 
-abbrev pub node : ℕ → Item → ℕ → ℕ → Node
+abbrev pub node : ℕ → InlineKind → ℕ → ℕ → Node
 node depth i start end = record { depth = depth; item = i; start = start; end = end }
 
 -- the text that is open ends

@@ -9,7 +9,7 @@ use Rattle.std.proofs.lemmas.List.Sums.{fold-append}
 use Rattle.tocmark_read_scan.specs.Basic.{plus}
 use Rattle.tocmark_read_spans.specs.Role.{roles_of, with_mark}
 use Rattle.tocmark_read_inlines.specs.Write.{State, pushed, flushed_from, flushed, opened, closed, single, gone_on, texted, shown, next_place, role_step, begun_at, passed, mark_step, is_between, ascend, write_start}
-use Rattle.tocmark_read_spans.specs.declared.role.Mark.{Mark}
+use Rattle.tocmark_read_spans.specs.declared.role.MarkedByte.{MarkedByte}
 use Rattle.tocmark_read_spans.specs.declared.role.Role.{Role}
 use Rattle.tocmark_read_spans.specs.declared.role.Role.TheVariants.{Plain, Fresh, Hidden, Open, Close, Single}
 use Rattle.tocmark_read_spans.specs.declared.role.Roles.{Roles}
@@ -71,7 +71,7 @@ passed_place : (end : ℕ) (s : State) → (passed end s).place ≡ end
 unfolding passed
 passed_place end s = refl
 
-mark_place : (u : State) (k : Mark) → (mark_step u k).place ≡ plus k.place 1
+mark_place : (u : State) (k : MarkedByte) → (mark_step u k).place ≡ plus k.place 1
 unfolding mark_step
 mark_place u k = placed (passed k.place u) k.role ∙ ap (λ i. plus i 1) (passed_place k.place u)
 
@@ -173,7 +173,7 @@ cut_plain : (j k : ℕ) → replicate (suc j + k) Plain ≡ replicate k Plain ++
 cut_plain j zero = simp unary_clauses refl
 cut_plain j (suc k) = simp unary_clauses (ap (λ (l : List Role). Plain ∷ l) (cut_plain j k))
 
-marked_plain : (rs : List Role) (from end : ℕ) (m : Mark) → length rs ≡ from → from ≤ m.place → m.place < end → with_mark (rs ++ replicate (end - from) Plain) m ≡ (rs ++ (replicate (m.place - from) Plain ++ m.role ∷ [])) ++ replicate (end - (m.place + 1)) Plain
+marked_plain : (rs : List Role) (from end : ℕ) (m : MarkedByte) → length rs ≡ from → from ≤ m.place → m.place < end → with_mark (rs ++ replicate (end - from) Plain) m ≡ (rs ++ (replicate (m.place - from) Plain ++ m.role ∷ [])) ++ replicate (end - (m.place + 1)) Plain
 marked_plain rs from end m n h k =
     let wide : ℕ = m.place - from in
     let left : ℕ = end - (m.place + 1) in
@@ -191,11 +191,11 @@ both true b h = (refl, h)
 both false b h = absurd (false≢true h)
 
 -- what is known of a mark in order
-record IsNext (m : Mark) (from end : ℕ) : Type 0 where
+record IsNext (m : MarkedByte) (from end : ℕ) : Type 0 where
   from_on : from ≤ m.place
   before : m.place < end
 
-next_from : (m : Mark) (from end : ℕ) → is_between m from end ≡ true → IsNext m from end
+next_from : (m : MarkedByte) (from end : ℕ) → is_between m from end ≡ true → IsNext m from end
 unfolding is_between
 next_from m from end h =
     let p = both (nat_le from m.place) (nat_lt m.place end) h in
@@ -210,7 +210,7 @@ next_from m from end h =
     below a b e = grind (arith, nat_tests)
 
 -- the step to a mark is that over the plain bytes before it and its own
-marked_step : (s t : State) (rs : List Role) (from : ℕ) (m : Mark) → fold role_step s rs ≡ t → t.place ≡ from → from ≤ m.place → m.place < 2 ^ 64 → fold role_step s (rs ++ (replicate (m.place - from) Plain ++ m.role ∷ [])) ≡ mark_step t m
+marked_step : (s t : State) (rs : List Role) (from : ℕ) (m : MarkedByte) → fold role_step s rs ≡ t → t.place ≡ from → from ≤ m.place → m.place < 2 ^ 64 → fold role_step s (rs ++ (replicate (m.place - from) Plain ++ m.role ∷ [])) ≡ mark_step t m
 unfolding mark_step
 marked_step s t rs from m e at h fits =
     let wide : ℕ = m.place - from in
@@ -221,7 +221,7 @@ marked_step s t rs from m e at h fits =
     ∙ ap (λ (u : State). role_step u m.role) (plain_fold wide t (omega (arith, there, fits)) ∙ ap (λ p. passed p t) there)
 
 -- marks in order, over a text of which so much is read
-marks_fold : (marks : List Mark) (from end : ℕ) (rs : List Role) (s t : State) → ascend from end marks ≡ true → end < 2 ^ 64 → from ≤ end → length rs ≡ from → fold role_step s rs ≡ t → t.place ≡ from → fold role_step s (fold with_mark (rs ++ replicate (end - from) Plain) marks) ≡ passed end (fold mark_step t marks)
+marks_fold : (marks : List MarkedByte) (from end : ℕ) (rs : List Role) (s t : State) → ascend from end marks ≡ true → end < 2 ^ 64 → from ≤ end → length rs ≡ from → fold role_step s rs ≡ t → t.place ≡ from → fold role_step s (fold with_mark (rs ++ replicate (end - from) Plain) marks) ≡ passed end (fold mark_step t marks)
 marks_fold [] from end rs s t h fits within n e at =
     let there : t.place + (end - from) ≡ end = omega (arith, at, within) in
     fold-append role_step s rs (replicate (end - from) Plain)

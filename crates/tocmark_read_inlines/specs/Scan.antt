@@ -1,7 +1,7 @@
 -- The first pass over a leaf's text: what each byte is (CommonMark 6, and the algorithm of its appendix).
 use Rattle.std.specs.Prelude.{ℕ, Bool, true, false, not, ◌-◌, ◌==◌, ◌&&◌, ◌||◌, min, nat_lt, nat_le, if◌then◌else◌, List, [], ◌∷◌, ◌++◌, length, take, drop, fold, codes, slice_get, slice_set, Option, Some, None}
 use Rattle.std.specs.List.{list_any}
-use Rattle.tocmark_read_scan.specs.Basic.{plus, byte_at, piece, starts_at}
+use Rattle.tocmark_read_scan.specs.Basic.{plus, byte_at, bytes_between, starts_at}
 use Rattle.tocmark_read_syntax.specs.declared.TheConstants.{CORE}
 use Rattle.tocmark_read_syntax.specs.declared.Syntax.{Syntax}
 use Rattle.tocmark_read_scan.specs.Class.{run_end}
@@ -32,7 +32,7 @@ use Rattle.tocmark_read_spans.specs.declared.role.Span.TheVariants.{Link, Image}
 use Rattle.tocmark_read_spans.specs.declared.role.Stretch.{Stretch}
 use Rattle.tocmark_read_spans.specs.declared.role.Target.{Target}
 use Rattle.tocmark_read_spans.specs.declared.run.Run.{Run}
-use Rattle.tocmark_read_inlines.specs.declared.scan.Ahead.{Ahead}
+use Rattle.tocmark_read_inlines.specs.declared.scan.KnownAbsent.{KnownAbsent}
 use Rattle.tocmark_read_inlines.specs.declared.scan.Scanner.{Scanner}
 
 -- the pass at a place
@@ -67,7 +67,7 @@ pub record Known : Type 0 where
   pub ticks : List ℕ
 
 -- what is known as lists
-abbrev pub ahead_view : Ahead → Known
+abbrev pub ahead_view : KnownAbsent → Known
 ahead_view a = record { ends = a.ends; ticks = a.ticks.items }
 
 -- the ends of raw HTML, where one can begin
@@ -135,7 +135,7 @@ referred bytes s = referred_to s (reference_at bytes s.place)
 -- a code span with its text between two places
 unfoldable pub code_put : List ℕ → ℕ → ℕ → ℕ → State → State
 code_put bytes from to count s =
-    let p = kept_code (piece bytes from to) s in put_leaf (Code (p.1)) (plus to count) (p.0)
+    let p = kept_code (bytes_between bytes from to) s in put_leaf (Code (p.1)) (plus to count) (p.0)
 
 -- a code span, or backticks that are a text
 abbrev pub coded_to : List ℕ → ℕ → ℕ → State → Option ℕ → State
@@ -201,12 +201,12 @@ address_target link_type d = record { link_type = link_type; destination = d; ti
 -- an address between angle brackets
 unfoldable pub addressed : List ℕ → LinkType → ℕ → State → State
 addressed bytes link_type end s =
-    let p = kept (piece bytes (plus s.place 1) (end - 1)) s in
+    let p = kept (bytes_between bytes (plus s.place 1) (end - 1)) s in
     addressed_to (end - 1) end (targeted (address_target link_type (p.1)) (p.0))
 
 -- raw HTML up to an end
 unfoldable pub html_put : List ℕ → ℕ → State → State
-html_put bytes end s = let p = kept (piece bytes s.place end) s in put_leaf (Html (p.1)) end (p.0)
+html_put bytes end s = let p = kept (bytes_between bytes s.place end) s in put_leaf (Html (p.1)) end (p.0)
 
 -- raw HTML, if there is some
 abbrev pub tagged_to : List ℕ → State → Option ℕ → State
@@ -269,8 +269,8 @@ inline_to d t = record { link_type = Inline; destination = d; title = t; id = st
 -- the text of a bracket leads to a destination in parentheses
 unfoldable pub closed_inline : List ℕ → Bracket → InlineTarget → State → State
 closed_inline bytes b found s =
-    let p = kept_resolved (piece bytes found.destination.start found.destination.end) s in
-    let q = kept_resolved (piece bytes found.title.start found.title.end) (p.0) in
+    let p = kept_resolved (bytes_between bytes found.destination.start found.destination.end) s in
+    let q = kept_resolved (bytes_between bytes found.title.start found.title.end) (p.0) in
     linked b (inline_to (p.1) (q.1)) found.end (q.0)
 
 -- a text is a label that was missed
@@ -293,7 +293,7 @@ looked_up_as label b asked s (Some e) = let p = kept label s in linked b (label_
 -- the text of a bracket leads to what a label is defined as
 unfoldable pub looked_up : List ℕ → (List ℕ → Option Entry) → Bracket → Asked → State → State
 looked_up bytes definitions b asked s =
-    let label = piece bytes asked.label.start asked.label.end in
+    let label = bytes_between bytes asked.label.start asked.label.end in
     looked_up_as label b asked s (definitions (key_of label))
 
 -- the label that is to be looked up, if there is one

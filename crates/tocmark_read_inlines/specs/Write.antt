@@ -1,13 +1,13 @@
 -- The second pass over a leaf's text: from what each byte is to nodes.
 use Rattle.std.specs.Prelude.{ℕ, ◌-◌, max, Bool, true, ◌&&◌, nat_lt, nat_le, if◌then◌else◌, List, [], ◌∷◌, ◌++◌, fold, slice_get, Option, Some, None, unwrap_or}
 use Rattle.tocmark_read_scan.specs.Basic.{plus}
-use Rattle.tocmark_read_spans.specs.declared.role.Mark.{Mark}
+use Rattle.tocmark_read_spans.specs.declared.role.MarkedByte.{MarkedByte}
 use Rattle.tocmark_read_spans.specs.declared.role.Role.{Role}
 use Rattle.tocmark_read_spans.specs.declared.role.Role.TheVariants.{Plain, Fresh, Hidden, Open, Close, Single}
 use Rattle.tocmark_read_spans.specs.declared.role.Leaf.{Leaf}
 use Rattle.tocmark_read_spans.specs.declared.role.Span.{Span}
-use Rattle.tocmark_read_inlines.specs.declared.write.Item.{Item}
-use Rattle.tocmark_read_inlines.specs.declared.write.Item.TheVariants as item
+use Rattle.tocmark_read_inlines.specs.declared.write.InlineKind.{InlineKind}
+use Rattle.tocmark_read_inlines.specs.declared.write.InlineKind.TheVariants as item
 use Rattle.tocmark_read_inlines.specs.declared.write.Node.{Node}
 use Rattle.tocmark_read_inlines.specs.declared.write.Writer.{Writer}
 
@@ -24,7 +24,7 @@ abbrev pub writing : Writer → State
 writing w = record { nodes = w.nodes.items; depth = w.depth; text = w.text; place = w.place; resume = w.resume }
 
 -- one more node
-unfoldable pub pushed : Item → ℕ → ℕ → State → State
+unfoldable pub pushed : InlineKind → ℕ → ℕ → State → State
 pushed i start end s = record s { nodes = s.nodes ++ record { depth = s.depth; item = i; start = start; end = end } ∷ [] }
 
 -- no text is open
@@ -102,15 +102,15 @@ passed end s =
     record s { text = if nat_lt from end then begun_at from s.text else s.text; place = end }
 
 -- plain bytes up to a mark, and the byte that has it
-unfoldable pub mark_step : State → Mark → State
+unfoldable pub mark_step : State → MarkedByte → State
 mark_step s m = role_step (passed m.place s) m.role
 
 -- a mark stands from a place on and before another
-unfoldable pub is_between : Mark → ℕ → ℕ → Bool
+unfoldable pub is_between : MarkedByte → ℕ → ℕ → Bool
 is_between m place end = nat_le place m.place && nat_lt m.place end
 
 -- marks stand one behind the other, from a place on and before another
-abbrev pub ascend : ℕ → ℕ → List Mark → Bool
+abbrev pub ascend : ℕ → ℕ → List MarkedByte → Bool
 ascend place end [] = true
 ascend place end (m ∷ ms) = is_between m place end && ascend (plus m.place 1) end ms
 

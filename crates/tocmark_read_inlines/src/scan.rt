@@ -7,7 +7,7 @@ ghost use Rattle.tocmark_read_inlines.specs.Scan.{before_space, scan, ahead_view
 
 use std::alloc::{AllocError, Global};
 use tocmark_event::event::LinkType;
-use tocmark_read_scan::basic::{byte_at, piece, set, starts_at};
+use tocmark_read_scan::basic::{byte_at, bytes_between, set, starts_at};
 use tocmark_read_scan::class::{Class, run_end};
 use tocmark_read_spans::definitions::Definitions;
 use tocmark_read_spans::emphasis::emphasize;
@@ -23,7 +23,7 @@ use tocmark_read_tokens::reference::{is_escape, reference_at, unescaped};
 
 /// What is known of a text before it is read: where no end of raw HTML and no backticks follow.
 #[derive(Drop)]
-pub struct Ahead {
+pub struct KnownAbsent {
     pub ends: LastEnds,
     pub ticks: Vec<usize>,
 }
@@ -243,7 +243,7 @@ impl Scanner {
     ) -> Result<(), AllocError>
         ensures { OnOk result (scan self.new ≡ code_put bytes.now from to count (scan self.old)) }
     {
-        let text = self.keep_code(piece(bytes, from, to))?;
+        let text = self.keep_code(bytes_between(bytes, from, to))?;
         self.put(Leaf::Code(text), to.saturating_add(count))
     }
 
@@ -353,7 +353,7 @@ impl Scanner {
         ensures { OnOk result (scan self.new ≡ addressed bytes.now link_type end (scan self.old)) }
     {
         let last = end.saturating_sub(1);
-        let destination = self.keep(piece(bytes, self.place.saturating_add(1), last))?;
+        let destination = self.keep(bytes_between(bytes, self.place.saturating_add(1), last))?;
         let number = self.keep_target(Target {
             link_type,
             destination,
@@ -372,7 +372,7 @@ impl Scanner {
     fn put_html(&mut self, bytes: &[u8], end: usize) -> Result<(), AllocError>
         ensures { OnOk result (scan self.new ≡ html_put bytes.now end (scan self.old)) }
     {
-        let text = self.keep(piece(bytes, self.place, end))?;
+        let text = self.keep(bytes_between(bytes, self.place, end))?;
         self.put(Leaf::Html(text), end)
     }
 
@@ -488,9 +488,12 @@ impl Scanner {
     {
         let destination = self.keep_resolved(
             alloc,
-            piece(bytes, found.destination.start, found.destination.end),
+            bytes_between(bytes, found.destination.start, found.destination.end),
         )?;
-        let title = self.keep_resolved(alloc, piece(bytes, found.title.start, found.title.end))?;
+        let title = self.keep_resolved(
+            alloc,
+            bytes_between(bytes, found.title.start, found.title.end),
+        )?;
         let target = Target {
             link_type: LinkType::Inline,
             destination,
@@ -524,7 +527,7 @@ impl Scanner {
         ensures { OnOk result (scan self.new
             ≡ looked_up bytes.now (entry_of definitions.now) bracket asked (scan self.old)) }
     {
-        let label = piece(bytes, asked.label.start, asked.label.end);
+        let label = bytes_between(bytes, asked.label.start, asked.label.end);
         let key = key_of(alloc, label)?;
         match definitions.find(key.as_str()) {
             Some(entry) => {
@@ -639,7 +642,7 @@ impl Scanner {
         &mut self,
         alloc: Global,
         bytes: &[u8],
-        ahead: &Ahead,
+        ahead: &KnownAbsent,
         definitions: &Definitions,
         byte: u8,
     ) -> Result<(), AllocError>
@@ -667,7 +670,7 @@ impl Scanner {
         alloc: Global,
         syntax: Syntax,
         bytes: &[u8],
-        ahead: &Ahead,
+        ahead: &KnownAbsent,
         definitions: &Definitions,
         byte: u8,
     ) -> Result<(), AllocError>
@@ -689,7 +692,7 @@ impl Scanner {
         alloc: Global,
         syntax: Syntax,
         bytes: &[u8],
-        ahead: &Ahead,
+        ahead: &KnownAbsent,
         definitions: &Definitions,
         place: usize,
         byte: u8,
@@ -713,7 +716,7 @@ impl Scanner {
         alloc: Global,
         syntax: Syntax,
         bytes: &[u8],
-        ahead: &Ahead,
+        ahead: &KnownAbsent,
         definitions: &Definitions,
     ) -> Result<(), AllocError>
         ensures { OnOk result (scan self.new
@@ -739,7 +742,7 @@ impl Scanner {
         ensures { OnOk result (scan self.new
             ≡ scanned_in syntax bytes.now (entry_of definitions.now) (scan self.old)) }
     {
-        let ahead = Ahead {
+        let ahead = KnownAbsent {
             ends: ends_of(bytes),
             ticks: ticks_of(alloc, bytes)?,
         };

@@ -8,11 +8,11 @@ ghost use Rattle.tocmark_read_inlines.specs.Write.{writing, pushed, flushed, ope
 
 use std::alloc::{AllocError, Global};
 use tocmark_read_scan::content::Content;
-use tocmark_read_spans::role::{Leaf, Mark, Role, Roles, Span};
+use tocmark_read_spans::role::{Leaf, MarkedByte, Role, Roles, Span};
 
 /// What stands at a node.
 #[derive(Clone, Copy)]
-pub enum Item {
+pub enum InlineKind {
     /// The bytes of the node's range.
     Text,
     /// A container; what lies in it are the nodes behind it that are deeper.
@@ -27,7 +27,7 @@ pub struct Node {
     /// Its depth: a node lies in the nearest container before it whose depth is less.
     pub depth: usize,
     /// What it is.
-    pub item: Item,
+    pub item: InlineKind,
     /// The place of its first byte.
     pub start: usize,
     /// The place behind its last byte.
@@ -51,7 +51,7 @@ pub struct Writer {
 
 impl Writer {
     #[tactic(auto, unfolding(crate::specs::Write::pushed))]
-    fn push(&mut self, item: Item, start: usize, end: usize) -> Result<(), AllocError>
+    fn push(&mut self, item: InlineKind, start: usize, end: usize) -> Result<(), AllocError>
         ensures { OnOk result (writing self.new ≡ pushed item start end (writing self.old)) }
     {
         self.nodes.push(Node {
@@ -70,7 +70,7 @@ impl Writer {
     {
         match self.text {
             Some(start) => {
-                self.push(Item::Text, start, self.place)?;
+                self.push(InlineKind::Text, start, self.place)?;
                 self.text = None;
                 Ok(())
             }
@@ -83,7 +83,7 @@ impl Writer {
         ensures { OnOk result (writing self.new ≡ opened span end (writing self.old)) }
     {
         self.flush()?;
-        self.push(Item::Span(span), self.place, end)?;
+        self.push(InlineKind::Span(span), self.place, end)?;
         self.depth = self.depth.saturating_add(1);
         Ok(())
     }
@@ -103,7 +103,7 @@ impl Writer {
         ensures { OnOk result (writing self.new ≡ single leaf end (writing self.old)) }
     {
         self.flush()?;
-        self.push(Item::Leaf(leaf), self.place, end)?;
+        self.push(InlineKind::Leaf(leaf), self.place, end)?;
         self.resume = end;
         Ok(())
     }
@@ -166,7 +166,7 @@ impl Writer {
     /// Passes plain bytes up to a mark, and takes the byte that has it.
     #[tactic(auto, unfolding(crate::specs::Write::mark_step))]
     #[inline(always)]
-    fn step_to(&mut self, mark: Mark) -> Result<(), AllocError>
+    fn step_to(&mut self, mark: MarkedByte) -> Result<(), AllocError>
         ensures { OnOk result (writing self.new ≡ mark_step (writing self.old) mark) }
     {
         self.pass(mark.place);
@@ -174,7 +174,7 @@ impl Writer {
     }
 
     /// Takes the bytes up to a place, where these marks are in order.
-    fn take_marks(&mut self, marks: &[Mark], end: usize) -> Result<(), AllocError>
+    fn take_marks(&mut self, marks: &[MarkedByte], end: usize) -> Result<(), AllocError>
         ensures { OnOk result (writing self.new
             ≡ passed end (fold mark_step (writing self.old) marks.now)) }
     {
@@ -196,7 +196,7 @@ impl Writer {
         if number == 0 {
             return Ok(());
         }
-        self.step_to(Mark {
+        self.step_to(MarkedByte {
             place,
             role: roles.role_at(number),
         })
@@ -229,14 +229,14 @@ impl Writer {
 
 /// Whether a mark stands from a place on and before another.
 #[tactic(auto, unfolding(crate::specs::Write::is_between))]
-fn is_between(mark: Mark, place: usize, end: usize) -> bool
+fn is_between(mark: MarkedByte, place: usize, end: usize) -> bool
     ensures { result ≡ is_between mark place end }
 {
     place <= mark.place && mark.place < end
 }
 
 /// Whether each mark stands behind the one before it, and all of them before a place.
-fn ascend(marks: &[Mark], end: usize) -> bool
+fn ascend(marks: &[MarkedByte], end: usize) -> bool
     ensures { result ≡ ascend 0 end marks.now }
 {
     let mut place = 0usize;

@@ -7,7 +7,7 @@ use Rattle.std.proofs.lemmas.List.Folds.{length-prefix_len}
 use Rattle.std.specs.Char.{is_ascii_digit}
 use Rattle.std.specs.List.{prefix_len, list_any}
 use Rattle.std.specs.Option.{option_map_or}
-use Rattle.tocmark_read_scan.specs.Basic.{plus, piece, byte_at}
+use Rattle.tocmark_read_scan.specs.Basic.{plus, bytes_between, byte_at}
 use Rattle.tocmark_read_scan.proofs.PlainTests.{both_false}
 use Rattle.tocmark_read_lines.specs.Cells.{cell, cells_at, bytes_of, places_of, filled, cells_of, cell_byte, cell_place, run_of, count_of, part, trailing}
 use Rattle.tocmark_read_lines.specs.Marks.{tail_length, digit_count}
@@ -41,7 +41,7 @@ pub plain_cells : (at : ℕ) (bytes : List ℕ) → list_any (λ b. b == 9) byte
 plain_cells at bytes h = cells_more [] at bytes h
 
 -- an empty range has no columns
-pub no_cells : (text : List ℕ) (start end : ℕ) → end ≤ start → cells_of [] start (piece text start end) ≡ []
+pub no_cells : (text : List ℕ) (start end : ℕ) → end ≤ start → cells_of [] start (bytes_between text start end) ≡ []
 no_cells text start end h = by_test (nat_le start end && nat_le end (length text))
   where
     none : end - start ≡ 0
@@ -127,7 +127,7 @@ trailing_asked cells b = while_back (λ x. x == b) cells
 pub tail_asked : (cells : List Cell) (b : ℕ) → tail_length cells b ≡ length (take_while (λ x. (x == 32) || (x == b)) (reverse (bytes_of cells)))
 tail_asked cells b = while_back (λ x. (x == 32) || (x == b)) cells
 
-part_asked : (cells : List Cell) (from to : ℕ) → bytes_of (part cells from to) ≡ piece (bytes_of cells) from to
+part_asked : (cells : List Cell) (from to : ℕ) → bytes_of (part cells from to) ≡ bytes_between (bytes_of cells) from to
 part_asked cells from to =
     by_test (nat_le from to && nat_le to (length cells))
     ∙ ap (λ (n : ℕ). if nat_le from to && nat_le to n then take (to - from) (drop from (bytes_of cells)) else []) (sym (length-map cells (λ (c : Cell). c.byte)))
@@ -136,5 +136,5 @@ part_asked cells from to =
     by_test true = sym (take-map (λ (c : Cell). c.byte) (to - from) (drop from cells)) ∙ ap (take (to - from)) (sym (drop-map (λ (c : Cell). c.byte) from cells))
     by_test false = refl
 
-pub part_trailing : (cells : List Cell) (from to b : ℕ) → trailing (part cells from to) b ≡ length (take_while (λ x. x == b) (reverse (piece (bytes_of cells) from to)))
+pub part_trailing : (cells : List Cell) (from to b : ℕ) → trailing (part cells from to) b ≡ length (take_while (λ x. x == b) (reverse (bytes_between (bytes_of cells) from to)))
 part_trailing cells from to b = trailing_asked (part cells from to) b ∙ ap (λ (xs : List ℕ). length (take_while (λ x. x == b) (reverse xs))) (part_asked cells from to)

@@ -6,7 +6,7 @@ use Rattle.std.proofs.lemmas.Slice.Eq.{bytes_eq-Decides}
 use Rattle.std.specs.Bool.{IsTrue, one_answer}
 use Rattle.std.specs.Char.{to_ascii_lowercase}
 use Rattle.std.specs.Prelude.{Bool, if◌then◌else◌, true}
-use Rattle.tocmark_read_scan.specs.Basic.{plus, piece}
+use Rattle.tocmark_read_scan.specs.Basic.{plus, bytes_between}
 use Rattle.tocmark_read_lines.specs.Html.{same_word, holds_from}
 use Rattle.tocmark_read_lines.specs.Lines.{ends_here}
 
@@ -18,7 +18,7 @@ above_ends text b at h =
     let return : (b == 13) ≡ false = grind (arith, nat_tests) in
     rw (feed, return) refl
 
-pub holds_more : (line word : List ℕ) (place : ℕ) → place < length line → holds_from line word place (drop place line) ≡ (if same_word (piece line place (plus place (length word))) word then true else holds_from line word (place + 1) (drop (place + 1) line))
+pub holds_more : (line word : List ℕ) (place : ℕ) → place < length line → holds_from line word place (drop place line) ≡ (if same_word (bytes_between line place (plus place (length word))) word then true else holds_from line word (place + 1) (drop (place + 1) line))
 holds_more line word place h = ap (holds_from line word place) (drop_more line place 0 h)
 
 pub same_word_by : (r : Bool) (a b : List ℕ) → ((IsTrue r → map to_ascii_lowercase a ≡ map to_ascii_lowercase b) × (map to_ascii_lowercase a ≡ map to_ascii_lowercase b → IsTrue r)) → r ≡ same_word a b

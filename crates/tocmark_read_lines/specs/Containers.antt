@@ -7,8 +7,8 @@ use Rattle.tocmark_read_lines.specs.Cells.{cell_byte, first_cursor, indent_of, i
 use Rattle.tocmark_read_lines.specs.Marks.{is_rule, marker_at}
 use Rattle.tocmark_read_lines.specs.declared.cell.Cell.{Cell}
 use Rattle.tocmark_read_lines.specs.declared.cell.Cursor.{Cursor}
-use Rattle.tocmark_read_lines.specs.declared.mark.Marker.{Marker}
-use Rattle.tocmark_read_lines.specs.declared.mark.Tail.{Tail}
+use Rattle.tocmark_read_lines.specs.declared.beginnings.Marker.{Marker}
+use Rattle.tocmark_read_lines.specs.declared.beginnings.Tail.{Tail}
 use Rattle.tocmark_read_lines.specs.declared.container.Container.{Container}
 use Rattle.tocmark_read_lines.specs.declared.container.Container.TheVariants as container
 use Rattle.tocmark_read_lines.specs.declared.container.Opened.{Opened}

@@ -2,7 +2,7 @@
 use Rattle.std.specs.Prelude.{ℕ, ◌+◌, Bool, true, false, not, ◌==◌, ◌&&◌, ◌||◌, nat_le, if◌then◌else◌, List, [], ◌∷◌, length, map, Option, Some, None, codes, bytes_eq}
 use Rattle.std.specs.List.{list_any}
 use Rattle.std.specs.Char.{is_ascii_alphabetic, to_ascii_lowercase}
-use Rattle.tocmark_read_scan.specs.Basic.{plus, byte_at, piece, starts_at}
+use Rattle.tocmark_read_scan.specs.Basic.{plus, byte_at, bytes_between, starts_at}
 use Rattle.tocmark_read_scan.specs.Class.{run_end}
 use Rattle.tocmark_read_tokens.specs.Html.{closing_tag, open_tag}
 use Rattle.tocmark_read_scan.specs.declared.class.Class.TheVariants.{TagName, Blank}
@@ -32,13 +32,13 @@ ends_name line place =
 unfoldable pub is_raw : List ℕ → Bool
 is_raw line =
     let end = run_end line 1 TagName in
-    is_raw_name (piece line 1 end) && ends_name line end
+    is_raw_name (bytes_between line 1 end) && ends_name line end
 
 -- a tag of the sixth kind whose name stands at a place
 unfoldable pub block_tag : List ℕ → ℕ → Bool
 block_tag line place =
     let end = run_end line place TagName in
-    (ends_name line end || starts_at line end (codes "/>")) && is_block_name (piece line place end)
+    (ends_name line end || starts_at line end (codes "/>")) && is_block_name (bytes_between line place end)
 
 -- the line begins as the sixth kind does
 unfoldable pub is_block_tag : List ℕ → Bool
@@ -48,7 +48,7 @@ is_block_tag line = if byte_at line 1 == 47 then block_tag line 2 else block_tag
 unfoldable pub tag_end : List ℕ → Option ℕ
 tag_end line =
     if byte_at line 1 == 47 then closing_tag line 0
-    else (if is_raw_name (piece line 1 (run_end line 1 TagName)) then None else open_tag line 0)
+    else (if is_raw_name (bytes_between line 1 (run_end line 1 TagName)) then None else open_tag line 0)
 
 -- nothing but spaces and tabs stands behind the tag
 abbrev pub ends_blank : List ℕ → Option ℕ → Bool
@@ -75,7 +75,7 @@ html_kind line =
 abbrev pub holds_from : List ℕ → List ℕ → ℕ → List ℕ → Bool
 holds_from line word place [] = false
 holds_from line word place (b ∷ bs) =
-    if same_word (piece line place (plus place (length word))) word then true else holds_from line word (place + 1) bs
+    if same_word (bytes_between line place (plus place (length word))) word then true else holds_from line word (place + 1) bs
 
 -- a word stands in the line
 abbrev pub holds : List ℕ → List ℕ → Bool

@@ -5,14 +5,14 @@ use Rattle.std.specs.Option.{option_map, option_or}
 use Rattle.std.specs.Char.{is_ascii_digit}
 use Rattle.tocmark_event.specs.declared.event.HeadingLevel.{HeadingLevel}
 use Rattle.tocmark_event.specs.declared.event.HeadingLevel.TheVariants as level
-use Rattle.tocmark_read_scan.specs.Basic.{plus, piece}
+use Rattle.tocmark_read_scan.specs.Basic.{plus, bytes_between}
 use Rattle.tocmark_read_lines.specs.Cells.{bytes_of, cell_byte, run_of, count_of, ink_from, trailing, trimmed, indent_of}
 use Rattle.tocmark_read_lines.specs.declared.cell.Cell.{Cell}
 use Rattle.tocmark_read_lines.specs.declared.cell.Cursor.{Cursor}
-use Rattle.tocmark_read_lines.specs.declared.mark.Heading.{Heading}
-use Rattle.tocmark_read_lines.specs.declared.mark.Fence.{Fence}
-use Rattle.tocmark_read_lines.specs.declared.mark.Tail.{Tail}
-use Rattle.tocmark_read_lines.specs.declared.mark.Marker.{Marker}
+use Rattle.tocmark_read_lines.specs.declared.beginnings.Heading.{Heading}
+use Rattle.tocmark_read_lines.specs.declared.beginnings.Fence.{Fence}
+use Rattle.tocmark_read_lines.specs.declared.beginnings.Tail.{Tail}
+use Rattle.tocmark_read_lines.specs.declared.beginnings.Marker.{Marker}
 
 -- the level of a heading with so many marks
 unfoldable pub level_of : ℕ → Option HeadingLevel
@@ -125,7 +125,7 @@ ordered_at cells column =
     let last = plus column count in
     let sort = cell_byte cells last in
     if nat_le 1 count && nat_le count 9 && ((sort == 46) || (sort == 41)) && is_behind cells (plus last 1)
-    then Some (record { sort = sort; number = Some (number_of (piece (bytes_of cells) column last)); length = plus count 1 })
+    then Some (record { sort = sort; number = Some (number_of (bytes_between (bytes_of cells) column last)); length = plus count 1 })
     else None
 
 -- the marker of an item at a column

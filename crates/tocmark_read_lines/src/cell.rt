@@ -1,14 +1,14 @@
 //! The columns of a line.
 
 ghost use Rattle.std.specs.Prelude.{◌≡◌, ◌==◌, ◌++◌, [], List, OnOk, length, filter, reverse, take_while, replicate, slice_get, unwrap_or};
-ghost use Rattle.tocmark_read_scan.specs.Basic.{piece, plus};
+ghost use Rattle.tocmark_read_scan.specs.Basic.{bytes_between, plus};
 ghost use Rattle.tocmark_read_lines.specs.Cells.{cells_at, bytes_of, places_of, filled, cells_of, cell_byte, cell_place, run_of, ink_from, count_of, trailing, trimmed, moved, indent_of, is_blank_at, first_cursor};
 ghost use Rattle.tocmark_read_lines.specs.declared.cell.Cell.{Cell};
 
 use crate::line::Line;
 use std::alloc::{AllocError, Global};
 use std::marker::Model;
-use tocmark_read_scan::basic::{byte_at, piece, rest};
+use tocmark_read_scan::basic::{byte_at, bytes_between, rest};
 
 /// A column of a line: its byte and the place of that. A tab is one to four columns of spaces, up to
 /// the next column that is a multiple of four.
@@ -145,13 +145,13 @@ impl Cells {
     #[tactic(auto, using(crate::proofs::Columns::no_cells))]
     pub fn read(&mut self, text: &[u8], line: Line) -> Result<(), AllocError>
         ensures { OnOk result (self.new
-            ≡ cells_of [] line.start (piece text.now line.start line.end)) }
+            ≡ cells_of [] line.start (bytes_between text.now line.start line.end)) }
     {
         if line.end <= line.start {
             self.clear();
             Ok(())
         } else {
-            self.read_inked(piece(text, line.start, line.end), line.start)
+            self.read_inked(bytes_between(text, line.start, line.end), line.start)
         }
     }
 
@@ -270,7 +270,7 @@ pub fn trailing(cells: &Cells, byte: u8) -> usize
 pub fn trimmed(cells: &Cells, from: usize, to: usize, byte: u8) -> usize
     ensures { result ≡ trimmed cells.now from to byte }
 {
-    to.saturating_sub(trailing_in(piece(cells.bytes(), from, to), byte))
+    to.saturating_sub(trailing_in(bytes_between(cells.bytes(), from, to), byte))
 }
 
 /// The start of a line.

@@ -3,10 +3,10 @@
 ghost use Rattle.std.specs.Prelude.{◌≡◌};
 ghost use Rattle.tocmark_read_lines.specs.Containers.{raised, raised_at, after_quote, item_goes_on, going_on, is_empty_item, blank_depth, quote_from, stopped, passed, matched_from, matched, touched_from, item_gap, may_interrupt, item_at, container_at};
 
+use crate::beginnings::{Marker, Tail, is_rule, marker_at};
 use crate::cell::{
     Cells, Cursor, cell_byte, first_cursor, indent_of, ink_from, is_blank_at, moved,
 };
-use crate::mark::{Marker, Tail, is_rule, marker_at};
 use tocmark_read_scan::basic::set;
 
 /// What other blocks stand in.

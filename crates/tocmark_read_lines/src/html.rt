@@ -4,7 +4,7 @@ ghost use Rattle.std.specs.Prelude.{◌≡◌};
 ghost use Rattle.std.specs.List.{list_any};
 ghost use Rattle.tocmark_read_lines.specs.Html.{same_word, is_raw_name, is_block_name, ends_name, is_raw, block_tag, is_block_tag, tag_end, is_tag_line, html_kind, holds_from, holds_raw_end, html_ends};
 
-use tocmark_read_scan::basic::{byte_at, piece, starts_at};
+use tocmark_read_scan::basic::{byte_at, bytes_between, starts_at};
 use tocmark_read_scan::class::{Class, run_end};
 use tocmark_read_tokens::html::{closing_tag, open_tag};
 
@@ -137,7 +137,7 @@ fn is_raw(line: &[u8]) -> bool
     ensures { result ≡ is_raw line.now }
 {
     let end = run_end(line, 1, Class::TagName);
-    is_raw_name(piece(line, 1, end)) && ends_name(line, end)
+    is_raw_name(bytes_between(line, 1, end)) && ends_name(line, end)
 }
 
 /// Whether a line begins with a tag of a block whose name stands at a place.
@@ -147,7 +147,7 @@ fn block_tag(line: &[u8], place: usize) -> bool
 {
     let end = run_end(line, place, Class::TagName);
     let closed = ends_name(line, end) || starts_at(line, end, b"/>");
-    closed && is_block_name(piece(line, place, end))
+    closed && is_block_name(bytes_between(line, place, end))
 }
 
 #[tactic(auto, unfolding(crate::specs::Html::is_block_tag))]
@@ -169,7 +169,7 @@ fn tag_end(line: &[u8]) -> Option<usize>
     if byte_at(line, 1) == b'/' {
         return closing_tag(line, 0);
     }
-    if is_raw_name(piece(line, 1, run_end(line, 1, Class::TagName))) {
+    if is_raw_name(bytes_between(line, 1, run_end(line, 1, Class::TagName))) {
         None
     } else {
         open_tag(line, 0)
@@ -219,7 +219,10 @@ fn holds(line: &[u8], word: &[u8]) -> bool
     ensures { result ≡ holds_from line.now word.now 0 line.now }
 {
     for (place, _byte) in line.iter().enumerate() {
-        if same_word(piece(line, place, place.saturating_add(word.len())), word) {
+        if same_word(
+            bytes_between(line, place, place.saturating_add(word.len())),
+            word,
+        ) {
             return true;
         }
     }

@@ -2,14 +2,14 @@
 //! headings, code, rules, HTML and lists, and the containers that go on in it or begin.
 //!
 //! Below it stand `tocmark_read_scan` and `tocmark_read_tokens`, above it `tocmark_read_blocks`. Enter at `line` for
-//! the lines of a text, at `cell` for their columns, at `mark` for what a line begins with, and at `container` for
+//! the lines of a text, at `cell` for their columns, at `beginnings` for what a line begins with, and at `container` for
 //! the containers that go on in it.
 #![tactic(auto)]
 
+pub mod beginnings;
 pub mod cell;
 pub mod container;
 pub mod html;
 pub mod line;
-pub mod mark;
 pub mod metadata;
 pub mod task;

@@ -2,11 +2,11 @@
 use Rattle.std.proofs.Common.{◌≡◌, ℕ, suc, ◌+◌, ◌-◌, ◌^◌, ◌<◌, true, false, ◌==◌, nat_le, List, [], ◌∷◌, ◌++◌, length, drop, refl, ap, sym, ◌∙◌, arith, append_assoc, append-nil, length-append}
 use Rattle.std.proofs.lemmas.Bool.Decides.{nat_tests}
 use Rattle.std.specs.List.{AllByRecursion, fold}
-use Rattle.tocmark_read_scan.specs.Basic.{piece}
+use Rattle.tocmark_read_scan.specs.Basic.{bytes_between}
 use Rattle.tocmark_read_scan.specs.Class.{is_in}
 use Rattle.tocmark_read_scan.specs.Content.{State, put, put_bytes, put_line, trimmed, content_of}
 use Rattle.tocmark_read_scan.specs.declared.class.Class.TheVariants.{White}
-use Rattle.tocmark_read_scan.specs.declared.content.Line.{Line}
+use Rattle.tocmark_read_scan.specs.declared.content.ContentLine.{ContentLine}
 use Rattle.tocmark_read_scan.proofs.PlainContent.{places_of, put_bytes_plain, take_front, trimmed_feed, length_places}
 
 -- a line and further lines, with a line feed between two
@@ -19,7 +19,7 @@ drop_behind [] ys = refl
 drop_behind (x ∷ xs) ys = drop_behind xs ys
 
 -- the piece of a text that stands between two others
-pub piece_between : (text pre l rest : List ℕ) (start end : ℕ) → text ≡ pre ++ (l ++ rest) → start ≡ length pre → end ≡ length pre + length l → piece text start end ≡ l
+pub piece_between : (text pre l rest : List ℕ) (start end : ℕ) → text ≡ pre ++ (l ++ rest) → start ≡ length pre → end ≡ length pre + length l → bytes_between text start end ≡ l
 piece_between text pre l rest start end e s t =
     let all : length text ≡ length pre + (length l + length rest) = ap length e ∙ length-append pre (l ++ rest) ∙ ap (λ n. length pre + n) (length-append l rest) in
     let order : nat_le start end ≡ true = grind (arith, nat_tests) in
@@ -29,7 +29,7 @@ piece_between text pre l rest start end e s t =
     rw (order, fits, width, behind) (take_front l rest)
 
 -- where each line stands, and where the next begins
-abbrev pub line_places : ℕ → List ℕ → List (List ℕ) → List Line
+abbrev pub line_places : ℕ → List ℕ → List (List ℕ) → List ContentLine
 line_places start l [] = record { start = start; end = start + length l; next = start + length l } ∷ []
 line_places start l (m ∷ ms) = record { start = start; end = start + length l; next = start + length l + 1 } ∷ line_places (start + length l + 1) m ms
 
@@ -44,7 +44,7 @@ places_append start (x ∷ xs) ys =
     ap (λ ps. (start, start + 1) ∷ ps) (places_append (start + 1) xs ys ∙ ap (λ n. places_of (start + 1) xs ++ places_of n ys) same)
 
 -- a line that stands there is put as it is, and a line feed behind it
-line_put : (text l : List ℕ) (start next : ℕ) (s : State) → piece text start (start + length l) ≡ l → AreNoZeros l → start + length l < 2 ^ 64 → put_line text s (record { start = start; end = start + length l; next = next }) ≡ record { bytes = s.bytes ++ (l ++ 10 ∷ []); places = s.places ++ (places_of start l ++ (start + length l, next) ∷ []) }
+line_put : (text l : List ℕ) (start next : ℕ) (s : State) → bytes_between text start (start + length l) ≡ l → AreNoZeros l → start + length l < 2 ^ 64 → put_line text s (record { start = start; end = start + length l; next = next }) ≡ record { bytes = s.bytes ++ (l ++ 10 ∷ []); places = s.places ++ (places_of start l ++ (start + length l, next) ∷ []) }
 unfolding put_line put
 line_put text l start next s e h fits =
     ap (λ (xs : List ℕ). put 10 (start + length l) next (put_bytes start s xs)) e

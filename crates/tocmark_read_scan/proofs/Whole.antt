@@ -7,12 +7,12 @@ use Rattle.std.proofs.lemmas.Option.{none-some}
 use Rattle.std.specs.List.{fold, list_any}
 use Rattle.std.proofs.lemmas.List.{take-append-le, drop-drop, length-drop, length-take}
 use Rattle.std.proofs.lemmas.List.Folds.{list_any-append}
-use Rattle.tocmark_read_scan.specs.Basic.{plus, byte_at, piece}
+use Rattle.tocmark_read_scan.specs.Basic.{plus, byte_at, bytes_between}
 use Rattle.tocmark_read_scan.specs.Class.{is_in}
 use Rattle.tocmark_read_scan.specs.Content.{State, ranges_of, put, put_byte, put_bytes, put_line, before_white, inked, is_behind, end_within, end_behind, trimmed, content_of}
 use Rattle.tocmark_read_scan.specs.Repeat.{iterated, going_on}
 use Rattle.tocmark_read_scan.specs.declared.class.Class.TheVariants.{White}
-use Rattle.tocmark_read_scan.specs.declared.content.Line.{Line}
+use Rattle.tocmark_read_scan.specs.declared.content.ContentLine.{ContentLine}
 use Rattle.tocmark_read_scan.proofs.PlainContent.{byte_behind, white_before, white_feed}
 use Rattle.tocmark_read_scan.proofs.Repeats.{iterated_more}
 
@@ -73,7 +73,7 @@ bytes_put start s (x ∷ xs) h =
     ∙ rw (append_assoc s.bytes (x ∷ []) xs, append_assoc s.places ((start, plus start 1) ∷ []) (ranges_of (plus start 1) xs)) refl
 
 -- what is known of a line with another behind it
-record IsFed (source : List ℕ) (line next : Line) : Type 0 where
+record IsFed (source : List ℕ) (line next : ContentLine) : Type 0 where
   feed : byte_at source line.end ≡ 10
   forth : line.start ≤ line.end
   after : line.next ≡ line.end + 1
@@ -89,7 +89,7 @@ below_from a b h = grind (arith, nat_tests)
 most_from : (a b : ℕ) → nat_le a b ≡ true → a ≤ b
 most_from a b h = grind (arith, nat_tests)
 
-fed : (source : List ℕ) (line next : Line) → is_behind source line next ≡ true → IsFed source line next
+fed : (source : List ℕ) (line next : ContentLine) → is_behind source line next ≡ true → IsFed source line next
 unfolding is_behind
 fed source line next h =
     let above : Bool = nat_lt line.end line.next in
@@ -116,7 +116,7 @@ record IsRange (source : List ℕ) (start end : ℕ) : Type 0 where
   forth : start ≤ end
   within : end ≤ length source
 
-range_of : (source : List ℕ) (line : Line) (others : List Line) (end : ℕ) → end_behind source line others ≡ Some end → IsRange source line.start end
+range_of : (source : List ℕ) (line : ContentLine) (others : List ContentLine) (end : ℕ) → end_behind source line others ≡ Some end → IsRange source line.start end
 unfolding end_within
 range_of source line [] end h = by_test (nat_le line.start line.end && nat_le line.end (length source)) refl h
   where
@@ -154,13 +154,13 @@ cut (x ∷ xs) zero k h = simp unary_clauses refl
 cut (x ∷ xs) (suc n) k h = simp unary_clauses (ap (λ l. x ∷ l) (cut xs n k (omega arith)))
 
 -- a piece is a slice
-piece_slice : (source : List ℕ) (start end : ℕ) → start ≤ end → end ≤ length source → piece source start end ≡ take (end - start) (drop start source)
+piece_slice : (source : List ℕ) (start end : ℕ) → start ≤ end → end ≤ length source → bytes_between source start end ≡ take (end - start) (drop start source)
 piece_slice source start end h k =
     let forth : nat_le start end ≡ true = grind (arith, nat_tests) in
     let within : nat_le end (length source) ≡ true = grind (arith, nat_tests) in
     rw (forth, within) refl
 
-piece_cut : (source : List ℕ) (start at end : ℕ) → start ≤ at → at < end → end ≤ length source → piece source start end ≡ piece source start at ++ byte_at source at ∷ piece source (at + 1) end
+piece_cut : (source : List ℕ) (start at end : ℕ) → start ≤ at → at < end → end ≤ length source → bytes_between source start end ≡ bytes_between source start at ++ byte_at source at ∷ bytes_between source (at + 1) end
 piece_cut source start at end h k w =
     let n : ℕ = at - start in
     let m : ℕ = end - (at + 1) in
@@ -174,9 +174,9 @@ piece_cut source start at end h k w =
     ∙ ap (λ (o : Option ℕ). take n (drop start source) ++ unwrap_or o 10 ∷ take m (drop (suc n) (drop start source))) (got_behind source start n ∙ ap (slice_get source) there)
     ∙ ap (λ (l : List ℕ). take n (drop start source) ++ byte_at source at ∷ take m l) (drop-drop (suc n) start source ∙ ap (λ i. drop i source) behind)
     ∙ ap (λ (l : List ℕ). l ++ byte_at source at ∷ take m (drop (at + 1) source)) (sym (piece_slice source start at h (omega arith)))
-    ∙ ap (λ (l : List ℕ). piece source start at ++ byte_at source at ∷ l) (sym (piece_slice source (at + 1) end (omega arith) w))
+    ∙ ap (λ (l : List ℕ). bytes_between source start at ++ byte_at source at ∷ l) (sym (piece_slice source (at + 1) end (omega arith) w))
 
-length_piece : (source : List ℕ) (start end : ℕ) → start ≤ end → end ≤ length source → length (piece source start end) ≡ end - start
+length_piece : (source : List ℕ) (start end : ℕ) → start ≤ end → end ≤ length source → length (bytes_between source start end) ≡ end - start
 length_piece source start end h w = ap length (piece_slice source start end h w) ∙ (let q : length (take (end - start) (drop start source)) ≡ end - start = grind (arith, length-take, length-drop) in q)
 
 -- bytes, a line feed behind them, and the range that it stands for
@@ -184,14 +184,14 @@ abbrev with_feed : State → ℕ → List ℕ → ℕ × ℕ → State
 with_feed s start xs range = record { bytes = s.bytes ++ (xs ++ 10 ∷ []); places = s.places ++ (ranges_of start xs ++ range ∷ []) }
 
 -- the range that the last line feed stands for
-abbrev last_feed : Line → List Line → ℕ × ℕ
+abbrev last_feed : ContentLine → List ContentLine → ℕ × ℕ
 last_feed line [] = (line.end, line.next)
 last_feed line (next ∷ others) = last_feed next others
 
-line_put : (source : List ℕ) (line : Line) (s : State) → HasNoZero (piece source line.start line.end) → put_line source s line ≡ with_feed s line.start (piece source line.start line.end) (line.end, line.next)
+line_put : (source : List ℕ) (line : ContentLine) (s : State) → HasNoZero (bytes_between source line.start line.end) → put_line source s line ≡ with_feed s line.start (bytes_between source line.start line.end) (line.end, line.next)
 unfolding put_line put
 line_put source line s h =
-    let xs : List ℕ = piece source line.start line.end in
+    let xs : List ℕ = bytes_between source line.start line.end in
     ap (λ (t : State). put 10 line.end line.next t) (bytes_put line.start s xs h)
     ∙ rw (append_assoc s.bytes xs (10 ∷ []), append_assoc s.places (ranges_of line.start xs) ((line.end, line.next) ∷ [])) refl
 
@@ -216,19 +216,19 @@ with_two s start end next xs ys range e n fits =
     ) refl
 
 -- lines one just behind the other are put as the piece that they are
-lines_put : (source : List ℕ) (line : Line) (others : List Line) (end : ℕ) (s : State) → end_behind source line others ≡ Some end → HasNoZero (piece source line.start end) → fold (put_line source) s (line ∷ others) ≡ with_feed s line.start (piece source line.start end) (last_feed line others)
+lines_put : (source : List ℕ) (line : ContentLine) (others : List ContentLine) (end : ℕ) (s : State) → end_behind source line others ≡ Some end → HasNoZero (bytes_between source line.start end) → fold (put_line source) s (line ∷ others) ≡ with_feed s line.start (bytes_between source line.start end) (last_feed line others)
 unfolding end_within
 lines_put source line [] end s h z = by_test (nat_le line.start line.end && nat_le line.end (length source)) refl h
   where
-    by_test : (t : Bool) → (nat_le line.start line.end && nat_le line.end (length source)) ≡ t → (if t then Some line.end else None) ≡ Some end → put_line source s line ≡ with_feed s line.start (piece source line.start end) (line.end, line.next)
+    by_test : (t : Bool) → (nat_le line.start line.end && nat_le line.end (length source)) ≡ t → (if t then Some line.end else None) ≡ Some end → put_line source s line ≡ with_feed s line.start (bytes_between source line.start end) (line.end, line.next)
     by_test false e k = absurd (none-some _ k)
     by_test true e k =
         let same : line.end ≡ end = ap (λ o. unwrap_or o 0) k in
-        line_put source line s (ap (λ i. list_any (λ b. b == 0) (piece source line.start i)) same ∙ z)
-        ∙ ap (λ i. with_feed s line.start (piece source line.start i) (line.end, line.next)) same
+        line_put source line s (ap (λ i. list_any (λ b. b == 0) (bytes_between source line.start i)) same ∙ z)
+        ∙ ap (λ i. with_feed s line.start (bytes_between source line.start i) (line.end, line.next)) same
 lines_put source line (next ∷ others) end s h z = by_test (is_behind source line next) refl h (λ u k y. lines_put source next others end u k y)
   where
-    by_test : (t : Bool) → is_behind source line next ≡ t → (if t then end_behind source next others else None) ≡ Some end → ((u : State) → end_behind source next others ≡ Some end → HasNoZero (piece source next.start end) → fold (put_line source) u (next ∷ others) ≡ with_feed u next.start (piece source next.start end) (last_feed next others)) → fold (put_line source) (put_line source s line) (next ∷ others) ≡ with_feed s line.start (piece source line.start end) (last_feed next others)
+    by_test : (t : Bool) → is_behind source line next ≡ t → (if t then end_behind source next others else None) ≡ Some end → ((u : State) → end_behind source next others ≡ Some end → HasNoZero (bytes_between source next.start end) → fold (put_line source) u (next ∷ others) ≡ with_feed u next.start (bytes_between source next.start end) (last_feed next others)) → fold (put_line source) (put_line source s line) (next ∷ others) ≡ with_feed s line.start (bytes_between source line.start end) (last_feed next others)
     by_test false e k more = absurd (none-some _ k)
     by_test true e k more =
         let f = fed source line next e in
@@ -239,13 +239,13 @@ lines_put source line (next ∷ others) end s h z = by_test (is_behind source li
         let joins : next.start ≡ line.next = f.joins in
         let later : next.start ≤ end = r.forth in
         let within : end ≤ length source = r.within in
-        let xs : List ℕ = piece source line.start line.end in
-        let ys : List ℕ = piece source next.start end in
+        let xs : List ℕ = bytes_between source line.start line.end in
+        let ys : List ℕ = bytes_between source next.start end in
         let begins : line.end + 1 ≡ next.start = omega arith in
-        let all : piece source line.start end ≡ xs ++ 10 ∷ ys =
+        let all : bytes_between source line.start end ≡ xs ++ 10 ∷ ys =
         piece_cut source line.start line.end end forth (omega arith) within
-        ∙ ap (λ b. xs ++ b ∷ piece source (line.end + 1) end) f.feed
-        ∙ ap (λ i. xs ++ 10 ∷ piece source i end) begins
+        ∙ ap (λ b. xs ++ b ∷ bytes_between source (line.end + 1) end) f.feed
+        ∙ ap (λ i. xs ++ 10 ∷ bytes_between source i end) begins
         in
         let zeros = or_none (list_any (λ b. b == 0) xs) (list_any (λ b. b == 0) ys) (sym (list_any-append (λ b. b == 0) xs (10 ∷ ys)) ∙ ap (list_any (λ b. b == 0)) (sym all) ∙ z) in
         let wide : line.start + length xs ≡ line.end = let n : length xs ≡ line.end - line.start = length_piece source line.start line.end forth (omega arith) in omega arith in
@@ -318,20 +318,20 @@ trimmed_whole text start range =
     ∙ ap (λ (l : List ℕ). (let s : State = record { bytes = l; places = ranges_of start l } in s)) (sym front)
 
 -- the content of lines that stand in the source one just behind the other
-pub whole_content : (source : List ℕ) (line : Line) (others : List Line) (end : ℕ) → end_behind source line others ≡ Some end → HasNoZero (piece source line.start end) → content_of source (line ∷ others) ≡ record { bytes = inked (piece source line.start end); places = ranges_of line.start (inked (piece source line.start end)) }
+pub whole_content : (source : List ℕ) (line : ContentLine) (others : List ContentLine) (end : ℕ) → end_behind source line others ≡ Some end → HasNoZero (bytes_between source line.start end) → content_of source (line ∷ others) ≡ record { bytes = inked (bytes_between source line.start end); places = ranges_of line.start (inked (bytes_between source line.start end)) }
 unfolding content_of
 whole_content source line others end h z =
-    let text : List ℕ = piece source line.start end in
+    let text : List ℕ = bytes_between source line.start end in
     ap trimmed (lines_put source line others end (record { bytes = []; places = [] }) h z)
     ∙ trimmed_whole text line.start (last_feed line others)
 
 -- the same of a list of lines whose first is known
-pub whole_text : (source : List ℕ) (lines : List Line) (first : Line) (others : List Line) (end : ℕ) (text ink : List ℕ) → slice_get lines 0 ≡ Some first → others ≡ drop 1 lines → end_behind source first others ≡ Some end → text ≡ piece source first.start end → HasNoZero text → ink ≡ inked text → record { bytes = ink; places = ranges_of first.start ink } ≡ content_of source lines
+pub whole_text : (source : List ℕ) (lines : List ContentLine) (first : ContentLine) (others : List ContentLine) (end : ℕ) (text ink : List ℕ) → slice_get lines 0 ≡ Some first → others ≡ drop 1 lines → end_behind source first others ≡ Some end → text ≡ bytes_between source first.start end → HasNoZero text → ink ≡ inked text → record { bytes = ink; places = ranges_of first.start ink } ≡ content_of source lines
 whole_text source [] first others end text ink f o h e z i = absurd (none-some _ f)
 whole_text source (line ∷ lines) first others end text ink f o h e z i =
-    let same : line ≡ first = ap (λ (x : Option Line). unwrap_or x line) f in
-    let there : end_behind source first lines ≡ Some end = ap (λ (ls : List Line). end_behind source first ls) (sym o) ∙ h in
-    let clean : HasNoZero (piece source first.start end) = ap (list_any (λ b. b == 0)) (sym e) ∙ z in
+    let same : line ≡ first = ap (λ (x : Option ContentLine). unwrap_or x line) f in
+    let there : end_behind source first lines ≡ Some end = ap (λ (ls : List ContentLine). end_behind source first ls) (sym o) ∙ h in
+    let clean : HasNoZero (bytes_between source first.start end) = ap (list_any (λ b. b == 0)) (sym e) ∙ z in
     ap (λ (l : List ℕ). (let s : State = record { bytes = l; places = ranges_of first.start l } in s)) (i ∙ ap inked e)
     ∙ sym (whole_content source first lines end there clean)
-    ∙ ap (λ (l : Line). content_of source (l ∷ lines)) (sym same)
+    ∙ ap (λ (l : ContentLine). content_of source (l ∷ lines)) (sym same)

@@ -11,8 +11,8 @@ abbrev pub byte_at : List ℕ → ℕ → ℕ
 byte_at bytes place = unwrap_or (slice_get bytes place) 10
 
 -- the bytes from one place to before another
-abbrev pub piece : List ℕ → ℕ → ℕ → List ℕ
-piece bytes start end = if nat_le start end && nat_le end (length bytes) then slice_range bytes start end else []
+abbrev pub bytes_between : List ℕ → ℕ → ℕ → List ℕ
+bytes_between bytes start end = if nat_le start end && nat_le end (length bytes) then slice_range bytes start end else []
 
 -- whether a word stands at a place
 unfoldable pub starts_at : List ℕ → ℕ → List ℕ → Bool

@@ -1,13 +1,13 @@
 -- The text of a paragraph or a heading, with the places in the source that it stands for.
 use Rattle.std.specs.Prelude.{ℕ, ◌-◌, Bool, ◌==◌, ◌&&◌, nat_lt, nat_le, if◌then◌else◌, List, [], ◌∷◌, ◌++◌, length, take, fold, Option, Some, None}
-use Rattle.tocmark_read_scan.specs.Basic.{plus, byte_at, piece}
+use Rattle.tocmark_read_scan.specs.Basic.{plus, byte_at, bytes_between}
 use Rattle.tocmark_read_scan.specs.Repeat.{iterated}
 use Rattle.tocmark_read_scan.specs.Class.{is_in}
 use Rattle.tocmark_read_scan.specs.declared.class.Class.TheVariants.{White}
 use Rattle.tocmark_read_scan.specs.declared.content.Content.{Content}
 use Rattle.tocmark_read_scan.specs.declared.content.Content.TheVariants as kind
 use Rattle.tocmark_read_scan.specs.declared.content.Pasted.{Pasted}
-use Rattle.tocmark_read_scan.specs.declared.content.Line.{Line}
+use Rattle.tocmark_read_scan.specs.declared.content.ContentLine.{ContentLine}
 
 -- the bytes, and for each the range of the source that it stands for
 pub record State : Type 0 where
@@ -44,15 +44,15 @@ put_bytes start s [] = s
 put_bytes start s (b ∷ bs) = put_bytes (plus start 1) (put_byte b start s) bs
 
 -- a line, with a line feed for its line ending
-unfoldable pub put_line : List ℕ → State → Line → State
-put_line source s line = put 10 line.end line.next (put_bytes line.start s (piece source line.start line.end))
+unfoldable pub put_line : List ℕ → State → ContentLine → State
+put_line source s line = put 10 line.end line.next (put_bytes line.start s (bytes_between source line.start line.end))
 
 -- the bytes of lines and a line feed for each
-abbrev pub room_of : List Line → ℕ
-room_of lines = fold (λ room (l : Line). plus room (plus (l.end - l.start) 1)) 0 lines
+abbrev pub room_of : List ContentLine → ℕ
+room_of lines = fold (λ room (l : ContentLine). plus room (plus (l.end - l.start) 1)) 0 lines
 
 -- the lines one after the other
-abbrev pub joined : List ℕ → List Line → State
+abbrev pub joined : List ℕ → List ContentLine → State
 joined source lines = fold (put_line source) (record { bytes = []; places = [] }) lines
 
 -- the place before, if white space stands there
@@ -61,20 +61,20 @@ before_white bytes place = if nat_lt 0 place && is_in White (byte_at bytes (plac
 
 -- the bytes without the white space at their end
 abbrev pub inked : List ℕ → List ℕ
-inked bytes = piece bytes 0 (iterated (before_white bytes) (length bytes) (length bytes))
+inked bytes = bytes_between bytes 0 (iterated (before_white bytes) (length bytes) (length bytes))
 
 -- a line begins just behind another, which ends with one line feed
-unfoldable pub is_behind : List ℕ → Line → Line → Bool
+unfoldable pub is_behind : List ℕ → ContentLine → ContentLine → Bool
 is_behind source line next =
     (nat_lt line.end line.next && (line.next == plus line.end 1))
     && (byte_at source line.end == 10) && nat_le line.start line.end && (next.start == line.next)
 
 -- where a line ends that is a range of the source
-unfoldable pub end_within : List ℕ → Line → Option ℕ
+unfoldable pub end_within : List ℕ → ContentLine → Option ℕ
 end_within source line = if nat_le line.start line.end && nat_le line.end (length source) then Some line.end else None
 
 -- where lines end that begin one just behind the other
-abbrev pub end_behind : List ℕ → Line → List Line → Option ℕ
+abbrev pub end_behind : List ℕ → ContentLine → List ContentLine → Option ℕ
 end_behind source line [] = end_within source line
 end_behind source line (next ∷ others) = if is_behind source line next then end_behind source next others else None
 
@@ -85,5 +85,5 @@ trimmed s =
     record { bytes = take end s.bytes; places = take end s.places }
 
 -- the lines joined by line feeds, without white space at the end
-unfoldable pub content_of : List ℕ → List Line → State
+unfoldable pub content_of : List ℕ → List ContentLine → State
 content_of source lines = trimmed (joined source lines)

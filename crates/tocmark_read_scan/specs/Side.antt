@@ -26,16 +26,16 @@ side_of c =
     else (if in_group group.Punctuation category || in_group group.Symbol category then Punctuation else Other)
 
 -- the last six bits of the byte at a place
-unfoldable pub tail : List ℕ → ℕ → ℕ
-tail bytes place = byte_at bytes place % 64
+unfoldable pub continuation_bits : List ℕ → ℕ → ℕ
+continuation_bits bytes place = byte_at bytes place % 64
 
 -- the code point of the UTF-8 character that begins at a place
 unfoldable pub code_at : List ℕ → ℕ → ℕ
 code_at bytes place =
     let first = byte_at bytes place in
-    let second = tail bytes (plus place 1) in
-    let third = tail bytes (plus place 2) in
-    let fourth = tail bytes (plus place 3) in
+    let second = continuation_bits bytes (plus place 1) in
+    let third = continuation_bits bytes (plus place 2) in
+    let fourth = continuation_bits bytes (plus place 3) in
     if nat_lt first 128 then first
     else (if nat_lt first 224 then first % 32 * 64 + second
     else (if nat_lt first 240 then first % 16 * 4096 + second * 64 + third

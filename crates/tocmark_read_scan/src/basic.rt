@@ -1,7 +1,7 @@
 //! Arithmetic and look-ups that answer at every argument.
 
 ghost use Rattle.std.specs.Prelude.{◌≡◌, ◌-◌, drop, slice_set};
-ghost use Rattle.tocmark_read_scan.specs.Basic.{byte_at, piece, starts_at, character_of};
+ghost use Rattle.tocmark_read_scan.specs.Basic.{byte_at, bytes_between, starts_at, character_of};
 
 /// The byte at a place; a line feed past the end.
 pub fn byte_at(bytes: &[u8], place: usize) -> u8
@@ -22,8 +22,8 @@ pub fn rest(bytes: &[u8], place: usize) -> &[u8]
 }
 
 /// The bytes from one place to before another; none where the places are no range of the text.
-pub fn piece(bytes: &[u8], start: usize, end: usize) -> &[u8]
-    ensures { result.now ≡ piece bytes.now start end }
+pub fn bytes_between(bytes: &[u8], start: usize, end: usize) -> &[u8]
+    ensures { result.now ≡ bytes_between bytes.now start end }
 {
     if start <= end && end <= bytes.len() {
         &bytes[start..end]

@@ -4,14 +4,14 @@ ghost use Rattle.std.specs.Prelude.{◌≡◌, OnOk, IfOk, IfSome, drop, length,
 ghost use Rattle.tocmark_read_scan.specs.Repeat.{iterated};
 ghost use Rattle.tocmark_read_scan.specs.Content.{pasted_view, content_view, ranges_of, put, put_byte, put_bytes, put_line, before_white, inked, room_of, joined, is_behind, end_within, end_behind, content_of};
 
-use crate::basic::{byte_at, piece};
+use crate::basic::{byte_at, bytes_between};
 use crate::class::{Class, is_in};
 use std::alloc::{AllocError, Global};
 
 /// A line of a paragraph or a heading: where its text begins and ends in the source, and the place
 /// behind its line ending.
 #[derive(Clone, Copy)]
-pub struct Line {
+pub struct ContentLine {
     pub start: usize,
     pub end: usize,
     pub next: usize,
@@ -96,11 +96,11 @@ impl Pasted {
 
     /// Writes the bytes of a line and a line feed.
     #[tactic(auto, unfolding(crate::specs::Content::put_line))]
-    fn put_line(&mut self, source: &[u8], line: Line) -> Result<(), AllocError>
+    fn put_line(&mut self, source: &[u8], line: ContentLine) -> Result<(), AllocError>
         ensures { OnOk result (pasted_view self.new
             ≡ put_line source.now (pasted_view self.old) line) }
     {
-        self.put_bytes(piece(source, line.start, line.end), line.start)?;
+        self.put_bytes(bytes_between(source, line.start, line.end), line.start)?;
         self.put(b'\n', line.end, line.next)
     }
 
@@ -147,7 +147,7 @@ fn ink_end(bytes: &[u8]) -> usize
 }
 
 /// The number of bytes that lines have with a line feed each.
-fn room_of(lines: &[Line]) -> usize
+fn room_of(lines: &[ContentLine]) -> usize
     ensures { result ≡ room_of lines.now }
 {
     let mut room = 0usize;
@@ -158,7 +158,7 @@ fn room_of(lines: &[Line]) -> usize
 }
 
 /// The lines written one after the other.
-fn joined(alloc: Global, source: &[u8], lines: &[Line]) -> Result<Pasted, AllocError>
+fn joined(alloc: Global, source: &[u8], lines: &[ContentLine]) -> Result<Pasted, AllocError>
     ensures { IfOk result (λ j. pasted_view j ≡ joined source.now lines.now) }
 {
     let room = room_of(lines);
@@ -174,7 +174,7 @@ fn joined(alloc: Global, source: &[u8], lines: &[Line]) -> Result<Pasted, AllocE
 
 /// The lines written one after the other, without white space at the end.
 #[tactic(auto, unfolding(crate::specs::Content::content_of))]
-fn trimmed(alloc: Global, source: &[u8], lines: &[Line]) -> Result<Pasted, AllocError>
+fn trimmed(alloc: Global, source: &[u8], lines: &[ContentLine]) -> Result<Pasted, AllocError>
     ensures { IfOk result (λ j. pasted_view j ≡ content_of source.now lines.now) }
 {
     let mut content = joined(alloc, source, lines)?;
@@ -186,7 +186,7 @@ fn trimmed(alloc: Global, source: &[u8], lines: &[Line]) -> Result<Pasted, Alloc
 
 /// Whether a line begins just behind another, which ends with one line feed.
 #[tactic(auto, unfolding(crate::specs::Content::is_behind))]
-fn is_behind(source: &[u8], line: Line, next: Line) -> bool
+fn is_behind(source: &[u8], line: ContentLine, next: ContentLine) -> bool
     ensures { result ≡ is_behind source.now line next }
 {
     let one = line.end < line.next && line.next == line.end.saturating_add(1);
@@ -196,7 +196,7 @@ fn is_behind(source: &[u8], line: Line, next: Line) -> bool
 
 /// The place where a line ends, if it is a range of the source.
 #[tactic(auto, unfolding(crate::specs::Content::end_within))]
-fn end_within(source: &[u8], line: Line) -> Option<usize>
+fn end_within(source: &[u8], line: ContentLine) -> Option<usize>
     ensures { result ≡ end_within source.now line }
 {
     if line.start <= line.end && line.end <= source.len() {
@@ -207,7 +207,7 @@ fn end_within(source: &[u8], line: Line) -> Option<usize>
 }
 
 /// The place where lines end that begin one just behind the other.
-fn end_behind(source: &[u8], line: Line, others: &[Line]) -> Option<usize>
+fn end_behind(source: &[u8], line: ContentLine, others: &[ContentLine]) -> Option<usize>
     ensures { result ≡ end_behind source.now line others.now }
 {
     let mut last = line;
@@ -221,7 +221,7 @@ fn end_behind(source: &[u8], line: Line, others: &[Line]) -> Option<usize>
 }
 
 /// All lines but the first.
-fn others(lines: &[Line]) -> &[Line]
+fn others(lines: &[ContentLine]) -> &[ContentLine]
     ensures { result.now ≡ drop 1 lines.now }
 {
     if lines.is_empty() { &[] } else { &lines[1..] }
@@ -231,16 +231,16 @@ fn others(lines: &[Line]) -> &[Line]
 fn inked(text: &[u8]) -> &[u8]
     ensures { result.now ≡ inked text.now }
 {
-    piece(text, 0, ink_end(text))
+    bytes_between(text, 0, ink_end(text))
 }
 
 /// The text of lines, if it stands so in the source.
-fn whole<'a>(source: &'a [u8], lines: &[Line]) -> Option<Content<'a>>
+fn whole<'a>(source: &'a [u8], lines: &[ContentLine]) -> Option<Content<'a>>
     ensures { IfSome result (λ c. content_view c ≡ content_of source.now lines.now) }
 {
     let first = lines.first().copied()?;
     let end = end_behind(source, first, others(lines))?;
-    let text = piece(source, first.start, end);
+    let text = bytes_between(source, first.start, end);
     if text.contains(&0) {
         None
     } else {
@@ -253,7 +253,7 @@ fn whole<'a>(source: &'a [u8], lines: &[Line]) -> Option<Content<'a>>
 pub fn content_of<'a>(
     alloc: Global,
     source: &'a [u8],
-    lines: &[Line],
+    lines: &[ContentLine],
 ) -> Result<Content<'a>, AllocError>
     ensures { IfOk result (λ c. content_view c ≡ content_of source.now lines.now) }
 {

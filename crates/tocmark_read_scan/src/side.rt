@@ -1,7 +1,7 @@
 //! What stands beside a run of delimiters.
 
 ghost use Rattle.std.specs.Prelude.{◌≡◌};
-ghost use Rattle.tocmark_read_scan.specs.Side.{is_space, side_of, tail, code_at, is_continuation, start_before, side_at, side_before};
+ghost use Rattle.tocmark_read_scan.specs.Side.{is_space, side_of, continuation_bits, code_at, is_continuation, start_before, side_at, side_before};
 
 use crate::basic::{byte_at, character_of};
 use unicode::properties::{GeneralCategory, GeneralCategoryGroup};
@@ -46,22 +46,22 @@ pub fn side_of(c: char) -> Side
 }
 
 /// The last six bits of the byte at a place.
-#[tactic(auto, unfolding(crate::specs::Side::tail))]
-fn tail(bytes: &[u8], place: usize) -> u32
-    ensures { result ≡ tail bytes.now place }
+#[tactic(auto, unfolding(crate::specs::Side::continuation_bits))]
+fn continuation_bits(bytes: &[u8], place: usize) -> u32
+    ensures { result ≡ continuation_bits bytes.now place }
 {
     u32::from(byte_at(bytes, place)) % 64
 }
 
 /// The code point of the character that begins at a place of a UTF-8 text.
-#[tactic(auto, unfolding(crate::specs::Side::code_at, crate::specs::Side::tail))]
+#[tactic(auto, unfolding(crate::specs::Side::code_at, crate::specs::Side::continuation_bits))]
 fn code_at(bytes: &[u8], place: usize) -> u32
     ensures { result ≡ code_at bytes.now place }
 {
     let first = u32::from(byte_at(bytes, place));
-    let second = tail(bytes, place.saturating_add(1));
-    let third = tail(bytes, place.saturating_add(2));
-    let fourth = tail(bytes, place.saturating_add(3));
+    let second = continuation_bits(bytes, place.saturating_add(1));
+    let third = continuation_bits(bytes, place.saturating_add(2));
+    let fourth = continuation_bits(bytes, place.saturating_add(3));
     if first < 128 {
         first
     } else if first < 224 {

@@ -2,7 +2,7 @@
 use Rattle.std.specs.Prelude.{ℕ, List, [], ◌∷◌, ◌++◌, length, map, slice_get, string_bytes, Option, Some, None, unwrap_or}
 use Rattle.std.specs.HashMap.{get_by_text}
 use Rattle.std.specs.Str.Lossy.{utf8_lossy}
-use Rattle.tocmark_read_scan.specs.Basic.{piece}
+use Rattle.tocmark_read_scan.specs.Basic.{bytes_between}
 use Rattle.tocmark_read_tokens.specs.Label.{collapsed, key_of, distinct_from}
 use Rattle.tocmark_read_tokens.specs.Reference.{unescaped}
 use Rattle.tocmark_read_tokens.specs.declared.word.Definition.{Definition}
@@ -60,13 +60,13 @@ defined_with label destination title s =
 -- one more definition, as it was found in a text
 unfoldable pub defined : List ℕ → Definition → State → State
 defined bytes found s =
-    defined_with (piece bytes found.label.start found.label.end)
-    (piece bytes found.destination.start found.destination.end)
-    (piece bytes found.title.start found.title.end) s
+    defined_with (bytes_between bytes found.label.start found.label.end)
+    (bytes_between bytes found.destination.start found.destination.end)
+    (bytes_between bytes found.title.start found.title.end) s
 
 -- the key of a label among the texts
 abbrev pub label_key : List ℕ → Stretch → List ℕ
-label_key texts s = key_of (piece texts s.start s.end)
+label_key texts s = key_of (bytes_between texts s.start s.end)
 
 -- the empty stretch
 abbrev pub no_stretch : Stretch
@@ -74,7 +74,7 @@ no_stretch = record { start = 0; end = 0 }
 
 -- the text of a stretch
 abbrev pub stretch_text : List ℕ → Stretch → List ℕ
-stretch_text texts s = utf8_lossy (piece texts s.start s.end)
+stretch_text texts s = utf8_lossy (bytes_between texts s.start s.end)
 
 -- the label at a place of a list
 abbrev pub label_at : List ℕ → List Stretch → ℕ → List ℕ

@@ -1,7 +1,7 @@
 -- Code spans (CommonMark 6.1).
 use Rattle.std.specs.Prelude.{ℕ, Bool, not, ◌-◌, ◌==◌, ◌&&◌, ◌||◌, nat_lt, if◌then◌else◌, List, [], ◌∷◌, ◌++◌, length, replicate, slice_get, slice_set, Option, Some, None, unwrap_or}
 use Rattle.std.specs.List.{list_any}
-use Rattle.tocmark_read_scan.specs.Basic.{plus, byte_at, piece}
+use Rattle.tocmark_read_scan.specs.Basic.{plus, byte_at, bytes_between}
 use Rattle.tocmark_read_scan.specs.Class.{run_end}
 use Rattle.tocmark_read_scan.specs.Repeat.{iterated}
 use Rattle.tocmark_read_scan.specs.declared.class.Class.TheVariants.{Only, Except}
@@ -75,7 +75,7 @@ has_ink text = list_any (λ b. not (shown b == 32)) text
 unfoldable pub stripped : List ℕ → List ℕ
 stripped text =
     let end = length text - 1 in
-    if (shown (byte_at text 0) == 32) && (shown (byte_at text end) == 32) && has_ink text then piece text 1 end else text
+    if (shown (byte_at text 0) == 32) && (shown (byte_at text end) == 32) && has_ink text then bytes_between text 1 end else text
 
 -- bytes written behind others, as they are shown
 abbrev pub push_shown : List ℕ → List ℕ → List ℕ

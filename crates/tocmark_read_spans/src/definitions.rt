@@ -6,7 +6,7 @@ ghost use Rattle.tocmark_read_spans.specs.Definitions.{entry_of, label_key, coll
 use crate::role::Stretch;
 use std::alloc::{AllocError, Global};
 use std::collections::HashMap;
-use tocmark_read_scan::basic::piece;
+use tocmark_read_scan::basic::bytes_between;
 use tocmark_read_tokens::label::{collapsed, distinct, key_of};
 use tocmark_read_tokens::reference::unescaped;
 use tocmark_read_tokens::word::Definition;
@@ -109,9 +109,9 @@ impl Collected {
         ensures { OnOk result (collected_view self.new
             ≡ defined bytes.now found (collected_view self.old)) }
     {
-        let label = piece(bytes, found.label.start, found.label.end);
-        let destination = piece(bytes, found.destination.start, found.destination.end);
-        let title = piece(bytes, found.title.start, found.title.end);
+        let label = bytes_between(bytes, found.label.start, found.label.end);
+        let destination = bytes_between(bytes, found.destination.start, found.destination.end);
+        let title = bytes_between(bytes, found.title.start, found.title.end);
         self.define(alloc, label, destination, title)
     }
 }
@@ -121,7 +121,7 @@ fn keys(alloc: Global, texts: &[u8], labels: &[Stretch]) -> Result<Vec<String>, 
 {
     let mut keys = Vec::new(alloc);
     for label in labels {
-        keys.push(key_of(alloc, piece(texts, label.start, label.end))?)?;
+        keys.push(key_of(alloc, bytes_between(texts, label.start, label.end))?)?;
     }
     Ok(keys)
 }
@@ -137,7 +137,7 @@ fn label_text(
 {
     let none = Stretch { start: 0, end: 0 };
     let label = labels.get(place).copied().unwrap_or(none);
-    String::from_utf8_lossy(alloc, piece(texts, label.start, label.end))
+    String::from_utf8_lossy(alloc, bytes_between(texts, label.start, label.end))
 }
 
 /// The labels of a list, each of several that match once, as it is spelled first. An `Err` says that

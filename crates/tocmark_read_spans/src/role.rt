@@ -81,7 +81,7 @@ pub enum Role {
 
 /// A byte of a leaf's text that isn't plain, or no longer what it was before.
 #[derive(Clone, Copy)]
-pub struct Mark {
+pub struct MarkedByte {
     /// The byte's place in the text.
     pub place: usize,
     /// What the byte is.
@@ -94,7 +94,7 @@ pub struct Roles {
     /// The number of the text's bytes.
     pub length: usize,
     /// The marks, those of one byte in the order in which they were made.
-    pub marks: Vec<Mark>,
+    pub marks: Vec<MarkedByte>,
     /// Whether some mark stands behind many at later places: further ones aren't put in order, either.
     pub scattered: bool,
 }
@@ -105,7 +105,7 @@ const FEW: usize = 8;
 /// The number of marks behind which one more goes: all but the last ones that stand at later places, if
 /// these are few.
 #[tactic(auto, using(crate::proofs::Marks::slot_last, crate::proofs::Marks::slot_down))]
-fn slot(marks: &[Mark], place: usize) -> Option<usize>
+fn slot(marks: &[MarkedByte], place: usize) -> Option<usize>
     ensures within { IfSome result (λ k. k ≤ length marks.now) }
     ensures goes { IfSome result (IsSlot marks.now place) }
 {
@@ -125,7 +125,7 @@ fn zeros(alloc: Global, count: usize) -> Result<Vec<usize>, AllocError>
 }
 
 /// Writes for each byte that has marks the number of its last one.
-fn number_marks(numbers: &mut Vec<usize>, marks: &[Mark])
+fn number_marks(numbers: &mut Vec<usize>, marks: &[MarkedByte])
     ensures { map (role_at marks.now) numbers.new.items
         ≡ fold with_mark (map (role_at marks.now) numbers.old.items) marks.now }
 {
@@ -159,10 +159,10 @@ impl Roles {
         ensures { OnOk result (roles_of self.new ≡ slice_set (roles_of self.old) place role) }
     {
         match slot(&self.marks, place) {
-            Some(at) => self.marks.insert(at, Mark { place, role })?,
+            Some(at) => self.marks.insert(at, MarkedByte { place, role })?,
             None => {
                 self.scattered = true;
-                self.marks.push(Mark { place, role })?;
+                self.marks.push(MarkedByte { place, role })?;
             }
         }
         Ok(())
@@ -175,7 +175,7 @@ impl Roles {
         ensures { OnOk result (roles_of self.new ≡ slice_set (roles_of self.old) place role) }
     {
         if self.goes_last(place) {
-            self.marks.push(Mark { place, role })?;
+            self.marks.push(MarkedByte { place, role })?;
             Ok(())
         } else {
             self.put_between(place, role)

@@ -5,7 +5,7 @@ ghost use Rattle.tocmark_read_scan.specs.Repeat.{iterated};
 ghost use Rattle.tocmark_read_spans.specs.Tick.{ticks_view, padded, noted, run_from, last_ticks, next_run, tick_end, shown, has_ink, stripped, push_shown};
 
 use std::alloc::{AllocError, Global};
-use tocmark_read_scan::basic::{byte_at, piece, set};
+use tocmark_read_scan::basic::{byte_at, bytes_between, set};
 use tocmark_read_scan::class::{Class, run_end};
 
 /// For each number of backticks the place behind the first byte of the last run of so many before a
@@ -138,7 +138,11 @@ fn stripped(text: &[u8]) -> &[u8]
     let padded = shown(byte_at(text, 0)) == b' '
         && shown(byte_at(text, end)) == b' '
         && has_ink(text);
-    if padded { piece(text, 1, end) } else { text }
+    if padded {
+        bytes_between(text, 1, end)
+    } else {
+        text
+    }
 }
 
 /// Writes bytes behind others, as they are shown.

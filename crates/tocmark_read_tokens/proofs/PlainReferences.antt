@@ -1,7 +1,7 @@
 -- The references to an ampersand and to a space.
 use Rattle.std.proofs.Common.{◌≡◌, ℕ, ◌+◌, ◌-◌, ◌^◌, ◌<◌, true, nat_lt, nat_le, List, [], ◌∷◌, ◌++◌, length, drop, refl, sym, ◌∙◌, arith, append_assoc, length-append, Some}
 use Rattle.std.proofs.lemmas.Bool.Decides.{nat_tests}
-use Rattle.tocmark_read_scan.specs.Basic.{plus, byte_at, piece, starts_at, character_of}
+use Rattle.tocmark_read_scan.specs.Basic.{plus, byte_at, bytes_between, starts_at, character_of}
 use Rattle.tocmark_read_scan.specs.Class.{run_end, is_in}
 use Rattle.tocmark_read_tokens.specs.Reference.{reference_at, named, referred, numeric, closed_number, number, character, digit}
 use Rattle.tocmark_read_scan.proofs.PlainPieces.{piece_between}
@@ -24,7 +24,7 @@ digits_read bytes rest p e fits =
     let end : plus (p + 2) 2 ≡ p + 4 = omega arith in
     rw (start, byte_dropped bytes (p + 2) 51 (50 ∷ 59 ∷ rest) e, e, end) refl
 
-number_closed : (bytes : List ℕ) (p : ℕ) → byte_at bytes (p + 4) ≡ 59 → piece bytes (p + 2) (p + 4) ≡ 51 ∷ 50 ∷ [] → p + 5 < 2 ^ 64 → closed_number bytes (p + 2) (p + 4) 10 7 ≡ Some (record { character = 32; next = p + 1 + 4 })
+number_closed : (bytes : List ℕ) (p : ℕ) → byte_at bytes (p + 4) ≡ 59 → bytes_between bytes (p + 2) (p + 4) ≡ 51 ∷ 50 ∷ [] → p + 5 < 2 ^ 64 → closed_number bytes (p + 2) (p + 4) 10 7 ≡ Some (record { character = 32; next = p + 1 + 4 })
 unfolding closed_number number character digit character_of
 number_closed bytes p e k fits =
     let some : nat_lt (p + 2) (p + 4) ≡ true = grind (arith, nat_tests) in

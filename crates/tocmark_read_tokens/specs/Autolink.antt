@@ -1,7 +1,7 @@
 -- Addresses between angle brackets (CommonMark 6.5).
 use Rattle.std.specs.Prelude.{ℕ, Bool, true, false, not, ◌-◌, ◌==◌, ◌&&◌, nat_le, if◌then◌else◌, List, fold, Option, Some, None}
 use Rattle.std.specs.Char.{is_ascii_alphabetic}
-use Rattle.tocmark_read_scan.specs.Basic.{plus, byte_at, piece}
+use Rattle.tocmark_read_scan.specs.Basic.{plus, byte_at, bytes_between}
 use Rattle.tocmark_read_scan.specs.Class.{run_end}
 use Rattle.tocmark_read_scan.specs.declared.class.Class.TheVariants as class
 use Rattle.tocmark_read_tokens.specs.declared.autolink.Domain.{Domain}
@@ -44,7 +44,7 @@ is_domain text = is_label_end (fold domain_step domain_start text)
 unfoldable pub domain_end : List ℕ → ℕ → Option ℕ
 domain_end bytes start =
     let end = run_end bytes start class.Domain in
-    if is_domain (piece bytes start end) then closed_at bytes end else None
+    if is_domain (bytes_between bytes start end) then closed_at bytes end else None
 
 -- the place behind a mail address
 unfoldable pub mail_end : List ℕ → ℕ → Option ℕ

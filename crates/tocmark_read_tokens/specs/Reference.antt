@@ -1,7 +1,7 @@
 -- Character references and escapes (CommonMark 2.4 and 2.5).
 use Rattle.std.specs.Prelude.{ℕ, Bool, ◌+◌, ◌-◌, ◌*◌, ◌^◌, min, ◌==◌, ◌&&◌, ◌||◌, nat_lt, nat_le, if◌then◌else◌, List, [], ◌∷◌, ◌++◌, fold, codes, encode_utf8, Option, Some, None}
 use Rattle.std.specs.Char.{is_ascii_punctuation}
-use Rattle.tocmark_read_scan.specs.Basic.{plus, byte_at, character_of, piece, starts_at}
+use Rattle.tocmark_read_scan.specs.Basic.{plus, byte_at, character_of, bytes_between, starts_at}
 use Rattle.tocmark_read_scan.specs.Class.{run_end}
 use Rattle.tocmark_read_scan.specs.declared.class.Class.TheVariants.{Digit, HexDigit}
 use Rattle.tocmark_read_tokens.specs.declared.reference.Reference.{Reference}
@@ -30,7 +30,7 @@ character code = if code == 0 then 0xFFFD else character_of code
 unfoldable pub closed_number : List ℕ → ℕ → ℕ → ℕ → ℕ → Option Reference
 closed_number bytes start end base most =
     if nat_lt start end && nat_le end (plus start most) && (byte_at bytes end == 59)
-    then Some (record { character = character (number base (piece bytes start end)); next = plus end 1 })
+    then Some (record { character = character (number base (bytes_between bytes start end)); next = plus end 1 })
     else None
 
 -- a numeric reference: 1 to 7 decimal digits, or 1 to 6 hexadecimal ones

@@ -2,7 +2,7 @@
 use Rattle.std.specs.Prelude.{ℕ, Bool, false, not, ◌==◌, ◌&&◌, ◌||◌, ◌-◌, min, nat_lt, nat_le, if◌then◌else◌, List, [], ◌∷◌, length, drop, filter, Option, Some, None}
 use Rattle.std.specs.List.{list_any}
 use Rattle.std.specs.Char.{is_ascii_punctuation}
-use Rattle.tocmark_read_scan.specs.Basic.{plus, byte_at, piece}
+use Rattle.tocmark_read_scan.specs.Basic.{plus, byte_at, bytes_between}
 use Rattle.tocmark_read_scan.specs.Class.{is_in, run_end}
 use Rattle.tocmark_read_scan.specs.declared.class.Class.TheVariants.{White, Blank}
 use Rattle.tocmark_read_tokens.specs.declared.word.Enclosure.{Enclosure}
@@ -117,7 +117,7 @@ is_label_text text = nat_le (character_count text) 999 && has_ink text
 abbrev pub label_to : List ℕ → ℕ → Option ℕ → Option Word
 label_to bytes start None = None
 label_to bytes start (Some end) =
-    if is_label_text (piece bytes start end) then Some (word start end (plus end 1)) else None
+    if is_label_text (bytes_between bytes start end) then Some (word start end (plus end 1)) else None
 
 -- the label from a place behind its bracket to before the bracket that closes it
 unfoldable pub label_from : List ℕ → ℕ → Option Word

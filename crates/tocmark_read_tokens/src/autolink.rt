@@ -3,7 +3,7 @@
 ghost use Rattle.std.specs.Prelude.{◌≡◌};
 ghost use Rattle.tocmark_read_tokens.specs.Autolink.{closed_at, is_scheme, uri_end, domain_step, is_label_end, is_domain, domain_end, mail_end};
 
-use tocmark_read_scan::basic::{byte_at, piece};
+use tocmark_read_scan::basic::{byte_at, bytes_between};
 use tocmark_read_scan::class::{Class, run_end};
 
 /// What is known of the front of a domain.
@@ -103,7 +103,7 @@ fn domain_end(bytes: &[u8], start: usize) -> Option<usize>
     ensures { result ≡ domain_end bytes.now start }
 {
     let end = run_end(bytes, start, Class::Domain);
-    if is_domain(piece(bytes, start, end)) {
+    if is_domain(bytes_between(bytes, start, end)) {
         closed_at(bytes, end)
     } else {
         None

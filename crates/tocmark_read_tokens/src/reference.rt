@@ -4,7 +4,7 @@ ghost use Rattle.std.specs.Prelude.{◌≡◌, OnOk, IfOk};
 ghost use Rattle.tocmark_read_tokens.specs.Reference.{digit, number, character, closed_number, numeric, referred, named, reference_at, is_escape, unescaping, resolved, unescape_at, unescape_step, unescaped};
 
 use std::alloc::{AllocError, Global};
-use tocmark_read_scan::basic::{byte_at, character_of, piece, starts_at};
+use tocmark_read_scan::basic::{byte_at, bytes_between, character_of, starts_at};
 use tocmark_read_scan::class::{Class, run_end};
 
 /// A character, and the place behind its reference.
@@ -68,7 +68,7 @@ fn closed_number(
     let fits = start < end && end <= start.saturating_add(most) && byte_at(bytes, end) == b';';
     if fits {
         Some(Reference {
-            character: character(number(piece(bytes, start, end), base)),
+            character: character(number(bytes_between(bytes, start, end), base)),
             next: end.saturating_add(1),
         })
     } else {

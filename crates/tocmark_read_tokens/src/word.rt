@@ -3,7 +3,7 @@
 ghost use Rattle.std.specs.Prelude.{◌≡◌, false, drop};
 ghost use Rattle.tocmark_read_tokens.specs.Word.{stops, ends_enclosed, closing_of, escapes, enclosed_end, enclosed, ends_bare, depth_after, bare, bare_word, enclosed_word, destination, enclosure_of, title, character_count, has_ink, is_label_text, label_from, label, line_end, title_on_line, untitled, titled, defined_destination, defined_label, definition_at};
 
-use tocmark_read_scan::basic::{byte_at, piece, rest};
+use tocmark_read_scan::basic::{byte_at, bytes_between, rest};
 use tocmark_read_scan::class::{Class, is_in, run_end};
 
 /// What stands round a word.
@@ -252,7 +252,7 @@ pub fn label_from(bytes: &[u8], start: usize) -> Option<Word>
     ensures { result ≡ label_from bytes.now start }
 {
     let end = enclosed(bytes, start, Enclosure::Bracketed)?;
-    if is_label_text(piece(bytes, start, end)) {
+    if is_label_text(bytes_between(bytes, start, end)) {
         Some(Word {
             start,
             end,

@@ -14,7 +14,7 @@ use Rattle.tocmark_spelling.specs.Closing.{closing, closing_of, close_html, clos
 use Rattle.tocmark_spelling.specs.Kinds.{and_is, is_cell, is_heading, is_list, is_table, is_text}
 use Rattle.tocmark_spelling.specs.Look.{look, Look}
 use Rattle.tocmark_spelling.specs.Opening.{entered_if, is_uniform, item_in, opening}
-use Rattle.tocmark_spelling.specs.Page.{Content, Plain, HtmlEnds, Listed, Width, Headers, Level, Path, Page, Site, Around, front}
+use Rattle.tocmark_spelling.specs.Page.{OpeningChoice, Plain, HtmlEnds, Listed, Width, Headers, Level, Path, Page, Site, Around, front}
 use Rattle.tocmark_spelling.specs.Places.{is_in, is_directly_in, widened, widened_level, wider, with_header, with_width, width_of}
 use Rattle.tocmark_spelling.specs.Plan.{Setting, Manner}
 use Rattle.tocmark_spelling.specs.Spelling.{spelling, is_misplaced, is_wrong_in, directly_in, skips_body, is_named, body_or_id, then_site}
@@ -27,7 +27,7 @@ abbrev pub tags_of : Path → List TagView
 tags_of [] = []
 tags_of (l ∷ path) = l.tag ∷ tags_of path
 
-abbrev pub is_listed : Content → Bool
+abbrev pub is_listed : OpeningChoice → Bool
 is_listed (Listed c) = true
 is_listed c = false
 
@@ -52,18 +52,18 @@ directly-tags : (test : TagView → Bool) (path : Path) → directly_in test (ta
 directly-tags test [] = refl
 directly-tags test (l ∷ path) = refl
 
-wider-listed : (n : ℕ) (c : Content) → is_listed (wider n c) ≡ is_listed c
+wider-listed : (n : ℕ) (c : OpeningChoice) → is_listed (wider n c) ≡ is_listed c
 wider-listed n (Width k) = refl
 wider-listed n c = refl
 
-header-listed : (n : ℕ) (c : Content) → is_listed (with_width n c) ≡ is_listed c
+header-listed : (n : ℕ) (c : OpeningChoice) → is_listed (with_width n c) ≡ is_listed c
 header-listed n (Headers ns) = refl
 header-listed n c = refl
 
 keeps-under : (l : Level) (before after : Path) → Keeps before after → Keeps (l ∷ before) (l ∷ after)
 keeps-under l before after k = record { tags = ap (λ ts. l.tag ∷ ts) k.tags; sound = λ h. (h.0, k.sound h.1) }
 
-keeps-content : (l : Level) (c : Content) (path : Path) → is_listed c ≡ is_listed l.content → Keeps (l ∷ path) (record l { content = c } ∷ path)
+keeps-content : (l : Level) (c : OpeningChoice) (path : Path) → is_listed c ≡ is_listed l.content → Keeps (l ∷ path) (record l { content = c } ∷ path)
 keeps-content l c path e = record { tags = refl; sound = λ h. (e ∙ h.0, h.1) }
 
 widened-by : (n : ℕ) (l : Level) (path : Path) → Keeps path (widened n path) → (b : Bool) → Keeps (l ∷ path) (if b then widened_level n l ∷ path else l ∷ widened n path)
@@ -109,12 +109,12 @@ abbrev pub Opens : Bool → Bool → TagView → Path → Option Site → Type 0
 Opens wrong named t path None = wrong ≡ true
 Opens wrong named t path (Some here) = (wrong ≡ false) × Under t path here.path × (skips_body here.path ≡ named)
 
-if-opens : (b wrong named : Bool) (t : TagView) (prefix : List ℕ) (c : Content) (path : Path) (p : Page) → wrong ≡ not b → is_listed c ≡ is_list t → is_named c ≡ named
+if-opens : (b wrong named : Bool) (t : TagView) (prefix : List ℕ) (c : OpeningChoice) (path : Path) (p : Page) → wrong ≡ not b → is_listed c ≡ is_list t → is_named c ≡ named
     → Opens wrong named t path (entered_if b t prefix c path p)
 if-opens true wrong named t prefix c path p e listed is_n = (e, (refl, listed, keeps-refl path), is_n)
 if-opens false wrong named t prefix c path p e listed is_n = e
 
-item-opens : (s : Setting) (c : Content) (list : Level) (l : Look) (outside : Path) (p : Page) → list.content ≡ c → is_listed c ≡ is_list list.tag
+item-opens : (s : Setting) (c : OpeningChoice) (list : Level) (l : Look) (outside : Path) (p : Page) → list.content ≡ c → is_listed c ≡ is_list list.tag
     → Opens (not (is_list list.tag)) false Item (list ∷ outside) (item_in s c list l outside p)
 item-opens s (Listed c) list l outside p e h =
     (ap not (sym h), (refl, refl, keeps-content list _ outside (ap is_listed (sym e))), refl)
@@ -158,11 +158,11 @@ reference-keeps : (b : Bool) (path : Path) (p q : Page) → Keeps path (if◌the
 reference-keeps true path p q = keeps-refl path
 reference-keeps false path p q = keeps-refl path
 
-html-keeps : (o : OptionsView) (c : Content) (path : Path) (p : Page) → Keeps path (close_html o c path p).path
+html-keeps : (o : OptionsView) (c : OpeningChoice) (path : Path) (p : Page) → Keeps path (close_html o c path p).path
 html-keeps o (HtmlEnds blank closed) path p = keeps-refl path
 html-keeps o c path p = keeps-refl path
 
-list-keeps : (o : OptionsView) (t : TagView) (c : Content) (path : Path) (p : Page) → Keeps path (close_list o t c path p).path
+list-keeps : (o : OptionsView) (t : TagView) (c : OpeningChoice) (path : Path) (p : Page) → Keeps path (close_list o t c path p).path
 list-keeps o t (Listed c) path p = keeps-refl path
 list-keeps o t c path p = keeps-refl path
 

@@ -11,15 +11,15 @@ use Rattle.tocmark_event.specs.declared.event.LinkType.TheVariants as link
 use Rattle.tocmark_event.specs.declared.event.MetadataBlockKind.{MetadataBlockKind}
 use Rattle.tocmark_write_texts.specs.Destination.{inline_closing}
 use Rattle.tocmark_spelling.specs.Kinds.{is_item, is_list}
-use Rattle.tocmark_spelling.specs.Page.{Content, Underlined, Fence, HtmlEnds, Listed, Headers, Delimited, Named, Level, Path, Page, Site, written, filled_to, prefix_of, with_trail, with_last, with_owed, raised}
+use Rattle.tocmark_spelling.specs.Page.{OpeningChoice, Underlined, Fence, HtmlEnds, Listed, Headers, Delimited, Named, Level, Path, Page, Site, written, filled_to, prefix_of, with_trail, with_last, with_owed, raised}
 use Rattle.tocmark_spelling.specs.Words.{hyphen}
 use Rattle.tocmark_spelling.specs.Places.{is_in, width_of, with_header}
 use Rattle.tocmark_spelling.specs.Gap.{with_quote_line}
 use Rattle.tocmark_spelling.specs.Opening.{metadata_fence}
 use Rattle.tocmark_spelling.specs.declared.trail.Last.{Last}
 use Rattle.tocmark_spelling.specs.declared.trail.Last.TheVariants.{Other, Inline, ItemStart, ItemEnd, ListEnd, DefinitionEnd, BlockEnd}
-use Rattle.tocmark_spelling.specs.declared.trail.Tail.{Tail}
-use Rattle.tocmark_spelling.specs.declared.trail.Tail.TheVariants as tail
+use Rattle.tocmark_spelling.specs.declared.trail.LastChild.{LastChild}
+use Rattle.tocmark_spelling.specs.declared.trail.LastChild.TheVariants as tail
 use Rattle.tocmark_spelling.specs.declared.list_choice.ListChoice.{ListChoice}
 
 -- the container is closed
@@ -63,12 +63,12 @@ underline level.H1 = codes "\n==="
 underline l = codes "\n---"
 
 -- the line below a heading that is underlined; nothing below others (CommonMark, section 4.3)
-abbrev pub underline_of : HeadingLevel → Content → List ℕ
+abbrev pub underline_of : HeadingLevel → OpeningChoice → List ℕ
 underline_of level (Underlined true) = underline level
 underline_of level c = []
 
 -- a heading ends with its attributes and its underline; at least a new line is owed
-abbrev pub close_heading : OptionsView → TagView → HeadingLevel → List ℕ → Content → Path → Page → Site
+abbrev pub close_heading : OptionsView → TagView → HeadingLevel → List ℕ → OpeningChoice → Path → Page → Site
 close_heading o t level attributes c path p =
     close_block t (max o.newlines_after_headline 1) path (written path (underline_of level c) (written path attributes p))
 
@@ -86,12 +86,12 @@ abbrev pub with_raw_end : Page → Page
 with_raw_end p = with_trail (record p.trail { raw_end = p.sheet.feeds == 0 }) p
 
 -- the closing fence, where the text ended its last line
-abbrev pub fence_closing : Content → ℕ → List ℕ
+abbrev pub fence_closing : OpeningChoice → ℕ → List ℕ
 fence_closing (Fence f) feeds = if nat_lt 0 feeds then f else []
 fence_closing c feeds = []
 
 -- a code block ends, a fenced one with its fence; at least a blank line is owed (CommonMark, section 4.5)
-abbrev pub close_code : OptionsView → TagView → Content → Path → Page → Site
+abbrev pub close_code : OptionsView → TagView → OpeningChoice → Path → Page → Site
 close_code o t c path p =
     close_block t (max o.newlines_after_codeblock 2) path (written path (fence_closing c p.sheet.feeds) (with_raw_end p))
 
@@ -106,7 +106,7 @@ html_left o blank closed p =
     with_trail (record p.trail { owed = max o.newlines_after_htmlblock 2; last = html_last blank; open_html = not blank && not closed }) p
 
 -- HTML that neither a blank line nor its own text ends stays open
-abbrev pub close_html : OptionsView → Content → Path → Page → Site
+abbrev pub close_html : OptionsView → OpeningChoice → Path → Page → Site
 close_html o (HtmlEnds blank closed) path p = left path (html_left o blank closed (with_raw_end p))
 close_html o c path p = left path p
 
@@ -116,7 +116,7 @@ with_last_list c path p =
     with_trail (record p.trail { last_list = Some (record { depth = length path; ordered = is_some c.number; token = c.token }) }) p
 
 -- what the last child of a list's last item was
-abbrev pub list_tail : Last → Tail
+abbrev pub list_tail : Last → LastChild
 list_tail (ItemEnd t) = t
 list_tail l = tail.Block
 
@@ -127,12 +127,12 @@ list_left o t path p =
     else ended t (with_trail (raised (max o.newlines_after_list 2) p.trail) p)
 
 -- a list ends, and is the last list from here on
-abbrev pub close_list : OptionsView → TagView → Content → Path → Page → Site
+abbrev pub close_list : OptionsView → TagView → OpeningChoice → Path → Page → Site
 close_list o t (Listed c) path p = left path (list_left o t path (with_last_list c path p))
 close_list o t c path p = left path p
 
 -- what the last child of an item was; for an inner list, the last child of its last item
-abbrev pub item_tail : Last → Tail
+abbrev pub item_tail : Last → LastChild
 item_tail Inline = tail.Paragraph
 item_tail ItemStart = tail.Empty
 item_tail (ListEnd t) = t
@@ -167,7 +167,7 @@ alignment_cells (a ∷ as') [] = []
 alignment_cells (a ∷ as') (n ∷ headers) = codes "|" ++ dashes a (max n (least_dashes a)) ++ alignment_cells as' headers
 
 -- the widths of a table's headers; none for another container
-abbrev pub headers_of : Content → List ℕ
+abbrev pub headers_of : OpeningChoice → List ℕ
 headers_of (Headers ns) = ns
 headers_of c = []
 
@@ -190,7 +190,7 @@ abbrev pub close_row : Path → Page → Site
 close_row path p = close_block TableRow 1 path (written path (codes "|") p)
 
 -- a cell ends, and its table keeps its width
-abbrev pub close_cell : Content → Path → Page → Site
+abbrev pub close_cell : OpeningChoice → Path → Page → Site
 close_cell c path p = left (with_header (width_of c) path) (ended TableCell p)
 
 -- a quote that has to go on is written out, unless HTML is open
@@ -220,7 +220,7 @@ abbrev pub close_inline : List ℕ → Path → Page → Site
 close_inline text path p = left path (with_last Inline (written path text p))
 
 -- what stands after the body of a delimited container
-abbrev pub closing_token : Content → List ℕ
+abbrev pub closing_token : OpeningChoice → List ℕ
 closing_token (Delimited before after) = after
 closing_token c = []
 
@@ -234,7 +234,7 @@ abbrev pub close_with_id : List ℕ → List ℕ → List ℕ → Path → Page 
 close_with_id dest title id path p = close_reference (codes "][" ++ id ++ codes "]") id dest title path p
 
 -- whether the body can't be the label: there is an id, which doesn't spell it
-abbrev pub needs_id : Content → List ℕ → Bool
+abbrev pub needs_id : OpeningChoice → List ℕ → Bool
 needs_id (Named true) id = false
 needs_id c id = not (length id == 0)
 

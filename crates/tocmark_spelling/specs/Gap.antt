@@ -8,8 +8,8 @@ use Rattle.tocmark_spelling.specs.Page.{Trail, Path, Page, laid_on, filled_to, w
 use Rattle.tocmark_spelling.specs.Places.{is_in, is_close, is_in_loose_list}
 use Rattle.tocmark_spelling.specs.declared.trail.Last.{Last}
 use Rattle.tocmark_spelling.specs.declared.trail.Last.TheVariants.{Inline, ItemStart, ItemEnd, ListEnd, DefinitionEnd, BlockEnd}
-use Rattle.tocmark_spelling.specs.declared.trail.Tail.{Tail}
-use Rattle.tocmark_spelling.specs.declared.trail.Tail.TheVariants as tail
+use Rattle.tocmark_spelling.specs.declared.trail.LastChild.{LastChild}
+use Rattle.tocmark_spelling.specs.declared.trail.LastChild.TheVariants as tail
 
 -- whether inline content was written last
 abbrev pub is_inline : Last → Bool
@@ -96,17 +96,17 @@ abbrev pub closed_up : EventView → Path → Page → Page
 closed_up e path p = if not p.trail.open_html && is_close path then close_up e path p else forget_quote p
 
 -- whether the item ended with inline content, which is read as a paragraph
-abbrev pub is_paragraph_tail : Tail → Bool
+abbrev pub is_paragraph_tail : LastChild → Bool
 is_paragraph_tail tail.Paragraph = true
 is_paragraph_tail t = false
 
 -- whether the item ended with a block
-abbrev pub is_block_tail : Tail → Bool
+abbrev pub is_block_tail : LastChild → Bool
 is_block_tail tail.Block = true
 is_block_tail t = false
 
 -- what could go on with the last item of an inner list
-abbrev pub could_join : EventView → Tail → Bool
+abbrev pub could_join : EventView → LastChild → Bool
 could_join e t =
     starts is_paragraph e || starts is_definition_list e || (starts is_table e && is_paragraph_tail t)
     || (starts is_indented_code e && not (is_block_tail t))

@@ -14,7 +14,7 @@ use Rattle.tocmark_spelling.specs.Kinds.{is_emphasis, is_emphasis_or_strong}
 use Rattle.tocmark_spelling.specs.Edges.{is_boundary, is_punctuation, edge_after}
 use Rattle.tocmark_spelling.specs.Runs.{tag_width, end_width, is_marker, run_around, last_run}
 use Rattle.tocmark_spelling.specs.Look.{Look}
-use Rattle.tocmark_spelling.specs.Page.{Content, Delimited, Level, Path, Page}
+use Rattle.tocmark_spelling.specs.Page.{OpeningChoice, Delimited, Level, Path, Page}
 use Rattle.tocmark_spelling.specs.Places.{nearest}
 
 -- the other marker
@@ -22,7 +22,7 @@ abbrev pub other_marker : ℕ → ℕ
 other_marker c = if c == asterisk then underscore else asterisk
 
 -- what stands before the body of a delimited container
-abbrev pub opening_token : Content → List ℕ
+abbrev pub opening_token : OpeningChoice → List ℕ
 opening_token (Delimited open_token close_token) = open_token
 opening_token c = []
 

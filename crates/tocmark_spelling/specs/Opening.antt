@@ -21,7 +21,7 @@ use Rattle.tocmark_spelling.specs.declared.plan.Layout.TheVariants.{Uniform}
 use Rattle.tocmark_spelling.specs.Kinds.{is_heading, is_list, is_table, is_strikethrough, is_indented_code, starts, and_is}
 use Rattle.tocmark_spelling.specs.Html.{is_blank_terminated, is_html_closed}
 use Rattle.tocmark_spelling.specs.Look.{Look, is_preferred}
-use Rattle.tocmark_spelling.specs.Page.{Content, Plain, Underlined, Fence, HtmlEnds, Listed, Defined, Headers, Width, Delimited, Named, Level, Path, Page, Site, written, filled_to, with_last, with_owed}
+use Rattle.tocmark_spelling.specs.Page.{OpeningChoice, Plain, Underlined, Fence, HtmlEnds, Listed, Defined, Headers, Width, Delimited, Named, Level, Path, Page, Site, written, filled_to, with_last, with_owed}
 use Rattle.tocmark_spelling.specs.Places.{is_in, is_directly_in, depth_in, nearest, at_item_start, is_raw_link}
 use Rattle.tocmark_spelling.specs.Marker.{marker, opening_token}
 use Rattle.tocmark_spelling.specs.declared.trail.Last.TheVariants.{Other, ItemStart}
@@ -29,11 +29,11 @@ use Rattle.tocmark_spelling.specs.declared.trail.LastList.{LastList}
 use Rattle.tocmark_spelling.specs.declared.list_choice.ListChoice.{ListChoice}
 
 -- a container is open, with this prefix and choice
-abbrev pub entered : TagView → List ℕ → Content → Path → Page → Option Site
+abbrev pub entered : TagView → List ℕ → OpeningChoice → Path → Page → Option Site
 entered t prefix c path p = Some (record { path = record { tag = t; prefix = prefix; start = length p.sheet.text; content = c } ∷ path; page = p })
 
 -- the same where it may stand here
-abbrev pub entered_if : Bool → TagView → List ℕ → Content → Path → Page → Option Site
+abbrev pub entered_if : Bool → TagView → List ℕ → OpeningChoice → Path → Page → Option Site
 entered_if true t prefix c path p = entered t prefix c path p
 entered_if false t prefix c path p = None
 
@@ -123,7 +123,7 @@ abbrev pub open_html : Look → Path → Page → Option Site
 open_html l path p = entered HtmlBlock [] (HtmlEnds (is_blank_terminated l.first_html) (is_html_closed l.html)) path p
 
 -- the token of a list, if it is a bullet list
-abbrev pub bullet_of : Content → Option ℕ
+abbrev pub bullet_of : OpeningChoice → Option ℕ
 bullet_of (Listed c) = if is_none c.number then Some c.token else None
 bullet_of c = None
 
@@ -207,7 +207,7 @@ item_with s c list l outside p =
     (with_last ItemStart (with_label s.label (c.labelled || empty_inner) empty_inner path (written path (item_marker c) p)))
 
 -- an item directly in a container with this content; none if that is not a list
-abbrev pub item_in : Setting → Content → Level → Look → Path → Page → Option Site
+abbrev pub item_in : Setting → OpeningChoice → Level → Look → Path → Page → Option Site
 item_in s (Listed c) list l outside p = item_with s c list l outside p
 item_in s c list l outside p = None
 

@@ -22,33 +22,33 @@ abbrev pub first_trail : Trail
 first_trail = record { owed = 0; last = Other; last_list = None; quote_line = None; raw_end = false; open_html = false }
 
 -- what the opening of a container chose, and what its children changed since
-pub data Content : Type 0 where
-  Plain : Content
+pub data OpeningChoice : Type 0 where
+  Plain : OpeningChoice
   -- a heading: whether it is underlined
-  Underlined : Bool → Content
+  Underlined : Bool → OpeningChoice
   -- a fenced code block: its fence
-  Fence : List ℕ → Content
+  Fence : List ℕ → OpeningChoice
   -- an HTML block: whether a blank line ends it, and whether its end stands in it
-  HtmlEnds : Bool → Bool → Content
+  HtmlEnds : Bool → Bool → OpeningChoice
   -- a list
-  Listed : ListChoice → Content
+  Listed : ListChoice → OpeningChoice
   -- a definition: whether a Paragraph is among its children
-  Defined : Bool → Content
+  Defined : Bool → OpeningChoice
   -- a table: the widths of its cells that ended, in characters, in order
-  Headers : List ℕ → Content
+  Headers : List ℕ → OpeningChoice
   -- a cell: its width so far, in characters
-  Width : ℕ → Content
+  Width : ℕ → OpeningChoice
   -- emphasis and its like: what stands before and after the body
-  Delimited : List ℕ → List ℕ → Content
+  Delimited : List ℕ → List ℕ → OpeningChoice
   -- a link or image: whether its id stands in place of its body
-  Named : Bool → Content
+  Named : Bool → OpeningChoice
 
 -- an open container: its prefix, and the place in the unit's text where its opening ended
 pub record Level : Type 0 where
   pub tag : TagView
   pub prefix : List ℕ
   pub start : ℕ
-  pub content : Content
+  pub content : OpeningChoice
 
 -- the open containers, innermost first
 abbrev pub Path : Type 0

@@ -4,7 +4,7 @@ use Rattle.tocmark_event.specs.View.{TagView, CodeBlock, HtmlBlock, MetadataBloc
 use Rattle.tocmark_event.specs.declared.event.LinkType.{LinkType}
 use Rattle.tocmark_event.specs.declared.event.LinkType.TheVariants as link
 use Rattle.tocmark_spelling.specs.Kinds.{is_item, is_cell, is_table}
-use Rattle.tocmark_spelling.specs.Page.{Content, Listed, Defined, Headers, Width, Level, Path, Page}
+use Rattle.tocmark_spelling.specs.Page.{OpeningChoice, Listed, Defined, Headers, Width, Level, Path, Page}
 
 -- inside a container of such a tag
 abbrev pub is_in : (TagView → Bool) → Path → Bool
@@ -41,7 +41,7 @@ is_after_opening [] p = false
 is_after_opening (l ∷ path) p = l.start == length p.sheet.text
 
 -- a list that is tight (CommonMark, section 5.3)
-abbrev pub is_tight_list : Content → Bool
+abbrev pub is_tight_list : OpeningChoice → Bool
 is_tight_list (Listed c) = c.tight
 is_tight_list c = false
 
@@ -51,7 +51,7 @@ is_in_tight_list [] = false
 is_in_tight_list (l ∷ path) = is_tight_list l.content
 
 -- no blank lines stand between the children of a container with this content and tag, in the containers outside
-abbrev pub is_close_at : Content → TagView → Path → Bool
+abbrev pub is_close_at : OpeningChoice → TagView → Path → Bool
 is_close_at (Defined has_paragraph) t path = not has_paragraph
 is_close_at (Listed c) t path = c.tight
 is_close_at c t path = is_item t && is_in_tight_list path
@@ -63,7 +63,7 @@ is_close [] = false
 is_close (l ∷ path) = is_close_at l.content l.tag path
 
 -- a list that isn't tight (CommonMark, section 5.3)
-abbrev pub is_loose_content : Content → Bool
+abbrev pub is_loose_content : OpeningChoice → Bool
 is_loose_content (Listed c) = not c.tight
 is_loose_content c = false
 
@@ -91,7 +91,7 @@ abbrev pub is_raw : Path → Bool
 is_raw path = is_in is_raw_tag path
 
 -- what a cell keeps, wider by so many characters; that of another container does not change
-abbrev pub wider : ℕ → Content → Content
+abbrev pub wider : ℕ → OpeningChoice → OpeningChoice
 wider n (Width k) = Width (k + n)
 wider n c = c
 
@@ -105,12 +105,12 @@ widened n [] = []
 widened n (l ∷ path) = if is_cell l.tag then widened_level n l ∷ path else l ∷ widened n path
 
 -- what a table keeps, with one more cell of this width; that of another container does not change
-abbrev pub with_width : ℕ → Content → Content
+abbrev pub with_width : ℕ → OpeningChoice → OpeningChoice
 with_width n (Headers ns) = Headers (ns ++ n ∷ [])
 with_width n c = c
 
 -- the width of a cell; 0 for another container
-abbrev pub width_of : Content → ℕ
+abbrev pub width_of : OpeningChoice → ℕ
 width_of (Width n) = n
 width_of c = 0
 

@@ -1,7 +1,7 @@
 -- What the fields of a request mean.
 use Rattle.std.specs.Prelude.{ℕ, List, Bool, Option, ◌&&◌, if◌then◌else◌}
 use Rattle.tocmark_event.specs.View.{EventView}
-use Rattle.tocmark_write_texts.specs.Escape.{Place}
+use Rattle.tocmark_write_texts.specs.Escape.{Surroundings}
 use Rattle.tocmark_spelling.specs.Kinds.{is_table, is_heading, is_emphasis_or_strong, starts, and_is}
 use Rattle.tocmark_spelling.specs.Page.{Held, Path, Page, with_last, written}
 use Rattle.tocmark_spelling.specs.declared.trail.Last.TheVariants.{Inline}
@@ -27,7 +27,7 @@ abbrev pub setting_of : OptionsView → ParserOptions → (List ℕ → ParserOp
 setting_of options flags reading label = record { options = options; flags = flags; reading = reading; label = label }
 
 -- where a stretch stands; the definitions' place asks nothing more of the setting and the manner
-abbrev pub stretch_place : OptionsView → ParserOptions → TextSpelling → Bool → Option EventView → Path → Page → Place
+abbrev pub stretch_place : OptionsView → ParserOptions → TextSpelling → Bool → Option EventView → Path → Page → Surroundings
 stretch_place o flags text after_close next path p = record {
   flags = flags;
   token = o.emphasis_token;

@@ -9,7 +9,7 @@ use Rattle.tocmark_spelling.specs.Body.{Trees}
 use Rattle.tocmark_spelling.specs.ById.{by_id}
 use Rattle.tocmark_spelling.specs.Runs.{inside, beyond, ahead_of, past}
 use Rattle.tocmark_spelling.specs.Look.{look}
-use Rattle.tocmark_spelling.specs.Page.{Content, Named, Path, Page, Site, Around, written, with_last}
+use Rattle.tocmark_spelling.specs.Page.{OpeningChoice, Named, Path, Page, Site, Around, written, with_last}
 use Rattle.tocmark_spelling.specs.declared.trail.Last.TheVariants.{Inline}
 use Rattle.tocmark_spelling.specs.Gap.{gap}
 use Rattle.tocmark_spelling.specs.Opening.{opening}
@@ -44,7 +44,7 @@ then_site (Some here) f = f here
 then_site None f = None
 
 -- whether the id of the innermost container stands in place of its body
-abbrev pub is_named : Content → Bool
+abbrev pub is_named : OpeningChoice → Bool
 is_named (Named named) = named
 is_named c = false
 

@@ -1,7 +1,7 @@
 -- The leaves: each with its gap, and a stretch of texts as one.
 use Rattle.std.specs.Prelude.{ℕ, ◌+◌, Bool, true, false, ◌&&◌, ◌||◌, ◌==◌, if◌then◌else◌, nat_lt, Option, Some, None, is_none, List, [], ◌∷◌, ◌++◌, length, max, codes, chars}
 use Rattle.tocmark_event.specs.View.{LeafView, Text, Code, InlineMath, DisplayMath, Html, InlineHtml, FootnoteReference, SoftBreak, HardBreak, Rule, TaskListMarker, SourcedLeaf, EventView, Leaf}
-use Rattle.tocmark_write_texts.specs.Escape.{Place, escaped}
+use Rattle.tocmark_write_texts.specs.Escape.{Surroundings, escaped}
 use Rattle.tocmark_write_texts.specs.Leaves.{code_span, inline_math, display_math, task_marker, footnote_reference}
 use Rattle.tocmark_spelling.specs.Plan.{Setting, Manner}
 use Rattle.tocmark_spelling.specs.declared.plan.TextSpelling.{TextSpelling}
@@ -9,7 +9,7 @@ use Rattle.tocmark_spelling.specs.declared.plan.TextSpelling.TheVariants.{Litera
 use Rattle.tocmark_spelling.specs.Kinds.{is_table, is_heading, is_emphasis_or_strong, starts, is_text, and_is}
 use Rattle.tocmark_spelling.specs.declared.trail.Last.{Last}
 use Rattle.tocmark_spelling.specs.declared.trail.Last.TheVariants.{Other, Inline}
-use Rattle.tocmark_spelling.specs.Page.{Content, Listed, Path, Page, Site, Held, Around, front, following, written, with_last, with_owed}
+use Rattle.tocmark_spelling.specs.Page.{OpeningChoice, Listed, Path, Page, Site, Held, Around, front, following, written, with_last, with_owed}
 use Rattle.tocmark_spelling.specs.Places.{is_in, is_after_opening, is_raw, widened}
 use Rattle.tocmark_spelling.specs.Gap.{gap, is_inline, is_item_opening}
 use Rattle.tocmark_spelling.specs.Marker.{ends_delimiter}
@@ -32,7 +32,7 @@ abbrev pub at_front : Path → Page → Bool
 at_front path p = nat_lt 0 p.sheet.feeds || length p.sheet.text == 0 || is_after_opening path p
 
 -- where a stretch of texts stands
-abbrev pub place : Setting → Manner → Bool → Option EventView → Path → Page → Place
+abbrev pub place : Setting → Manner → Bool → Option EventView → Path → Page → Surroundings
 place s m after_close next path p = record {
   flags = s.flags;
   token = s.options.emphasis_token;
@@ -51,7 +51,7 @@ from_source true source = source
 from_source false source = None
 
 -- the source text if there is one, else the text escaped
-abbrev pub or_escaped : Option (List ℕ) → Place → List ℕ → List ℕ
+abbrev pub or_escaped : Option (List ℕ) → Surroundings → List ℕ → List ℕ
 or_escaped (Some source) place text = source
 or_escaped None place text = escaped place text
 
@@ -85,7 +85,7 @@ text_on s m text source a path p =
     else stretch_on s m h (following a) path p
 
 -- whether a container is a bullet list with hyphens as markers (CommonMark, section 5.2)
-abbrev pub is_bullet_hyphen : Content → Bool
+abbrev pub is_bullet_hyphen : OpeningChoice → Bool
 is_bullet_hyphen (Listed c) = is_none c.number && (c.token == hyphen)
 is_bullet_hyphen c = false
 

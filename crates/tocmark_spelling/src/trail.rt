@@ -16,7 +16,7 @@ use tocmark_event::event::{OwnedEvent, TagEnd};
 
 /// What the last child of an item was.
 #[derive(Clone, Copy, PartialEq, Eq)]
-pub enum Tail {
+pub enum LastChild {
     Paragraph,
     Empty,
     Block,
@@ -28,8 +28,8 @@ pub enum Last {
     Other,
     Inline,
     ItemStart,
-    ItemEnd(Tail),
-    ListEnd(Tail),
+    ItemEnd(LastChild),
+    ListEnd(LastChild),
     DefinitionEnd,
     BlockEnd(TagEnd),
 }
@@ -128,12 +128,12 @@ fn least_after(end: TagEnd, event: &OwnedEvent) -> usize
     }
 }
 
-fn could_join(event: &OwnedEvent, tail: Tail) -> bool
+fn could_join(event: &OwnedEvent, tail: LastChild) -> bool
     ensures { result ≡ could_join (event_view string_bytes event.now) tail }
 {
     let block = starts_paragraph(event) || starts_definition_list(event);
-    let table = starts_table(event) && matches!(tail, Tail::Paragraph);
-    block || table || (starts_indented_code(event) && !matches!(tail, Tail::Block))
+    let table = starts_table(event) && matches!(tail, LastChild::Paragraph);
+    block || table || (starts_indented_code(event) && !matches!(tail, LastChild::Block))
 }
 
 impl Carried {

@@ -19,7 +19,7 @@ use crate::trail::end_block;
 use std::alloc::{AllocError, Global};
 use tocmark_event::event::{HeadingLevel, TagEnd, TagOf};
 use tocmark_event::options::{Error, Options};
-use tocmark_write_containers::content::Content;
+use tocmark_write_containers::content::OpeningChoice;
 use tocmark_write_containers::frame::Frame;
 use tocmark_write_renderer::renderer::Renderer;
 
@@ -56,7 +56,7 @@ fn enter_heading<'a>(
     ensures mark { renderer.new.at_mark ≡ renderer.old.at_mark }
 {
     renderer.write(mark_of(level, broken))?;
-    renderer.push_frame(tag, String::new(alloc), Content::Underlined(broken))
+    renderer.push_frame(tag, String::new(alloc), OpeningChoice::Underlined(broken))
 }
 
 /// Opens a heading of this level; `broken` says whether it goes over more than one line.
@@ -90,11 +90,11 @@ fn underline(level: HeadingLevel) -> &'static str
     }
 }
 
-fn underline_of(level: HeadingLevel, content: &Content) -> &'static str
+fn underline_of(level: HeadingLevel, content: &OpeningChoice) -> &'static str
     ensures { result.now ≡ underline_of level (content_view content.now) }
 {
     match content {
-        Content::Underlined(true) => underline(level),
+        OpeningChoice::Underlined(true) => underline(level),
         _ => "",
     }
 }
@@ -105,7 +105,7 @@ fn end_heading(
     options: &Options<'_>,
     level: HeadingLevel,
     attributes: &str,
-    content: &Content,
+    content: &OpeningChoice,
 ) -> Result<(), AllocError>
     ensures stands { Closes result renderer.old renderer.new
         (close_heading (options_view options.now) (Heading level None [] []) level

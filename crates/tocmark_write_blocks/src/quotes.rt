@@ -14,7 +14,7 @@ use crate::trail::end_block;
 use std::alloc::{AllocError, Global};
 use tocmark_event::event::{BlockQuoteKind, TagEnd, TagOf};
 use tocmark_event::options::Options;
-use tocmark_write_containers::content::Content;
+use tocmark_write_containers::content::OpeningChoice;
 use tocmark_write_renderer::renderer::Renderer;
 
 /// Writes a quote's marker, right behind an item's marker or not, and owes what stands behind it.
@@ -52,7 +52,7 @@ pub fn open_quote<'a>(
     let at_item = renderer.at_item_start();
     begin_new_line(renderer)?;
     write_mark(renderer, kind, at_item)?;
-    renderer.push_frame(tag, prefix, Content::Plain)
+    renderer.push_frame(tag, prefix, OpeningChoice::Plain)
 }
 
 /// Inside an item a quote leaves the line with which it can go on.

@@ -4,7 +4,7 @@ use Rattle.std.specs.declared.alloc.Global.{Global}
 use Rattle.std.specs.Option.{option_map}
 use Rattle.std.proofs.lemmas.List.{take-append-le, map-append, take-map, take_more_set, take_more, length-map, drop-set-lt, get_or-drop, drop-drop}
 use Rattle.std.specs.Prelude.{is_some}
-use Rattle.tocmark_spelling.specs.Page.{Content, Path, prefix_of}
+use Rattle.tocmark_spelling.specs.Page.{OpeningChoice, Path, prefix_of}
 use Rattle.tocmark_write_containers.specs.ContainersOf.{Fits, IsNoted, marked}
 use Rattle.tocmark_write_containers.specs.KeptOf.{original, outside_at, present, seen}
 use Rattle.tocmark_write_containers.specs.Nesting.{changed, is_counted, numbered, renumbered}
@@ -102,14 +102,14 @@ pub record IsLeft (new old : Path) : Type 0 where
   pub told_is : outsides new ≡ outsides old
 
 -- a content that is changed leaves both
-left-changed : (n : ℕ) (f : Content → Content) (new old : Path) → Keeps f → new ≡ changed n f old → IsLeft new old
+left-changed : (n : ℕ) (f : OpeningChoice → OpeningChoice) (new old : Path) → Keeps f → new ≡ changed n f old → IsLeft new old
 left-changed n f new old h e = record {
   prefix_is = ap prefix_of e ∙ prefix-changed n f old;
   told_is = ap outsides e ∙ outsides-changed n f old h;
 }
 
 -- the same of a change that may be refused
-pub left-by : {T E : Type 0} (r : Result T E) (n : ℕ) (f : Content → Content) (new old : Path) → Keeps f → OnOk r (new ≡ changed n f old) → OnErr r (new ≡ old) → IsLeft new old
+pub left-by : {T E : Type 0} (r : Result T E) (n : ℕ) (f : OpeningChoice → OpeningChoice) (new old : Path) → Keeps f → OnOk r (new ≡ changed n f old) → OnErr r (new ≡ old) → IsLeft new old
 left-by (Ok x) n f new old h e stays = left-changed n f new old h e
 left-by (Err x) n f new old h e stays = record { prefix_is = ap prefix_of stays; told_is = ap outsides stays }
 

@@ -8,7 +8,7 @@ use Rattle.tocmark_event.specs.View.{TagView}
 use Rattle.tocmark_spelling.specs.Kinds.{is_cell, is_item, is_list, is_strikethrough, is_table}
 use Rattle.tocmark_spelling.specs.Marker.{opening_token}
 use Rattle.tocmark_spelling.specs.Opening.{bullet_of, is_double, is_number}
-use Rattle.tocmark_spelling.specs.Page.{Content, Plain, Underlined, Fence, HtmlEnds, Listed, Defined, Headers, Width, Delimited, Named, Level, Path}
+use Rattle.tocmark_spelling.specs.Page.{OpeningChoice, Plain, Underlined, Fence, HtmlEnds, Listed, Defined, Headers, Width, Delimited, Named, Level, Path}
 use Rattle.tocmark_spelling.specs.Places.{depth_in, is_in, is_item_start, nearest, wider, widened, with_header, with_width}
 use Rattle.tocmark_spelling.specs.Stretch.{is_bullet_hyphen}
 use Rattle.tocmark_spelling.specs.Words.{or_else}
@@ -75,12 +75,12 @@ item-start place (l ∷ path) =
 -- ---- a content that is changed
 
 -- contents of which the containers say the same
-pub record Alike (c d : Content) : Type 0 where
+pub record Alike (c d : OpeningChoice) : Type 0 where
   pub bullet : bullet_of c ≡ bullet_of d
   pub hyphen : is_bullet_hyphen c ≡ is_bullet_hyphen d
   pub token : opening_token c ≡ opening_token d
 
-alike-within : (t : TagView) (start n : ℕ) (c d : Content) (path : Path) → Alike c d → within t start c n (outside_of path) ≡ within t start d n (outside_of path)
+alike-within : (t : TagView) (start n : ℕ) (c d : OpeningChoice) (path : Path) → Alike c d → within t start c n (outside_of path) ≡ within t start d n (outside_of path)
 alike-within t start n c d path h =
     let o = outside_of path in
     ap (λ b. record (within t start c n o) { in_hyphen_list = b || o.in_hyphen_list }) h.hyphen
@@ -88,7 +88,7 @@ alike-within t start n c d path h =
     ∙ ap (λ b. record (within t start d n o) { in_double = if is_strikethrough t then begins_double (Delimited b []) else o.in_double }) h.token
 
 -- the innermost one's content is changed
-pub outside-head : (f : Content → Content) (l : Level) (path : Path) → Alike (f l.content) l.content → outside_of (changed_level f l ∷ path) ≡ outside_of (l ∷ path)
+pub outside-head : (f : OpeningChoice → OpeningChoice) (l : Level) (path : Path) → Alike (f l.content) l.content → outside_of (changed_level f l ∷ path) ≡ outside_of (l ∷ path)
 outside-head f l path h =
     outside-step (changed_level f l) path
     ∙ alike-within l.tag l.start (length path) (f l.content) l.content path h
@@ -102,22 +102,22 @@ outside-tail l p q e o =
     ∙ ap (within l.tag l.start l.content (length q)) o
     ∙ sym (outside-step l q)
 
-length-changed : (n : ℕ) (f : Content → Content) (ls : Path) → length (changed n f ls) ≡ length ls
+length-changed : (n : ℕ) (f : OpeningChoice → OpeningChoice) (ls : Path) → length (changed n f ls) ≡ length ls
 length-changed n f [] = refl
 length-changed zero f (l ∷ ls) = refl
 length-changed (suc n) f (l ∷ ls) = ap suc (length-changed n f ls)
 
 -- how a content is changed leaves what the containers say of any
-abbrev pub Keeps : (Content → Content) → Type 0
-Keeps f = (c : Content) → Alike (f c) c
+abbrev pub Keeps : (OpeningChoice → OpeningChoice) → Type 0
+Keeps f = (c : OpeningChoice) → Alike (f c) c
 
-outside-changed : (n : ℕ) (f : Content → Content) (ls : Path) → Keeps f → outside_of (changed n f ls) ≡ outside_of ls
+outside-changed : (n : ℕ) (f : OpeningChoice → OpeningChoice) (ls : Path) → Keeps f → outside_of (changed n f ls) ≡ outside_of ls
 outside-changed n f [] h = refl
 outside-changed zero f (l ∷ ls) h = outside-head f l ls (h l.content)
 outside-changed (suc n) f (l ∷ ls) h = outside-tail l (changed n f ls) ls (length-changed n f ls) (outside-changed n f ls h)
 
 -- what all of them say is left
-pub outsides-changed : (n : ℕ) (f : Content → Content) (ls : Path) → Keeps f → outsides (changed n f ls) ≡ outsides ls
+pub outsides-changed : (n : ℕ) (f : OpeningChoice → OpeningChoice) (ls : Path) → Keeps f → outsides (changed n f ls) ≡ outsides ls
 outsides-changed n f [] h = refl
 outsides-changed zero f (l ∷ ls) h = ap (λ o. o ∷ outsides ls) (outside-head f l ls (h l.content))
 outsides-changed (suc n) f (l ∷ ls) h =
@@ -148,7 +148,7 @@ with-width-keeps k (Width n) = record { bullet = refl; hyphen = refl; token = re
 with-width-keeps k (Delimited before after) = record { bullet = refl; hyphen = refl; token = refl }
 with-width-keeps k (Named b) = record { bullet = refl; hyphen = refl; token = refl }
 
-both-numbers : (c : Content) (n : Option ℕ) → has_number c ≡ is_some n → Alike (numbered n c) c
+both-numbers : (c : OpeningChoice) (n : Option ℕ) → has_number c ≡ is_some n → Alike (numbered n c) c
 both-numbers Plain n e = record { bullet = refl; hyphen = refl; token = refl }
 both-numbers (Underlined b) n e = record { bullet = refl; hyphen = refl; token = refl }
 both-numbers (Fence f) n e = record { bullet = refl; hyphen = refl; token = refl }
@@ -174,7 +174,7 @@ outsides-renumbered number (l ∷ path) e = ap (λ o. o ∷ outsides path) (outs
 -- ---- the nearest one of a kind
 
 -- the content of the nearest one changed
-abbrev at_nearest : (TagView → Bool) → (Content → Content) → Path → Path
+abbrev at_nearest : (TagView → Bool) → (OpeningChoice → OpeningChoice) → Path → Path
 at_nearest test f [] = []
 at_nearest test f (l ∷ path) = if test l.tag then changed_level f l ∷ path else l ∷ at_nearest test f path
 
@@ -195,7 +195,7 @@ nearest-bound test (l ∷ path) i e = by_case (test l.tag) e (nearest-bound test
     by_case true e h = let same : length path ≡ i = ap (λ o. unwrap_or o 0) e in omega (arith, same)
     by_case false e h = let less = h e in omega (arith, less)
 
-nearest-changed : (test : TagView → Bool) (f : Content → Content) (path : Path) (i n : ℕ) → outside_nearest test path ≡ Some i → n + i + 1 ≡ length path → changed n f path ≡ at_nearest test f path
+nearest-changed : (test : TagView → Bool) (f : OpeningChoice → OpeningChoice) (path : Path) (i n : ℕ) → outside_nearest test path ≡ Some i → n + i + 1 ≡ length path → changed n f path ≡ at_nearest test f path
 nearest-changed test f [] i n e s = absurd (omega (arith, s))
 nearest-changed test f (l ∷ path) i n e s = by_case (test l.tag) n e s (λ e m. nearest-changed test f path i m e)
   where
@@ -206,7 +206,7 @@ nearest-changed test f (l ∷ path) i n e s = by_case (test l.tag) n e s (λ e m
     by_case false (suc n) e s h = ap (λ r. l ∷ r) (h e n (omega (arith, s)))
 
 -- if there is none, nothing is changed
-nearest-none : (test : TagView → Bool) (f : Content → Content) (path : Path) → outside_nearest test path ≡ None → at_nearest test f path ≡ path
+nearest-none : (test : TagView → Bool) (f : OpeningChoice → OpeningChoice) (path : Path) → outside_nearest test path ≡ None → at_nearest test f path ≡ path
 nearest-none test f [] e = refl
 nearest-none test f (l ∷ path) e = by_case (test l.tag) e (nearest-none test f path)
   where

@@ -3,7 +3,7 @@ use Rattle.std.proofs.Common.{◌≡◌, ℕ, zero, suc, ◌+◌, ◌-◌, ◌<�
 use Rattle.std.specs.Prelude.{is_some}
 use Rattle.std.proofs.lemmas.Bool.{false≢true, true≢false}
 use Rattle.std.proofs.lemmas.List.{append_assoc, append-nil, length-map, length-reverse, map-append, reverse-append, take_more, take_all, take-append-drop, get_or-append-add}
-use Rattle.tocmark_spelling.specs.Page.{Content, Level, Path, prefix_of}
+use Rattle.tocmark_spelling.specs.Page.{OpeningChoice, Level, Path, prefix_of}
 use Rattle.tocmark_write_containers.specs.FrameOf.{level_of}
 use Rattle.tocmark_write_containers.specs.KeptOf.{outside_at, present, seen}
 use Rattle.tocmark_write_containers.specs.Nesting.{changed, changed_level, head_of}
@@ -85,7 +85,7 @@ joined-bound ks n =
     omega (arith, ap (λ x. length (prefix_of x)) whole, ap length (prefix-append inner outer), length-append (prefix_of outer) (prefix_of inner))
 
 -- a content that is changed leaves it
-pub prefix-changed : (n : ℕ) (f : Content → Content) (ls : Path) → prefix_of (changed n f ls) ≡ prefix_of ls
+pub prefix-changed : (n : ℕ) (f : OpeningChoice → OpeningChoice) (ls : Path) → prefix_of (changed n f ls) ≡ prefix_of ls
 prefix-changed n f [] = refl
 prefix-changed zero f (l ∷ ls) = refl
 prefix-changed (suc n) f (l ∷ ls) = ap (λ r. r ++ l.prefix) (prefix-changed n f ls)
@@ -122,17 +122,17 @@ module _ (f : Kept → Level) (ks rest : List Kept) (k : Kept) (is : ks ≡ rest
 
 -- ---- one of them replaced
 
-changed-end : (f : Content → Content) (xs : Path) (l : Level) → changed (length xs) f (xs ++ l ∷ []) ≡ xs ++ changed_level f l ∷ []
+changed-end : (f : OpeningChoice → OpeningChoice) (xs : Path) (l : Level) → changed (length xs) f (xs ++ l ∷ []) ≡ xs ++ changed_level f l ∷ []
 changed-end f [] l = refl
 changed-end f (x ∷ xs) l = ap (λ r. x ∷ r) (changed-end f xs l)
 
-changed-front : (f : Content → Content) (xs ys : Path) (n : ℕ) → n < length xs → changed n f (xs ++ ys) ≡ changed n f xs ++ ys
+changed-front : (f : OpeningChoice → OpeningChoice) (xs ys : Path) (n : ℕ) → n < length xs → changed n f (xs ++ ys) ≡ changed n f xs ++ ys
 changed-front f [] ys n h = absurd (omega arith)
 changed-front f (x ∷ xs) ys zero h = refl
 changed-front f (x ∷ xs) ys (suc n) h = ap (λ r. x ∷ r) (changed-front f xs ys n (omega arith))
 
 -- the innermost is 0, and it is the last
-reverse-changed : (f : Content → Content) (ls : Path) (i n : ℕ) → i < length ls → n + i + 1 ≡ length ls → reverse (changed i f ls) ≡ changed n f (reverse ls)
+reverse-changed : (f : OpeningChoice → OpeningChoice) (ls : Path) (i n : ℕ) → i < length ls → n + i + 1 ≡ length ls → reverse (changed i f ls) ≡ changed n f (reverse ls)
 reverse-changed f [] i n h e = absurd (omega arith)
 reverse-changed f (l ∷ ls) zero n h e =
     let q : n ≡ length (reverse ls) = omega (arith, length-reverse ls, e) in
@@ -146,13 +146,13 @@ reverse-changed f (l ∷ ls) (suc i) n h e =
     ∙ sym (changed-front f (reverse ls) (l ∷ []) n (omega (arith, length-reverse ls, e)))
     ∙ ap (changed n f) (sym (reverse-append (l ∷ []) ls))
 
-change-one : (f : Content → Content) (ks : List Kept) (i : ℕ) (k d : Kept) → i < length ks → d ≡ get_or ks i d → present k ≡ changed_level f (present d) → map present (set ks i k) ≡ changed i f (map present ks)
+change-one : (f : OpeningChoice → OpeningChoice) (ks : List Kept) (i : ℕ) (k d : Kept) → i < length ks → d ≡ get_or ks i d → present k ≡ changed_level f (present d) → map present (set ks i k) ≡ changed i f (map present ks)
 change-one f [] i k d less at e = absurd (omega arith)
 change-one f (x ∷ xs) zero k d less at e = ap (λ l. l ∷ map present xs) (e ∙ ap (λ y. changed_level f (present y)) at)
 change-one f (x ∷ xs) (suc i) k d less at e = ap (λ ls. present x ∷ ls) (change-one f xs i k d (omega arith) at e)
 
 -- one container's content replaced, seen from all of them
-pub change-seen : (f : Content → Content) (ks : List Kept) (i n : ℕ) (k d : Kept) → i < length ks → n + i + 1 ≡ length ks → d ≡ get_or ks i d → present k ≡ changed_level f (present d) → seen present (set ks i k) ≡ changed n f (seen present ks)
+pub change-seen : (f : OpeningChoice → OpeningChoice) (ks : List Kept) (i n : ℕ) (k d : Kept) → i < length ks → n + i + 1 ≡ length ks → d ≡ get_or ks i d → present k ≡ changed_level f (present d) → seen present (set ks i k) ≡ changed n f (seen present ks)
 change-seen f ks i n k d less sum at e =
     ap reverse (change-one f ks i k d less at e)
     ∙ reverse-changed f (map present ks) i n (omega (arith, length-map ks present)) (omega (arith, sum, length-map ks present))

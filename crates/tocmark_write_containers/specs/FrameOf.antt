@@ -3,12 +3,12 @@ use Rattle.std.specs.Prelude.{string_bytes}
 use Rattle.tocmark_event.specs.View.{tag_view}
 use Rattle.tocmark_spelling.specs.Page as page
 use Rattle.tocmark_spelling.specs.Page.{Plain, Underlined, Fence, HtmlEnds, Listed, Defined, Headers, Width, Delimited, Named, Level}
-use Rattle.tocmark_write_containers.specs.declared.content.Content.{Content}
-use Rattle.tocmark_write_containers.specs.declared.content.Content.TheVariants as content
+use Rattle.tocmark_write_containers.specs.declared.content.OpeningChoice.{OpeningChoice}
+use Rattle.tocmark_write_containers.specs.declared.content.OpeningChoice.TheVariants as content
 use Rattle.tocmark_write_containers.specs.declared.frame.Frame.{Frame}
 
 -- what the opening of a container chose, as a plain value
-abbrev pub content_view : Content → page.Content
+abbrev pub content_view : OpeningChoice → page.OpeningChoice
 content_view content.Plain = Plain
 content_view (content.Underlined b) = Underlined b
 content_view (content.Fence f) = Fence (string_bytes f)

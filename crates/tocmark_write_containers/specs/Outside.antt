@@ -4,7 +4,7 @@ use Rattle.tocmark_event.specs.View.{TagView}
 use Rattle.tocmark_spelling.specs.Kinds.{is_list, is_item, is_heading, is_table, is_cell, is_emphasis, is_emphasis_or_strong, is_strikethrough}
 use Rattle.tocmark_spelling.specs.Marker.{opening_token}
 use Rattle.tocmark_spelling.specs.Opening.{bullet_of, is_double, is_number, nearest_bullet}
-use Rattle.tocmark_spelling.specs.Page.{Content, Path}
+use Rattle.tocmark_spelling.specs.Page.{OpeningChoice, Path}
 use Rattle.tocmark_spelling.specs.Places.{depth_in, is_in, is_raw_tag, nearest}
 use Rattle.tocmark_spelling.specs.Stretch.{is_bullet_hyphen, is_in_hyphen_list}
 use Rattle.tocmark_spelling.specs.Words.{or_else}
@@ -25,7 +25,7 @@ outside_nearest test [] = None
 outside_nearest test (l ∷ path) = if test l.tag then Some (length path) else outside_nearest test path
 
 -- whether a container began with `~~`
-abbrev pub begins_double : Content → Bool
+abbrev pub begins_double : OpeningChoice → Bool
 begins_double c = bytes_eq (opening_token c) (codes "~~")
 
 -- which containers are open at a place, and what they chose
@@ -48,7 +48,7 @@ outside_of path = record {
 }
 
 -- the same inside one more container, outside of which so many are open
-abbrev pub within : TagView → ℕ → Content → ℕ → Outside → Outside
+abbrev pub within : TagView → ℕ → OpeningChoice → ℕ → Outside → Outside
 within t start c depth o = record {
   in_list = is_list t || o.in_list;
   in_two_lists = (is_list t && o.in_list) || o.in_two_lists;

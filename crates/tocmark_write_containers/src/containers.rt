@@ -12,7 +12,7 @@ ghost use Rattle.tocmark_write_containers.specs.Nesting.{entered, head_of, is_co
 ghost use Rattle.tocmark_write_containers.specs.Outside.{outside_of};
 ghost use Rattle.tocmark_write_containers.specs.declared.kept.Kept.{Kept};
 
-use crate::content::Content;
+use crate::content::OpeningChoice;
 use crate::frame::Frame;
 use crate::kept::{Kept, add_header, forget_all, put, put_back, restore_all, set_number, widen};
 use crate::outside::Outside;
@@ -147,8 +147,8 @@ impl<'a> Containers<'a> {
             return false;
         }
         match self.frames[n - 1].frame.content {
-            Content::Defined(has_paragraph) => !has_paragraph,
-            Content::Listed(choice) => choice.tight,
+            OpeningChoice::Defined(has_paragraph) => !has_paragraph,
+            OpeningChoice::Listed(choice) => choice.tight,
             _ => is_item(self.frames[n - 1].frame.tag) && is_in_tight_list(&self.frames, n - 1),
         }
     }
@@ -162,7 +162,7 @@ impl<'a> Containers<'a> {
             return false;
         }
         match self.frames[n - 1].frame.content {
-            Content::Listed(choice) => !choice.tight,
+            OpeningChoice::Listed(choice) => !choice.tight,
             _ => false,
         }
     }
@@ -173,7 +173,7 @@ impl<'a> Containers<'a> {
         tag: &'a TagOf<String>,
         prefix: String,
         start: usize,
-        content: Content,
+        content: OpeningChoice,
     ) -> Result<(), AllocError>
         ensures path { OnOk result (self.new.path
             ≡ entered (tag_view string_bytes tag.entry.now) (string_bytes prefix) start
@@ -310,7 +310,7 @@ fn is_in_tight_list(frames: &[Kept<'_>], n: usize) -> bool
         return false;
     }
     match frames[n - 1].frame.content {
-        Content::Listed(choice) => choice.tight,
+        OpeningChoice::Listed(choice) => choice.tight,
         _ => false,
     }
 }

@@ -13,7 +13,7 @@ use tocmark_spelling::list_choice::ListChoice;
 
 /// What the opening of a container chose, and what its children changed since.
 #[derive(Drop)]
-pub enum Content {
+pub enum OpeningChoice {
     Plain,
     /// A heading: whether it is underlined.
     Underlined(bool),
@@ -49,12 +49,12 @@ fn copied_widths(alloc: Global, widths: &[usize]) -> Result<Vec<usize>, AllocErr
     Ok(copy)
 }
 
-fn copied_delimiters(alloc: Global, before: &str, after: &str) -> Result<Content, AllocError>
+fn copied_delimiters(alloc: Global, before: &str, after: &str) -> Result<OpeningChoice, AllocError>
     ensures { IfOk result (λ copy. content_view copy ≡ Delimited before.now after.now) }
 {
     let first = String::from_str(alloc, before)?;
     let last = String::from_str(alloc, after)?;
-    Ok(Content::Delimited {
+    Ok(OpeningChoice::Delimited {
         before: first,
         after: last,
     })
@@ -71,27 +71,32 @@ fn bullet_in(choice: ListChoice) -> Option<char>
     }
 }
 
-impl Content {
+impl OpeningChoice {
     /// An equal content. An `Err` says that memory ran out.
-    pub fn copied(&self, alloc: Global) -> Result<Content, AllocError>
+    pub fn copied(&self, alloc: Global) -> Result<OpeningChoice, AllocError>
         ensures { IfOk result (λ copy. content_view copy ≡ content_view self.now) }
     {
         match self {
-            Content::Plain => Ok(Content::Plain),
-            Content::Underlined(underlined) => Ok(Content::Underlined(*underlined)),
-            Content::Fence(fence) => Ok(Content::Fence(String::from_str(alloc, fence.as_str())?)),
-            Content::HtmlEnds { blank, closed } => Ok(Content::HtmlEnds {
+            OpeningChoice::Plain => Ok(OpeningChoice::Plain),
+            OpeningChoice::Underlined(underlined) => Ok(OpeningChoice::Underlined(*underlined)),
+            OpeningChoice::Fence(fence) => Ok(OpeningChoice::Fence(String::from_str(
+                alloc,
+                fence.as_str(),
+            )?)),
+            OpeningChoice::HtmlEnds { blank, closed } => Ok(OpeningChoice::HtmlEnds {
                 blank: *blank,
                 closed: *closed,
             }),
-            Content::Listed(choice) => Ok(Content::Listed(*choice)),
-            Content::Defined(has_paragraph) => Ok(Content::Defined(*has_paragraph)),
-            Content::Headers(widths) => Ok(Content::Headers(copied_widths(alloc, widths)?)),
-            Content::Width(width) => Ok(Content::Width(*width)),
-            Content::Delimited { before, after } => {
+            OpeningChoice::Listed(choice) => Ok(OpeningChoice::Listed(*choice)),
+            OpeningChoice::Defined(has_paragraph) => Ok(OpeningChoice::Defined(*has_paragraph)),
+            OpeningChoice::Headers(widths) => Ok(OpeningChoice::Headers(copied_widths(
+                alloc, widths,
+            )?)),
+            OpeningChoice::Width(width) => Ok(OpeningChoice::Width(*width)),
+            OpeningChoice::Delimited { before, after } => {
                 copied_delimiters(alloc, before.as_str(), after.as_str())
             }
-            Content::Named(by_id) => Ok(Content::Named(*by_id)),
+            OpeningChoice::Named(by_id) => Ok(OpeningChoice::Named(*by_id)),
         }
     }
 
@@ -100,7 +105,7 @@ impl Content {
         ensures { result ≡ bullet_of (content_view self.now) }
     {
         match self {
-            Content::Listed(choice) => bullet_in(*choice),
+            OpeningChoice::Listed(choice) => bullet_in(*choice),
             _ => None,
         }
     }
@@ -117,7 +122,7 @@ impl Content {
         ensures { result ≡ begins_double (content_view self.now) }
     {
         match self {
-            Content::Delimited { before, .. } => before.as_str() == "~~",
+            OpeningChoice::Delimited { before, .. } => before.as_str() == "~~",
             _ => false,
         }
     }
@@ -128,7 +133,7 @@ impl Content {
             (content_view self.new ≡ wider characters (content_view self.old)) }
         ensures stays { OnErr result (content_view self.new ≡ content_view self.old) }
     {
-        if let Content::Width(width) = self {
+        if let OpeningChoice::Width(width) = self {
             *width = width.checked_add(characters).ok_or(AllocError)?;
         }
         Ok(())
@@ -140,7 +145,7 @@ impl Content {
             (content_view self.new ≡ with_width width (content_view self.old)) }
         ensures stays { OnErr result (content_view self.new ≡ content_view self.old) }
     {
-        if let Content::Headers(widths) = self {
+        if let OpeningChoice::Headers(widths) = self {
             widths.push(width)?;
         }
         Ok(())

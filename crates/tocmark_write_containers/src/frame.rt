@@ -3,7 +3,7 @@
 ghost use Rattle.std.specs.Prelude.{◌≡◌, IfOk};
 ghost use Rattle.tocmark_write_containers.specs.FrameOf.{level_of};
 
-use crate::content::Content;
+use crate::content::OpeningChoice;
 use crate::outside::Outside;
 use std::alloc::{AllocError, Global};
 use tocmark_event::event::TagOf;
@@ -18,7 +18,7 @@ pub struct Frame<'a> {
     pub start: usize,
     /// What it and the containers around it say of a place.
     pub outside: Outside,
-    pub content: Content,
+    pub content: OpeningChoice,
 }
 
 impl<'a> Frame<'a> {

@@ -5,7 +5,7 @@ ghost use Rattle.tocmark_write_containers.specs.Nesting.{changed, changed_level,
 ghost use Rattle.tocmark_write_containers.specs.KeptOf.{original, outside_at, present, seen};
 ghost use Rattle.tocmark_spelling.specs.Places.{wider, with_width};
 
-use crate::content::Content;
+use crate::content::OpeningChoice;
 use crate::frame::Frame;
 use std::alloc::{AllocError, Global};
 use std::mem;
@@ -16,7 +16,7 @@ use tocmark_spelling::list_choice::ListChoice;
 pub struct Kept<'a> {
     pub frame: Frame<'a>,
     /// Its content at the mark, if it was replaced since.
-    pub before: Option<Content>,
+    pub before: Option<OpeningChoice>,
 }
 
 impl<'a> Kept<'a> {
@@ -39,10 +39,10 @@ impl<'a> Kept<'a> {
         ensures original { original self.new ≡ original self.old }
         ensures outside { outside_at self.new ≡ outside_at self.old }
     {
-        let Content::Listed(choice) = self.frame.content else {
+        let OpeningChoice::Listed(choice) = self.frame.content else {
             return;
         };
-        let listed = Content::Listed(ListChoice { number, ..choice });
+        let listed = OpeningChoice::Listed(ListChoice { number, ..choice });
         let old = mem::replace(&mut self.frame.content, listed);
         if self.before.is_none() {
             self.before = Some(old);

@@ -7,7 +7,7 @@ ghost use Rattle.tocmark_write_containers.specs.Outside.{begins_double, item_sta
 ghost use Rattle.tocmark_spelling.specs.Kinds.{is_cell, is_emphasis, is_emphasis_or_strong, is_list, is_strikethrough};
 ghost use Rattle.tocmark_spelling.specs.Opening.{is_number};
 
-use crate::content::Content;
+use crate::content::OpeningChoice;
 use tocmark_event::event::TagOf;
 use tocmark_spelling::kinds::{is_heading, is_item, is_list, is_raw_tag, is_table};
 
@@ -124,7 +124,7 @@ impl Outside {
     }
 
     /// `in_double` inside one more container.
-    fn double_within(self, tag: &TagOf<String>, content: &Content) -> bool
+    fn double_within(self, tag: &TagOf<String>, content: &OpeningChoice) -> bool
         ensures { result ≡ (if is_strikethrough (tag_view string_bytes tag.now)
             then begins_double (content_view content.now) else self.in_double) }
     {
@@ -141,7 +141,7 @@ impl Outside {
         self,
         tag: &TagOf<String>,
         start: usize,
-        content: &Content,
+        content: &OpeningChoice,
         depth: usize,
     ) -> Outside
         ensures { result ≡ within (tag_view string_bytes tag.now) start

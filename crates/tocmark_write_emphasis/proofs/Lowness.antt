@@ -18,9 +18,9 @@ use Rattle.tocmark_spelling.specs.declared.plan.Layout.TheVariants.{Preferred, R
 use Rattle.tocmark_spelling.specs.declared.plan.TextSpelling.{TextSpelling}
 use Rattle.tocmark_spelling.specs.declared.plan.TextSpelling.TheVariants.{Escaped, Literal, Entities, LiteralEntities}
 use Rattle.tocmark_write_emphasis.specs.Facts.{AreLow, HasLow, IsNearest, IsPlace, asked_by}
-use Rattle.tocmark_write_emphasis.specs.declared.facts.Node.{Node}
+use Rattle.tocmark_write_emphasis.specs.declared.facts.EmphasisEvents.{EmphasisEvents}
 use Rattle.tocmark_write_emphasis.specs.declared.facts.Parent.{Parent}
-use Rattle.tocmark_write_emphasis.specs.declared.facts.Place.{Place}
+use Rattle.tocmark_write_emphasis.specs.declared.facts.NodeSurroundings.{NodeSurroundings}
 use Rattle.tocmark_write_emphasis.proofs.Nodes.{marker-bound}
 use Rattle.tocmark_write_emphasis.specs.Low.{chooses_bytes, AreLowAsked, AreLowLevels, AsksLow, HasLowLiterals, OpensLow}
 
@@ -42,7 +42,7 @@ pub asked-low : (d : Delimiters) (strong : Bool) → AreLowAsked d → asked_by 
 asked-low d true h = h.strong
 asked-low d false h = h.emphasis
 
-are-low : (d : Delimiters) (layout : Layout) (node : Node) (place : Place) (token : List ℕ) (l : Look) (path : Path) (p : Page)
+are-low : (d : Delimiters) (layout : Layout) (node : EmphasisEvents) (place : NodeSurroundings) (token : List ℕ) (l : Look) (path : Path) (p : Page)
     → AreLowAsked d → AreLowLevels path → HasLowLiterals node → IsPlace layout place token l path p → AreLow (asked_by d node.strong) node place
 are-low d layout node place token l path p asked levels literals is =
     record {
@@ -52,7 +52,7 @@ are-low d layout node place token l path p asked levels literals is =
       after = literals.after;
     }
 
-where-low : (layout : Layout) (asked : ℕ) (node : Node) (place : Place) → (chooses_bytes layout ≡ true → AreLow asked node place) → HasLow layout asked node place
+where-low : (layout : Layout) (asked : ℕ) (node : EmphasisEvents) (place : NodeSurroundings) → (chooses_bytes layout ≡ true → AreLow asked node place) → HasLow layout asked node place
 where-low Preferred asked node place h = tt
 where-low Uniform asked node place h = tt
 where-low Runs asked node place h = h refl
@@ -60,7 +60,7 @@ where-low (Shared ends adjacent split) asked node place h = h refl
 where-low RuleThree asked node place h = h refl
 
 -- the markers that may be chosen at a place
-pub has-low : (d : Delimiters) (node : Node) (place : Place) (token : List ℕ) (l : Look) (path : Path) (p : Page)
+pub has-low : (d : Delimiters) (node : EmphasisEvents) (place : NodeSurroundings) (token : List ℕ) (l : Look) (path : Path) (p : Page)
     → AsksLow d → OpensLow d path → HasLowLiterals node → IsPlace d.layout place token l path p → HasLow d.layout (asked_by d node.strong) node place
 has-low d node place token l path p asked levels literals is =
     where-low d.layout (asked_by d node.strong) node place (λ e. are-low d d.layout node place token l path p (asked e) (levels e) literals is)

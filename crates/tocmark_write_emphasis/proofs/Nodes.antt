@@ -27,7 +27,7 @@ use Rattle.tocmark_write_lookahead.specs.Sides.{no_side, picked, run_of, side_at
 use Rattle.tocmark_write_lookahead.specs.declared.sides.Side.{Side}
 use Rattle.tocmark_write_lookahead.proofs.Ahead.{place-within, place-rest, place-before, opening-look, closing-look, width-look, prefers-look}
 use Rattle.tocmark_write_emphasis.specs.Facts.{Readings, run_view, tag_of, tag_at}
-use Rattle.tocmark_write_emphasis.specs.declared.facts.Node.{Node}
+use Rattle.tocmark_write_emphasis.specs.declared.facts.EmphasisEvents.{EmphasisEvents}
 use Rattle.tocmark_write_emphasis.specs.ColumnsOf.{AreColumns}
 use Rattle.tocmark_write_emphasis.specs.Low.{HasLowLiterals}
 use Rattle.tocmark_write_emphasis.specs.NodeOf.{Begins, IsTold, IsNodeOf}
@@ -102,7 +102,7 @@ prefers-by reading es rest i t c false layout_is o flags label cols at e =
     cols.by_runs o flags label i t rest at ∙ ap (λ b. is_disturbed (setting_of o flags reading label) (not b) (Start t ∷ reverse (take i es)) rest) (sym e)
 
 -- what was found at a place
-pub record IsFound (es : List SourcedEvent) (i end : ℕ) (e : SourcedEvent) (c : Columns) (preferred : Bool) (next : Option EventView) (own : ℕ) (before first last after : Side) (n : Node) : Type 0 where
+pub record IsFound (es : List SourcedEvent) (i end : ℕ) (e : SourcedEvent) (c : Columns) (preferred : Bool) (next : Option EventView) (own : ℕ) (before first last after : Side) (n : EmphasisEvents) : Type 0 where
   pub strong : n.strong ≡ starts is_strong (unsourced e)
   pub follows : n.follows_closing ≡ ends_delimiter (front (reverse (take i es)))
   pub next_is : n.next ≡ edge_after (or_else (front (drop (end + 1) es)) next)
@@ -120,7 +120,7 @@ start-is : (es rest : List SourcedEvent) (i : ℕ) (e : SourcedEvent) (t : TagVi
 start-is es rest i e t a b = ap (λ x. get_or x 0 e) (sym a ∙ b)
 
 -- a place where a container of emphasis or strong emphasis starts
-module _ (reading : Readings) (es rest : List SourcedEvent) (i end : ℕ) (e : SourcedEvent) (t : TagView) (c : Columns) (preferred : Bool) (next : Option EventView) (own : ℕ) (before first last after : Side) (n : Node) (cols : AreColumns reading es c) (end_is : end ≡ i + 1 + span 0 rest) (event : drop i es ≡ e ∷ drop (i + 1) es) (begins : Begins es i t rest) (found : IsFound es i end e c preferred next own before first last after n) where
+module _ (reading : Readings) (es rest : List SourcedEvent) (i end : ℕ) (e : SourcedEvent) (t : TagView) (c : Columns) (preferred : Bool) (next : Option EventView) (own : ℕ) (before first last after : Side) (n : EmphasisEvents) (cols : AreColumns reading es c) (end_is : end ≡ i + 1 + span 0 rest) (event : drop i es ≡ e ∷ drop (i + 1) es) (begins : Begins es i t rest) (found : IsFound es i end e c preferred next own before first last after n) where
   lt : i < length es
   lt = place-within es rest i (Start t) begins.at
 
@@ -204,7 +204,7 @@ marker_only-low (Some c) = by_case (is_marker c) (marker-bound c)
 side-low : (first : Bool) (width : SourcedEvent → ℕ) (es : List SourcedEvent) → IfSome (side_at first width es).literal (λ c. c < 128)
 side-low first width es = marker_only-low (edge (picked first) (text_only (front (behind_run width es))))
 
-pub literals-low : (reading : Readings) (es : List SourcedEvent) (c : Columns) → AreColumns reading es c → (i end own own' : ℕ) (before first last after : Side) (n : Node) → i < length es
+pub literals-low : (reading : Readings) (es : List SourcedEvent) (c : Columns) → AreColumns reading es c → (i end own own' : ℕ) (before first last after : Side) (n : EmphasisEvents) → i < length es
     → run_view n.opening ≡ run_of own before first → run_view n.closing ≡ run_of own' last after
     → before ≡ slice_index_or c.starts_before.items i no_side → after ≡ slice_index_or c.ends_ahead.items (end + 1) no_side → HasLowLiterals n
 literals-low reading es c cols i end own own' before first last after n lt opening closing before_is after_is =

@@ -14,7 +14,7 @@ use Rattle.tocmark_spelling.specs.Look.{Look, look}
 use Rattle.tocmark_spelling.specs.Machine.{Machine, going, step, begun_if, started, entered, arrive, around, kids_of, behind_end}
 use Rattle.tocmark_spelling.specs.Marker.{opening_token, asked_marker, marker_of}
 use Rattle.tocmark_spelling.specs.Opening.{entered_if, is_uniform, item_in, opening}
-use Rattle.tocmark_spelling.specs.Page.{Content, Plain, HtmlEnds, Listed, Width, Headers, Level, Path, Page, Site, Around, front}
+use Rattle.tocmark_spelling.specs.Page.{OpeningChoice, Plain, HtmlEnds, Listed, Width, Headers, Level, Path, Page, Site, Around, front}
 use Rattle.tocmark_spelling.specs.Places.{is_in, is_directly_in, widened, widened_level, wider, with_header, with_width, width_of}
 use Rattle.tocmark_spelling.specs.Plan.{Setting, Manner}
 use Rattle.tocmark_spelling.specs.PlanOf.{manner_of}
@@ -32,14 +32,14 @@ use Rattle.tocmark_write_emphasis.specs.Low.{chooses_bytes, AreLowLevels, AsksLo
 nothing-low : 0 < 128
 nothing-low = omega arith
 
-token-low : (l : Level) (c : Content) → opening_token c ≡ opening_token l.content → (is_emphasis_or_strong l.tag ≡ true → marker_of l < 128) → is_emphasis_or_strong l.tag ≡ true → slice_index (opening_token c) 0 < 128
+token-low : (l : Level) (c : OpeningChoice) → opening_token c ≡ opening_token l.content → (is_emphasis_or_strong l.tag ≡ true → marker_of l < 128) → is_emphasis_or_strong l.tag ≡ true → slice_index (opening_token c) 0 < 128
 token-low l c same h e = subst (λ t. slice_index t 0 < 128) (sym same) (h e)
 
-wider-token : (n : ℕ) (c : Content) → opening_token (wider n c) ≡ opening_token c
+wider-token : (n : ℕ) (c : OpeningChoice) → opening_token (wider n c) ≡ opening_token c
 wider-token n (Width k) = refl
 wider-token n c = refl
 
-width-token : (n : ℕ) (c : Content) → opening_token (with_width n c) ≡ opening_token c
+width-token : (n : ℕ) (c : OpeningChoice) → opening_token (with_width n c) ≡ opening_token c
 width-token n (Headers ns) = refl
 width-token n c = refl
 
@@ -84,11 +84,11 @@ low-either : (b : Bool) (x y : Option Site) → IsLowAt x → IsLowAt y → IsLo
 low-either true x y h k = h
 low-either false x y h k = k
 
-if-low : (b : Bool) (t : TagView) (prefix : List ℕ) (c : Content) (path : Path) (p : Page) → is_emphasis_or_strong t ≡ false → AreLowLevels path → IsLowAt (entered_if b t prefix c path p)
+if-low : (b : Bool) (t : TagView) (prefix : List ℕ) (c : OpeningChoice) (path : Path) (p : Page) → is_emphasis_or_strong t ≡ false → AreLowLevels path → IsLowAt (entered_if b t prefix c path p)
 if-low true t prefix c path p e h = ((λ k. absurd (false≢true (sym e ∙ k))), h)
 if-low false t prefix c path p e h = tt
 
-item-low : (s : Setting) (c : Content) (list : Level) (l : Look) (outside : Path) (p : Page) → AreLowLevels outside → IsLowAt (item_in s c list l outside p)
+item-low : (s : Setting) (c : OpeningChoice) (list : Level) (l : Look) (outside : Path) (p : Page) → AreLowLevels outside → IsLowAt (item_in s c list l outside p)
 item-low s (Listed c) list l outside p h = ((λ k. absurd (false≢true k)), ((λ k. nothing-low), h))
 item-low s c list l outside p h = tt
 
@@ -127,11 +127,11 @@ reference-low : (b : Bool) (path : Path) (p q : Page) → AreLowLevels path → 
 reference-low true path p q h = h
 reference-low false path p q h = h
 
-html-low : (o : OptionsView) (c : Content) (path : Path) (p : Page) → AreLowLevels path → AreLowLevels (close_html o c path p).path
+html-low : (o : OptionsView) (c : OpeningChoice) (path : Path) (p : Page) → AreLowLevels path → AreLowLevels (close_html o c path p).path
 html-low o (HtmlEnds blank closed) path p h = h
 html-low o c path p h = h
 
-list-low : (o : OptionsView) (t : TagView) (c : Content) (path : Path) (p : Page) → AreLowLevels path → AreLowLevels (close_list o t c path p).path
+list-low : (o : OptionsView) (t : TagView) (c : OpeningChoice) (path : Path) (p : Page) → AreLowLevels path → AreLowLevels (close_list o t c path p).path
 list-low o t (Listed c) path p h = h
 list-low o t c path p h = h
 

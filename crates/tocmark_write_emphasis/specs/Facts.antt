@@ -21,9 +21,9 @@ use Rattle.tocmark_spelling.specs.Runs as runs
 use Rattle.tocmark_spelling.specs.Runs.{run_around, last_run}
 use Rattle.tocmark_spelling.specs.Words.{last_character, last_byte}
 use Rattle.tocmark_write_emphasis.specs.declared.facts.Run.{Run}
-use Rattle.tocmark_write_emphasis.specs.declared.facts.Node.{Node}
+use Rattle.tocmark_write_emphasis.specs.declared.facts.EmphasisEvents.{EmphasisEvents}
 use Rattle.tocmark_write_emphasis.specs.declared.facts.Parent.{Parent}
-use Rattle.tocmark_write_emphasis.specs.declared.facts.Place.{Place}
+use Rattle.tocmark_write_emphasis.specs.declared.facts.NodeSurroundings.{NodeSurroundings}
 
 -- the tag of strong emphasis, or of emphasis
 abbrev pub tag_of : Bool → TagView
@@ -31,7 +31,7 @@ tag_of true = Strong
 tag_of false = Emphasis
 
 -- the tag of a node
-abbrev pub tag_at : Node → TagView
+abbrev pub tag_at : EmphasisEvents → TagView
 tag_at node = tag_of node.strong
 
 -- the markers that are asked for
@@ -53,7 +53,7 @@ run_view r = record {
 }
 
 -- what is told of a node is what its opening is told of the unit's events
-pub record IsNode (node : Node) (l : Look) : Type 0 where
+pub record IsNode (node : EmphasisEvents) (l : Look) : Type 0 where
   -- whether the event before it is an End of Emphasis or Strong
   pub follows_closing : ends_delimiter l.previous ≡ node.follows_closing
   -- the first character of the event behind it
@@ -89,7 +89,7 @@ IsNearest layout (Some f) (Some parent) l p = IsParent layout f parent l p
 
 -- what is told of a place is what the open containers and the page say, as far as the layout asks; the token is the
 -- marker of Emphasis that is asked for
-pub record IsPlace (layout : Layout) (place : Place) (token : List ℕ) (l : Look) (path : Path) (p : Page) : Type 0 where
+pub record IsPlace (layout : Layout) (place : NodeSurroundings) (token : List ℕ) (l : Look) (path : Path) (p : Page) : Type 0 where
   -- what the text ends with: its last character, its last byte, where runs are asked its last run of markers
   pub last_character : last_character p.sheet.text ≡ place.last_character
   pub last_byte : last_byte p.sheet.text ≡ place.last_byte
@@ -101,14 +101,14 @@ pub record IsPlace (layout : Layout) (place : Place) (token : List ℕ) (l : Loo
 
 -- the markers that may be chosen are ASCII: the one asked for, the parent's, and those that stand beside the node in
 -- Texts
-pub record AreLow (asked : ℕ) (node : Node) (place : Place) : Type 0 where
+pub record AreLow (asked : ℕ) (node : EmphasisEvents) (place : NodeSurroundings) : Type 0 where
   pub asked_is : asked < 128
   pub parent : IfSome place.parent (λ f. f.marker < 128)
   pub before : IfSome node.opening.literal_before (λ c. c < 128)
   pub after : IfSome node.closing.literal_after (λ c. c < 128)
 
 -- the same where the layout chooses among single bytes
-abbrev pub HasLow : Layout → ℕ → Node → Place → Type 0
+abbrev pub HasLow : Layout → ℕ → EmphasisEvents → NodeSurroundings → Type 0
 HasLow Preferred asked node place = Unit {0}
 HasLow Uniform asked node place = Unit {0}
 HasLow layout asked node place = AreLow asked node place

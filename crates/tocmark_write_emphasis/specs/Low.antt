@@ -8,7 +8,7 @@ use Rattle.tocmark_spelling.specs.declared.plan.Delimiters.{Delimiters}
 use Rattle.tocmark_spelling.specs.declared.plan.Layout.{Layout}
 use Rattle.tocmark_spelling.specs.declared.plan.Layout.TheVariants.{Preferred, Uniform}
 use Rattle.tocmark_write_emphasis.specs.Facts.{asked_by}
-use Rattle.tocmark_write_emphasis.specs.declared.facts.Node.{Node}
+use Rattle.tocmark_write_emphasis.specs.declared.facts.EmphasisEvents.{EmphasisEvents}
 
 -- whether a layout chooses among single bytes
 abbrev pub chooses_bytes : Layout → Bool
@@ -35,7 +35,7 @@ abbrev pub OpensLow : Delimiters → Path → Type 0
 OpensLow d path = chooses_bytes d.layout ≡ true → AreLowLevels path
 
 -- the markers that stand beside a node in Texts are ASCII
-pub record HasLowLiterals (node : Node) : Type 0 where
+pub record HasLowLiterals (node : EmphasisEvents) : Type 0 where
   pub before : IfSome node.opening.literal_before (λ c. c < 128)
   pub after : IfSome node.closing.literal_after (λ c. c < 128)
 

@@ -10,7 +10,7 @@ use Rattle.tocmark_spelling.specs.Plan.{Setting, Manner}
 use Rattle.tocmark_spelling.specs.PlanOf.{setting_of}
 use Rattle.tocmark_write_lookahead.specs.Ahead.{behind_body, IsNested}
 use Rattle.tocmark_write_emphasis.specs.Facts.{IsNode, Readings, tag_at}
-use Rattle.tocmark_write_emphasis.specs.declared.facts.Node.{Node}
+use Rattle.tocmark_write_emphasis.specs.declared.facts.EmphasisEvents.{EmphasisEvents}
 
 -- at this place starts a container of emphasis or strong emphasis, behind whose Start these events stand
 pub record Begins (es : List SourcedEvent) (i : ℕ) (t : TagView) (rest : List SourcedEvent) : Type 0 where
@@ -24,18 +24,18 @@ look_at s m es i t rest next = look s m t (kids_of rest) (around (reverse (take 
 
 -- what is told of a node is what its opening is told there, with this reader and whatever the options, flags and label
 -- are; it is said whether the layout is the preferred one
-abbrev pub IsTold : Readings → List SourcedEvent → ℕ → Bool → TagView → List SourcedEvent → Option EventView → Node → Type 0
+abbrev pub IsTold : Readings → List SourcedEvent → ℕ → Bool → TagView → List SourcedEvent → Option EventView → EmphasisEvents → Type 0
 IsTold reading es i preferred t rest next node =
     (o : OptionsView) (flags : ParserOptions) (label : Option (List ℕ)) (m : Manner)
     → is_preferred m.plan.layout ≡ preferred
     → IsNode node (look_at (setting_of o flags reading label) m es i t rest next)
 
 -- a node with this tag, and what is told of it
-pub record IsNodeOf (reading : Readings) (es : List SourcedEvent) (i : ℕ) (preferred : Bool) (t : TagView) (rest : List SourcedEvent) (next : Option EventView) (node : Node) : Type 0 where
+pub record IsNodeOf (reading : Readings) (es : List SourcedEvent) (i : ℕ) (preferred : Bool) (t : TagView) (rest : List SourcedEvent) (next : Option EventView) (node : EmphasisEvents) : Type 0 where
   pub tag : tag_at node ≡ t
   pub told : IsTold reading es i preferred t rest next node
 
 -- if a container of emphasis or strong emphasis starts at this place, it is this node
-abbrev pub IsNodeAt : Readings → List SourcedEvent → ℕ → Bool → Option EventView → Node → Type 0
+abbrev pub IsNodeAt : Readings → List SourcedEvent → ℕ → Bool → Option EventView → EmphasisEvents → Type 0
 IsNodeAt reading es i preferred next node =
     (t : TagView) (rest : List SourcedEvent) → Begins es i t rest → IsNodeOf reading es i preferred t rest next node

@@ -9,7 +9,7 @@ use crate::widths::opening_widths;
 use std::alloc::{AllocError, Global};
 use tocmark_event::reader::Reader;
 use tocmark_spelling::buffered::BufferedEvent;
-use tocmark_write_lookahead::marks::preferences;
+use tocmark_write_lookahead::preferred::preferences;
 use tocmark_write_lookahead::sides::{Counted, Side, sides_ahead, sides_before};
 
 /// For each event of a unit what emphasis and strong emphasis ask of it.

@@ -23,7 +23,7 @@ pub struct Run {
 
 /// What the events of a unit say of a node of emphasis or strong emphasis.
 #[derive(Clone, Copy)]
-pub struct Node {
+pub struct EmphasisEvents {
     /// Whether it is strong emphasis.
     pub strong: bool,
     /// Whether the event before it ends emphasis or strong emphasis.
@@ -55,7 +55,7 @@ pub struct Parent {
 
 /// What the written text and the open containers say of the place where a node opens.
 #[derive(Clone, Copy)]
-pub struct Place {
+pub struct NodeSurroundings {
     pub last_character: Option<char>,
     /// The last byte; 0 where nothing is written.
     pub last_byte: u8,

@@ -9,7 +9,7 @@ ghost use Rattle.tocmark_spelling.specs.Marker.{asked_token, in_width, marker_in
 ghost use Rattle.tocmark_write_emphasis.specs.Facts.{tag_of, tag_at, markers_of, asked_by, shared_token};
 ghost use Rattle.tocmark_write_emphasis.specs.Facts.{IsNode, IsPlace, HasLow, AreLow, GivesText};
 
-use crate::facts::{Node, Place, asked_marker};
+use crate::facts::{EmphasisEvents, NodeSurroundings, asked_marker};
 use crate::preferred::preferred_marker;
 use crate::runs::marker_by_runs;
 use crate::sharing::shared_marker;
@@ -51,8 +51,8 @@ fn in_preferred<R: Reader>(
     alloc: Global,
     reader: &R,
     delimiters: &Delimiters<'_>,
-    node: &Node,
-    place: &Place,
+    node: &EmphasisEvents,
+    place: &NodeSurroundings,
 ) -> Result<String, AllocError>
     ensures { (source : Bool) (l : Look) (path : Path) (p : Page)
         → IsNode node.now l
@@ -71,8 +71,8 @@ fn in_runs<R: Reader>(
     alloc: Global,
     reader: &R,
     delimiters: &Delimiters<'_>,
-    node: &Node,
-    place: &Place,
+    node: &EmphasisEvents,
+    place: &NodeSurroundings,
 ) -> Result<String, AllocError>
     ensures { (source : Bool) (l : Look) (path : Path) (p : Page)
         → IsNode node.now l
@@ -90,8 +90,8 @@ fn in_sharing<R: Reader>(
     alloc: Global,
     reader: &R,
     delimiters: &Delimiters<'_>,
-    node: &Node,
-    place: &Place,
+    node: &EmphasisEvents,
+    place: &NodeSurroundings,
 ) -> Result<String, AllocError>
     ensures { (source : Bool) (l : Look) (path : Path) (p : Page)
         → IsNode node.now l
@@ -117,8 +117,8 @@ pub fn marker<R: Reader>(
     alloc: Global,
     reader: &R,
     delimiters: &Delimiters<'_>,
-    node: &Node,
-    place: &Place,
+    node: &EmphasisEvents,
+    place: &NodeSurroundings,
 ) -> Result<String, AllocError>
     ensures { (source : Bool) (l : Look) (path : Path) (p : Page)
         → IsNode node.now l

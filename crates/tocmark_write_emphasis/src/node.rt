@@ -18,7 +18,7 @@ ghost use Rattle.tocmark_spelling.specs.Scans.{AreEnds};
 ghost use Rattle.tocmark_spelling.specs.Words.{first_character, or_else};
 
 use crate::columns::Columns;
-use crate::facts::{Node, Run};
+use crate::facts::{EmphasisEvents, Run};
 use crate::widths::width_behind;
 use std::alloc::AllocError;
 use tocmark_event::event::{EventOf, OwnedEvent, TagEnd, TagOf};
@@ -208,7 +208,7 @@ pub fn node_at(
     place: usize,
     preferred: bool,
     next: Option<&OwnedEvent>,
-) -> Result<Node, AllocError>
+) -> Result<EmphasisEvents, AllocError>
     requires within { place < length events.now }
     requires ends { AreEnds (map buffered_view events.now) ends.now }
     ensures node { (reading : Readings)
@@ -226,7 +226,7 @@ pub fn node_at(
     let opening = run_between(own, before, side_behind(&columns.starts_ahead, place))?;
     let last = side_at(&columns.ends_before, end);
     let closing = run_between(own, last, side_behind(&columns.ends_ahead, end))?;
-    Ok(Node {
+    Ok(EmphasisEvents {
         strong,
         follows_closing: follows_closing(events, place),
         next: edge_after(following(events, end, next)),

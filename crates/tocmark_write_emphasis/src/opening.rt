@@ -12,7 +12,7 @@ ghost use Rattle.tocmark_spelling.specs.Marker.{marker};
 ghost use Rattle.tocmark_spelling.specs.Opening.{open_emphasis};
 ghost use Rattle.tocmark_spelling.specs.PlanOf.{manner_of};
 
-use crate::facts::Node;
+use crate::facts::EmphasisEvents;
 use crate::marker::marker;
 use crate::place::place_of;
 use std::alloc::{AllocError, Global};
@@ -29,7 +29,7 @@ fn marker_here<R: Reader>(
     alloc: Global,
     reader: &R,
     delimiters: &Delimiters<'_>,
-    node: &Node,
+    node: &EmphasisEvents,
     next: Option<&OwnedEvent>,
 ) -> Result<String, AllocError>
     ensures marker { (source : Bool) (l : Look)
@@ -56,7 +56,7 @@ pub fn open_emphasis<'a, R: Reader>(
     reader: &R,
     manner: Manner<'_>,
     tag: &'a TagOf<String>,
-    node: &Node,
+    node: &EmphasisEvents,
     next: Option<&OwnedEvent>,
 ) -> Result<(), AllocError>
     ensures stands { (l : Look)

@@ -14,21 +14,21 @@ ghost use Rattle.tocmark_spelling.specs.Places.{nearest};
 ghost use Rattle.tocmark_spelling.specs.Runs.{last_run, run_around};
 
 use crate::ends::{last_byte, last_character};
-use crate::facts::{Parent, Place, asks_runs};
+use crate::facts::{NodeSurroundings, Parent, asks_runs};
 use std::alloc::{AllocError, Global};
 use tocmark_event::event::{EventOf, OwnedEvent, TagOf};
 use tocmark_spelling::plan::{Delimiters, Layout};
-use tocmark_write_containers::content::Content;
+use tocmark_write_containers::content::OpeningChoice;
 use tocmark_write_containers::frame::Frame;
 use tocmark_write_read_back::number::end_number;
 use tocmark_write_renderer::renderer::Renderer;
 
 /// What stands before the body of a delimited container.
-fn opening_token(content: &Content) -> &str
+fn opening_token(content: &OpeningChoice) -> &str
     ensures { result.now ≡ opening_token (content_view content.now) }
 {
     match content {
-        Content::Delimited { before, .. } => before.as_str(),
+        OpeningChoice::Delimited { before, .. } => before.as_str(),
         _ => "",
     }
 }
@@ -175,7 +175,7 @@ pub fn place_of(
     alloc: Global,
     delimiters: &Delimiters<'_>,
     next: Option<&OwnedEvent>,
-) -> Result<Place, AllocError>
+) -> Result<NodeSurroundings, AllocError>
     ensures place { (l : Look) → l.next_in_unit ≡ following_view next.entry
         → IfOk result (λ place. IsPlace delimiters.now.layout place
         (encode_utf8 delimiters.now.emphasis) l (levels_of renderer.old) (page_of renderer.old)) }
@@ -187,7 +187,7 @@ pub fn place_of(
     let parent = nearest(renderer, layout, next)?;
     let last_run = asked_last_run(renderer, layout)?;
     let text = renderer.text();
-    Ok(Place {
+    Ok(NodeSurroundings {
         last_character: last_character(text),
         last_byte: last_byte(text),
         last_run,

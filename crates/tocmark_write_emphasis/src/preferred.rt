@@ -7,7 +7,7 @@ ghost use Rattle.tocmark_spelling.specs.declared.plan.Layout.TheVariants.{Prefer
 ghost use Rattle.tocmark_spelling.specs.Marker.{preferred_marker};
 ghost use Rattle.tocmark_write_emphasis.specs.Facts.{IsNode, IsPlace, GivesText};
 
-use crate::facts::{Node, Place};
+use crate::facts::{EmphasisEvents, NodeSurroundings};
 use crate::runs::fits_underscore;
 use std::alloc::{AllocError, Global};
 use tocmark_event::reader::Reader;
@@ -33,8 +33,8 @@ pub fn preferred_marker<R: Reader>(
     alloc: Global,
     reader: &R,
     asked: char,
-    node: &Node,
-    place: &Place,
+    node: &EmphasisEvents,
+    place: &NodeSurroundings,
 ) -> Result<String, AllocError>
     ensures { (l : Look) (path : Path) (p : Page)
         → IsNode node.now l → IsPlace Preferred place.now (encode_utf8 asked) l path p

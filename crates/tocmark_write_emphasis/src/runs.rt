@@ -9,7 +9,7 @@ ghost use Rattle.tocmark_spelling.specs.Marker.{fits_underscore, beside_parent, 
 ghost use Rattle.tocmark_spelling.specs.Words.{same_truth};
 ghost use Rattle.tocmark_write_emphasis.specs.Facts.{IsNode, IsNearest, IsPlace, Gives};
 
-use crate::facts::{Node, Parent, Place, other_marker};
+use crate::facts::{EmphasisEvents, NodeSurroundings, Parent, other_marker};
 use std::alloc::{AllocError, Global};
 use tocmark_event::reader::Reader;
 use tocmark_write_lookahead::boundary::is_boundary;
@@ -101,8 +101,8 @@ pub fn marker_by_runs<R: Reader>(
     alloc: Global,
     reader: &R,
     asked: char,
-    node: &Node,
-    place: &Place,
+    node: &EmphasisEvents,
+    place: &NodeSurroundings,
 ) -> Result<char, AllocError>
     ensures marker { (token : List ℕ) (l : Look) (path : Path) (p : Page)
         → IsNode node.now l → IsPlace Runs place.now token l path p

@@ -4,17 +4,19 @@ ghost use Rattle.std.specs.Prelude.{◌≡◌, ◌<◌, ◌+◌, ◌&&◌, not, 
 ghost use Rattle.tocmark_spelling.specs.Look.{Look};
 ghost use Rattle.tocmark_spelling.specs.Page.{Level, Path, Page};
 ghost use Rattle.tocmark_spelling.specs.Marker.{is_divisible, copies_marker, after_closing, splits, shares_finish, may_split, shares_start, completes_three, shares_marker, inside_parent, marker_by_sharing, literal_marker};
-ghost use Rattle.tocmark_write_emphasis.specs.declared.facts.Place.{Place};
+ghost use Rattle.tocmark_write_emphasis.specs.declared.facts.NodeSurroundings.{NodeSurroundings};
 ghost use Rattle.tocmark_write_emphasis.specs.Facts.{tag_at, IsNode, IsParent, IsNearest, IsPlace, AreLow, Gives};
 
-use crate::facts::{Node, Parent, Place, is_divisible, is_marker, other_marker};
+use crate::facts::{
+    EmphasisEvents, NodeSurroundings, Parent, is_divisible, is_marker, other_marker,
+};
 use crate::runs::is_punctuation;
 use std::alloc::{AllocError, Global};
 use tocmark_event::reader::Reader;
 use tocmark_spelling::plan::{Layout, TextSpelling};
 
 /// Whether a node that follows a closing takes the marker written last.
-fn copies_marker(layout: Layout, node: &Node, place: &Place) -> bool
+fn copies_marker(layout: Layout, node: &EmphasisEvents, place: &NodeSurroundings) -> bool
     ensures { (token : List ℕ) (l : Look) (path : Path) (p : Page)
         → IsNode node.now l → IsPlace layout place.now token l path p
         → result ≡ copies_marker layout l p }
@@ -29,7 +31,7 @@ fn copies_marker(layout: Layout, node: &Node, place: &Place) -> bool
 }
 
 /// The marker of a node that follows a closing: the one written last, or the other one.
-fn after_closing(layout: Layout, node: &Node, place: &Place) -> char
+fn after_closing(layout: Layout, node: &EmphasisEvents, place: &NodeSurroundings) -> char
     ensures marker { (token : List ℕ) (l : Look) (path : Path) (p : Page)
         → IsNode node.now l → IsPlace layout place.now token l path p
         → result ≡ after_closing layout l p }
@@ -74,7 +76,7 @@ fn splits<R: Reader>(
     alloc: Global,
     reader: &R,
     layout: Layout,
-    node: &Node,
+    node: &EmphasisEvents,
 ) -> Result<bool, AllocError>
     ensures { (l : Look) → IsNode node.now l
         → Gives (R.reading reader.now) result (λ s. splits s (may_split layout) l) }
@@ -92,7 +94,7 @@ fn shares_start<R: Reader>(
     alloc: Global,
     reader: &R,
     layout: Layout,
-    node: &Node,
+    node: &EmphasisEvents,
     same_finish: bool,
 ) -> Result<bool, AllocError>
     ensures { (l : Look) → IsNode node.now l
@@ -108,7 +110,7 @@ fn shares_start<R: Reader>(
 
 /// By the rule of three: whether the parent's run and what the node opens with make up a multiple of
 /// three.
-fn completes_three(layout: Layout, node: &Node, parent: Parent) -> bool
+fn completes_three(layout: Layout, node: &EmphasisEvents, parent: Parent) -> bool
     ensures { (l : Look) (level : Level) (p : Page)
         → IsNode node.now l → IsParent layout parent level l p
         → result ≡ completes_three layout l level p }
@@ -124,7 +126,7 @@ fn shares_marker<R: Reader>(
     alloc: Global,
     reader: &R,
     layout: Layout,
-    node: &Node,
+    node: &EmphasisEvents,
     parent: Parent,
 ) -> Result<bool, AllocError>
     ensures { (l : Look) (level : Level) (p : Page)
@@ -147,7 +149,7 @@ fn inside_parent<R: Reader>(
     reader: &R,
     layout: Layout,
     asked: char,
-    node: &Node,
+    node: &EmphasisEvents,
     parent: Option<Parent>,
 ) -> Result<char, AllocError>
     ensures marker { (l : Look) (level : Option Level) (p : Page)
@@ -174,8 +176,8 @@ fn by_sharing<R: Reader>(
     reader: &R,
     layout: Layout,
     asked: char,
-    node: &Node,
-    place: &Place,
+    node: &EmphasisEvents,
+    place: &NodeSurroundings,
 ) -> Result<char, AllocError>
     ensures marker { (token : List ℕ) (l : Look) (path : Path) (p : Page)
         → IsNode node.now l → IsPlace layout place.now token l path p
@@ -191,10 +193,10 @@ fn by_sharing<R: Reader>(
 }
 
 /// With literal texts: the marker that stands in a text before or behind the node.
-fn literal_marker(text: TextSpelling, node: &Node) -> Option<char>
+fn literal_marker(text: TextSpelling, node: &EmphasisEvents) -> Option<char>
     ensures marker { (l : Look) → IsNode node.now l
         → result ≡ literal_marker text l }
-    ensures low { (asked : ℕ) (place : Place)
+    ensures low { (asked : ℕ) (place : NodeSurroundings)
         → AreLow asked node.now place → IfSome result (λ c. c < 128) }
 {
     match text {
@@ -211,8 +213,8 @@ pub fn shared_marker<R: Reader>(
     layout: Layout,
     text: TextSpelling,
     asked: char,
-    node: &Node,
-    place: &Place,
+    node: &EmphasisEvents,
+    place: &NodeSurroundings,
 ) -> Result<char, AllocError>
     ensures marker { (token : List ℕ) (l : Look) (path : Path) (p : Page)
         → IsNode node.now l → IsPlace layout place.now token l path p

@@ -22,7 +22,7 @@ use tocmark_event::event::{ParserOptions, TagOf};
 use tocmark_event::options::Options;
 use tocmark_spelling::plan::Layout;
 use tocmark_spelling::trail::Last;
-use tocmark_write_containers::content::Content;
+use tocmark_write_containers::content::OpeningChoice;
 use tocmark_write_renderer::job::{Job, Manner};
 use tocmark_write_renderer::renderer::Renderer;
 
@@ -55,7 +55,7 @@ pub fn open_between<'a>(
     renderer.push_frame(
         tag,
         String::new(alloc),
-        Content::Delimited {
+        OpeningChoice::Delimited {
             before: kept_before,
             after: kept_after,
         },
@@ -136,11 +136,11 @@ pub fn close_inline(renderer: &mut Renderer<'_>, text: &str) -> Result<(), Alloc
 }
 
 /// What stands behind the body of a delimited container; nothing for another one.
-fn closing_token(content: &Content) -> &str
+fn closing_token(content: &OpeningChoice) -> &str
     ensures { result.now ≡ closing_token (content_view content.now) }
 {
     match content {
-        Content::Delimited { after, .. } => after.as_str(),
+        OpeningChoice::Delimited { after, .. } => after.as_str(),
         _ => "",
     }
 }
@@ -148,7 +148,10 @@ fn closing_token(content: &Content) -> &str
 /// The end of a delimited container.
 ///
 /// An `Err` says that memory ran out.
-pub fn close_delimited(renderer: &mut Renderer<'_>, content: &Content) -> Result<(), AllocError>
+pub fn close_delimited(
+    renderer: &mut Renderer<'_>,
+    content: &OpeningChoice,
+) -> Result<(), AllocError>
     ensures stands { Closes result renderer.old renderer.new
         (close_inline (closing_token (content_view content.now))) }
     ensures mark { renderer.new.at_mark ≡ renderer.old.at_mark }

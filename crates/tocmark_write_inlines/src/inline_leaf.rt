@@ -15,7 +15,7 @@ use std::alloc::{AllocError, Global};
 use tocmark_event::event::OwnedEvent;
 use tocmark_spelling::trail::Last;
 use tocmark_write_renderer::renderer::Renderer;
-use tocmark_write_texts::escape::EscapePlace;
+use tocmark_write_texts::escape::EscapeSurroundings;
 use tocmark_write_texts::text_modifications::{code_span, math_text};
 
 /// Writes inline content, which stands behind its gap. An `Err` says that memory ran out.
@@ -34,7 +34,7 @@ pub fn write_inline(renderer: &mut Renderer<'_>, text: &str) -> Result<(), Alloc
 pub fn write_escaped_inline(
     renderer: &mut Renderer<'_>,
     text: &str,
-    place: &EscapePlace<'_>,
+    place: &EscapeSurroundings<'_>,
 ) -> Result<(), AllocError>
     ensures stands { OnOk result (Stands renderer.new (levels_of renderer.old)
         (with_last Inline (written (levels_of renderer.old)

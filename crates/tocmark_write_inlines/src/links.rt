@@ -17,7 +17,7 @@ use crate::delimiters::close_inline;
 use std::alloc::{AllocError, Global};
 use tocmark_event::event::{LinkType, TagOf};
 use tocmark_spelling::trail::Last;
-use tocmark_write_containers::content::Content;
+use tocmark_write_containers::content::OpeningChoice;
 use tocmark_write_containers::frame::Frame;
 use tocmark_write_renderer::parts::Reference;
 use tocmark_write_renderer::renderer::Renderer;
@@ -37,7 +37,7 @@ fn open_named<'a>(
     ensures mark { renderer.new.at_mark ≡ renderer.old.at_mark }
 {
     renderer.write(mark)?;
-    renderer.push_frame(tag, String::new(alloc), Content::Named(named))
+    renderer.push_frame(tag, String::new(alloc), OpeningChoice::Named(named))
 }
 
 /// Opens a link of this type; `named` says whether its id will stand in place of its body.
@@ -166,11 +166,11 @@ fn close_with_id(
 }
 
 /// Whether the body can't be the label: there is an id, which doesn't spell it.
-fn needs_id(content: &Content, id: &str) -> bool
+fn needs_id(content: &OpeningChoice, id: &str) -> bool
     ensures { result ≡ needs_id (content_view content.now) id.now }
 {
     match content {
-        Content::Named(true) => false,
+        OpeningChoice::Named(true) => false,
         _ => !id.is_empty(),
     }
 }

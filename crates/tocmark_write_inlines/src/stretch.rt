@@ -26,7 +26,7 @@ use tocmark_spelling::trail::copied_text;
 use tocmark_write_renderer::job::{Job, Manner};
 use tocmark_write_renderer::parts::Held;
 use tocmark_write_renderer::renderer::Renderer;
-use tocmark_write_texts::escape::EscapePlace;
+use tocmark_write_texts::escape::EscapeSurroundings;
 
 /// Where a stretch of texts stands.
 fn place<'b>(
@@ -35,13 +35,13 @@ fn place<'b>(
     text: TextSpelling,
     after_close: bool,
     next: Option<&'b OwnedEvent>,
-) -> EscapePlace<'b>
+) -> EscapeSurroundings<'b>
     ensures { escape_place result
         ≡ stretch_place (options_in job.entry) job.entry.flags text after_close
         (following_view next.entry) (levels_of renderer.now) (page_of renderer.now) }
 {
     let outside = renderer.outside();
-    EscapePlace {
+    EscapeSurroundings {
         flags: job.flags,
         token: job.options.emphasis_token,
         literal: text.is_literal(),

@@ -4,7 +4,7 @@ use Rattle.tocmark_write_texts.specs.Characters.{space}
 use Rattle.tocmark_event.specs.View.{EventView, Item}
 use Rattle.tocmark_spelling.specs.Kinds.{and_is, is_indented_code, is_list, starts}
 use Rattle.tocmark_spelling.specs.Opening.{entered, item_marker, with_label}
-use Rattle.tocmark_spelling.specs.Page.{Content, Plain, Listed, Path, Page, Site, with_last, written}
+use Rattle.tocmark_spelling.specs.Page.{OpeningChoice, Plain, Listed, Path, Page, Site, with_last, written}
 use Rattle.tocmark_spelling.specs.Places.{depth_in}
 use Rattle.tocmark_spelling.specs.declared.list_choice.ListChoice.{ListChoice}
 use Rattle.tocmark_spelling.specs.declared.trail.Last.TheVariants.{ItemStart}
@@ -14,7 +14,7 @@ abbrev pub is_before_code : Option EventView → Bool
 is_before_code next = and_is (λ e. starts is_indented_code e) next
 
 -- what a list chose; none for another container
-abbrev pub choice_in : Content → Option ListChoice
+abbrev pub choice_in : OpeningChoice → Option ListChoice
 choice_in (Listed c) = Some c
 choice_in c = None
 

@@ -4,11 +4,11 @@ use Rattle.tocmark_spelling.specs.Opening.{nearest_bullet}
 use Rattle.tocmark_spelling.specs.Page.{Path, Page}
 use Rattle.tocmark_spelling.specs.Places.{at_item_start}
 use Rattle.tocmark_spelling.specs.declared.list_choice.ListChoice.{ListChoice}
-use Rattle.tocmark_write_lists.specs.declared.lists.ListPlace.{ListPlace}
+use Rattle.tocmark_write_lists.specs.declared.lists.ListSurroundings.{ListSurroundings}
 use Rattle.tocmark_write_lists.specs.declared.items.Marker.{Marker}
 
 -- what is told of a list's place is what the open containers and the page say
-pub record IsListPlace (place : ListPlace) (path : Path) (p : Page) : Type 0 where
+pub record IsListPlace (place : ListSurroundings) (path : Path) (p : Page) : Type 0 where
   pub at_item : at_item_start path p ≡ place.at_item_start
   pub bullet : nearest_bullet path ≡ place.nearest_bullet
   pub depth : length path ≡ place.depth

@@ -21,7 +21,7 @@ use tocmark_spelling::trail::Last;
 use tocmark_write_blocks::new_line::begin_new_line;
 use tocmark_write_blocks::paragraphs::open_plain;
 use tocmark_write_blocks::trail::end_block;
-use tocmark_write_containers::content::Content;
+use tocmark_write_containers::content::OpeningChoice;
 use tocmark_write_lookahead::body_facts::BodyFacts;
 use tocmark_write_renderer::renderer::Renderer;
 
@@ -88,7 +88,7 @@ pub fn open_definition<'a>(
     let prefix = String::from_str(alloc, "  ")?;
     fill_if(renderer, body.begins_paragraph)?;
     renderer.write(definition_mark())?;
-    renderer.push_frame(tag, prefix, Content::Defined(body.has_paragraph))
+    renderer.push_frame(tag, prefix, OpeningChoice::Defined(body.has_paragraph))
 }
 
 /// A definition list's end.

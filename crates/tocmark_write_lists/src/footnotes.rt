@@ -10,7 +10,7 @@ ghost use Rattle.tocmark_write_renderer.specs.WriterOf.{levels_of, page_of, Arri
 use std::alloc::{AllocError, Global};
 use tocmark_event::event::{TagEnd, TagOf};
 use tocmark_spelling::trail::Last;
-use tocmark_write_containers::content::Content;
+use tocmark_write_containers::content::OpeningChoice;
 use tocmark_write_renderer::renderer::Renderer;
 
 /// Opens the definition of the footnote with this label.
@@ -30,7 +30,7 @@ pub fn open_footnote<'a>(
     let prefix = String::from_str(alloc, "    ")?;
     let mark = footnote_mark(alloc, label)?;
     renderer.write(mark.as_str())?;
-    renderer.push_frame(tag, prefix, Content::Plain)
+    renderer.push_frame(tag, prefix, OpeningChoice::Plain)
 }
 
 /// The end of a footnote's definition.

@@ -24,9 +24,9 @@ use std::alloc::{AllocError, Global};
 use tocmark_event::event::TagOf;
 use tocmark_event::options::{Error, Options};
 use tocmark_spelling::list_choice::ListChoice;
-use tocmark_spelling::trail::{Last, Tail};
+use tocmark_spelling::trail::{Last, LastChild};
 use tocmark_write_blocks::trail::owe_at_least;
-use tocmark_write_containers::content::Content;
+use tocmark_write_containers::content::OpeningChoice;
 use tocmark_write_raw_blocks::repeated::spaces;
 use tocmark_write_renderer::job::Job;
 use tocmark_write_renderer::renderer::Renderer;
@@ -42,11 +42,11 @@ pub struct Marker {
 }
 
 /// What a list chose; none for another container.
-fn choice_in(content: &Content) -> Option<ListChoice>
+fn choice_in(content: &OpeningChoice) -> Option<ListChoice>
     ensures { result ≡ choice_in (content_view content.now) }
 {
     match content {
-        Content::Listed(choice) => Some(*choice),
+        OpeningChoice::Listed(choice) => Some(*choice),
         _ => None,
     }
 }
@@ -155,7 +155,7 @@ fn enter_marked<'a>(
     renderer.write(marker.as_str())?;
     write_reserved_label(renderer, job.alloc, job.label, choice.labelled, empty_inner)?;
     renderer.set_last(Last::ItemStart);
-    renderer.push_frame(tag, prefix, Content::Plain)
+    renderer.push_frame(tag, prefix, OpeningChoice::Plain)
 }
 
 /// Whether an item that is empty or not is an empty one in a list inside a list.
@@ -314,13 +314,13 @@ pub fn label_text(alloc: Global, label: &str) -> Result<String, AllocError>
 
 /// What the last child of an item was, by what was written last before the item's End; for an inner
 /// list, what its last item's last child was.
-pub fn item_tail(last: Last) -> Tail
+pub fn item_tail(last: Last) -> LastChild
     ensures { result ≡ item_tail last }
 {
     match last {
-        Last::Inline => Tail::Paragraph,
-        Last::ItemStart => Tail::Empty,
+        Last::Inline => LastChild::Paragraph,
+        Last::ItemStart => LastChild::Empty,
         Last::ListEnd(tail) => tail,
-        _ => Tail::Block,
+        _ => LastChild::Block,
     }
 }

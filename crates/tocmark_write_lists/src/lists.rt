@@ -21,16 +21,16 @@ use tocmark_event::event::{OwnedEvent, TagEnd, TagOf};
 use tocmark_event::options::Options;
 use tocmark_spelling::kinds::starts_indented_code;
 use tocmark_spelling::list_choice::ListChoice;
-use tocmark_spelling::trail::{Last, LastList, Tail};
+use tocmark_spelling::trail::{Last, LastChild, LastList};
 use tocmark_write_blocks::ahead::Ahead;
 use tocmark_write_blocks::trail::{owe_at_least, set_last_list};
-use tocmark_write_containers::content::Content;
+use tocmark_write_containers::content::OpeningChoice;
 use tocmark_write_renderer::job::Job;
 use tocmark_write_renderer::renderer::Renderer;
 
 /// What the written text and the open containers say of the place where a list begins.
 #[derive(Clone, Copy)]
-pub struct ListPlace {
+pub struct ListSurroundings {
     /// Whether nothing but openings stands between an item's marker and this place.
     pub at_item_start: bool,
     /// The token of the nearest open bullet list.
@@ -42,10 +42,10 @@ pub struct ListPlace {
 }
 
 /// What the open containers and the written text say of a list's place.
-fn place_of(renderer: &Renderer<'_>) -> ListPlace
+fn place_of(renderer: &Renderer<'_>) -> ListSurroundings
     ensures { IsListPlace result (levels_of renderer.now) (page_of renderer.now) }
 {
-    ListPlace {
+    ListSurroundings {
         at_item_start: renderer.at_item_start(),
         nearest_bullet: renderer.outside().bullet,
         depth: renderer.depth(),
@@ -89,7 +89,7 @@ pub fn open_list<'a>(
         wide: is_before_code(ahead.next),
         labelled: ahead.body.is_lone(),
     };
-    renderer.push_frame(tag, String::new(job.alloc), Content::Listed(choice))
+    renderer.push_frame(tag, String::new(job.alloc), OpeningChoice::Listed(choice))
 }
 
 /// Notes the list as the one that ended last.
@@ -126,14 +126,14 @@ pub fn close_list(
     renderer: &mut Renderer<'_>,
     options: &Options<'_>,
     number: Option<u64>,
-    content: &Content,
+    content: &OpeningChoice,
 )
     ensures stands { Leads renderer.old renderer.new
         (close_list (options_view options.now) (ListOf number) (content_view content.now)) }
     ensures mark { renderer.new.at_mark ≡ renderer.old.at_mark }
 {
     match content {
-        Content::Listed(choice) => {
+        OpeningChoice::Listed(choice) => {
             note_list(renderer, *choice);
             leave_list(renderer, options, number);
         }
@@ -183,7 +183,7 @@ pub fn continues_list(
 
 /// The preferred token of a list with this first number, none for bullets; a bullet list right behind
 /// the marker of an item with the same token takes another.
-pub fn first_token(options: &Options<'_>, number: Option<u64>, place: ListPlace) -> char
+pub fn first_token(options: &Options<'_>, number: Option<u64>, place: ListSurroundings) -> char
     ensures { (path : Path) (p : Page) → IsListPlace place path p
         → result ≡ first_token (options_view options.now) number path p }
 {
@@ -203,7 +203,7 @@ pub fn first_token(options: &Options<'_>, number: Option<u64>, place: ListPlace)
 /// The token of a list with this first number, none for bullets: the preferred one, but another where
 /// the list would go on with the one that ended last, or where a bullet list stands right behind the
 /// marker of an item with the same token.
-pub fn list_token(options: &Options<'_>, number: Option<u64>, place: ListPlace) -> char
+pub fn list_token(options: &Options<'_>, number: Option<u64>, place: ListSurroundings) -> char
     ensures { (path : Path) (p : Page) → IsListPlace place path p
         → result ≡ list_token (options_view options.now) number path p }
 {
@@ -216,11 +216,11 @@ pub fn list_token(options: &Options<'_>, number: Option<u64>, place: ListPlace) 
 }
 
 /// What the last child of a list's last item was, by what was written last before the list's End.
-pub fn list_tail(last: Last) -> Tail
+pub fn list_tail(last: Last) -> LastChild
     ensures { result ≡ list_tail last }
 {
     match last {
         Last::ItemEnd(tail) => tail,
-        _ => Tail::Block,
+        _ => LastChild::Block,
     }
 }

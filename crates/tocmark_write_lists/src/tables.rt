@@ -21,7 +21,7 @@ use tocmark_spelling::kinds::is_table;
 use tocmark_spelling::trail::Last;
 use tocmark_write_blocks::paragraphs::open_plain;
 use tocmark_write_blocks::trail::end_block;
-use tocmark_write_containers::content::Content;
+use tocmark_write_containers::content::OpeningChoice;
 use tocmark_write_containers::frame::Frame;
 use tocmark_write_renderer::renderer::Renderer;
 
@@ -38,7 +38,11 @@ pub fn open_table<'a>(
         (levels_of renderer.old) (page_of renderer.old))) }
     ensures mark { renderer.new.at_mark ≡ renderer.old.at_mark }
 {
-    renderer.push_frame(tag, String::new(alloc), Content::Headers(Vec::new(alloc)))
+    renderer.push_frame(
+        tag,
+        String::new(alloc),
+        OpeningChoice::Headers(Vec::new(alloc)),
+    )
 }
 
 /// Whether the innermost container is a table.
@@ -83,7 +87,7 @@ fn enter_cell<'a>(
     ensures mark { renderer.new.at_mark ≡ renderer.old.at_mark }
 {
     renderer.write("|")?;
-    renderer.push_frame(tag, String::new(alloc), Content::Width(0))
+    renderer.push_frame(tag, String::new(alloc), OpeningChoice::Width(0))
 }
 
 /// Opens a cell, behind the bar before it.
@@ -126,11 +130,11 @@ fn alignments_of(tag: &TagOf<String>) -> &[Alignment]
 }
 
 /// The widths of a table's headers, in characters; none for another container.
-fn headers_of(content: &Content) -> &[usize]
+fn headers_of(content: &OpeningChoice) -> &[usize]
     ensures { result.now ≡ headers_of (content_view content.now) }
 {
     match content {
-        Content::Headers(widths) => widths,
+        OpeningChoice::Headers(widths) => widths,
         _ => &[],
     }
 }
@@ -179,11 +183,11 @@ pub fn close_row(renderer: &mut Renderer<'_>) -> Result<(), AllocError>
 }
 
 /// The width of a cell, in characters; 0 for another container.
-fn width_of(content: &Content) -> usize
+fn width_of(content: &OpeningChoice) -> usize
     ensures { result ≡ width_of (content_view content.now) }
 {
     match content {
-        Content::Width(width) => *width,
+        OpeningChoice::Width(width) => *width,
         _ => 0,
     }
 }
@@ -191,7 +195,7 @@ fn width_of(content: &Content) -> usize
 /// A cell's end; the nearest open table keeps its width.
 ///
 /// An `Err` says that memory ran out.
-pub fn close_cell(renderer: &mut Renderer<'_>, content: &Content) -> Result<(), AllocError>
+pub fn close_cell(renderer: &mut Renderer<'_>, content: &OpeningChoice) -> Result<(), AllocError>
     ensures stands { Closes result renderer.old renderer.new
         (close_cell (content_view content.now)) }
     ensures mark { renderer.new.at_mark ≡ renderer.old.at_mark }

@@ -11,7 +11,7 @@ use Rattle.tocmark_spelling.specs.Words.{first_character, last_character}
 use Rattle.tocmark_write_lookahead.specs.declared.sides.Counted.{Counted}
 use Rattle.tocmark_write_lookahead.specs.declared.sides.Counted.TheVariants.{Starts, Ends}
 use Rattle.tocmark_write_lookahead.specs.declared.sides.Side.{Side}
-use Rattle.tocmark_write_lookahead.specs.declared.marks.Round.{Round}
+use Rattle.tocmark_write_lookahead.specs.declared.preferred.Round.{Round}
 
 -- the first character of a text, or its last
 abbrev pub picked : Bool → List ℕ → Option ℕ

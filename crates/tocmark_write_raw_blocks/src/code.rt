@@ -21,7 +21,7 @@ use tocmark_event::event::{CodeBlockKindOf, TagEnd, TagOf};
 use tocmark_event::options::Options;
 use tocmark_write_blocks::new_line::begin_new_line;
 use tocmark_write_blocks::trail::{end_block, note_raw_end};
-use tocmark_write_containers::content::Content;
+use tocmark_write_containers::content::OpeningChoice;
 use tocmark_write_renderer::job::Job;
 use tocmark_write_renderer::renderer::Renderer;
 
@@ -55,7 +55,7 @@ fn open_indented<'a>(
 {
     let prefix = String::from_str(alloc, "    ")?;
     begin_indented(renderer)?;
-    renderer.push_frame(tag, prefix, Content::Plain)
+    renderer.push_frame(tag, prefix, OpeningChoice::Plain)
 }
 
 /// Opens fenced code with this info string, in whose text the longest run of the fence's token has
@@ -81,7 +81,7 @@ fn open_fenced<'a>(
     let line = fence_line(alloc, fence.as_str(), info)?;
     begin_new_line(renderer)?;
     renderer.write(line.as_str())?;
-    renderer.push_frame(tag, String::new(alloc), Content::Fence(fence))
+    renderer.push_frame(tag, String::new(alloc), OpeningChoice::Fence(fence))
 }
 
 /// Opens a code block of this kind; for a fenced one it is said how long the longest run of its
@@ -118,11 +118,11 @@ pub fn open_code<'a>(
 }
 
 /// The closing fence behind so many line feeds; nothing where there is none.
-fn fence_closing(content: &Content, feeds: usize) -> &str
+fn fence_closing(content: &OpeningChoice, feeds: usize) -> &str
     ensures { result.now ≡ fence_closing (content_view content.now) feeds }
 {
     match content {
-        Content::Fence(fence) => closing_fence(fence.as_str(), feeds),
+        OpeningChoice::Fence(fence) => closing_fence(fence.as_str(), feeds),
         _ => "",
     }
 }
@@ -133,7 +133,7 @@ fn fence_closing(content: &Content, feeds: usize) -> &str
 pub fn close_code(
     renderer: &mut Renderer<'_>,
     options: &Options<'_>,
-    content: &Content,
+    content: &OpeningChoice,
 ) -> Result<(), AllocError>
     ensures stands { (kind : CodeView) → Closes result renderer.old renderer.new
         (close_code (options_view options.now) (CodeBlock kind) (content_view content.now)) }

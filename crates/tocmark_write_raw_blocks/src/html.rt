@@ -22,7 +22,7 @@ use tocmark_event::event::{TagEnd, TagOf};
 use tocmark_event::options::Options;
 use tocmark_spelling::trail::Last;
 use tocmark_write_blocks::trail::{note_raw_end, set_open_html};
-use tocmark_write_containers::content::Content;
+use tocmark_write_containers::content::OpeningChoice;
 use tocmark_write_renderer::renderer::Renderer;
 
 /// Opens an HTML block, which writes nothing and keeps whether a blank line ends it and whether its
@@ -43,7 +43,11 @@ pub fn open_html<'a>(
         (open_html l (levels_of renderer.old) (page_of renderer.old))) }
     ensures mark { renderer.new.at_mark ≡ renderer.old.at_mark }
 {
-    renderer.push_frame(tag, String::new(alloc), Content::HtmlEnds { blank, closed })
+    renderer.push_frame(
+        tag,
+        String::new(alloc),
+        OpeningChoice::HtmlEnds { blank, closed },
+    )
 }
 
 /// What was written last behind an HTML block.
@@ -69,13 +73,13 @@ fn leave_html(renderer: &mut Renderer<'_>, options: &Options<'_>, blank: bool, c
 }
 
 /// The end of an HTML block, which stays open where neither a blank line nor its own text ends it.
-pub fn close_html(renderer: &mut Renderer<'_>, options: &Options<'_>, content: &Content)
+pub fn close_html(renderer: &mut Renderer<'_>, options: &Options<'_>, content: &OpeningChoice)
     ensures stands { Leads renderer.old renderer.new
         (close_html (options_view options.now) (content_view content.now)) }
     ensures mark { renderer.new.at_mark ≡ renderer.old.at_mark }
 {
     match content {
-        Content::HtmlEnds { blank, closed } => leave_html(renderer, options, *blank, *closed),
+        OpeningChoice::HtmlEnds { blank, closed } => leave_html(renderer, options, *blank, *closed),
         _ => {}
     }
 }

@@ -9,7 +9,7 @@ use Rattle.std.proofs.lemmas.Bool.{and_parts, cases_lt, not-true, true≢false}
 use Rattle.std.proofs.lemmas.Fmt.{decimal_is_IsNumeral}
 use Rattle.std.proofs.lemmas.Str.{chars-nil, encode_ascii, encodes-chars, length-le-encodes, scalars-chars}
 use lib.Utf8.{scalar, scalar_fits}
-use Rattle.tocmark_write_texts.specs.Escape.{Place, is_literal, is_encoded, is_first, needs_backslash, coded, reference, with_backslash, written, spot, escape_after, escaped}
+use Rattle.tocmark_write_texts.specs.Escape.{Surroundings, is_literal, is_encoded, is_first, needs_backslash, coded, reference, with_backslash, written, spot, escape_after, escaped}
 use Rattle.tocmark_write_texts.proofs.CharacterLemmas.{bytes_past_ascii}
 use Rattle.tocmark_write_texts.proofs.ReadBack.{pick, pick_some}
 use Rattle.tocmark_spelling.specs.Page.{Site, laid}
@@ -64,7 +64,7 @@ marker_free : (c : ℕ) → char_set_contains (codes "*_~^$") c ≡ true → (c 
 marker_free c h = ne_eqb c 10 (λ e. true≢false (sym h ∙ ap (char_set_contains (codes "*_~^$")) e))
 
 -- each rule writes no line feed
-written_free : (p : Place) (before : List ℕ) (c : ℕ) (cs : List ℕ) → scalar c ≡ true → HasNoFeed (written p (spot before c cs))
+written_free : (p : Surroundings) (before : List ℕ) (c : ℕ) (cs : List ℕ) → scalar c ≡ true → HasNoFeed (written p (spot before c cs))
 unfolding written reference with_backslash
 written_free p before c cs v =
     let s = spot before c cs in
@@ -78,14 +78,14 @@ written_free p before c cs v =
     (λ _. pick_some P (c == 9 && is_first s && p.at_front) (codes "&#9;") _ _ (λ _. free (codes "&#9;") refl)
     (λ _. pick P (needs_backslash p s) (92 ∷ c ∷ []) (c ∷ []) (λ _. (refl, (other, tt))) (λ _. (other, tt)))))))))
 
-escape_free : (p : Place) (before cs : List ℕ) → all_scalars cs ≡ true → HasNoFeed (escape_after p before cs)
+escape_free : (p : Surroundings) (before cs : List ℕ) → all_scalars cs ≡ true → HasNoFeed (escape_after p before cs)
 escape_free p before [] a = tt
 escape_free p before (c ∷ cs) a =
     let parts = and_parts (scalar c) (all_scalars cs) a in
     both (written p (spot before c cs)) (escape_after p (c ∷ before) cs) (written_free p before c cs parts.0)
     (escape_free p (c ∷ before) cs parts.1)
 
-pub escaped-free : (p : Place) (text : List ℕ) → IsUtf8 text → HasNoFeed (escaped p text)
+pub escaped-free : (p : Surroundings) (text : List ℕ) → IsUtf8 text → HasNoFeed (escaped p text)
 unfolding escaped
 escaped-free p text u = encoded (escape_after p [] (chars text)) (escape_free p [] (chars text) (scalars-chars text u))
 
@@ -100,7 +100,7 @@ unfolding coded
 coded_some c = some 38 (35 ∷ (decimal c ++ 59 ∷ []))
 
 -- each rule writes something
-written_some : (p : Place) (before : List ℕ) (c : ℕ) (cs : List ℕ) → HasSome (written p (spot before c cs))
+written_some : (p : Surroundings) (before : List ℕ) (c : ℕ) (cs : List ℕ) → HasSome (written p (spot before c cs))
 unfolding written reference with_backslash
 written_some p before c cs =
     let s = spot before c cs in
@@ -119,7 +119,7 @@ front_some a b h = λ none.
     let long = length-le-encodes (a ++ b) in
     h (omega (arith, long, none, length-append a b))
 
-pub escaped-some : (p : Place) (text : List ℕ) → IsUtf8 text → HasSome text → HasSome (escaped p text)
+pub escaped-some : (p : Surroundings) (text : List ℕ) → IsUtf8 text → HasSome text → HasSome (escaped p text)
 unfolding escaped
 escaped-some p text u has = by (chars text) (encodes-chars text u)
   where
@@ -127,11 +127,11 @@ escaped-some p text u has = by (chars text) (encodes-chars text u)
     by [] e = λ none. has (ap length (sym e))
     by (c ∷ cs) e = front_some (written p (spot [] c cs)) (escape_after p (c ∷ []) cs) (written_some p [] c cs)
 
-escaped_none : (p : Place) (text : List ℕ) → length text ≡ 0 → escaped p text ≡ []
+escaped_none : (p : Surroundings) (text : List ℕ) → length text ≡ 0 → escaped p text ≡ []
 unfolding escaped
 escaped_none p [] e = ap (λ cs. encode_utf8_all (escape_after p [] cs)) chars-nil
 escaped_none p (b ∷ bs) e = absurd (omega arith)
 
 -- the escape of no text was laid
-pub nothing-laid : (prefix : List ℕ) (p : Place) (text : List ℕ) (here : Site) → length text ≡ 0 → here ≡ on_sheet (laid prefix (escaped p text)) here
+pub nothing-laid : (prefix : List ℕ) (p : Surroundings) (text : List ℕ) (here : Site) → length text ≡ 0 → here ≡ on_sheet (laid prefix (escaped p text)) here
 nothing-laid prefix p text here e = laid-nothing prefix (escaped p text) here (ap length (escaped_none p text e))

@@ -2,14 +2,14 @@
 //! not ended.
 //!
 //! Below it stands `tocmark_write_containers`, above it each crate that writes openings, closings or leaves. Enter at
-//! `renderer`: a `Renderer` can be marked, and be made again what it was at the mark. `lines` lays texts on its
+//! `renderer`: a `Renderer` can be marked, and be made again what it was at the mark. `laying` lays texts on its
 //! lines, `gap` writes what stands before an event, and `job` is what is asked of the writer of a unit. `marker_runs`
 //! has the runs of `*` and of `_` in a text that grows at its end, each byte of it read once.
 #![tactic(auto)]
 
 mod gap;
 pub mod job;
-mod lines;
+mod laying;
 pub mod marker_runs;
 pub mod parts;
 pub mod renderer;

@@ -26,10 +26,10 @@ use std::mem;
 use tocmark_event::event::TagOf;
 use tocmark_spelling::trail::{Carried, Trail, copied_text};
 use tocmark_write_containers::containers::Containers;
-use tocmark_write_containers::content::Content;
+use tocmark_write_containers::content::OpeningChoice;
 use tocmark_write_containers::frame::Frame;
 use tocmark_write_containers::outside::Outside;
-use tocmark_write_texts::escape::{EscapePlace, escape_into};
+use tocmark_write_texts::escape::{EscapeSurroundings, escape_into};
 
 /// What was at the mark and owns no memory.
 #[derive(Clone, Copy)]
@@ -302,7 +302,11 @@ impl<'a> Renderer<'a> {
     }
 
     /// Adds a text's escape to the text. An `Err` says that memory ran out.
-    pub fn put_escaped(&mut self, text: &str, place: &EscapePlace<'_>) -> Result<(), AllocError>
+    pub fn put_escaped(
+        &mut self,
+        text: &str,
+        place: &EscapeSurroundings<'_>,
+    ) -> Result<(), AllocError>
         ensures site { OnOk result (site_of self.new
             ≡ on_sheet (with_more (escaped (place_of place.now) text.now)) (site_of self.old)) }
         ensures mark { self.new.at_mark ≡ self.old.at_mark }
@@ -413,7 +417,7 @@ impl<'a> Renderer<'a> {
         &mut self,
         tag: &'a TagOf<String>,
         prefix: String,
-        content: Content,
+        content: OpeningChoice,
     ) -> Result<(), AllocError>
         ensures site { OnOk result (site_of self.new
             ≡ on_path

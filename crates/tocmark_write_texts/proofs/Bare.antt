@@ -6,7 +6,7 @@ use Rattle.std.specs.List.{list_all}
 use Rattle.std.proofs.lemmas.Bool.{and_left, and_parts, and_right, ne_eqb, not-true, or_from, true≢false}
 use Rattle.tocmark_write_texts.specs.Characters.{is_white_space}
 use Rattle.tocmark_write_texts.specs.Bare.{is_bare, is_mark}
-use Rattle.tocmark_write_texts.specs.Escape.{Place, begins_block, has, is_alone, is_encoded, is_first, is_last, is_literal, is_marker, is_own_token, is_read_as_marker, needs_backslash, reference, with_backslash, written}
+use Rattle.tocmark_write_texts.specs.Escape.{Surroundings, begins_block, has, is_alone, is_encoded, is_first, is_last, is_literal, is_marker, is_own_token, is_read_as_marker, needs_backslash, reference, with_backslash, written}
 use Rattle.tocmark_write_texts.specs.declared.escape.Spot.{Spot}
 
 -- what fails a test is nothing that passes it
@@ -31,12 +31,12 @@ either true x y z e f = e
 either false x y z e f = f
 
 -- no block begins behind another character
-no_block : (p : Place) (s : Spot) → is_none s.before ≡ false → is_marker p s ≡ false
+no_block : (p : Surroundings) (s : Spot) → is_none s.before ≡ false → is_marker p s ≡ false
 unfolding is_marker
 no_block p s b =
     and_left (begins_block p s) (is_alone p s) (and_left (is_first s && p.at_front) (not p.in_table) (and_left (is_first s) p.at_front b))
 
-no_marker : (p : Place) (s : Spot) → is_mark s.character ≡ false → is_none s.before ≡ false → s.after_digits ≡ false → is_read_as_marker p s ≡ false
+no_marker : (p : Surroundings) (s : Spot) → is_mark s.character ≡ false → is_none s.before ≡ false → s.after_digits ≡ false → is_read_as_marker p s ≡ false
 unfolding is_read_as_marker
 no_marker p s h b d =
     let c = s.character in
@@ -54,7 +54,7 @@ no_marker p s h b d =
     (either (char_set_contains (codes ".)") c) _ _ _ (and_right (not p.in_table) s.after_digits d)
     (skip (c == 33) _ _ _ (differs is_mark c 33 h refl) refl))))))))))))
 
-no_backslash : (p : Place) (s : Spot) → is_mark s.character ≡ false → (s.character == p.token) ≡ false → is_none s.before ≡ false → s.after_digits ≡ false
+no_backslash : (p : Surroundings) (s : Spot) → is_mark s.character ≡ false → (s.character == p.token) ≡ false → is_none s.before ≡ false → s.after_digits ≡ false
     → with_backslash p s ≡ s.character ∷ []
 unfolding with_backslash needs_backslash
 no_backslash p s h t b d =
@@ -62,7 +62,7 @@ no_backslash p s h t b d =
     (or_from (is_read_as_marker p s) (is_own_token p s.character) (no_marker p s h b d)
     (and_left (s.character == p.token) (not (char_set_contains (codes "*_") s.character)) t)) refl
 
-no_reference : (p : Place) (s : Spot) → is_mark s.character ≡ false → is_none s.before ≡ false → reference p s ≡ None
+no_reference : (p : Surroundings) (s : Spot) → is_mark s.character ≡ false → is_none s.before ≡ false → reference p s ≡ None
 unfolding reference
 no_reference p s h b =
     let c = s.character in
@@ -72,13 +72,13 @@ no_reference p s h b =
     (skip (c == 32 && is_first s && p.at_front) _ _ _ (and_left (c == 32 && is_first s) p.at_front (and_right (c == 32) (is_first s) b))
     (skip (c == 9 && is_first s && p.at_front) _ _ _ (and_left (c == 9 && is_first s) p.at_front (and_right (c == 9) (is_first s) b)) refl))))
 
-not_encoded : (p : Place) (s : Spot) → is_none s.before ≡ false → p.last_encoded ≡ false → is_encoded p s ≡ false
+not_encoded : (p : Surroundings) (s : Spot) → is_none s.before ≡ false → p.last_encoded ≡ false → is_encoded p s ≡ false
 not_encoded p s b l =
     and_left ((is_first s && p.first_encoded) || (is_last s && p.last_encoded)) (not (is_white_space s.character))
     (or_from (is_first s && p.first_encoded) (is_last s && p.last_encoded) (and_left (is_first s) p.first_encoded b) (and_right (is_last s) p.last_encoded l))
 
 -- behind another character, and not behind digits alone
-pub itself : (p : Place) (s : Spot) → is_bare s.character ≡ true → is_mark p.token ≡ true → is_none s.before ≡ false → s.after_digits ≡ false → p.last_encoded ≡ false
+pub itself : (p : Surroundings) (s : Spot) → is_bare s.character ≡ true → is_mark p.token ≡ true → is_none s.before ≡ false → s.after_digits ≡ false → p.last_encoded ≡ false
     → written p s ≡ s.character ∷ []
 unfolding written
 itself p s h t b d l =

@@ -9,7 +9,7 @@ use Rattle.std.specs.declared.str.Chars.{Chars}
 use Rattle.std.proofs.lemmas.Str.{encodes-append, encodes-IsAscii, chars_past_char, chars-nil, IsAscii-append}
 use Rattle.std.proofs.lemmas.Str.Ascii.{IsAscii-cons, IsAscii-nil}
 use Rattle.std.proofs.lemmas.Fmt.{IsAscii-decimal}
-use Rattle.tocmark_write_texts.specs.Escape.{Place, coded, reference, is_first, is_literal, is_encoded, written, spot, spot_from, escape_after}
+use Rattle.tocmark_write_texts.specs.Escape.{Surroundings, coded, reference, is_first, is_literal, is_encoded, written, spot, spot_from, escape_after}
 use Rattle.tocmark_write_texts.specs.declared.escape.Spot.{Spot}
 
 pub encoded_one : (c : ℕ) → encode_utf8_all (c ∷ []) ≡ encode_utf8 c
@@ -41,7 +41,7 @@ fixed : (r : List ℕ) → IsAscii r → Same r
 fixed r a = encodes-IsAscii r a
 
 -- references are ASCII
-pub encoded_reference : (p : Place) (s : Spot) (r : List ℕ) → reference p s ≡ Some r → encode_utf8_all r ≡ r
+pub encoded_reference : (p : Surroundings) (s : Spot) (r : List ℕ) → reference p s ≡ Some r → encode_utf8_all r ≡ r
 unfolding reference
 encoded_reference p s r =
     chosen Same (s.character == 10) (codes "&#10;") _ r (fixed _ (search rules))
@@ -60,17 +60,17 @@ second_character bs rest None u h = rw (h.1, chars_of_empty bs h.0) refl
 second_character bs rest (Some c) u h = rw (chars_past_char bs rest c u h) refl
 
 -- how characters are written, by the one before them and whether all before them are digits
-abbrev pub escape_on : Place → Option ℕ → Bool → List ℕ → List ℕ
+abbrev pub escape_on : Surroundings → Option ℕ → Bool → List ℕ → List ℕ
 escape_on p before only_digits [] = []
 escape_on p before only_digits (c ∷ cs) =
     written p (spot_from before only_digits c cs) ++ escape_on p (Some c) (is_ascii_digit c && only_digits) cs
 
-pub escape_on-is : (p : Place) (before cs : List ℕ) → escape_on p (slice_get before 0) (list_all is_ascii_digit before) cs ≡ escape_after p before cs
+pub escape_on-is : (p : Surroundings) (before cs : List ℕ) → escape_on p (slice_get before 0) (list_all is_ascii_digit before) cs ≡ escape_after p before cs
 escape_on-is p before [] = refl
 escape_on-is p before (c ∷ cs) = ap (λ x. written p (spot before c cs) ++ x) (escape_on-is p (c ∷ before) cs)
 
 -- one more character of the text in bytes
-pub escape_on-step : (p : Place) (before : Option ℕ) (only_digits : Bool) (bs rest : List ℕ) (c : ℕ) → IsUtf8 bs → bs ≡ encode_utf8 c ++ rest
+pub escape_on-step : (p : Surroundings) (before : Option ℕ) (only_digits : Bool) (bs rest : List ℕ) (c : ℕ) → IsUtf8 bs → bs ≡ encode_utf8 c ++ rest
     → encode_utf8_all (escape_on p before only_digits (chars bs))
     ≡ encode_utf8_all (written p (spot_from before only_digits c (chars rest))) ++ encode_utf8_all (escape_on p (Some c) (is_ascii_digit c && only_digits) (chars rest))
 escape_on-step p before only_digits bs rest c u e =
@@ -78,7 +78,7 @@ escape_on-step p before only_digits bs rest c u e =
     ∙ encodes-append (written p (spot_from before only_digits c (chars rest))) _
 
 -- a turn of the loop: one more character is written
-pub escape_on-more : (p : Place) (before : Option ℕ) (only_digits all_digits : Bool) (bs rest old new whole : List ℕ) (c : ℕ) → IsUtf8 bs
+pub escape_on-more : (p : Surroundings) (before : Option ℕ) (only_digits all_digits : Bool) (bs rest old new whole : List ℕ) (c : ℕ) → IsUtf8 bs
     → bs ≡ encode_utf8 c ++ rest → all_digits ≡ (is_ascii_digit c && only_digits)
     → new ≡ old ++ encode_utf8_all (written p (spot_from before only_digits c (chars rest)))
     → old ++ encode_utf8_all (escape_on p before only_digits (chars bs)) ≡ whole
@@ -102,7 +102,7 @@ spot_from_parts before only_digits c after digits first second none d f e n =
     rw (d, f, l) refl
 
 -- a reference stands for the character
-pub written_reference : (p : Place) (s : Spot) (r : List ℕ) → is_literal p s.character ≡ false → is_encoded p s ≡ false → reference p s ≡ Some r
+pub written_reference : (p : Surroundings) (s : Spot) (r : List ℕ) → is_literal p s.character ≡ false → is_encoded p s ≡ false → reference p s ≡ Some r
     → encode_utf8_all (written p s) ≡ r
 unfolding written
 written_reference p s r l e f = rw (l, e, f) (encoded_reference p s r f)

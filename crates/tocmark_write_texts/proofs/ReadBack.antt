@@ -9,7 +9,7 @@ use Rattle.std.proofs.lemmas.Fmt.{decimal_is_IsNumeral, length-decimal-le}
 use Rattle.std.proofs.lemmas.List.Elements.{All-head, All-tail}
 use lib.Utf8.{scalar_cases}
 use Rattle.tocmark_write_texts.specs.Characters.{is_ascii_punctuation}
-use Rattle.tocmark_write_texts.specs.Escape.{Place, is_literal, is_encoded, is_first, coded, reference, doubles_backslash, is_read_as_marker, is_own_token, needs_backslash, with_backslash, written, spot, escape_after}
+use Rattle.tocmark_write_texts.specs.Escape.{Surroundings, is_literal, is_encoded, is_first, coded, reference, doubles_backslash, is_read_as_marker, is_own_token, needs_backslash, with_backslash, written, spot, escape_after}
 use Rattle.tocmark_write_texts.specs.Unescape.{Spelled, numbered, by_number, referred, escaped_by, spelled, unescape_after, IsReadable}
 use Rattle.tocmark_write_texts.specs.Destination.{destination_character, destination_text, title_character, title_text}
 use Rattle.tocmark_write_texts.specs.declared.escape.Spot.{Spot}
@@ -116,11 +116,11 @@ among (d ∷ cs) c all e =
       | inr there ↦ among cs c parts.1 there
     ]
 
-abbrev IsStandard : Place → Type 0
+abbrev IsStandard : Surroundings → Type 0
 IsStandard p = char_set_contains (codes "*_") p.token ≡ true
 
 -- a character that could be read as a marker is punctuation
-marker_is_mark : (p : Place) (s : Spot) → is_read_as_marker p s ≡ true → IsMark s.character
+marker_is_mark : (p : Surroundings) (s : Spot) → is_read_as_marker p s ≡ true → IsMark s.character
 unfolding is_read_as_marker
 marker_is_mark p s =
     let c = s.character in
@@ -139,14 +139,14 @@ marker_is_mark p s =
     (tested Q (char_set_contains (codes ".)") c) _ _ (among (codes ".)") c refl)
     (tested Q (c == 33) _ _ (mark_at c 33 refl) (λ e. absurd cc)))))))))))))
 
-no_own_token : (p : Place) (c : ℕ) → IsStandard p → is_own_token p c ≡ false
+no_own_token : (p : Surroundings) (c : ℕ) → IsStandard p → is_own_token p c ≡ false
 no_own_token p c standard =
     elim (cases_eq c p.token) [
       | inl same ↦ rw (same, standard) (and_right _ false refl)
       | inr other ↦ rw (ne_eqb c p.token other) refl
     ]
 
-needs_is_mark : (p : Place) (s : Spot) → IsStandard p → needs_backslash p s ≡ true → IsMark s.character
+needs_is_mark : (p : Surroundings) (s : Spot) → IsStandard p → needs_backslash p s ≡ true → IsMark s.character
 unfolding needs_backslash
 needs_is_mark p s standard e =
     elim (or_cases (is_read_as_marker p s) (is_own_token p s.character) e) [
@@ -158,12 +158,12 @@ or_parts_false : (x y : Bool) → (x || y) ≡ false → (x ≡ false) × (y ≡
 or_parts_false true y e = cc
 or_parts_false false y e = (refl, e)
 
-marker_at_backslash : (p : Place) (s : Spot) → s.character ≡ 92 → is_read_as_marker p s ≡ doubles_backslash p s
+marker_at_backslash : (p : Surroundings) (s : Spot) → s.character ≡ 92 → is_read_as_marker p s ≡ doubles_backslash p s
 unfolding is_read_as_marker
 marker_at_backslash p s e = rw e refl
 
 -- without a backslash stands a backslash that would escape nothing
-bare_escapes_nothing : (p : Place) (s : Spot) → s.character ≡ 92 → needs_backslash p s ≡ false → doubles_backslash p s ≡ false
+bare_escapes_nothing : (p : Surroundings) (s : Spot) → s.character ≡ 92 → needs_backslash p s ≡ false → doubles_backslash p s ≡ false
 unfolding needs_backslash
 bare_escapes_nothing p s e n =
     sym (marker_at_backslash p s e) ∙ (or_parts_false (is_read_as_marker p s) (is_own_token p s.character) n).0
@@ -175,7 +175,7 @@ first_part : (c d : ℕ) (x y : Bool) → ((c == d) && x && y) ≡ true → c �
 first_part c d x y e = eqb-true c d (and_parts (c == d) x (and_parts ((c == d) && x) y e).0).0
 
 -- what one character is written as is read as that character, if what follows isn't escaped by it
-read_written : (p : Place) (s : Spot) (rest : List ℕ) → IsStandard p → IsScalar s.character → (s.character ≡ 0 → ⊥)
+read_written : (p : Surroundings) (s : Spot) (rest : List ℕ) → IsStandard p → IsScalar s.character → (s.character ≡ 0 → ⊥)
     → (s.character ≡ 92 → doubles_backslash p s ≡ false → escaped_by rest ≡ None)
     → unescape_after 0 (written p s ++ rest) ≡ s.character ∷ unescape_after 0 rest
 unfolding written reference with_backslash referred
@@ -211,7 +211,7 @@ not_among cs c all n =
       | inr out ↦ out
     ]
 
-no_backslash : (p : Place) (s : Spot) → IsStandard p → is_ascii_punctuation s.character ≡ false → needs_backslash p s ≡ false
+no_backslash : (p : Surroundings) (s : Spot) → IsStandard p → is_ascii_punctuation s.character ≡ false → needs_backslash p s ≡ false
 no_backslash p s standard n =
     elim (cases_Bool (needs_backslash p s)) [
       | inl needs ↦ absurd (false≢true (sym n ∙ needs_is_mark p s standard needs))
@@ -223,7 +223,7 @@ not_front true c = refl
 not_front false c = refl
 
 -- what a bare backslash stands before is written as it is
-written_behind : (p : Place) (c d : ℕ) (before ds : List ℕ) → IsStandard p → doubles_backslash p (spot before c (d ∷ ds)) ≡ false
+written_behind : (p : Surroundings) (c d : ℕ) (before ds : List ℕ) → IsStandard p → doubles_backslash p (spot before c (d ∷ ds)) ≡ false
     → (is_ascii_punctuation d ≡ false) × (written p (spot (c ∷ before) d ds) ≡ d ∷ [])
 unfolding doubles_backslash written reference with_backslash
 written_behind p c d before ds standard h =
@@ -247,14 +247,14 @@ written_behind p c d before ds standard h =
     )
 
 -- a bare backslash escapes nothing
-escapes_nothing : (p : Place) (c : ℕ) (before cs : List ℕ) → IsStandard p → doubles_backslash p (spot before c cs) ≡ false
+escapes_nothing : (p : Surroundings) (c : ℕ) (before cs : List ℕ) → IsStandard p → doubles_backslash p (spot before c cs) ≡ false
     → escaped_by (escape_after p (c ∷ before) cs) ≡ None
 escapes_nothing p c before [] standard h = refl
 escapes_nothing p c before (d ∷ ds) standard h =
     let behind = written_behind p c d before ds standard h in
     rw (behind.1, behind.0) refl
 
-pub escape_after-read : (p : Place) (before cs : List ℕ) → IsStandard p → All IsReadable cs → unescape_after 0 (escape_after p before cs) ≡ cs
+pub escape_after-read : (p : Surroundings) (before cs : List ℕ) → IsStandard p → All IsReadable cs → unescape_after 0 (escape_after p before cs) ≡ cs
 escape_after-read p before [] standard all = refl
 escape_after-read p before (c ∷ cs) standard all =
     let readable = All-head IsReadable c cs all in

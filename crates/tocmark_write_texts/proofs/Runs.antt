@@ -10,7 +10,7 @@ use Rattle.std.proofs.lemmas.List.Folds.{list_all-append}
 use Rattle.std.proofs.lemmas.List.Sums.{prefix_len-le-length, prefix_len_stops, take_while-cons}
 use Rattle.std.proofs.lemmas.Str.{chars-append, chars-nil, chars_past_char, encode_ascii, encodes-append, encodes-chars, IsCharBoundary-at_seam, IsCharBoundary-start, IsUtf8-drop, IsUtf8-encode, IsUtf8-take}
 use Rattle.tocmark_write_texts.specs.Bare.{bare_size, is_bare, is_mark, last_of}
-use Rattle.tocmark_write_texts.specs.Escape.{Place, spot_from}
+use Rattle.tocmark_write_texts.specs.Escape.{Surroundings, spot_from}
 use Rattle.tocmark_write_texts.proofs.Bare.{is_none_of, itself}
 use Rattle.tocmark_write_texts.proofs.EscapeLemmas.{escape_on}
 
@@ -41,18 +41,18 @@ by_test P true x y f g = f refl
 by_test P false x y f g = g refl
 
 -- what is so where some bytes are looked at
-record IsLooked (p : Place) (only_digits : Bool) : Type 0 where
+record IsLooked (p : Surroundings) (only_digits : Bool) : Type 0 where
   digits : only_digits ≡ false
   last : p.last_encoded ≡ false
   token : is_mark p.token ≡ true
 
-looked : (p : Place) (only_digits : Bool) → (only_digits || p.last_encoded || not (char_set_contains (codes "*_") p.token)) ≡ false → IsLooked p only_digits
+looked : (p : Surroundings) (only_digits : Bool) → (only_digits || p.last_encoded || not (char_set_contains (codes "*_") p.token)) ≡ false → IsLooked p only_digits
 looked p only_digits e =
     let one = or_parts (only_digits || p.last_encoded) (not (char_set_contains (codes "*_") p.token)) e in
     let two = or_parts only_digits p.last_encoded one.0 in
     record { digits = two.0; last = two.1; token = token_mark p.token (not-false (char_set_contains (codes "*_") p.token) one.1) }
 
-pub size_boundary : (p : Place) (only_digits : Bool) (bs : List ℕ) → IsUtf8 bs → IsCharBoundary bs (bare_size p only_digits bs)
+pub size_boundary : (p : Surroundings) (only_digits : Bool) (bs : List ℕ) → IsUtf8 bs → IsCharBoundary bs (bare_size p only_digits bs)
 size_boundary p only_digits bs u =
     by_test (IsCharBoundary bs) (only_digits || p.last_encoded || not (char_set_contains (codes "*_") p.token)) 0 (prefix_len is_bare bs)
     (λ e. IsCharBoundary-start bs u) (λ e. bare_boundary bs)
@@ -78,7 +78,7 @@ chars_pass test (c ∷ cs) past h =
     and_from (test c) (list_all test cs) (char_passes test c past parts.0 (cases_lt c 128)) (chars_pass test cs past parts.1)
 
 -- characters that stand for themselves, behind another one and not behind digits alone
-run_written : (p : Place) (b : ℕ) (cs ds : List ℕ) → p.last_encoded ≡ false → is_mark p.token ≡ true → list_all is_bare cs ≡ true
+run_written : (p : Surroundings) (b : ℕ) (cs ds : List ℕ) → p.last_encoded ≡ false → is_mark p.token ≡ true → list_all is_bare cs ≡ true
     → escape_on p (Some b) false (cs ++ ds) ≡ cs ++ escape_on p (Some (last_of b cs)) false ds
 run_written p b [] ds l t h = refl
 run_written p b (c ∷ cs) ds l t h =
@@ -88,15 +88,15 @@ run_written p b (c ∷ cs) ds l t h =
     ∙ ap (λ x. c ∷ x) (run_written p c cs ds l t parts.1)
 
 -- so many bytes of a text are written as they are
-abbrev IsCopied : Place → ℕ → Bool → List ℕ → ℕ → Type 0
+abbrev IsCopied : Surroundings → ℕ → Bool → List ℕ → ℕ → Type 0
 IsCopied p b only_digits bs n =
     encode_utf8_all (escape_on p (Some b) only_digits (chars bs))
     ≡ take n bs ++ encode_utf8_all (escape_on p (Some (last_of b (chars (take n bs)))) only_digits (chars (drop n bs)))
 
-none_copied : (p : Place) (b : ℕ) (only_digits : Bool) (bs : List ℕ) → IsCopied p b only_digits bs 0
+none_copied : (p : Surroundings) (b : ℕ) (only_digits : Bool) (bs : List ℕ) → IsCopied p b only_digits bs 0
 none_copied p b only_digits bs = sym (ap (λ cs. encode_utf8_all (escape_on p (Some (last_of b cs)) only_digits (chars bs))) chars-nil)
 
-run_copied : (p : Place) (b : ℕ) (bs : List ℕ) → IsUtf8 bs → IsLooked p false → IsCopied p b false bs (prefix_len is_bare bs)
+run_copied : (p : Surroundings) (b : ℕ) (bs : List ℕ) → IsUtf8 bs → IsLooked p false → IsCopied p b false bs (prefix_len is_bare bs)
 run_copied p b bs u is =
     let n : ℕ = prefix_len is_bare bs in
     let run : List ℕ = take n bs in
@@ -111,14 +111,14 @@ run_copied p b bs u is =
     ∙ encodes-append (chars run) after
     ∙ ap (λ x. x ++ encode_utf8_all after) same
 
-copied : (p : Place) (b : ℕ) (only_digits : Bool) (bs : List ℕ) → IsUtf8 bs → IsCopied p b only_digits bs (bare_size p only_digits bs)
+copied : (p : Surroundings) (b : ℕ) (only_digits : Bool) (bs : List ℕ) → IsUtf8 bs → IsCopied p b only_digits bs (bare_size p only_digits bs)
 copied p b true bs u = none_copied p b true bs
 copied p b false bs u =
     by_test (IsCopied p b false bs) (p.last_encoded || not (char_set_contains (codes "*_") p.token)) 0 (prefix_len is_bare bs)
     (λ e. none_copied p b false bs) (λ e. run_copied p b bs u (looked p false e))
 
 -- a run is written behind a character
-pub escape_on-run : (p : Place) (c last : ℕ) (only_digits : Bool) (bs run tail old new whole : List ℕ) → IsUtf8 bs
+pub escape_on-run : (p : Surroundings) (c last : ℕ) (only_digits : Bool) (bs run tail old new whole : List ℕ) → IsUtf8 bs
     → run ≡ take (bare_size p only_digits bs) bs → tail ≡ drop (bare_size p only_digits bs) bs → last ≡ last_of c (chars run) → new ≡ old ++ run
     → old ++ encode_utf8_all (escape_on p (Some c) only_digits (chars bs)) ≡ whole
     → new ++ encode_utf8_all (escape_on p (Some last) only_digits (chars tail)) ≡ whole
@@ -126,7 +126,7 @@ escape_on-run p c last only_digits bs run tail old new whole u r t l w h =
     let is = copied p c only_digits bs u in
     rw (w, l, r, t, append_assoc) (rw is at h)
 
-pub run_rest : (p : Place) (only_digits : Bool) (bs tail : List ℕ) → IsUtf8 bs → tail ≡ drop (bare_size p only_digits bs) bs → IsUtf8 tail
+pub run_rest : (p : Surroundings) (only_digits : Bool) (bs tail : List ℕ) → IsUtf8 bs → tail ≡ drop (bare_size p only_digits bs) bs → IsUtf8 tail
 run_rest p only_digits bs tail u e =
     subst IsUtf8 (sym e) (IsUtf8-drop bs (bare_size p only_digits bs) u (size_boundary p only_digits bs u))
 

@@ -10,7 +10,7 @@ use Rattle.std.proofs.lemmas.Bool.{and_parts, and_from}
 use Rattle.std.proofs.lemmas.Str.{chars-encodes, encodes-chars, encodes-append, scalars-chars}
 use Rattle.std.proofs.lemmas.Fmt.{IsAscii-decimal}
 use lib.Utf8.{scalar, low_scalar, scalar_fits}
-use Rattle.tocmark_write_texts.specs.Escape.{Place, is_literal, is_encoded, is_first, needs_backslash, coded, reference, with_backslash, written, spot, escape_after, escaped}
+use Rattle.tocmark_write_texts.specs.Escape.{Surroundings, is_literal, is_encoded, is_first, needs_backslash, coded, reference, with_backslash, written, spot, escape_after, escaped}
 use Rattle.tocmark_write_texts.specs.Destination.{destination_character, destination_text, title_character, title_text}
 use Rattle.tocmark_write_texts.specs.Unescape.{unescape, IsReadable}
 use Rattle.tocmark_write_texts.specs.declared.escape.Spot.{Spot}
@@ -42,7 +42,7 @@ scalars-coded c s =
     let small = scalar_fits c s in
     scalars-append (decimal c) (59 ∷ []) (scalars-ascii (decimal c) (IsAscii-decimal c (omega arith))) refl
 
-scalars-written : (p : Place) (s : Spot) → scalar s.character ≡ true → AreScalars (written p s)
+scalars-written : (p : Surroundings) (s : Spot) → scalar s.character ≡ true → AreScalars (written p s)
 unfolding written reference with_backslash
 scalars-written p s v =
     let c = s.character in
@@ -56,7 +56,7 @@ scalars-written p s v =
     (λ _. pick_some P (c == 9 && is_first s && p.at_front) (codes "&#9;") _ _ (λ _. refl)
     (λ _. pick P (needs_backslash p s) (92 ∷ c ∷ []) (c ∷ []) (λ _. scalars_one c v) (λ _. scalars_one c v))))))))
 
-scalars-escape_after : (p : Place) (before cs : List ℕ) → AreScalars cs → AreScalars (escape_after p before cs)
+scalars-escape_after : (p : Surroundings) (before cs : List ℕ) → AreScalars cs → AreScalars (escape_after p before cs)
 scalars-escape_after p before [] a = refl
 scalars-escape_after p before (c ∷ cs) a =
     let parts = and_parts (scalar c) (all_scalars cs) a in
@@ -70,7 +70,7 @@ readable (c ∷ cs) a n =
     All-cons IsReadable c cs (parts.0, All-head (λ x. x ≢ 0) c cs n) (readable cs parts.1 (All-tail (λ x. x ≢ 0) c cs n))
 
 -- the characters of an escaped text are read as those of the text
-pub escaped-read : (p : Place) (text : List ℕ) → char_set_contains (codes "*_") p.token ≡ true → IsUtf8 text → All (λ c. c ≢ 0) (chars text)
+pub escaped-read : (p : Surroundings) (text : List ℕ) → char_set_contains (codes "*_") p.token ≡ true → IsUtf8 text → All (λ c. c ≢ 0) (chars text)
     → unescape (chars (escaped p text)) ≡ chars text
 unfolding escaped
 escaped-read p text standard u n =

@@ -6,7 +6,7 @@ use Rattle.std.specs.List.{starts_with}
 use Rattle.std.specs.Str.Parse.{digits_value}
 use lib.Utf8.{scalar}
 use Rattle.tocmark_write_texts.specs.Characters.{is_ascii_punctuation, ampersand, backslash, replacement}
-use Rattle.tocmark_write_texts.specs.Escape.{Place, escape, escaped}
+use Rattle.tocmark_write_texts.specs.Escape.{Surroundings, escape, escaped}
 
 -- a character that was read, and how many characters spell it after the first one
 pub record Spelled : Type 0 where
@@ -71,10 +71,10 @@ IsReadable c = IsScalar c × (c ≢ 0)
 
 -- with the marker `*` or `_` for emphasis each stretch is read back
 abbrev pub EscapesReadBack : Type 0
-EscapesReadBack = (p : Place) (text : List ℕ) → IsTrue (char_set_contains (codes "*_") p.token) → All IsReadable text
+EscapesReadBack = (p : Surroundings) (text : List ℕ) → IsTrue (char_set_contains (codes "*_") p.token) → All IsReadable text
     → unescape (escape p text) ≡ text
 
 -- the same of the characters of a text and of the escaped text
 abbrev pub EscapedTextsReadBack : Type 0
-EscapedTextsReadBack = (p : Place) (text : List ℕ) → IsTrue (char_set_contains (codes "*_") p.token) → IsUtf8 text
+EscapedTextsReadBack = (p : Surroundings) (text : List ℕ) → IsTrue (char_set_contains (codes "*_") p.token) → IsUtf8 text
     → All (λ c. c ≢ 0) (chars text) → unescape (chars (escaped p text)) ≡ chars text

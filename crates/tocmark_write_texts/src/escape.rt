@@ -18,7 +18,7 @@ use ucd_derived::is_alphabetic;
 
 /// Where a stretch of text stands, and what stands round it.
 #[derive(Clone, Copy)]
-pub struct EscapePlace<'a> {
+pub struct EscapeSurroundings<'a> {
     /// The extensions that are read.
     pub flags: ParserOptions,
     /// The marker of emphasis.
@@ -116,7 +116,7 @@ fn goes_on_marker(c: char) -> bool
 
 /// Whether the marker of a block could be read at this character.
 #[tactic(auto, unfolding(crate::specs::Escape::is_marker))]
-fn is_marker(place: &EscapePlace<'_>, spot: Spot) -> bool
+fn is_marker(place: &EscapeSurroundings<'_>, spot: Spot) -> bool
     ensures { result ≡ is_marker (place_of place.now) spot }
 {
     let begins_block = spot.before.is_none() && place.at_front && !place.in_table;
@@ -128,7 +128,7 @@ fn is_marker(place: &EscapePlace<'_>, spot: Spot) -> bool
 }
 
 #[tactic(auto, unfolding(crate::specs::Escape::doubles_backslash))]
-fn doubles_backslash(place: &EscapePlace<'_>, spot: Spot) -> bool
+fn doubles_backslash(place: &EscapeSurroundings<'_>, spot: Spot) -> bool
     ensures { result ≡ doubles_backslash (place_of place.now) spot }
 {
     match spot.after {
@@ -151,7 +151,7 @@ fn is_alphanumeric_at(c: Option<char>) -> bool
 
 /// Whether Markdown could read the character as a marker.
 #[tactic(auto, unfolding(crate::specs::Escape::is_read_as_marker))]
-fn is_read_as_marker(place: &EscapePlace<'_>, spot: Spot) -> bool
+fn is_read_as_marker(place: &EscapeSurroundings<'_>, spot: Spot) -> bool
     ensures { result ≡ is_read_as_marker (place_of place.now) spot }
 {
     let is_first = spot.before.is_none();
@@ -184,20 +184,20 @@ fn is_read_as_marker(place: &EscapePlace<'_>, spot: Spot) -> bool
 }
 
 #[tactic(auto, unfolding(crate::specs::Escape::needs_backslash))]
-fn needs_backslash(place: &EscapePlace<'_>, spot: Spot) -> bool
+fn needs_backslash(place: &EscapeSurroundings<'_>, spot: Spot) -> bool
     ensures { result ≡ needs_backslash (place_of place.now) spot }
 {
     let c = spot.character;
     is_read_as_marker(place, spot) || (c == place.token && !matches!(c, '*' | '_'))
 }
 
-fn is_literal(place: &EscapePlace<'_>, c: char) -> bool
+fn is_literal(place: &EscapeSurroundings<'_>, c: char) -> bool
     ensures { result ≡ is_literal (place_of place.now) c }
 {
     place.literal && matches!(c, '*' | '_' | '~' | '^' | '$')
 }
 
-fn is_encoded(place: &EscapePlace<'_>, spot: Spot) -> bool
+fn is_encoded(place: &EscapeSurroundings<'_>, spot: Spot) -> bool
     ensures { result ≡ is_encoded (place_of place.now) spot }
 {
     let is_first = spot.before.is_none() && place.first_encoded;
@@ -207,7 +207,7 @@ fn is_encoded(place: &EscapePlace<'_>, spot: Spot) -> bool
 
 /// The reference that stands for a line ending, an ampersand, or a blank at the front.
 #[tactic(auto, unfolding(crate::specs::Escape::reference))]
-fn reference(place: &EscapePlace<'_>, spot: Spot) -> Option<&'static str>
+fn reference(place: &EscapeSurroundings<'_>, spot: Spot) -> Option<&'static str>
     ensures { option_map (λ r. r.now) result ≡ reference (place_of place.now) spot }
 {
     let is_front = spot.before.is_none() && place.at_front;
@@ -239,7 +239,7 @@ fn push_code(to: &mut String, c: char) -> Result<(), AllocError>
 #[tactic(auto, using(crate::proofs::EscapeLemmas::encoded_one, crate::proofs::EscapeLemmas::encoded_two), unfolding(crate::specs::Escape::with_backslash))]
 fn push_with_backslash(
     to: &mut String,
-    place: &EscapePlace<'_>,
+    place: &EscapeSurroundings<'_>,
     spot: Spot,
 ) -> Result<(), AllocError>
     ensures { OnOk result (string_bytes to.new
@@ -253,7 +253,11 @@ fn push_with_backslash(
 
 /// Writes one character by the first rule that applies.
 #[tactic(auto, using(crate::proofs::EscapeLemmas::encoded_one), unfolding(crate::specs::Escape::written))]
-fn push_character(to: &mut String, place: &EscapePlace<'_>, spot: Spot) -> Result<(), AllocError>
+fn push_character(
+    to: &mut String,
+    place: &EscapeSurroundings<'_>,
+    spot: Spot,
+) -> Result<(), AllocError>
     ensures { OnOk result (string_bytes to.new
         ≡ string_bytes to.old ++ encode_utf8_all (written (place_of place.now) spot)) }
 {
@@ -296,7 +300,7 @@ fn bare_front(bytes: &[u8]) -> usize
 
 /// How many bytes at the front of a text stand for themselves behind another character: none behind
 /// digits alone, before what may be encoded, or where emphasis has a marker of its own.
-fn bare_size(place: &EscapePlace<'_>, only_digits: bool, text: &str) -> usize
+fn bare_size(place: &EscapeSurroundings<'_>, only_digits: bool, text: &str) -> usize
     ensures { result ≡ bare_size (place_of place.now) only_digits text.now }
 {
     if only_digits || place.last_encoded || !matches!(place.token, '*' | '_') {
@@ -307,7 +311,11 @@ fn bare_size(place: &EscapePlace<'_>, only_digits: bool, text: &str) -> usize
 }
 
 /// The run of these bytes, and the rest of the text.
-fn cut_bare<'a>(place: &EscapePlace<'_>, only_digits: bool, text: &'a str) -> (&'a str, &'a str)
+fn cut_bare<'a>(
+    place: &EscapeSurroundings<'_>,
+    only_digits: bool,
+    text: &'a str,
+) -> (&'a str, &'a str)
     ensures front { let size = bare_size (place_of place.now) only_digits text.now in
         result.0.now ≡ take size text.now }
     ensures back { let size = bare_size (place_of place.now) only_digits text.now in
@@ -338,7 +346,11 @@ fn last_of(character: char, text: &str) -> char
 
 /// Replaces what a `String` holds by a stretch of text as `escape_text` gives it, in the room that it has.
 /// An `Err` says that memory ran out.
-pub fn escape_into(to: &mut String, text: &str, place: &EscapePlace<'_>) -> Result<(), AllocError>
+pub fn escape_into(
+    to: &mut String,
+    text: &str,
+    place: &EscapeSurroundings<'_>,
+) -> Result<(), AllocError>
     ensures { OnOk result (string_bytes to.new ≡ escaped (place_of place.now) text.now) }
 {
     to.clear();
@@ -364,7 +376,11 @@ pub fn escape_into(to: &mut String, text: &str, place: &EscapePlace<'_>) -> Resu
 /// Line endings and ampersands become references, and so do a blank at the front and, where the place
 /// asks for it, the first and the last character. What could be read as a marker there has a backslash
 /// before it. An `Err` says that memory ran out.
-pub fn escape_text(alloc: Global, text: &str, place: &EscapePlace<'_>) -> Result<String, AllocError>
+pub fn escape_text(
+    alloc: Global,
+    text: &str,
+    place: &EscapeSurroundings<'_>,
+) -> Result<String, AllocError>
     ensures { IfOk result (λ s. string_bytes s ≡ escaped (place_of place.now) text.now) }
 {
     let mut escaped = String::new(alloc);

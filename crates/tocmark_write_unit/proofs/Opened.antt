@@ -5,7 +5,7 @@ use Rattle.std.proofs.lemmas.Bool.{false≢true}
 use Rattle.tocmark_event.specs.View.{TagView, Paragraph, Heading, BlockQuote, CodeView, Indented, Fenced, CodeBlock, HtmlBlock, ListOf, Item, FootnoteDefinition, DefinitionList, DefinitionListTitle, DefinitionListDefinition, Table, TableHead, TableRow, TableCell, Emphasis, Strong, Strikethrough, Superscript, Subscript, Link, Image, MetadataBlock}
 use Rattle.tocmark_spelling.specs.Look.{Look}
 use Rattle.tocmark_spelling.specs.Opening.{entered_if, is_uniform, item_in, open_code, open_delimited, open_item, open_subscript, open_superscript, opening}
-use Rattle.tocmark_spelling.specs.Page.{Content, Plain, Underlined, Fence, HtmlEnds, Listed, Defined, Headers, Width, Delimited, Named, Level, Path, Page, Site, with_last}
+use Rattle.tocmark_spelling.specs.Page.{OpeningChoice, Plain, Underlined, Fence, HtmlEnds, Listed, Defined, Headers, Width, Delimited, Named, Level, Path, Page, Site, with_last}
 use Rattle.tocmark_spelling.specs.Plan.{Setting, Manner}
 use Rattle.tocmark_spelling.specs.declared.trail.Last.TheVariants.{Other}
 use Rattle.tocmark_spelling.specs.Spelling.{skips_body, is_named}
@@ -17,7 +17,7 @@ abbrev pub IsOpened : Option Site → Type 0
 IsOpened None = Unit {0}
 IsOpened (Some here) = skips_body here.path ≡ false
 
-if-opened : (b : Bool) (t : TagView) (c : Content) (path : Path) (p : Page) → is_named c ≡ false → IsOpened (entered_if b t [] c path p)
+if-opened : (b : Bool) (t : TagView) (c : OpeningChoice) (path : Path) (p : Page) → is_named c ≡ false → IsOpened (entered_if b t [] c path p)
 if-opened true t c path p e = e
 if-opened false t c path p e = tt
 
@@ -25,7 +25,7 @@ code-opened : (o : OptionsView) (k : CodeView) (l : Look) (path : Path) (p : Pag
 code-opened o Indented l path p = refl
 code-opened o (Fenced info) l path p = refl
 
-in-opened : (s : Setting) (c : Content) (list : Level) (l : Look) (outside : Path) (p : Page) → IsOpened (item_in s c list l outside p)
+in-opened : (s : Setting) (c : OpeningChoice) (list : Level) (l : Look) (outside : Path) (p : Page) → IsOpened (item_in s c list l outside p)
 in-opened s Plain list l outside p = tt
 in-opened s (Underlined b) list l outside p = tt
 in-opened s (Fence f) list l outside p = tt

@@ -8,7 +8,7 @@ ghost use Rattle.tocmark_spelling.specs.Page.{filled_to, laid, laid_on, lead, pr
 
 use crate::renderer::Renderer;
 use std::alloc::AllocError;
-use tocmark_write_texts::escape::EscapePlace;
+use tocmark_write_texts::escape::EscapeSurroundings;
 
 impl<'a> Renderer<'a> {
     /// The prefix, if it is asked for, where a line begins.
@@ -88,7 +88,7 @@ impl<'a> Renderer<'a> {
     }
 
     /// A text's escape, which has no line feed, behind the prefix.
-    fn lay_escaped(&mut self, text: &str, place: &EscapePlace<'_>) -> Result<(), AllocError>
+    fn lay_escaped(&mut self, text: &str, place: &EscapeSurroundings<'_>) -> Result<(), AllocError>
         ensures site { OnOk result (site_of self.new
             ≡ on_sheet
             (laid (prefix_of (levels_of self.old)) (escaped (place_of place.now) text.now))
@@ -105,7 +105,11 @@ impl<'a> Renderer<'a> {
     }
 
     /// Writes a text's escape inside the open containers. An `Err` says that memory ran out.
-    pub fn write_escaped(&mut self, text: &str, place: &EscapePlace<'_>) -> Result<(), AllocError>
+    pub fn write_escaped(
+        &mut self,
+        text: &str,
+        place: &EscapeSurroundings<'_>,
+    ) -> Result<(), AllocError>
         ensures written { OnOk result
             (Stands self.new (levels_of self.old)
             (written (levels_of self.old) (escaped (place_of place.now) text.now)

@@ -8,7 +8,7 @@ use crate::cell::{
     Cells, Cursor, cell_byte, count_of, indent_of, ink_from, run_of, trailing, trimmed,
 };
 use tocmark_event::event::HeadingLevel;
-use tocmark_read_scan::basic::{piece, rest};
+use tocmark_read_scan::basic::{bytes_between, rest};
 
 /// A heading on one line, with the columns of its text.
 #[derive(Clone, Copy)]
@@ -285,7 +285,7 @@ fn ordered_at(cells: &Cells, column: usize) -> Option<Marker>
     if fits && is_behind(cells, last.saturating_add(1)) {
         Some(Marker {
             sort,
-            number: Some(number_of(piece(cells.bytes(), column, last))),
+            number: Some(number_of(bytes_between(cells.bytes(), column, last))),
             length: count.saturating_add(1),
         })
     } else {

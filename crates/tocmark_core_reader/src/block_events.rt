@@ -9,7 +9,7 @@ ghost use Rattle.tocmark_read_inlines.specs.Inlines.{inlines_view};
 ghost use Rattle.tocmark_core_reader.specs.Emitted.{item_view, emission_view, step};
 ghost use Rattle.tocmark_core_reader.specs.Pages.{pieces_of, content_line, space_nodes, line_item, line_nodes, lines_nodes, block_tag, is_unwrapped, block_node, assembly_view, task_nodes, leaf_inlines_in, with_block, with_task, bare_in, with_lines, with_rule, wrapped_in, paragraph_taken_in, block_taken_in, assembled_in, written_alone, written_by};
 
-use crate::emit::{Emission, Item, Node};
+use crate::emit::{Emission, Node, NodeKind};
 use crate::inline::write_inlines;
 use crate::words::{cleaned_part, info_text, spaces_text};
 use std::alloc::{AllocError, Global};
@@ -17,8 +17,8 @@ use std::mem;
 use tocmark_event::event::{CodeBlockKind, CowStr, Tag};
 use tocmark_read_blocks::{Block, BlockKind, Piece, Task};
 use tocmark_read_inlines::inlines::{Inlines, read_inlines};
-use tocmark_read_scan::basic::piece;
-use tocmark_read_scan::content::{Line, content_of};
+use tocmark_read_scan::basic::bytes_between;
+use tocmark_read_scan::content::{ContentLine, content_of};
 use tocmark_read_spans::definitions::Definitions;
 use tocmark_read_syntax::Syntax;
 
@@ -34,10 +34,10 @@ fn pieces_of(pieces: &[Piece], first: usize, last: usize) -> &[Piece]
 }
 
 #[tactic(auto, unfolding(crate::specs::Pages::content_line))]
-fn content_line(line: Piece) -> Line
+fn content_line(line: Piece) -> ContentLine
     ensures { result ≡ content_line line }
 {
-    Line {
+    ContentLine {
         start: line.start,
         end: line.end,
         next: line.next,
@@ -45,7 +45,7 @@ fn content_line(line: Piece) -> Line
 }
 
 /// Writes the lines of a leaf over those of another one.
-fn content_lines(lines: &mut Vec<Line>, pieces: &[Piece]) -> Result<(), AllocError>
+fn content_lines(lines: &mut Vec<ContentLine>, pieces: &[Piece]) -> Result<(), AllocError>
     ensures { OnOk result (lines.new.items ≡ map content_line pieces.now) }
 {
     lines.clear();
@@ -71,7 +71,7 @@ fn write_spaces(
         let spaces = CowStr::Owned(spaces_text(alloc, line.spaces)?);
         let node = Node {
             depth,
-            item: Item::Text(spaces),
+            item: NodeKind::Text(spaces),
             start: line.start.saturating_sub(1),
             end: line.start,
         };
@@ -81,15 +81,15 @@ fn write_spaces(
 }
 
 #[tactic(auto, unfolding(crate::specs::Pages::line_item))]
-fn line_item(alloc: Global, text: &str, html: bool, line: Piece) -> Result<Item, AllocError>
+fn line_item(alloc: Global, text: &str, html: bool, line: Piece) -> Result<NodeKind, AllocError>
     ensures { IfOk result (λ i. item_view i ≡ line_item text.now html line) }
 {
     let feed = line.end < line.next;
     let words = CowStr::Owned(cleaned_part(alloc, text, line.start, line.end, feed)?);
     if html {
-        Ok(Item::Html(words))
+        Ok(NodeKind::Html(words))
     } else {
-        Ok(Item::Text(words))
+        Ok(NodeKind::Text(words))
     }
 }
 
@@ -155,7 +155,7 @@ fn block_tag(alloc: Global, text: &str, kind: BlockKind) -> Result<Tag<'static>,
         }),
         BlockKind::Indented => Ok(Tag::CodeBlock(CodeBlockKind::Indented)),
         BlockKind::Fenced(from, to) => {
-            let info = info_text(alloc, piece(text.as_bytes(), from, to))?;
+            let info = info_text(alloc, bytes_between(text.as_bytes(), from, to))?;
             Ok(Tag::CodeBlock(CodeBlockKind::Fenced(CowStr::Owned(info))))
         }
         BlockKind::Html => Ok(Tag::HtmlBlock),
@@ -189,7 +189,7 @@ fn write_block(
 {
     let node = Node {
         depth: block.depth,
-        item: Item::Container(block_tag(alloc, text, block.kind)?),
+        item: NodeKind::Container(block_tag(alloc, text, block.kind)?),
         start: block.start,
         end: block.end,
     };
@@ -211,7 +211,7 @@ fn write_task(
     if let Some(task) = task {
         let node = Node {
             depth,
-            item: Item::TaskListMarker(task.done),
+            item: NodeKind::TaskListMarker(task.done),
             start: task.start,
             end: task.start.saturating_add(3),
         };
@@ -238,7 +238,7 @@ fn no_inlines(alloc: Global, texts: Vec<u8>) -> Inlines
 pub struct Assembly {
     pub emission: Emission,
     pub inlines: Inlines,
-    pub lines: Vec<Line>,
+    pub lines: Vec<ContentLine>,
 }
 
 impl Assembly {
@@ -323,7 +323,7 @@ impl Assembly {
     {
         let node = Node {
             depth: block.depth,
-            item: Item::Rule,
+            item: NodeKind::Rule,
             start: block.start,
             end: block.end,
         };

@@ -7,7 +7,7 @@ use Rattle.tocmark_spelling.specs.Runs.{start_width, close_width}
 use Rattle.tocmark_spelling.proofs.Turns.{length-events}
 use Rattle.tocmark_write_lookahead.specs.Ahead.{character_before, character_after}
 use Rattle.tocmark_write_lookahead.specs.Sides.{AreRoundIf}
-use Rattle.tocmark_write_lookahead.specs.declared.marks.Round.{Round}
+use Rattle.tocmark_write_lookahead.specs.declared.preferred.Round.{Round}
 use Rattle.tocmark_write_lookahead.proofs.marks.characters_round.Goals as goal
 
 pub beside-requires : goal.beside-requires

@@ -1,6 +1,6 @@
 use Rattle.std.proofs.Common.{sym, ◌∙◌}
 use Rattle.tocmark_read_scan.proofs.Repeats.{repeated_stop}
-use Rattle.tocmark_read_blocks.proofs.page.Page.open_all.Goals as goal
+use Rattle.tocmark_read_blocks.proofs.page.BlocksSoFar.open_all.Goals as goal
 
 -- no container begins: the loop ends as the definition does
 pub returns-in-None : goal.returns-in-None

@@ -2,7 +2,7 @@ use Rattle.std.proofs.Common.{◌≡◌}
 use Rattle.tocmark_read_scan.specs.Repeat.{repeated}
 use Rattle.tocmark_read_blocks.specs.Pages.{page}
 use Rattle.tocmark_read_blocks.specs.Blocks.{container_once, containers_opened}
-use Rattle.tocmark_read_blocks.proofs.page.Page.open_all.Given as goal
+use Rattle.tocmark_read_blocks.proofs.page.BlocksSoFar.open_all.Given as goal
 
 abbrev pub invariant-loop-steps_left : goal.invariant-loop-steps_left
 invariant-loop-steps_left l =
