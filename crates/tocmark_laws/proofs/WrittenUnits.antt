@@ -24,12 +24,12 @@ use Rattle.tocmark_render.specs.Validates.{validates}
 use Rattle.tocmark_render.proofs.FirstReadBack.{checked-chosen, delimiters-checked}
 use Rattle.tocmark_laws.specs.Trees.{Part, Trees, part_onto, ranged, stop_at, then_ranged, unit_walk, walk_trees, followed_unit}
 use Rattle.tocmark_laws.specs.Unexpected.{setting_at}
-use Rattle.tocmark_laws.specs.Written.{AreWritten, IsWrittenAsRead, ReadsBackIfDelimited, Written, last_unit, last_written, texts_of, written_as, written_trees, written_unit, written_unless}
+use Rattle.tocmark_laws.specs.Written.{AreWritten, IsWrittenAsRead, ReadsBackIfDelimited, Written, ending_unless_refused, last_of, last_unit, last_written, texts_at_end, texts_of, written_as, written_trees, written_unit, written_unless}
 use Rattle.tocmark_laws.proofs.Trees.{trees_of, walk_is}
 use Rattle.tocmark_laws.proofs.Unexpected.{flat-choice, misplaced-choice}
 use Rattle.tocmark_state.specs.Ranges.{Pair, resolved}
 use Rattle.tocmark_write_labels.specs.Pending.{nested}
-use Rattle.tocmark_state.specs.Walk.{Kept, Rendering, Standing, Walk, advance, advance_with, beginning, flush_of, flushed, flushed_before, flushed_or_deferred, go_on, handed_text, is_due, joins, stay, step, walk, with_event}
+use Rattle.tocmark_state.specs.Walk.{Done, Kept, Rendering, Standing, Walk, advance, advance_with, beginning, ended, ended_at, finished, finished_of, flush_of, flushed, flushed_before, flushed_or_deferred, go_on, handed_text, is_due, joins, script, stay, step, walk, with_event}
 use Rattle.tocmark_state.specs.WorkView.{keeping, rendering}
 
 -- ---- the texts of a walk over trees are those of the units
@@ -257,3 +257,53 @@ pub end-reads : (options : OptionsView) (reading : List ℕ → ParserOptions �
     → AllByRecursion (ReadsBackIfDelimited options reading) (last_written (rendering options reading) at.open_tags at)
 end-reads options reading source kept p at standard accepts h =
     last-reads options reading kept.flags standard accepts at.open_tags at (walk-flags options reading source p (beginning kept) at h)
+
+-- ---- the texts of a script are those of its units, and those at its end
+
+unit-ending : (how : Rendering) (kept : Kept) (unit : List SourcedEvent) (r : Result (List ℕ × Kept) Error)
+    → (finished_of how unit r).texts ≡ ending_unless_refused how kept (written_as kept unit None r (λ k. [])) (finished_of how unit r).outcome
+unit-ending how kept unit (Ok x) = refl
+unit-ending how kept unit (Err e) = refl
+
+pending-ending : (how : Rendering) (kept : Kept) (unit : List SourcedEvent) → (finished how unit kept).texts ≡ ending_unless_refused how kept (last_unit how kept unit) (finished how unit kept).outcome
+pending-ending how kept [] = refl
+pending-ending how kept (e ∷ es) = unit-ending how kept (e ∷ es) (how.choice kept (e ∷ es) None)
+
+tags-ending : (how : Rendering) (at : Standing) (tags : List TagEnd) → (ended_at how tags at).texts ≡ ending_unless_refused how at.document (last_written how tags at) (ended_at how tags at).outcome
+tags-ending how at [] = pending-ending how at.document at.pending
+tags-ending how at (o ∷ os) = refl
+
+walk-ending : (how : Rendering) (at : Standing) → (ended how at).texts ≡ texts_at_end how (Ok at) (ended how at).outcome
+unfolding ended
+walk-ending how at = tags-ending how at at.open_tags
+
+script-texts : (how : Rendering) (ts : List (List ℕ)) (o : Result Standing Error) → (go_on ts o (λ t. ended how t)).texts ≡ ts ++ texts_at_end how o (go_on ts o (λ t. ended how t)).outcome
+script-texts how ts (Ok at) = ap (λ es. ts ++ es) (walk-ending how at)
+script-texts how ts (Err e) = sym (append-nil ts)
+
+of-both : (P : Written → Type 0) (xs ys : List Written) → AllByRecursion P xs → AllByRecursion P ys → AllByRecursion P (xs ++ ys)
+of-both P [] ys first second = second
+of-both P (x ∷ xs) ys (this, first) second = (this, of-both P xs ys first second)
+
+module _ (options : OptionsView) (reading : List ℕ → ParserOptions → ReadingView) (source : List ℕ) (kept : Kept) (p : List Pair) (standard : has_standard_markers options ≡ true) (accepts : validates options kept.flags ≡ true) where
+  abbrev how_written : Rendering
+  how_written = rendering options reading
+
+  abbrev whole_walk : Walk Standing
+  whole_walk = walk how_written source (beginning kept) p
+
+  last-of-reads : (o : Result Standing Error) → whole_walk.outcome ≡ o → AllByRecursion (ReadsBackIfDelimited options reading) (last_of how_written o)
+  last-of-reads (Ok at) h = end-reads options reading source kept p at standard accepts h
+  last-of-reads (Err e) h = tt
+
+  pub script-reads : (units : List Written) × AreWritten how_written source kept p units
+      × ((script how_written source (beginning kept) p).texts ≡ texts_of units ++ texts_at_end how_written whole_walk.outcome (script how_written source (beginning kept) p).outcome)
+      × AllByRecursion (ReadsBackIfDelimited options reading) (units ++ last_of how_written whole_walk.outcome)
+  script-reads =
+      let found = pairs-read options reading kept.flags standard accepts source kept p refl in (
+        found.0,
+        found.1,
+        script-texts how_written whole_walk.texts whole_walk.outcome
+            ∙ ap (λ ts. ts ++ texts_at_end how_written whole_walk.outcome (script how_written source (beginning kept) p).outcome) found.1.texts_are,
+        of-both (ReadsBackIfDelimited options reading) found.0 (last_of how_written whole_walk.outcome) found.2 (last-of-reads whole_walk.outcome refl),
+      )

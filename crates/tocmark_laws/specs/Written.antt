@@ -11,6 +11,7 @@ use Rattle.tocmark_spelling.specs.Body as body
 use Rattle.tocmark_spelling.specs.Page.{Page}
 use Rattle.tocmark_spelling.specs.Plan.{Setting}
 use Rattle.tocmark_write_labels.specs.Document.{DocumentView}
+use Rattle.tocmark_write_labels.specs.Ending.{last_texts}
 use Rattle.tocmark_write_labels.specs.Units.{labelled}
 use Rattle.tocmark_render.specs.Candidates.{candidates, is_delimiter_block}
 use Rattle.tocmark_render.specs.Choice.{document_after}
@@ -18,7 +19,7 @@ use Rattle.tocmark_render.specs.FirstReadBack.{IsFirstReadBack}
 use Rattle.tocmark_laws.specs.Trees.{Part, Trees, part_onto, ranged}
 use Rattle.tocmark_laws.specs.Unexpected.{setting_at}
 use Rattle.tocmark_state.specs.Ranges.{Pair}
-use Rattle.tocmark_state.specs.Walk.{Kept, Rendering, Standing, beginning, handed_text, walk}
+use Rattle.tocmark_state.specs.Walk.{Done, Kept, Rendering, Standing, beginning, handed_text, walk}
 
 -- a unit that is written: its events, the event that follows it, the document before it, its text, and the document after it
 pub record Written : Type 0 where
@@ -65,6 +66,26 @@ last_unit how kept (e ∷ es) = written_as kept (e ∷ es) None (how.choice kept
 abbrev pub last_written : Rendering → List TagEnd → Standing → List Written
 last_written how [] at = last_unit how at.document at.pending
 last_written how (o ∷ os) at = []
+
+-- the last unit of a script, whose walk ends so
+abbrev pub last_of : Rendering → Result Standing Error → List Written
+last_of how (Ok at) = last_written how at.open_tags at
+last_of how (Err e) = []
+
+-- the text of the last unit, if there is one, and the definitions that are left
+abbrev pub ending_texts : Rendering → Kept → List Written → List (List ℕ)
+ending_texts how kept [] = handed_text (how.definitions kept)
+ending_texts how kept (w ∷ ws) = last_texts (how.holds_raw w.unit) (how.definitions w.after) w.text
+
+-- these, unless the script is refused
+abbrev pub ending_unless_refused : Rendering → Kept → List Written → Result Done Error → List (List ℕ)
+ending_unless_refused how kept last (Ok d) = ending_texts how kept last
+ending_unless_refused how kept last (Err e) = []
+
+-- what a script hands behind the units of its walk, by how the walk ends, and how the script
+abbrev pub texts_at_end : Rendering → Result Standing Error → Result Done Error → List (List ℕ)
+texts_at_end how (Ok at) outcome = ending_unless_refused how at.document (last_written how at.open_tags at) outcome
+texts_at_end how (Err e) outcome = []
 
 -- the unit is written as the first of its candidates that reads back in its document
 pub record IsWrittenAsRead (s : Setting) (f : body.Trees) (w : Written) : Type 0 where

@@ -1,5 +1,6 @@
 pub mod Ranges
 pub mod Walk
+pub mod StringWriters
 pub mod Writes
 pub mod WorkView
 pub mod StateView

@@ -1,5 +1,5 @@
 use Rattle.std.proofs.Common.{refl}
-use Rattle.tocmark_laws.proofs.WrittenUnits.{end-reads, pairs-read}
+use Rattle.tocmark_laws.proofs.WrittenUnits.{end-reads, pairs-read, script-reads}
 use Rattle.tocmark_laws.proofs.written.what_is_written_reads_back.Goals as goal
 
 pub returns-clause-handed : goal.returns-clause-handed
@@ -7,3 +7,6 @@ returns-clause-handed c options reading source kept p standard accepts = pairs-r
 
 pub returns-clause-last : goal.returns-clause-last
 returns-clause-last c = end-reads
+
+pub returns-clause-script : goal.returns-clause-script
+returns-clause-script c = script-reads
