@@ -5,7 +5,9 @@ use Rattle.std.specs.Prelude.{nat_le, if◌then◌else◌, get_or, take, length,
 use Rattle.std.proofs.lemmas.List.Sums.{fold-append, fold_more}
 use Rattle.tocmark_read_scan.specs.Basic.{plus}
 use Rattle.tocmark_read_syntax.specs.declared.Syntax.{Syntax}
+use Rattle.tocmark_read_syntax.specs.declared.Names.{Names}
 use Rattle.tocmark_read_scan.specs.Content as content
+use Rattle.tocmark_read_scan.specs.TableCell.{cell_content}
 use Rattle.tocmark_read_blocks.specs.declared.definition.Piece.{Piece}
 use Rattle.tocmark_read_blocks.specs.declared.page.Block.{Block}
 use Rattle.tocmark_read_blocks.specs.declared.page.BlockKind.{BlockKind}
@@ -14,7 +16,7 @@ use Rattle.tocmark_read_inlines.specs.Inlines as inlines
 use Rattle.tocmark_read_spans.specs.declared.definitions.Entry.{Entry}
 use Rattle.tocmark_core_reader.specs.Emitted.{NodeView, Writing, step}
 use Rattle.tocmark_core_reader.specs.Inlines.{inline_node}
-use Rattle.tocmark_core_reader.specs.Pages.{State, Progress, written_behind, written_by, written_alone, content_line, lines_nodes, block_node, pieces_of, with_inlines, leaf_inlines_in, task_nodes, with_block, with_task, bare_in, with_lines, with_rule, wrapped_in, paragraph_taken_in, taken_as_in, block_taken_in, is_unwrapped, block_step_in}
+use Rattle.tocmark_core_reader.specs.Pages.{State, Progress, written_behind, written_by, written_alone, content_line, lines_nodes, block_node, pieces_of, with_inlines, leaf_inlines_in, task_nodes, with_block, with_task, bare_in, with_lines, fence_node_in, with_fence_in, with_rule, wrapped_in, paragraph_taken_in, taken_as_in, block_taken_in, is_unwrapped, block_step_in, cell_inlines_in, cell_taken_in}
 
 abbrev pub Find : Type 0
 Find = List ℕ → Option Entry
@@ -60,6 +62,15 @@ adds_lines text html b lines w s =
     (fold-append (step text) w (s.nodes ++ block_node text b ∷ []) more
     ∙ ap (λ x. fold (step text) x more) (fold-append (step text) w s.nodes (block_node text b ∷ [])))
 
+adds_fence : (names : Names) (text : List ℕ) (from to : ℕ) (b : Block) (lines : List Piece) → Adds text (with_fence_in names text from to b lines)
+unfolding with_fence_in
+adds_fence names text from to b lines w s =
+    let more : List NodeView = lines_nodes text false (plus b.depth 1) lines in
+    let fence : NodeView = fence_node_in names text from to b in
+    ap (progress s.inlines)
+    (fold-append (step text) w (s.nodes ++ fence ∷ []) more
+    ∙ ap (λ x. fold (step text) x more) (fold-append (step text) w s.nodes (fence ∷ [])))
+
 adds_inlines : (text : List ℕ) (found : inlines.State) (w : Writing) (s : State) → written_behind text w (with_inlines found s) ≡ written_behind text (fold (step text) w s.nodes) (with_inlines found (record { nodes = []; inlines = s.inlines }))
 adds_inlines text found w s =
     ap (progress (record { nodes = []; targets = found.targets; texts = found.texts; missed = found.missed }))
@@ -79,6 +90,21 @@ adds_wrapped syntax text find pieces b =
 pub wrapped_behind : (syntax : Syntax) (text : List ℕ) (find : Find) (pieces : List Piece) (b : Block) (p : Progress) → written_by text (wrapped_in syntax text find pieces b) p ≡ written_by text (leaf_inlines_in syntax text find pieces (plus b.depth 1)) (written_by text (with_block text b) p)
 unfolding wrapped_in
 wrapped_behind syntax text find pieces b p = adds_leaf syntax text find pieces (plus b.depth 1) p.writing (with_block text b (record { nodes = []; inlines = p.inlines }))
+
+adds_cell_inlines : (syntax : Syntax) (text : List ℕ) (find : Find) (b : Block) → Adds text (cell_inlines_in syntax text find b)
+unfolding cell_inlines_in
+adds_cell_inlines syntax text find b w s =
+    adds_inlines text (inlines.read_cell_in syntax (cell_content text b.start b.end) (plus b.depth 1) find s.inlines) w s
+
+adds_cell : (syntax : Syntax) (text : List ℕ) (find : Find) (b : Block) → Adds text (cell_taken_in syntax text find b)
+unfolding cell_taken_in
+adds_cell syntax text find b =
+    adds_both text (with_block text b) (cell_inlines_in syntax text find b) (adds_block text b) (adds_cell_inlines syntax text find b)
+
+-- a cell is written as its container, and then its inlines
+pub cell_behind : (syntax : Syntax) (text : List ℕ) (find : Find) (b : Block) (p : Progress) → written_by text (cell_taken_in syntax text find b) p ≡ written_by text (cell_inlines_in syntax text find b) (written_by text (with_block text b) p)
+unfolding cell_taken_in
+cell_behind syntax text find b p = adds_cell_inlines syntax text find b p.writing (with_block text b (record { nodes = []; inlines = p.inlines }))
 
 adds_bare : (syntax : Syntax) (text : List ℕ) (find : Find) (pieces : List Piece) (b : Block) → Adds text (bare_in syntax text find pieces b)
 unfolding bare_in
@@ -105,10 +131,15 @@ adds_kind syntax kind.Quote text find pieces unwrapped b = adds_block text b
 adds_kind syntax (kind.List first) text find pieces unwrapped b = adds_block text b
 adds_kind syntax kind.Item text find pieces unwrapped b = adds_block text b
 adds_kind syntax kind.Indented text find pieces unwrapped b = adds_lines text false b pieces
-adds_kind syntax (kind.Fenced from to) text find pieces unwrapped b = adds_lines text false b pieces
+adds_kind syntax (kind.Fenced from to) text find pieces unwrapped b = adds_fence syntax.names text from to b pieces
 adds_kind syntax kind.Html text find pieces unwrapped b = adds_lines text true b pieces
 adds_kind syntax kind.Rule text find pieces unwrapped b = adds_rule text b
 adds_kind syntax (kind.Metadata k) text find pieces unwrapped b = adds_lines text false b pieces
+adds_kind syntax (kind.Note from to) text find pieces unwrapped b = adds_block text b
+adds_kind syntax (kind.Table from to) text find pieces unwrapped b = adds_block text b
+adds_kind syntax kind.TableHead text find pieces unwrapped b = adds_block text b
+adds_kind syntax kind.TableRow text find pieces unwrapped b = adds_block text b
+adds_kind syntax kind.TableCell text find pieces unwrapped b = adds_cell syntax text find b
 
 -- one more block, written behind the others
 pub block_behind : (syntax : Syntax) (text : List ℕ) (find : Find) (all : List Piece) (unwrapped : Bool) (b : Block) (s : State) → written_alone text (block_taken_in syntax text find all unwrapped b s) ≡ written_by text (block_taken_in syntax text find all unwrapped b) (written_alone text s)

@@ -27,7 +27,7 @@ use Rattle.tocmark_read_inlines.proofs.PlainLeaf.{known, parts_inlines}
 use Rattle.tocmark_read_inlines.proofs.PlainNodes.{nodes_of}
 use Rattle.tocmark_core_reader.specs.Emitted.{NodeView, Container, Writing, step, closed, emitted}
 use Rattle.tocmark_core_reader.specs.Pages.{State, start_state, pieces_of, assembled, is_unwrapped, block_taken, block_taken_in, paragraph_taken, paragraph_taken_in, wrapped_in, task_nodes, with_block, leaf_inlines_in, with_inlines, content_line, block_tag}
-use Rattle.tocmark_core_reader.specs.Reading.{core_reading, found_in, found_under, reading_of, FoundView, collected, first_entry}
+use Rattle.tocmark_core_reader.specs.Reading.{core_reading, found_in, found_under, reading_of, FoundView, collected, collected_from, first_entry}
 use Rattle.tocmark_core_reader.proofs.PlainEvents.{Marked, viewed, at, events_of, emit_parts}
 use Rattle.tocmark_core_reader.proofs.PlainSources.{IsClean, AreClean, snapped_clean, all_implied}
 use Rattle.tocmark_read_scan.specs.PlainParts.{Part, spelled}
@@ -145,7 +145,7 @@ abbrev pub found_parts : ℕ → List Part → FoundView
 found_parts n parts = record { nodes = paragraph_node n ∷ viewed (nodes_of 1 0 None parts); defined = []; unresolved = [] }
 
 pub found_text : (l : List ℕ) (ms : List (List ℕ)) (parts : List Part) → IsReadText l ms parts → found_in (feed_joined l ms) ≡ found_parts (length (feed_joined l ms)) parts
-unfolding found_under
+unfolding found_under collected_from
 found_text l ms parts h =
     let text : List ℕ = feed_joined l ms in
     let n : ℕ = length text in

@@ -1,6 +1,6 @@
 -- From the nodes of inlines to those of events.
 use Rattle.std.specs.Prelude.{ℕ, List, encode_utf8, slice_get, unwrap_or}
-use Rattle.tocmark_event.specs.View.{TagView, Emphasis, Strong, Strikethrough, Link, Image, Text, Code, InlineHtml, SoftBreak, HardBreak}
+use Rattle.tocmark_event.specs.View.{TagView, Emphasis, Strong, Strikethrough, Link, Image, Subscript, Superscript, Text, Code, InlineHtml, SoftBreak, HardBreak, FootnoteReference}
 use Rattle.tocmark_event.specs.declared.event.LinkType.TheVariants.{Inline}
 use Rattle.tocmark_read_spans.specs.Definitions.{stretch_text, no_stretch}
 use Rattle.tocmark_read_spans.specs.declared.role.Leaf.{Leaf}
@@ -33,6 +33,8 @@ span_tag texts targets span.Strong = Strong
 span_tag texts targets span.Strikethrough = Strikethrough
 span_tag texts targets (span.Link place) = link_of texts (target_at targets place)
 span_tag texts targets (span.Image place) = image_of texts (target_at targets place)
+span_tag texts targets span.Subscript = Subscript
+span_tag texts targets span.Superscript = Superscript
 
 -- the item that an inline without children is
 unfoldable pub leaf_item : List ℕ → Leaf → ItemView
@@ -41,6 +43,8 @@ leaf_item texts (leaf.Code s) = Given (Code (stretch_text texts s))
 leaf_item texts (leaf.Html s) = Given (InlineHtml (stretch_text texts s))
 leaf_item texts leaf.SoftBreak = Given SoftBreak
 leaf_item texts leaf.HardBreak = Given HardBreak
+leaf_item texts (leaf.Text s) = Given (Text (stretch_text texts s))
+leaf_item texts (leaf.Note name) = Given (FootnoteReference (stretch_text texts name))
 
 -- the item that an inline is
 unfoldable pub inline_item : List ℕ → List Target → InlineKind → ItemView

@@ -6,6 +6,9 @@ use Rattle.tocmark_event.specs.View as view
 use Rattle.tocmark_read_scan.specs.Basic.{plus, bytes_between}
 use Rattle.tocmark_read_syntax.specs.declared.TheConstants.{CORE}
 use Rattle.tocmark_read_syntax.specs.declared.Syntax.{Syntax}
+use Rattle.tocmark_read_syntax.specs.declared.Names.{Names}
+use Rattle.tocmark_read_lines.specs.Rows.{alignments_of}
+use Rattle.tocmark_read_scan.specs.TableCell.{cell_content}
 use Rattle.tocmark_read_scan.specs.Content as content
 use Rattle.tocmark_read_scan.specs.declared.content.ContentLine.{ContentLine}
 use Rattle.tocmark_read_blocks.specs.declared.definition.Piece.{Piece}
@@ -17,7 +20,7 @@ use Rattle.tocmark_read_inlines.specs.Inlines as inlines
 use Rattle.tocmark_read_spans.specs.declared.definitions.Entry.{Entry}
 use Rattle.tocmark_core_reader.specs.Emitted.{ItemView, NodeView, Container, Given, Writing, emission_view, step}
 use Rattle.tocmark_core_reader.specs.Inlines.{inline_node}
-use Rattle.tocmark_core_reader.specs.Words.{cleaned, info_text, spaces_text}
+use Rattle.tocmark_core_reader.specs.Words.{cleaned, info_text, info_text_in, spaces_text, name_text}
 use Rattle.tocmark_core_reader.specs.declared.block_events.Assembly.{Assembly}
 
 -- the pieces of a range
@@ -64,6 +67,11 @@ block_tag text (kind.Fenced from to) = view.CodeBlock (view.Fenced (info_text (b
 block_tag text kind.Html = view.HtmlBlock
 block_tag text kind.Rule = view.Paragraph
 block_tag text (kind.Metadata k) = view.MetadataBlock k
+block_tag text (kind.Note from to) = view.FootnoteDefinition (name_text (bytes_between text from to))
+block_tag text (kind.Table from to) = view.Table (alignments_of (bytes_between text from to))
+block_tag text kind.TableHead = view.TableHead
+block_tag text kind.TableRow = view.TableRow
+block_tag text kind.TableCell = view.TableCell
 
 -- a block directly in an item of a tight list
 unfoldable pub is_unwrapped : List Block → Block → Bool
@@ -133,6 +141,16 @@ bare_in syntax text find pieces b s = leaf_inlines_in syntax text find pieces b.
 unfoldable pub with_lines : List ℕ → Bool → Block → List Piece → State → State
 with_lines text html b lines s = record s { nodes = (s.nodes ++ block_node text b ∷ []) ++ lines_nodes text html (plus b.depth 1) lines }
 
+-- the node of a fenced code block, whose info string stands between two places
+unfoldable pub fence_node_in : Names → List ℕ → ℕ → ℕ → Block → NodeView
+fence_node_in names text from to b =
+    node b.depth (Container (view.CodeBlock (view.Fenced (info_text_in names (bytes_between text from to))))) b.start b.end
+
+-- a fenced code block with its lines
+unfoldable pub with_fence_in : Names → List ℕ → ℕ → ℕ → Block → List Piece → State → State
+with_fence_in names text from to b lines s =
+    record s { nodes = (s.nodes ++ fence_node_in names text from to b ∷ []) ++ lines_nodes text false (plus b.depth 1) lines }
+
 -- one more thematic break
 unfoldable pub with_rule : Block → State → State
 with_rule b s = record s { nodes = s.nodes ++ node b.depth (Given view.Rule) b.start b.end ∷ [] }
@@ -140,6 +158,15 @@ with_rule b s = record s { nodes = s.nodes ++ node b.depth (Given view.Rule) b.s
 -- a paragraph or a heading with its inlines
 unfoldable pub wrapped_in : Syntax → List ℕ → (List ℕ → Option Entry) → List Piece → Block → State → State
 wrapped_in syntax text find pieces b s = leaf_inlines_in syntax text find pieces (plus b.depth 1) (with_block text b s)
+
+-- the inlines of a cell
+unfoldable pub cell_inlines_in : Syntax → List ℕ → (List ℕ → Option Entry) → Block → State → State
+cell_inlines_in syntax text find b s =
+    with_inlines (inlines.read_cell_in syntax (cell_content text b.start b.end) (plus b.depth 1) find s.inlines) s
+
+-- a cell with its inlines
+unfoldable pub cell_taken_in : Syntax → List ℕ → (List ℕ → Option Entry) → Block → State → State
+cell_taken_in syntax text find b s = cell_inlines_in syntax text find b (with_block text b s)
 
 -- a paragraph of definitions alone is nothing, and one in a tight list has no container
 unfoldable pub paragraph_taken_in : Syntax → List ℕ → (List ℕ → Option Entry) → List Piece → Bool → Block → State → State
@@ -155,10 +182,15 @@ taken_as_in syntax kind.Quote text find pieces unwrapped b s = with_block text b
 taken_as_in syntax (kind.List first) text find pieces unwrapped b s = with_block text b s
 taken_as_in syntax kind.Item text find pieces unwrapped b s = with_block text b s
 taken_as_in syntax kind.Indented text find pieces unwrapped b s = with_lines text false b pieces s
-taken_as_in syntax (kind.Fenced from to) text find pieces unwrapped b s = with_lines text false b pieces s
+taken_as_in syntax (kind.Fenced from to) text find pieces unwrapped b s = with_fence_in syntax.names text from to b pieces s
 taken_as_in syntax kind.Html text find pieces unwrapped b s = with_lines text true b pieces s
 taken_as_in syntax kind.Rule text find pieces unwrapped b s = with_rule b s
 taken_as_in syntax (kind.Metadata k) text find pieces unwrapped b s = with_lines text false b pieces s
+taken_as_in syntax (kind.Note from to) text find pieces unwrapped b s = with_block text b s
+taken_as_in syntax (kind.Table from to) text find pieces unwrapped b s = with_block text b s
+taken_as_in syntax kind.TableHead text find pieces unwrapped b s = with_block text b s
+taken_as_in syntax kind.TableRow text find pieces unwrapped b s = with_block text b s
+taken_as_in syntax kind.TableCell text find pieces unwrapped b s = cell_taken_in syntax text find b s
 
 -- one more block
 unfoldable pub block_taken_in : Syntax → List ℕ → (List ℕ → Option Entry) → List Piece → Bool → Block → State → State

@@ -2,7 +2,10 @@
 use Rattle.std.specs.Prelude.{ℕ, Bool, if◌then◌else◌, List, [], ◌∷◌, ◌++◌, replicate}
 use Rattle.std.specs.List.{flat_map}
 use Rattle.std.specs.Str.Lossy.{utf8_lossy}
-use Rattle.tocmark_read_tokens.specs.Reference.{unescaped}
+use Rattle.tocmark_read_tokens.specs.Reference.{unescaped_in}
+use Rattle.tocmark_read_syntax.specs.declared.Names.{Names}
+use Rattle.tocmark_read_syntax.specs.declared.Names.TheVariants.{Four}
+use Rattle.tocmark_read_tokens.specs.Label.{collapsed}
 use Rattle.tocmark_read_blocks.specs.Definitions.{replaced}
 
 -- a line feed, for a line that ends
@@ -14,8 +17,16 @@ unfoldable pub cleaned : List ℕ → Bool → List ℕ
 cleaned bytes feed = utf8_lossy (flat_map replaced bytes ++ feed_if feed)
 
 -- an info string has no escapes and references
-unfoldable pub info_text : List ℕ → List ℕ
-info_text bytes = utf8_lossy (unescaped (flat_map replaced bytes))
+unfoldable pub info_text_in : Names → List ℕ → List ℕ
+info_text_in names bytes = utf8_lossy (unescaped_in names (flat_map replaced bytes))
+
+-- the same by four names
+abbrev pub info_text : List ℕ → List ℕ
+info_text = info_text_in Four
+
+-- the name of a footnote has one space for each stretch of white space, and none at its ends
+unfoldable pub name_text : List ℕ → List ℕ
+name_text bytes = utf8_lossy (collapsed (flat_map replaced bytes))
 
 -- so many spaces
 unfoldable pub spaces_text : ℕ → List ℕ

@@ -7,20 +7,22 @@ ghost use Rattle.tocmark_event.specs.View.{tag_view};
 ghost use Rattle.tocmark_read_spans.specs.Definitions.{entry_of};
 ghost use Rattle.tocmark_read_inlines.specs.Inlines.{inlines_view};
 ghost use Rattle.tocmark_core_reader.specs.Emitted.{item_view, emission_view, step};
-ghost use Rattle.tocmark_core_reader.specs.Pages.{pieces_of, content_line, space_nodes, line_item, line_nodes, lines_nodes, block_tag, is_unwrapped, block_node, assembly_view, task_nodes, leaf_inlines_in, with_block, with_task, bare_in, with_lines, with_rule, wrapped_in, paragraph_taken_in, block_taken_in, assembled_in, written_alone, written_by};
+ghost use Rattle.tocmark_core_reader.specs.Pages.{pieces_of, content_line, space_nodes, line_item, line_nodes, lines_nodes, block_tag, is_unwrapped, block_node, assembly_view, task_nodes, leaf_inlines_in, with_block, with_task, bare_in, with_lines, with_rule, wrapped_in, paragraph_taken_in, fence_node_in, with_fence_in, block_taken_in, assembled_in, written_alone, written_by, cell_inlines_in, cell_taken_in};
 
 use crate::emit::{Emission, Node, NodeKind};
 use crate::inline::write_inlines;
-use crate::words::{cleaned_part, info_text, spaces_text};
+use crate::words::{cleaned_part, info_text, name_text, spaces_text};
 use std::alloc::{AllocError, Global};
 use std::mem;
 use tocmark_event::event::{CodeBlockKind, CowStr, Tag};
 use tocmark_read_blocks::{Block, BlockKind, Piece, Task};
-use tocmark_read_inlines::inlines::{Inlines, read_inlines};
+use tocmark_read_inlines::inlines::{Inlines, read_cell, read_inlines};
+use tocmark_read_lines::row::alignments;
 use tocmark_read_scan::basic::bytes_between;
-use tocmark_read_scan::content::{ContentLine, content_of};
+use tocmark_read_scan::content::{Content, ContentLine, content_of};
+use tocmark_read_scan::table_cell::cell_content;
 use tocmark_read_spans::definitions::Definitions;
-use tocmark_read_syntax::Syntax;
+use tocmark_read_syntax::{Names, Syntax};
 
 /// The pieces of a range, none where it is none of the list.
 fn pieces_of(pieces: &[Piece], first: usize, last: usize) -> &[Piece]
@@ -155,12 +157,23 @@ fn block_tag(alloc: Global, text: &str, kind: BlockKind) -> Result<Tag<'static>,
         }),
         BlockKind::Indented => Ok(Tag::CodeBlock(CodeBlockKind::Indented)),
         BlockKind::Fenced(from, to) => {
-            let info = info_text(alloc, bytes_between(text.as_bytes(), from, to))?;
+            let info = info_text(alloc, Names::Four, bytes_between(text.as_bytes(), from, to))?;
             Ok(Tag::CodeBlock(CodeBlockKind::Fenced(CowStr::Owned(info))))
         }
         BlockKind::Html => Ok(Tag::HtmlBlock),
         BlockKind::Rule => Ok(Tag::Paragraph),
         BlockKind::Metadata(kind) => Ok(Tag::MetadataBlock(kind)),
+        BlockKind::Note(from, to) => {
+            let name = name_text(alloc, bytes_between(text.as_bytes(), from, to))?;
+            Ok(Tag::FootnoteDefinition(CowStr::Owned(name)))
+        }
+        BlockKind::Table(from, to) => {
+            let row = bytes_between(text.as_bytes(), from, to);
+            Ok(Tag::Table(alignments(alloc, row)?))
+        }
+        BlockKind::TableHead => Ok(Tag::TableHead),
+        BlockKind::TableRow => Ok(Tag::TableRow),
+        BlockKind::TableCell => Ok(Tag::TableCell),
     }
 }
 
@@ -190,6 +203,30 @@ fn write_block(
     let node = Node {
         depth: block.depth,
         item: NodeKind::Container(block_tag(alloc, text, block.kind)?),
+        start: block.start,
+        end: block.end,
+    };
+    out.write(alloc, text, node)
+}
+
+/// Writes the node of a fenced code block, whose info string stands between two places.
+#[tactic(auto, unfolding(crate::specs::Pages::fence_node_in))]
+fn write_fence(
+    alloc: Global,
+    names: Names,
+    out: &mut Emission,
+    text: &str,
+    from: usize,
+    to: usize,
+    block: Block,
+) -> Result<(), AllocError>
+    ensures { OnOk result (emission_view out.new
+        ≡ step text.now (emission_view out.old) (fence_node_in names text.now from to block)) }
+{
+    let info = info_text(alloc, names, bytes_between(text.as_bytes(), from, to))?;
+    let node = Node {
+        depth: block.depth,
+        item: NodeKind::Container(Tag::CodeBlock(CodeBlockKind::Fenced(CowStr::Owned(info)))),
         start: block.start,
         end: block.end,
     };
@@ -274,6 +311,38 @@ impl Assembly {
         Ok(())
     }
 
+    /// Reads the inlines of a cell.
+    #[tactic(auto, unfolding(crate::specs::Pages::cell_inlines_in))]
+    fn read_cell(
+        &mut self,
+        alloc: Global,
+        syntax: Syntax,
+        text: &str,
+        definitions: &Definitions,
+        block: Block,
+    ) -> Result<(), AllocError>
+        ensures { OnOk result (assembly_view self.new ≡ written_by text.now
+            (cell_inlines_in syntax text.now (entry_of definitions.now) block)
+            (assembly_view self.old)) }
+    {
+        let cell = cell_content(alloc, text.as_bytes(), block.start, block.end)?;
+        let content = Content::Pasted(cell);
+        let before = mem::replace(&mut self.inlines, no_inlines(alloc, Vec::new(alloc)));
+        let depth = block.depth.saturating_add(1);
+        let mut found = read_cell(alloc, syntax, before, &content, depth, definitions)?;
+        write_inlines(
+            alloc,
+            &mut self.emission,
+            text,
+            &found.texts,
+            &found.targets,
+            &found.nodes,
+        )?;
+        found.nodes.clear();
+        self.inlines = found;
+        Ok(())
+    }
+
     #[tactic(auto, unfolding(crate::specs::Pages::with_block))]
     fn open(&mut self, alloc: Global, text: &str, block: Block) -> Result<(), AllocError>
         ensures { OnOk result (assembly_view self.new
@@ -311,6 +380,33 @@ impl Assembly {
             &mut self.emission,
             text,
             html,
+            block.depth.saturating_add(1),
+            lines,
+        )
+    }
+
+    /// A fenced code block with its lines; its info string stands between two places.
+    #[tactic(auto, unfolding(crate::specs::Pages::with_fence_in))]
+    fn take_fence(
+        &mut self,
+        alloc: Global,
+        names: Names,
+        text: &str,
+        from: usize,
+        to: usize,
+        block: Block,
+        lines: &[Piece],
+    ) -> Result<(), AllocError>
+        ensures { OnOk result (assembly_view self.new
+            ≡ written_by text.now (with_fence_in names text.now from to block lines.now)
+            (assembly_view self.old)) }
+    {
+        write_fence(alloc, names, &mut self.emission, text, from, to, block)?;
+        write_lines(
+            alloc,
+            &mut self.emission,
+            text,
+            false,
             block.depth.saturating_add(1),
             lines,
         )
@@ -373,6 +469,23 @@ impl Assembly {
         self.read_leaf(alloc, syntax, text, definitions, pieces, block.depth)
     }
 
+    /// A cell of a table with its inlines.
+    fn take_cell(
+        &mut self,
+        alloc: Global,
+        syntax: Syntax,
+        text: &str,
+        definitions: &Definitions,
+        block: Block,
+    ) -> Result<(), AllocError>
+        ensures { OnOk result (assembly_view self.new ≡ written_by text.now
+            (cell_taken_in syntax text.now (entry_of definitions.now) block)
+            (assembly_view self.old)) }
+    {
+        self.open(alloc, text, block)?;
+        self.read_cell(alloc, syntax, text, definitions, block)
+    }
+
     #[tactic(auto, unfolding(crate::specs::Pages::paragraph_taken_in))]
     fn read_paragraph(
         &mut self,
@@ -430,10 +543,17 @@ impl Assembly {
             BlockKind::List(_) => self.open(alloc, text, block),
             BlockKind::Item => self.open(alloc, text, block),
             BlockKind::Indented => self.take_lines(alloc, text, false, block, pieces),
-            BlockKind::Fenced(_, _) => self.take_lines(alloc, text, false, block, pieces),
+            BlockKind::Fenced(from, to) => {
+                self.take_fence(alloc, syntax.names, text, from, to, block, pieces)
+            }
             BlockKind::Html => self.take_lines(alloc, text, true, block, pieces),
             BlockKind::Rule => self.take_rule(alloc, text, block),
             BlockKind::Metadata(_) => self.take_lines(alloc, text, false, block, pieces),
+            BlockKind::Note(_, _) => self.open(alloc, text, block),
+            BlockKind::Table(_, _) => self.open(alloc, text, block),
+            BlockKind::TableHead => self.open(alloc, text, block),
+            BlockKind::TableRow => self.open(alloc, text, block),
+            BlockKind::TableCell => self.take_cell(alloc, syntax, text, definitions, block),
         }
     }
 }

@@ -27,6 +27,8 @@ pub enum NodeKind {
     Rule,
     /// The box of a task, true where it is checked.
     TaskListMarker(bool),
+    /// A reference to a footnote with its name.
+    FootnoteReference(CowStr<'static>),
 }
 
 /// A part of a text, in bytes: `end` is the place behind the last one. Nodes stand in the order of
@@ -157,6 +159,7 @@ impl Emission {
             NodeKind::HardBreak => Event::HardBreak,
             NodeKind::Rule => Event::Rule,
             NodeKind::TaskListMarker(done) => Event::TaskListMarker(done),
+            NodeKind::FootnoteReference(name) => Event::FootnoteReference(name),
         };
         push(&mut self.events, event, range)
     }

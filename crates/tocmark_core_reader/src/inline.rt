@@ -67,6 +67,8 @@ fn span_tag(
         Span::Strikethrough => Ok(Tag::Strikethrough),
         Span::Link(place) => link_of(alloc, texts, target_at(targets, place)),
         Span::Image(place) => image_of(alloc, texts, target_at(targets, place)),
+        Span::Subscript => Ok(Tag::Subscript),
+        Span::Superscript => Ok(Tag::Superscript),
     }
 }
 
@@ -88,6 +90,8 @@ fn leaf_item(alloc: Global, texts: &[u8], leaf: Leaf) -> Result<NodeKind, AllocE
         Leaf::Html(stretch) => Ok(NodeKind::InlineHtml(stretch_text(alloc, texts, stretch)?)),
         Leaf::SoftBreak => Ok(NodeKind::SoftBreak),
         Leaf::HardBreak => Ok(NodeKind::HardBreak),
+        Leaf::Text(stretch) => Ok(NodeKind::Text(stretch_text(alloc, texts, stretch)?)),
+        Leaf::Note(name) => Ok(NodeKind::FootnoteReference(stretch_text(alloc, texts, name)?)),
     }
 }
 

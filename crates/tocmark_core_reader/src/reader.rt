@@ -1,42 +1,98 @@
 //! The reader.
 
 ghost use Rattle.std.specs.Prelude.{◌≡◌, map, string_bytes, IfOk, OnOk};
+ghost use Rattle.tocmark_read_blocks.specs.Blocks.{blocks_view};
 ghost use Rattle.tocmark_read_blocks.specs.Definitions.{definition_view};
 ghost use Rattle.tocmark_read_spans.specs.Definitions.{collected_view, entry_of};
-ghost use Rattle.tocmark_core_reader.specs.Reading.{define_step, collected, first_entry, found_under, reading_of};
+ghost use Rattle.tocmark_core_reader.specs.Reading.{define_step_in, collected_in, noted_as, noted, collected_from, first_entry, found_under, reading_of};
 ghost use Rattle.tocmark_event.specs.Reading.{reading_view};
 
 use crate::block_events::assemble;
+use crate::words::replaced_bytes;
 use std::alloc::{AllocError, Global};
 use tocmark_event::event::ParserOptions;
 use tocmark_event::reader::{Reader, Reading};
-use tocmark_read_blocks::{LinkDefinition, read_blocks};
+use tocmark_read_blocks::{Block, BlockKind, Blocks, LinkDefinition, read_blocks};
+use tocmark_read_scan::basic::bytes_between;
 use tocmark_read_spans::definitions::{Collected, Definitions, Entry, distinct_labels};
-use tocmark_read_syntax::{CORE, Syntax};
+use tocmark_read_syntax::{CORE, Names, Syntax};
 use tocmark_read_tokens::label::first_places;
 
 /// Reads CommonMark 0.31.2, under all flags alike.
 #[derive(Clone, Copy, Debug)]
 pub struct CoreReader;
 
-#[tactic(auto, unfolding(crate::specs::Reading::define_step))]
+#[tactic(auto, unfolding(crate::specs::Reading::define_step_in))]
 fn define(
     alloc: Global,
+    names: Names,
     collected: &mut Collected,
     found: &LinkDefinition,
 ) -> Result<(), AllocError>
     ensures { OnOk result (collected_view collected.new
-        ≡ define_step (collected_view collected.old) (definition_view found.now)) }
+        ≡ define_step_in names (collected_view collected.old) (definition_view found.now)) }
 {
-    collected.define(alloc, &found.label, &found.destination, &found.title)
+    collected.define(alloc, names, &found.label, &found.destination, &found.title)
 }
 
-fn collect(alloc: Global, all: &[LinkDefinition]) -> Result<Collected, AllocError>
-    ensures { IfOk result (λ c. collected_view c ≡ collected (map definition_view all.now)) }
+fn collect(alloc: Global, names: Names, all: &[LinkDefinition]) -> Result<Collected, AllocError>
+    ensures { IfOk result (λ c.
+        collected_view c ≡ collected_in names (map definition_view all.now)) }
 {
     let mut collected = Collected::new(alloc);
     for found in all {
-        define(alloc, &mut collected, found)?;
+        define(alloc, names, &mut collected, found)?;
+    }
+    Ok(collected)
+}
+
+/// Adds a footnote, if a block is the definition of one.
+#[tactic(auto, unfolding(crate::specs::Reading::noted_as))]
+fn note(
+    alloc: Global,
+    collected: &mut Collected,
+    text: &[u8],
+    kind: BlockKind,
+) -> Result<(), AllocError>
+    ensures { OnOk result (collected_view collected.new
+        ≡ noted_as text.now (collected_view collected.old) kind) }
+{
+    if let BlockKind::Note(from, to) = kind {
+        let name = replaced_bytes(alloc, bytes_between(text, from, to))?;
+        collected.note(alloc, &name)?;
+    }
+    Ok(())
+}
+
+fn note_all(
+    alloc: Global,
+    collected: &mut Collected,
+    text: &[u8],
+    blocks: &[Block],
+) -> Result<(), AllocError>
+    ensures { OnOk result (collected_view collected.new
+        ≡ noted text.now blocks.now (collected_view collected.old)) }
+{
+    for block in blocks {
+        note(alloc, collected, text, block.kind)?;
+    }
+    Ok(())
+}
+
+/// What brackets can lead to: the definitions of links, and where they are read the footnotes.
+#[tactic(auto, unfolding(crate::specs::Reading::collected_from))]
+fn collect_from(
+    alloc: Global,
+    syntax: Syntax,
+    text: &[u8],
+    found: &Blocks,
+) -> Result<Collected, AllocError>
+    ensures { IfOk result (λ c. collected_view c
+        ≡ collected_from syntax text.now (blocks_view found.now)) }
+{
+    let mut collected = collect(alloc, syntax.names, &found.definitions)?;
+    if syntax.footnotes {
+        note_all(alloc, &mut collected, text, &found.blocks)?;
     }
     Ok(collected)
 }
@@ -65,7 +121,7 @@ pub fn find(alloc: Global, syntax: Syntax, text: &str) -> Result<Reading, AllocE
         labels,
         entries,
         texts,
-    } = collect(alloc, &blocks.definitions)?;
+    } = collect_from(alloc, syntax, text.as_bytes(), &blocks)?;
     let defined = distinct_labels(alloc, &texts, &labels)?;
     let definitions = definitions(alloc, &keys, entries)?;
     let page = assemble(

@@ -3,16 +3,18 @@
 ghost use Rattle.std.specs.Prelude.{◌≡◌, ◌++◌, true, string_bytes, IfOk, OnOk};
 ghost use Rattle.std.specs.List.{flat_map};
 ghost use Rattle.tocmark_read_scan.specs.Basic.{bytes_between};
-ghost use Rattle.tocmark_read_tokens.specs.Reference.{unescaped};
+ghost use Rattle.tocmark_read_tokens.specs.Reference.{unescaped_in};
 ghost use Rattle.tocmark_event.specs.Text.{text_of};
 ghost use Rattle.tocmark_read_blocks.specs.Definitions.{replaced};
 ghost use Rattle.tocmark_read_spans.specs.Definitions.{stretch_text};
-ghost use Rattle.tocmark_core_reader.specs.Words.{feed_if, cleaned, info_text, spaces_text};
+ghost use Rattle.tocmark_core_reader.specs.Words.{feed_if, cleaned, info_text_in, spaces_text, name_text};
 
 use std::alloc::{AllocError, Global};
 use tocmark_event::event::CowStr;
 use tocmark_read_scan::basic::bytes_between;
 use tocmark_read_spans::role::Stretch;
+use tocmark_read_syntax::Names;
+use tocmark_read_tokens::label::collapsed;
 use tocmark_read_tokens::reference::unescaped;
 
 #[tactic(auto, unfolding(tocmark_read_blocks::specs::Definitions::replaced))]
@@ -40,7 +42,7 @@ fn push_replaced(out: &mut Vec<u8>, bytes: &[u8]) -> Result<(), AllocError>
 
 /// The bytes with U+FFFD for U+0000; with room for one more.
 #[tactic(auto, using(crate::proofs::Zeros::without_zeros))]
-fn replaced_bytes(alloc: Global, bytes: &[u8]) -> Result<Vec<u8>, AllocError>
+pub fn replaced_bytes(alloc: Global, bytes: &[u8]) -> Result<Vec<u8>, AllocError>
     ensures { IfOk result (λ v. v.items ≡ flat_map replaced bytes.now) }
 {
     let mut out = Vec::with_capacity(alloc, bytes.len().saturating_add(1))?;
@@ -108,13 +110,23 @@ pub fn cleaned_part(
     }
 }
 
-/// An info string: without escapes and references.
-#[tactic(auto, unfolding(crate::specs::Words::info_text))]
-pub fn info_text(alloc: Global, bytes: &[u8]) -> Result<String, AllocError>
-    ensures { IfOk result (λ t. string_bytes t ≡ info_text bytes.now) }
+/// An info string: without escapes and references, by the names that are known.
+#[tactic(auto, unfolding(crate::specs::Words::info_text_in))]
+pub fn info_text(alloc: Global, names: Names, bytes: &[u8]) -> Result<String, AllocError>
+    ensures { IfOk result (λ t. string_bytes t ≡ info_text_in names bytes.now) }
 {
     let bytes = replaced_bytes(alloc, bytes)?;
-    let bytes = unescaped(alloc, &bytes)?;
+    let bytes = unescaped(alloc, names, &bytes)?;
+    String::from_utf8_lossy(alloc, &bytes)
+}
+
+/// The name of a footnote: with one space for each stretch of white space, and none at its ends.
+#[tactic(auto, unfolding(crate::specs::Words::name_text))]
+pub fn name_text(alloc: Global, bytes: &[u8]) -> Result<String, AllocError>
+    ensures { IfOk result (λ t. string_bytes t ≡ name_text bytes.now) }
+{
+    let bytes = replaced_bytes(alloc, bytes)?;
+    let bytes = collapsed(alloc, &bytes)?;
     String::from_utf8_lossy(alloc, &bytes)
 }
 

@@ -1,11 +1,13 @@
 //! A reader of CommonMark 0.31.2 with the extensions that flags name: `ExtendedReader`.
 //!
 //! Below it stands `tocmark_core_reader`, which reads with a syntax; above it stand its users. Enter at
-//! `ExtendedReader`. `EXTENSIONS` are the flags that it reads; all others change nothing.
+//! `ExtendedReader`. `EXTENSIONS` are the flags that it reads; all others change nothing. Under all flags alike it knows
+//! the names of character references that it is told to: all of HTML's (`Names`).
 #![tactic(auto)]
 
 ghost use Rattle.std.specs.Prelude.{◌≡◌};
 ghost use Rattle.tocmark_extended_reader.specs.Flags.{syntax_of};
+ghost use Rattle.tocmark_read_syntax.specs.declared.Names.TheVariants.{All};
 
 #[cfg(test)]
 mod tests;
@@ -14,27 +16,37 @@ use std::alloc::{AllocError, Global};
 use tocmark_core_reader::find;
 use tocmark_event::event::ParserOptions;
 use tocmark_event::reader::{Reader, Reading};
+pub use tocmark_read_syntax::Names;
 use tocmark_read_syntax::Syntax;
 
-/// The flags of the extensions that `ExtendedReader` reads: strikethrough, task lists and both kinds of
-/// metadata.
+/// The flags of the extensions that `ExtendedReader` reads: strikethrough, subscripts, superscripts, task
+/// lists, both kinds of metadata, footnotes, and tables.
 pub const EXTENSIONS: ParserOptions = ParserOptions(
     ParserOptions::ENABLE_STRIKETHROUGH.0
+        | ParserOptions::ENABLE_SUBSCRIPT.0
+        | ParserOptions::ENABLE_SUPERSCRIPT.0
         | ParserOptions::ENABLE_TASKLISTS.0
+        | ParserOptions::ENABLE_TABLES.0
         | ParserOptions::ENABLE_YAML_STYLE_METADATA_BLOCKS.0
-        | ParserOptions::ENABLE_PLUSES_DELIMITED_METADATA_BLOCKS.0,
+        | ParserOptions::ENABLE_PLUSES_DELIMITED_METADATA_BLOCKS.0
+        | ParserOptions::ENABLE_FOOTNOTES.0,
 );
 
-/// The extensions that flags name.
+/// The extensions that flags name, with the names of character references that are known.
 #[tactic(auto, unfolding(crate::specs::Flags::syntax_of))]
-fn syntax_of(flags: ParserOptions) -> Syntax
-    ensures { result ≡ syntax_of flags }
+fn syntax_of(names: Names, flags: ParserOptions) -> Syntax
+    ensures { result ≡ syntax_of names flags }
 {
     Syntax {
+        tables: flags.contains(ParserOptions::ENABLE_TABLES),
+        footnotes: flags.contains(ParserOptions::ENABLE_FOOTNOTES),
         strikethrough: flags.contains(ParserOptions::ENABLE_STRIKETHROUGH),
+        subscript: flags.contains(ParserOptions::ENABLE_SUBSCRIPT),
+        superscript: flags.contains(ParserOptions::ENABLE_SUPERSCRIPT),
         task_lists: flags.contains(ParserOptions::ENABLE_TASKLISTS),
         yaml_metadata: flags.contains(ParserOptions::ENABLE_YAML_STYLE_METADATA_BLOCKS),
         pluses_metadata: flags.contains(ParserOptions::ENABLE_PLUSES_DELIMITED_METADATA_BLOCKS),
+        names,
     }
 }
 
@@ -43,6 +55,11 @@ fn syntax_of(flags: ParserOptions) -> Syntax
 /// Strikethrough stands between one or two tildes and as many: they open before what is no white space,
 /// a single one only behind white space or punctuation, and close behind what is none.
 ///
+/// A subscript stands between single tildes, which are no strikethrough where subscripts are read, too;
+/// two tildes without strikethrough are a text. A superscript stands between carets, which open and close
+/// as underscores do: `^a^` and `^^a^^` are one each, `x^2^` is none. A closing tilde or caret for which
+/// no opening one stands ends all that were opened before it.
+///
 /// A box stands just behind the marker of an item: a space, `x` or `X` between brackets, and a space or
 /// the line ending behind them. The rest of its line begins a paragraph, whatever it looks like, which
 /// has no definitions of links; where nothing is left of the line the item has the box.
@@ -50,8 +67,41 @@ fn syntax_of(flags: ParserOptions) -> Syntax
 /// Metadata are lines between `---` and `---` or `...`, or between `+++` and `+++`, outside of all
 /// containers and not in a paragraph. They begin where the next line is neither blank nor their end,
 /// and their end stands below. Each line is a text with its line ending.
+///
+/// A table begins with a header above a delimiter row, both directly in their containers: bars, colons,
+/// dashes and spaces, with a dash in each column that a bar ends. The header is the paragraph's only line
+/// behind its definitions, or one that begins with a bar, and has as many cells. Each further line is a row,
+/// until a blank line, a bar alone, or one that begins a quote, heading, fence, rule, item, HTML or the
+/// definition of a footnote. A bar
+/// divides cells if no backslash stands just before it; that backslash is no part of the cell. A row has as
+/// many cells as the header: further ones are dropped, missing ones are empty at its end, up to 262,144 in
+/// one table, which ends there.
+///
+/// The label of a footnote is a caret and a name between brackets, on one line. A colon just behind it, at
+/// the front of a container's line, begins a definition: a container whose further lines are indented by
+/// four columns or blank. It interrupts a paragraph, and a definition that would stand directly in another
+/// one ends that. Elsewhere a label whose name is defined anywhere in the text is a reference, unless a
+/// destination in parentheses or a link label that is none of a footnote stands behind it; names match as
+/// link labels do, and nothing that was open before a reference can become a link that has it in it.
+///
+/// Under all flags alike a reference such as `&auml;` is the characters that HTML gives its name: 2,125
+/// names that end with a semicolon, of which 93 stand for two characters. Case matters, and what is no
+/// name of these stays as it is. It counts in texts, destinations, titles and info strings, and not in
+/// code, raw HTML and labels; what it stands for is never markup.
 #[derive(Clone, Copy, Debug)]
-pub struct ExtendedReader;
+pub struct ExtendedReader {
+    /// The names of character references that are known.
+    pub names: Names,
+}
+
+impl ExtendedReader {
+    /// The reader that knows all names of character references.
+    pub fn new() -> Self
+        ensures { result.names ≡ All }
+    {
+        ExtendedReader { names: Names::All }
+    }
+}
 
 impl Reader for ExtendedReader {
     ghost use Rattle.std.specs.Prelude.{◌≡◌, IfOk, List, map};
@@ -64,20 +114,20 @@ impl Reader for ExtendedReader {
     ghost use Rattle.tocmark_core_reader.specs.Reading.{core_reading, reading_of};
     ghost use Rattle.tocmark_extended_reader.specs.Flags.{syntax_of};
 
-    ghost reading = { λ _ text flags. reading_of (syntax_of flags) text };
+    ghost reading = { λ reader text flags. reading_of (syntax_of reader.names flags) text };
 
     /// The reading of a text, with ranges in bytes. An `Err` says that memory ran out.
     #[tactic(auto, using(tocmark_core_reader::proofs::EmitLaws::reading_balanced, tocmark_core_reader::proofs::EmitLaws::reading_good, crate::proofs::Core::read_as_core))]
     fn read(&self, alloc: Global, text: &str, flags: ParserOptions) -> Result<Reading, AllocError>
         ensures reading { IfOk result (λ found.
-            reading_view found ≡ reading_of (syntax_of flags) text.now) }
+            reading_view found ≡ reading_of (syntax_of self.now.names flags) text.now) }
         ensures balanced { IfOk result (λ found.
             IsBalanced (map (λ e. event_view text_of e.0) found.events.items)) }
         ensures ranges { IfOk result (λ found. HasGoodRanges text.now found.events.items) }
-        ensures core { syntax_of flags ≡ CORE
+        ensures core { syntax_of self.now.names flags ≡ CORE
             → IfOk result (λ found. reading_view found ≡ core_reading text.now) }
     {
-        let found = find(alloc, syntax_of(flags), text)?;
+        let found = find(alloc, syntax_of(self.names, flags), text)?;
         Ok(found)
     }
 }

@@ -1,6 +1,11 @@
 //! Readings of texts with extensions, and without them.
 
-use crate::{EXTENSIONS, ExtendedReader};
+mod footnotes;
+mod names;
+mod scripts;
+mod tables;
+
+use crate::{EXTENSIONS, ExtendedReader, Names};
 use std::alloc::Global;
 use std::fmt::Write;
 use std::test::Fail;
@@ -110,7 +115,7 @@ fn metadata_is_read(rt: HostRuntime) -> Result<(), Fail> {
             "Start(MetadataBlock(PlusesStyle)) 0..11\nText(\"+ a\\n\") 4..8\nEnd(MetadataBlock(PlusesStyle)) 0..11\n",
         ),
     ] {
-        let reading = ExtendedReader.read(rt.alloc(), text, EXTENSIONS)?;
+        let reading = ExtendedReader::new().read(rt.alloc(), text, EXTENSIONS)?;
         let lines = lines_of(rt.alloc(), &reading)?;
         assert_eq!(rt; lines.as_str(), expected, "{text:?}");
     }
@@ -225,7 +230,7 @@ fn task_lists_are_read(rt: HostRuntime) -> Result<(), Fail> {
             "Start(List(None)) 0..17\nStart(Item) 0..7\nStart(Paragraph) 2..7\nTaskListMarker(false) 2..5\nText(\"a\") 6..7\nEnd(Paragraph) 2..7\nEnd(Item) 0..7\nStart(Item) 10..17\nStart(Paragraph) 12..17\nTaskListMarker(false) 12..15\nText(\"b\") 16..17\nEnd(Paragraph) 12..17\nEnd(Item) 10..17\nEnd(List(false)) 0..17\n",
         ),
     ] {
-        let reading = ExtendedReader.read(rt.alloc(), text, EXTENSIONS)?;
+        let reading = ExtendedReader::new().read(rt.alloc(), text, EXTENSIONS)?;
         let lines = lines_of(rt.alloc(), &reading)?;
         assert_eq!(rt; lines.as_str(), expected, "{text:?}");
     }
@@ -340,7 +345,11 @@ fn strikethrough_is_read(rt: HostRuntime) -> Result<(), Fail> {
             "Start(Paragraph) 0..7\nText(\"|\") 0..1\nStart(Strikethrough) 1..6\nText(\"a\") 3..4\nEnd(Strikethrough) 1..6\nText(\"|\") 6..7\nEnd(Paragraph) 0..7\n",
         ),
     ] {
-        let reading = ExtendedReader.read(rt.alloc(), text, EXTENSIONS)?;
+        let reading = ExtendedReader::new().read(
+            rt.alloc(),
+            text,
+            ParserOptions::ENABLE_STRIKETHROUGH,
+        )?;
         let lines = lines_of(rt.alloc(), &reading)?;
         assert_eq!(rt; lines.as_str(), expected, "{text:?}");
     }
@@ -355,8 +364,13 @@ fn without_flags_the_core_is_read(rt: HostRuntime) -> Result<(), Fail> {
         "- a\n\n---\nb: c\n---\n",
         "- [ ] a\n- [x]\n",
         "~~a~~ ~b~",
+        "^a^ ^^b^^",
+        "&amp; &auml; [a](/&ouml; \"&quot;&copy;\")",
+        "~~~ &lt;&uuml;\n",
+        "|a|b|\n|-|-|\n|1|2|",
     ] {
-        let reading = ExtendedReader.read(rt.alloc(), text, ParserOptions(0))?;
+        let reader = ExtendedReader { names: Names::Four };
+        let reading = reader.read(rt.alloc(), text, ParserOptions(0))?;
         let core = CoreReader.read(rt.alloc(), text, ParserOptions(0))?;
         let lines = lines_of(rt.alloc(), &reading)?;
         let core_lines = lines_of(rt.alloc(), &core)?;

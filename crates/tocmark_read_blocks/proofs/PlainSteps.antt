@@ -4,9 +4,10 @@ use Rattle.std.proofs.Math.Seq.{take-length}
 use Rattle.tocmark_read_scan.specs.Basic.{byte_at, bytes_between}
 use Rattle.tocmark_read_scan.proofs.Repeats.{repeated_stop}
 use Rattle.tocmark_read_lines.specs.Cells.{cells_of, cell_byte, cell_place, first_cursor}
-use Rattle.tocmark_read_blocks.specs.Blocks.{leaf_started_in, started_in, metadata_in, metadata_or, task_in, task_or, cells_taken_in, line_taken_in, container_once, containers_opened, leaf_started, started_at, text_taken, text_started, goes_directly, turn_of, touched, cells_taken, line_taken, begun_at, started}
+use Rattle.tocmark_read_blocks.specs.Blocks.{leaf_started_in, started_in, metadata_in, metadata_or, task_in, task_or, cells_taken_in, line_taken_in, container_once_in, container_once, containers_opened, leaf_started, started_at, text_taken, text_started, goes_directly, passed_in, turn_in, turn_of, touched, cells_taken, line_taken, begun_at, started}
 use Rattle.tocmark_read_blocks.specs.Codes.{piece_of, text_piece}
-use Rattle.tocmark_read_lines.specs.Containers.{container_at, item_at, raised_at}
+use Rattle.tocmark_read_lines.specs.Containers.{container_at, container_in, item_at, raised_at}
+use Rattle.tocmark_read_lines.specs.Notes.{note_start}
 use Rattle.std.proofs.lemmas.Bool.Decides.{nat_tests}
 use Rattle.tocmark_read_blocks.specs.Definitions.{begins_definition, definitions_from}
 use Rattle.tocmark_read_blocks.specs.Leaves.{leaf_at, mark_at, html_at, underline_in, rule_at, is_paragraph, leaf_turn}
@@ -20,6 +21,7 @@ use Rattle.tocmark_read_lines.specs.declared.line.Line.{Line}
 use Rattle.tocmark_read_blocks.specs.declared.definition.Piece.{Piece}
 use Rattle.tocmark_read_blocks.specs.declared.page.BlockKind.TheVariants as kind
 use Rattle.tocmark_read_blocks.specs.declared.leaf.Leaf.TheVariants as leaf
+use Rattle.tocmark_read_blocks.specs.declared.table.HeaderLine.TheVariants.{Never}
 use Rattle.tocmark_read_blocks.specs.declared.leaf.LeafStart.TheVariants as start
 
 -- the front of a line that begins with no space
@@ -67,6 +69,8 @@ paragraph pieces start end number = record {
   end = end;
   line = number;
   kept = length pieces;
+  header = Never;
+  tried = 0;
 }
 
 -- the columns of a line, and that nothing begins with them
@@ -80,7 +84,7 @@ abbrev here : LineStart
 here = record { cursor = front; depth = 0 }
 
 opens_none : (text : List ℕ) (cells : List Cell) (l : Line) (s : State) → BeginsNothing (bytes_between text l.start l.end) cells → containers_opened text cells l (tail_of cells) here s ≡ (s, here)
-unfolding container_once
+unfolding container_once_in container_in note_start
 opens_none text cells l s h =
     let some : 0 < length cells = grind (arith, h.some) in
     repeated_stop (container_once text cells l (tail_of cells)) (length cells) here s s some
@@ -123,7 +127,7 @@ text_goes_on text cells l p0 pieces start end number p h =
 
 -- the first line begins a paragraph
 pub line_begins : (text : List ℕ) (cells : List Cell) (l : Line) → IsPlainLine text cells l → line_taken text first_page l ≡ paragraph (line_piece l ∷ []) l.start l.end l.number
-unfolding line_taken_in cells_taken_in touched turn_of leaf_turn
+unfolding line_taken_in cells_taken_in passed_in touched turn_in turn_of leaf_turn
 line_begins text cells l h =
     ap (λ c. cells_taken text c l first_page) h.columns
     ∙ ap (λ c. leaf_started text cells l (record { cursor = c; depth = 0 }) first_page) (h.begins).ink
@@ -132,7 +136,7 @@ line_begins text cells l h =
 
 -- a further line goes into it
 pub line_goes_on : (text : List ℕ) (cells : List Cell) (l : Line) (p0 : Piece) (pieces : List Piece) (start end number : ℕ) → IsPlainLine text cells l → line_taken text (paragraph (p0 ∷ pieces) start end number) l ≡ paragraph ((p0 ∷ pieces) ++ line_piece l ∷ []) start l.end l.number
-unfolding line_taken_in cells_taken_in touched turn_of leaf_turn
+unfolding line_taken_in cells_taken_in passed_in touched turn_in turn_of leaf_turn
 line_goes_on text cells l p0 pieces start end number h =
     let s = paragraph (p0 ∷ pieces) start end number in
     ap (λ c. cells_taken text c l s) h.columns

@@ -4,14 +4,16 @@ use native.Mathlib.Numerals.{unary_clauses}
 use Rattle.std.specs.Prelude.{Bool, true, false, ◌&&◌}
 use Rattle.tocmark_read_scan.specs.Repeat.{repeated}
 use Rattle.tocmark_read_lines.specs.Cells.{is_blank_at}
-use Rattle.tocmark_read_lines.specs.Containers.{container_at}
+use Rattle.tocmark_read_lines.specs.Containers.{container_at, container_in}
+use Rattle.tocmark_read_lines.specs.Notes.{note_start}
+use Rattle.tocmark_read_syntax.specs.declared.Syntax.{Syntax}
 use Rattle.tocmark_read_blocks.specs.Leaves.{leaf_at}
 use Rattle.tocmark_read_lines.specs.Marks.{tail_of}
 use Rattle.tocmark_read_lines.specs.declared.cell.Cell.{Cell}
 use Rattle.tocmark_read_lines.specs.declared.line.Line.{Line}
 use Rattle.tocmark_read_lines.specs.declared.metadata.Known.{Known}
 use Rattle.tocmark_read_lines.specs.declared.beginnings.Tail.{Tail}
-use Rattle.tocmark_read_blocks.specs.Blocks.{container_once, started_in, started_at_in, leaf_started_in, is_front, metadata_in, metadata_or, task_in, task_or}
+use Rattle.tocmark_read_blocks.specs.Blocks.{container_once_in, started_in, started_at_in, leaf_started_in, is_front, metadata_in, metadata_or, task_in, task_or}
 use Rattle.tocmark_read_blocks.specs.Pages.{State, closed_to, times}
 use Rattle.tocmark_read_blocks.specs.declared.block.LineStart.{LineStart}
 
@@ -25,19 +27,19 @@ unfolding times
 times_more step zero s h = absurd (omega arith)
 times_more step (suc n) s h = simp unary_clauses refl
 
--- a blank line begins nothing
-blank_opens : (text : List ℕ) (cells : List Cell) (line : Line) (tail : Tail) (place : LineStart) (s : State) (n : ℕ) → is_blank_at cells place.cursor ≡ true → repeated (container_once text cells line tail) n place s ≡ (s, place)
-unfolding repeated container_once container_at
-blank_opens text cells line tail place s zero h = refl
-blank_opens text cells line tail place s (suc n) h = rw h refl
-
 -- no extension begins where a test is false
 never : (flag : Bool) → flag && false ≡ false
 never true = refl
 never false = refl
 
+-- a blank line begins nothing
+blank_opens : (syntax : Syntax) (text : List ℕ) (cells : List Cell) (line : Line) (tail : Tail) (place : LineStart) (s : State) (n : ℕ) → is_blank_at cells place.cursor ≡ true → repeated (container_once_in syntax text cells line tail) n place s ≡ (s, place)
+unfolding repeated container_once_in container_in container_at note_start
+blank_opens syntax text cells line tail place s zero h = refl
+blank_opens syntax text cells line tail place s (suc n) h = rw (h, never syntax.footnotes) refl
+
 pub blank_started : (known : Known) (text : List ℕ) (cells : List Cell) (line : Line) (place : LineStart) (s : State) → is_blank_at cells place.cursor ≡ true → leaf_started_in known text cells line place s ≡ closed_to text place.depth s
 unfolding leaf_started_in leaf_at started_in is_front metadata_in metadata_or task_in task_or
 blank_started known text cells line place s h =
-    ap (started_at_in known text cells line (tail_of cells)) (blank_opens text cells line (tail_of cells) place s (length cells) h)
+    ap (started_at_in known text cells line (tail_of cells)) (blank_opens known.syntax text cells line (tail_of cells) place s (length cells) h)
     ∙ rw (h, never known.syntax.task_lists, never known.syntax.yaml_metadata, never known.syntax.pluses_metadata) refl

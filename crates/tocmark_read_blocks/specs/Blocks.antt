@@ -1,5 +1,5 @@
 -- How a line changes a page (CommonMark, appendix "A parsing strategy").
-use Rattle.std.specs.Prelude.{ℕ, ◌-◌, Bool, true, false, not, ◌==◌, ◌&&◌, ◌||◌, nat_lt, nat_le, if◌then◌else◌, List, [], length, map, slice_get, slice_set, Option, Some, None, unwrap_or}
+use Rattle.std.specs.Prelude.{ℕ, ◌-◌, Bool, true, false, not, ◌==◌, ◌&&◌, ◌||◌, nat_lt, nat_le, if◌then◌else◌, List, [], length, map, slice_get, slice_set, Option, Some, None, is_some, unwrap_or}
 use Rattle.std.specs.List.{fold}
 use Rattle.std.specs.Option.{option_map, option_map_or}
 use Rattle.tocmark_event.specs.declared.event.HeadingLevel.{HeadingLevel}
@@ -10,20 +10,23 @@ use Rattle.tocmark_read_scan.specs.Repeat.{repeated}
 use Rattle.tocmark_read_syntax.specs.declared.Syntax.{Syntax}
 use Rattle.tocmark_read_syntax.specs.declared.TheConstants.{CORE}
 use Rattle.tocmark_read_lines.specs.Lines.{lines_of}
+use Rattle.tocmark_read_lines.specs.Notes.{note_at}
 use Rattle.tocmark_read_lines.specs.Cells.{cells_of, cell_place, indent_of, ink_from, is_blank_at, moved, trimmed}
 use Rattle.tocmark_read_blocks.specs.Codes.{code_piece, piece_of, text_piece, heading_piece, keeps_line}
 use Rattle.tocmark_read_blocks.specs.Definitions.{DefinitionView, definition_view}
-use Rattle.tocmark_read_lines.specs.Containers.{after_quote, container_at, is_empty_item, matched, touched_from}
+use Rattle.tocmark_read_lines.specs.Containers.{after_quote, container_in, is_empty_item, matched, touched_from}
 use Rattle.tocmark_read_lines.specs.Html.{html_ends}
 use Rattle.tocmark_read_lines.specs.Metadata.{begins_metadata, behind_blanks, known_of}
 use Rattle.tocmark_read_lines.specs.Tasks.{box_at}
 use Rattle.tocmark_read_lines.specs.declared.metadata.Known.{Known}
-use Rattle.tocmark_read_blocks.specs.Leaves.{is_paragraph, leaf_at, leaf_turn, rule_at}
+use Rattle.tocmark_read_blocks.specs.Leaves.{is_paragraph, is_table, leaf_at, leaf_turn, rule_at}
 use Rattle.tocmark_read_lines.specs.Marks.{tail_of}
-use Rattle.tocmark_read_blocks.specs.Pages.{State, first_page, innermost, is_list, leaf_finished, settled, closed_to, list_left, opened_with, leaf_opened, piece_taken}
+use Rattle.tocmark_read_blocks.specs.Pages.{State, first_page, innermost, is_list, leaf_finished, settled, closed_to, list_left, note_left, opened_with, leaf_opened, piece_taken}
 use Rattle.tocmark_read_lines.specs.declared.line.Line.{Line}
 use Rattle.tocmark_read_lines.specs.declared.cell.Cell.{Cell}
 use Rattle.tocmark_read_lines.specs.declared.cell.Cursor.{Cursor}
+use Rattle.tocmark_read_blocks.specs.Rows.{header_of}
+use Rattle.tocmark_read_blocks.specs.Tables.{delimiters_taken, row_taken}
 use Rattle.tocmark_read_blocks.specs.declared.block.LineStart.{LineStart}
 use Rattle.tocmark_read_blocks.specs.declared.block.Blocks.{Blocks}
 use Rattle.tocmark_read_blocks.specs.declared.definition.Piece.{Piece}
@@ -31,6 +34,7 @@ use Rattle.tocmark_read_lines.specs.declared.container.Container.{Container}
 use Rattle.tocmark_read_lines.specs.declared.container.Container.TheVariants as container
 use Rattle.tocmark_read_lines.specs.declared.container.Opened.{Opened}
 use Rattle.tocmark_read_lines.specs.declared.container.ItemStart.{ItemStart}
+use Rattle.tocmark_read_lines.specs.declared.note.NoteStart.{NoteStart}
 use Rattle.tocmark_read_lines.specs.declared.container.ContainerStart.{ContainerStart}
 use Rattle.tocmark_read_lines.specs.declared.container.ContainerStart.TheVariants as begins
 use Rattle.tocmark_read_lines.specs.declared.html.HtmlKind.{HtmlKind}
@@ -77,6 +81,7 @@ abbrev pub is_list_of : ℕ → Container → Bool
 is_list_of sort container.Quote = false
 is_list_of sort (container.List same) = same == sort
 is_list_of sort (container.Item width) = false
+is_list_of sort container.Note = false
 
 -- the innermost container is a list whose markers end with this byte
 unfoldable pub is_in_list : ℕ → State → Bool
@@ -95,6 +100,17 @@ item_opened text cells line place item s =
     (opened_with (container.Item item.width) kind.Item (start_of cells place line) line
     (list_started item (start_of cells place line) line (closed_to text place.depth s)))
 
+-- the range of a footnote's name
+abbrev pub name_of : List Cell → NoteStart → Line → BlockKind
+name_of cells note line = kind.Note (cell_place cells note.from line.end) (cell_place cells note.to line.end)
+
+-- the definition of a footnote begins, behind one in which it would stand directly
+unfoldable pub note_opened : List ℕ → List Cell → Line → LineStart → NoteStart → State → State × LineStart
+note_opened text cells line place note s =
+    with_place (moved cells place.cursor note.next)
+    (opened_with container.Note (name_of cells note line) (start_of cells place line) line
+    (note_left (list_left (closed_to text place.depth s))))
+
 -- a state with a place to go on at
 abbrev pub some_place : State × LineStart → State × Option LineStart
 some_place p = (p.0, Some (p.1))
@@ -104,15 +120,17 @@ abbrev pub begun_at : List ℕ → List Cell → Line → LineStart → State �
 begun_at text cells line place s None = (s, None)
 begun_at text cells line place s (Some begins.Quote) = some_place (quote_opened text cells line place s)
 begun_at text cells line place s (Some (begins.Item item)) = some_place (item_opened text cells line place item s)
+begun_at text cells line place s (Some (begins.Note note)) = some_place (note_opened text cells line place note s)
 
 -- the container that begins at a place opens
-unfoldable pub container_once : List ℕ → List Cell → Line → Tail → LineStart → State → State × Option LineStart
-container_once text cells line tail place s =
-    begun_at text cells line place s (container_at cells tail place.cursor (goes_directly place.depth s))
+unfoldable pub container_once_in : Syntax → List ℕ → List Cell → Line → Tail → LineStart → State → State × Option LineStart
+container_once_in syntax text cells line tail place s =
+    begun_at text cells line place s (container_in syntax cells tail place.cursor (goes_directly place.depth s))
 
 -- containers begin one after the other, as many as the line has columns at most
-abbrev pub containers_opened : List ℕ → List Cell → Line → Tail → LineStart → State → State × LineStart
-containers_opened text cells line tail place s = repeated (container_once text cells line tail) (length cells) place s
+abbrev pub containers_opened_in : Syntax → List ℕ → List Cell → Line → Tail → LineStart → State → State × LineStart
+containers_opened_in syntax text cells line tail place s =
+    repeated (container_once_in syntax text cells line tail) (length cells) place s
 
 -- an HTML block of these kinds ends with a line that has its end
 abbrev pub html_ended_as : Leaf → List ℕ → State → State
@@ -122,6 +140,7 @@ html_ended_as leaf.Indented rest s = s
 html_ended_as (leaf.Fenced f) rest s = s
 html_ended_as (leaf.Html k) rest s = if html_ends k rest then leaf_finished s else s
 html_ended_as (leaf.Metadata k) rest s = s
+html_ended_as (leaf.Table t) rest s = s
 
 -- the open HTML block ends if this line has its end
 unfoldable pub html_ended : List ℕ → State → State
@@ -237,6 +256,15 @@ task_in known text cells line place s =
 unfoldable pub task_or : Option Bool → LeafStart → LeafStart
 task_or found other = option_map_or (λ done. start.Task done) found other
 
+-- some extension has a say in what a line begins
+unfoldable pub extends_starts : Syntax → Bool
+extends_starts syntax = syntax.task_lists || syntax.yaml_metadata || syntax.pluses_metadata
+
+-- what a line begins, in an extension or in CommonMark
+abbrev pub start_or : Known → List ℕ → List Cell → Line → LineStart → Bool → State → LeafStart → LeafStart
+start_or known text cells line place directly s other =
+    task_or (task_in known text cells line place s) (metadata_or (metadata_in known text cells line place directly s) other)
+
 -- the last block has a box
 unfoldable pub with_task : Bool → ℕ → State → State
 with_task done start s =
@@ -303,19 +331,51 @@ started_at_in known text cells line tail found =
     let place = found.1 in
     let directly = goes_directly place.depth s in
     started_in known
-    (task_or (task_in known text cells line place s)
-    (metadata_or (metadata_in known text cells line place directly s)
-    (leaf_at cells (bytes_between text (start_of cells place line) line.end) tail place.cursor (is_paragraph s.leaf) directly)))
+    (start_or known text cells line place directly s
+    (leaf_at cells (bytes_between text (start_of cells place line) line.end) tail place.cursor (is_paragraph s.leaf) directly))
     text cells line tail place s
 
 -- first containers begin, then a leaf
 unfoldable pub leaf_started_in : Known → List ℕ → List Cell → Line → LineStart → State → State
 leaf_started_in known text cells line place s =
-    started_at_in known text cells line (tail_of cells) (containers_opened text cells line (tail_of cells) place s)
+    started_at_in known text cells line (tail_of cells)
+    (containers_opened_in known.syntax text cells line (tail_of cells) place s)
+
+-- the line was put into a paragraph whose containers don't all go on
+abbrev pub is_lazy : LineStart → State → State → Bool
+is_lazy place before after = nat_lt place.depth (length before.opened) && (length after.blocks == length before.blocks)
+
+-- what a line may be as a header is noted behind it
+abbrev pub noted : List Cell → LineStart → State → State → State
+noted cells place before after = record after { header = header_of cells place.cursor (is_lazy place before after) }
+
+-- a delimiter row was taken, or something else begins
+abbrev pub tabled_as : Known → List ℕ → List Cell → Line → LineStart → State × Bool → State
+tabled_as known text cells line place (s, true) = s
+tabled_as known text cells line place (s, false) = noted cells place s (leaf_started_in known text cells line place s)
+
+-- the delimiter row of a table stands before all else
+unfoldable pub tabled_in : Known → List ℕ → List Cell → Line → LineStart → State → State
+tabled_in known text cells line place s =
+    tabled_as known text cells line place (delimiters_taken text cells line place.cursor (goes_directly place.depth s) s)
+
+-- a line in which the open leaf doesn't go on by itself
+unfoldable pub passed_in : Known → List ℕ → List Cell → Line → LineStart → State → State
+passed_in known text cells line place s =
+    if known.syntax.tables then tabled_in known text cells line place s else leaf_started_in known text cells line place s
 
 -- the open leaf has its turn only where all containers round it go on
 unfoldable pub turn_of : List ℕ → List Cell → Line → LineStart → State → Turn
 turn_of text cells line place s = if nat_le (length s.opened) place.depth then leaf_turn text cells line place.cursor s.leaf else turn.Passes
+
+-- a line with the definition of a footnote is no row of the open table
+abbrev pub is_ended_by_note : List Cell → LineStart → State → Bool
+is_ended_by_note cells place s = is_table s.leaf && is_some (note_at cells place.cursor.ink)
+
+-- the turn of the open leaf, where footnotes may be read
+unfoldable pub turn_in : Known → List ℕ → List Cell → Line → LineStart → State → Turn
+turn_in known text cells line place s =
+    if known.syntax.footnotes && is_ended_by_note cells place s then turn.Passes else turn_of text cells line place s
 
 -- the open leaf ends with this line
 unfoldable pub leaf_ended : Line → State → State
@@ -329,11 +389,12 @@ touched line depth s = record s { opened = touched_from depth line.end line.numb
 abbrev pub turn_taken_in : Known → Turn → List ℕ → List Cell → Line → LineStart → State → State
 turn_taken_in known turn.Closes text cells line place s = leaf_ended line s
 turn_taken_in known (turn.Takes column) text cells line place s = code_taken text cells column line s
-turn_taken_in known turn.Passes text cells line place s = leaf_started_in known text cells line place s
+turn_taken_in known turn.Passes text cells line place s = passed_in known text cells line place s
+turn_taken_in known (turn.Row t) text cells line place s = row_taken text cells line place.cursor t s
 
 -- a line is taken from the place behind the containers that go on
 abbrev pub taken_at_in : Known → List ℕ → List Cell → Line → LineStart → State → State
-taken_at_in known text cells line place s = turn_taken_in known (turn_of text cells line place s) text cells line place s
+taken_at_in known text cells line place s = turn_taken_in known (turn_in known text cells line place s) text cells line place s
 
 -- which containers go on, then what the open leaf does with the line, then what begins
 unfoldable pub cells_taken_in : Known → List ℕ → List Cell → Line → State → State
@@ -370,6 +431,12 @@ abbrev pub core_known : Known
 core_known = record { syntax = CORE; yaml_end = 0; pluses_end = 0 }
 
 -- the same of CommonMark alone
+abbrev pub container_once : List ℕ → List Cell → Line → Tail → LineStart → State → State × Option LineStart
+container_once = container_once_in CORE
+
+abbrev pub containers_opened : List ℕ → List Cell → Line → Tail → LineStart → State → State × LineStart
+containers_opened = containers_opened_in CORE
+
 abbrev pub started : LeafStart → List ℕ → List Cell → Line → Tail → LineStart → State → State
 started = started_in core_known
 

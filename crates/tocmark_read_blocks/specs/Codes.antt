@@ -48,3 +48,4 @@ keeps_line cells column leaf.Paragraph = true
 keeps_line cells column (leaf.Fenced f) = true
 keeps_line cells column (leaf.Html k) = true
 keeps_line cells column (leaf.Metadata k) = true
+keeps_line cells column (leaf.Table t) = true

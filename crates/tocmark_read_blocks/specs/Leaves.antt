@@ -1,12 +1,13 @@
 -- What a line is to the open leaf block, and which leaf block it begins (CommonMark 4).
 use Rattle.std.specs.Prelude.{ℕ, min, Bool, true, false, not, ◌&&◌, nat_lt, nat_le, if◌then◌else◌, List, Option, Some, None, unwrap_or}
-use Rattle.std.specs.Option.{option_map, option_and_then}
+use Rattle.std.specs.Option.{option_map, option_map_or, option_and_then}
 use Rattle.tocmark_event.specs.declared.event.HeadingLevel.{HeadingLevel}
 use Rattle.tocmark_read_scan.specs.Basic.{plus}
 use Rattle.tocmark_read_lines.specs.Cells.{indent_of, is_blank_at}
 use Rattle.tocmark_read_lines.specs.Marks.{closes_fence, fence_at, heading_at, is_rule, underline_at}
 use Rattle.tocmark_read_lines.specs.Html.{html_kind}
 use Rattle.tocmark_read_lines.specs.Metadata.{closes_metadata}
+use Rattle.tocmark_read_blocks.specs.Rows.{row_turn}
 use Rattle.tocmark_read_lines.specs.declared.line.Line.{Line}
 use Rattle.tocmark_read_lines.specs.declared.cell.Cell.{Cell}
 use Rattle.tocmark_read_lines.specs.declared.cell.Cursor.{Cursor}
@@ -28,6 +29,17 @@ is_paragraph leaf.Indented = false
 is_paragraph (leaf.Fenced f) = false
 is_paragraph (leaf.Html k) = false
 is_paragraph (leaf.Metadata k) = false
+is_paragraph (leaf.Table t) = false
+
+-- a table
+unfoldable pub is_table : Leaf → Bool
+is_table leaf.Paragraph = false
+is_table leaf.Nothing = false
+is_table leaf.Indented = false
+is_table (leaf.Fenced f) = false
+is_table (leaf.Html k) = false
+is_table (leaf.Metadata k) = false
+is_table (leaf.Table t) = true
 
 -- a blank line ends the last two kinds of HTML blocks
 unfoldable pub goes_past_blank : HtmlKind → Bool
@@ -53,6 +65,7 @@ leaf_turn text cells line cursor (leaf.Html k) =
     if is_blank_at cells cursor && not (goes_past_blank k) then turn.Passes else turn.Takes cursor.column
 leaf_turn text cells line cursor (leaf.Metadata k) =
     if closes_metadata k text line.start then turn.Closes else turn.Takes cursor.column
+leaf_turn text cells line cursor (leaf.Table t) = option_map_or (λ longer. turn.Row longer) (row_turn text cells line cursor t) turn.Passes
 
 -- a tag alone on its line cannot interrupt a paragraph
 abbrev pub interrupting : Bool → HtmlKind → Option HtmlKind

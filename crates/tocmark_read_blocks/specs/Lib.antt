@@ -3,3 +3,5 @@ pub mod Definitions
 pub mod Codes
 pub mod Pages
 pub mod Blocks
+pub mod Rows
+pub mod Tables

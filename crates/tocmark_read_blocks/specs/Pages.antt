@@ -11,6 +11,9 @@ use Rattle.tocmark_read_lines.specs.declared.container.Opened.{Opened}
 use Rattle.tocmark_read_blocks.specs.declared.definition.Piece.{Piece}
 use Rattle.tocmark_read_blocks.specs.declared.leaf.Leaf.{Leaf}
 use Rattle.tocmark_read_blocks.specs.declared.leaf.Leaf.TheVariants as leaf
+use Rattle.tocmark_read_blocks.specs.declared.table.HeaderLine.{HeaderLine}
+use Rattle.tocmark_read_blocks.specs.declared.table.HeaderLine.TheVariants.{Never}
+use Rattle.tocmark_read_blocks.specs.declared.table.Table.{Table}
 use Rattle.tocmark_read_blocks.specs.declared.page.BlockKind.{BlockKind}
 use Rattle.tocmark_read_blocks.specs.declared.page.Block.{Block}
 use Rattle.tocmark_read_blocks.specs.declared.page.BlocksSoFar.{BlocksSoFar}
@@ -25,6 +28,8 @@ pub record State : Type 0 where
   pub end : ℕ
   pub line : ℕ
   pub kept : ℕ
+  pub header : HeaderLine
+  pub tried : ℕ
 
 -- a page as plain values
 abbrev pub page : BlocksSoFar → State
@@ -38,11 +43,13 @@ page p = record {
   end = p.end;
   line = p.line;
   kept = p.kept;
+  header = p.header;
+  tried = p.tried;
 }
 
 -- nothing is open and nothing was read
 abbrev pub first_page : State
-first_page = record { blocks = []; pieces = []; definitions = []; opened = []; quotes = []; leaf = leaf.Nothing; end = 0; line = 0; kept = 0 }
+first_page = record { blocks = []; pieces = []; definitions = []; opened = []; quotes = []; leaf = leaf.Nothing; end = 0; line = 0; kept = 0; header = Never; tried = 0 }
 
 -- the last of a list
 abbrev pub innermost : List Opened → Option Opened
@@ -66,6 +73,10 @@ unfoldable pub leaf_finished : State → State
 leaf_finished s =
     let kept = take s.kept s.pieces in
     raised_last s.end s.line (record s { pieces = kept; blocks = finished s.blocks (length s.blocks - 1) s.end (length kept); leaf = leaf.Nothing })
+
+-- the open table ends
+unfoldable pub table_finished : Table → State → State
+table_finished t s = raised_last s.end s.line (record s { blocks = ended s.blocks t.block s.end; leaf = leaf.Nothing })
 
 -- a paragraph without its first lines
 unfoldable pub shortened : Block → List Piece → ℕ → Block
@@ -95,6 +106,7 @@ leaf_closed_as leaf.Indented text s = leaf_finished s
 leaf_closed_as (leaf.Fenced f) text s = leaf_finished s
 leaf_closed_as (leaf.Html k) text s = leaf_finished s
 leaf_closed_as (leaf.Metadata k) text s = leaf_finished s
+leaf_closed_as (leaf.Table t) text s = table_finished t s
 
 -- the open leaf ends, if there is one
 unfoldable pub leaf_closed : List ℕ → State → State
@@ -105,12 +117,21 @@ unfoldable pub is_quote : Container → Bool
 is_quote container.Quote = true
 is_quote (container.List sort) = false
 is_quote (container.Item width) = false
+is_quote container.Note = false
 
 -- a container that is a list
 unfoldable pub is_list : Container → Bool
 is_list container.Quote = false
 is_list (container.List sort) = true
 is_list (container.Item width) = false
+is_list container.Note = false
+
+-- a container that is the definition of a footnote
+unfoldable pub is_note : Container → Bool
+is_note container.Quote = false
+is_note (container.List sort) = false
+is_note (container.Item width) = false
+is_note container.Note = true
 
 -- a quote that ended is no longer among the open ones
 abbrev pub quote_left : Container → State → State
@@ -139,11 +160,16 @@ closed_to text depth s =
 unfoldable pub list_left : State → State
 list_left s = option_map_or (λ (o : Opened). if is_list o.container then one_closed s else s) (innermost s.opened) s
 
+-- a definition of a footnote doesn't stand directly in another one
+unfoldable pub note_left : State → State
+note_left s = option_map_or (λ (o : Opened). if is_note o.container then one_closed s else s) (innermost s.opened) s
+
 -- the list that a container is, or whose item it is
 abbrev pub list_at : Container → Opened → List Opened → Option ℕ
 list_at container.Quote o opened = None
 list_at (container.List sort) o opened = Some o.block
 list_at (container.Item width) o opened = option_map (λ (l : Opened). l.block) (slice_get opened (length opened - 2))
+list_at container.Note o opened = None
 
 -- the list that is innermost, or whose item is
 unfoldable pub list_of : List Opened → Option ℕ

@@ -3,12 +3,13 @@
 ghost use Rattle.std.specs.Prelude.{◌≡◌, IfOk, OnOk};
 ghost use Rattle.std.specs.List.{fold};
 ghost use Rattle.tocmark_read_blocks.specs.Pages.{page};
-ghost use Rattle.tocmark_read_blocks.specs.Blocks.{info_of, goes_directly, quote_opened, is_in_list, list_started, item_opened, container_once, containers_opened, code_taken, html_ended, text_taken, text_started, indented_started, heading_started, fence_started, html_started, rule_started, metadata_started, is_outside, is_front, metadata_in, metadata_or, is_new_item, task_in, task_or, with_task, boxed_taken, task_started, has_text, underlined, underline_taken_in, started_in, leaf_started_in, turn_of, leaf_ended, touched, cells_taken_in, line_taken_in, page_in, blocks_view, blocks_in};
+ghost use Rattle.tocmark_read_blocks.specs.Blocks.{info_of, goes_directly, quote_opened, is_in_list, list_started, item_opened, code_taken, html_ended, text_taken, text_started, indented_started, heading_started, fence_started, html_started, rule_started, metadata_started, is_outside, is_front, metadata_in, metadata_or, is_new_item, task_in, task_or, extends_starts, start_or, with_task, boxed_taken, task_started, has_text, underlined, underline_taken_in, started_in, leaf_started_in, turn_of, is_ended_by_note, turn_in, leaf_ended, touched, cells_taken_in, line_taken_in, page_in, blocks_view, blocks_in, note_opened, container_once_in, containers_opened_in, passed_in, tabled_in};
 
 use crate::code::{code_piece, heading_piece, keeps_line, text_piece};
 use crate::definition::{LinkDefinition, Piece};
-use crate::leaf::{Leaf, LeafStart, Turn, is_paragraph, leaf_at, leaf_turn, rule_at};
+use crate::leaf::{Leaf, LeafStart, Turn, is_paragraph, is_table, leaf_at, leaf_turn, rule_at};
 use crate::page::{Block, BlockKind, BlocksSoFar, Task, is_list};
+use crate::table::header_of;
 use std::alloc::{AllocError, Global};
 use tocmark_event::event::{HeadingLevel, MetadataBlockKind};
 use tocmark_read_lines::beginnings::{Fence, Heading, Tail, tail_of};
@@ -16,11 +17,12 @@ use tocmark_read_lines::cell::{
     Cells, Cursor, cell_place, indent_of, ink_from, is_blank_at, moved, trimmed,
 };
 use tocmark_read_lines::container::{
-    Container, ContainerStart, ItemStart, after_quote, container_at, is_empty_item, matched, touch,
+    Container, ContainerStart, ItemStart, after_quote, container_in, is_empty_item, matched, touch,
 };
 use tocmark_read_lines::html::{HtmlKind, html_ends};
 use tocmark_read_lines::line::{Line, lines};
 use tocmark_read_lines::metadata::{Known, begins_metadata, behind_blanks, known_of};
+use tocmark_read_lines::note::{NoteStart, note_at};
 use tocmark_read_lines::task::box_at;
 use tocmark_read_scan::basic::{bytes_between, set};
 use tocmark_read_syntax::Syntax;
@@ -106,6 +108,7 @@ impl BlocksSoFar {
                 Container::Quote => false,
                 Container::List(same) => same == sort,
                 Container::Item(_) => false,
+                Container::Note => false,
             },
         }
     }
@@ -151,8 +154,37 @@ impl BlocksSoFar {
         })
     }
 
+    /// Begins the definition of a footnote. It ends one in which it would stand directly.
+    #[tactic(auto, unfolding(crate::specs::Blocks::note_opened))]
+    fn open_note(
+        &mut self,
+        alloc: Global,
+        row: &Row<'_, '_>,
+        place: LineStart,
+        note: NoteStart,
+    ) -> Result<LineStart, AllocError>
+        ensures { IfOk result (λ next.
+            (page self.new, next)
+            ≡ note_opened row.now.text.now row.now.cells.now row.now.line place note
+            (page self.old)) }
+    {
+        self.close_to(alloc, row.text, place.depth)?;
+        self.leave_list();
+        self.leave_note();
+        let start = cell_place(row.cells, place.cursor.ink, row.line.end);
+        let kind = BlockKind::Note(
+            cell_place(row.cells, note.from, row.line.end),
+            cell_place(row.cells, note.to, row.line.end),
+        );
+        self.open(Container::Note, kind, start, row.line)?;
+        Ok(LineStart {
+            cursor: moved(row.cells, place.cursor, note.next),
+            depth: self.opened.len(),
+        })
+    }
+
     /// Opens the container that begins at a place, and gives the place behind its marker.
-    #[tactic(auto, unfolding(crate::specs::Blocks::container_once))]
+    #[tactic(auto, unfolding(crate::specs::Blocks::container_once_in))]
     fn open_once(
         &mut self,
         alloc: Global,
@@ -162,11 +194,12 @@ impl BlocksSoFar {
     ) -> Result<Option<LineStart>, AllocError>
         ensures { IfOk result (λ next.
             (page self.new, next)
-            ≡ container_once row.now.text.now row.now.cells.now row.now.line tail place
+            ≡ container_once_in row.now.known.syntax row.now.text.now row.now.cells.now row.now.line
+            tail place
             (page self.old)) }
     {
         let directly = self.goes_directly(place.depth);
-        match container_at(row.cells, tail, place.cursor, directly) {
+        match container_in(row.known.syntax, row.cells, tail, place.cursor, directly) {
             None => Ok(None),
             Some(ContainerStart::Quote) => {
                 let next = self.open_quote(alloc, row, place)?;
@@ -174,6 +207,10 @@ impl BlocksSoFar {
             }
             Some(ContainerStart::Item(item)) => {
                 let next = self.open_item(alloc, row, place, item)?;
+                Ok(Some(next))
+            }
+            Some(ContainerStart::Note(note)) => {
+                let next = self.open_note(alloc, row, place, note)?;
                 Ok(Some(next))
             }
         }
@@ -190,7 +227,8 @@ impl BlocksSoFar {
     ) -> Result<LineStart, AllocError>
         ensures { IfOk result (λ last.
             (page self.new, last)
-            ≡ containers_opened row.now.text.now row.now.cells.now row.now.line tail first
+            ≡ containers_opened_in row.now.known.syntax row.now.text.now row.now.cells.now
+            row.now.line tail first
             (page self.old)) }
     {
         let mut place = first;
@@ -615,6 +653,41 @@ impl BlocksSoFar {
         }
     }
 
+    /// What a line begins, in an extension or in CommonMark.
+    fn extended_start(
+        &self,
+        row: &Row<'_, '_>,
+        place: LineStart,
+        directly: bool,
+        core: LeafStart,
+    ) -> LeafStart
+        ensures { result ≡ start_or row.now.known row.now.text.now row.now.cells.now row.now.line
+            place directly (page self.now) core }
+    {
+        let metadata = self.metadata_in(row, place, directly);
+        let task = self.task_in(row, place);
+        task_or(task, metadata_or(metadata, core))
+    }
+
+    /// What a line begins. Whether some extension has a say in it is asked first.
+    #[tactic(auto, using(crate::proofs::CoreStarts::starts_as_core))]
+    fn start_or(
+        &self,
+        row: &Row<'_, '_>,
+        place: LineStart,
+        directly: bool,
+        core: LeafStart,
+    ) -> LeafStart
+        ensures { result ≡ start_or row.now.known row.now.text.now row.now.cells.now row.now.line
+            place directly (page self.now) core }
+    {
+        if extends_starts(row.known.syntax) {
+            self.extended_start(row, place, directly, core)
+        } else {
+            core
+        }
+    }
+
     #[tactic(auto, unfolding(crate::specs::Blocks::leaf_started_in))]
     fn start_inked(
         &mut self,
@@ -635,10 +708,8 @@ impl BlocksSoFar {
             cell_place(row.cells, place.cursor.ink, row.line.end),
             row.line.end,
         );
-        let metadata = self.metadata_in(row, place, directly);
         let core = leaf_at(row.cells, rest, tail, place.cursor, in_paragraph, directly);
-        let task = self.task_in(row, place);
-        let leaf = task_or(task, metadata_or(metadata, core));
+        let leaf = self.start_or(row, place, directly, core);
         self.start(alloc, row, tail, place, leaf)
     }
 
@@ -661,6 +732,50 @@ impl BlocksSoFar {
         }
     }
 
+    /// Takes a line in which the open leaf doesn't go on by itself: the delimiter row of a table, where
+    /// tables are read, or what else begins.
+    #[tactic(auto, unfolding(crate::specs::Blocks::passed_in))]
+    fn pass_line(
+        &mut self,
+        alloc: Global,
+        row: &Row<'_, '_>,
+        first: LineStart,
+    ) -> Result<(), AllocError>
+        ensures { OnOk result (page self.new
+            ≡ passed_in row.now.known row.now.text.now row.now.cells.now row.now.line first
+            (page self.old)) }
+    {
+        if row.known.syntax.tables {
+            self.pass_tabled(alloc, row, first)
+        } else {
+            self.start_line(alloc, row, first)
+        }
+    }
+
+    /// Takes a delimiter row, or what else begins, and notes what the line may be as a header.
+    #[tactic(auto, unfolding(crate::specs::Blocks::tabled_in))]
+    fn pass_tabled(
+        &mut self,
+        alloc: Global,
+        row: &Row<'_, '_>,
+        first: LineStart,
+    ) -> Result<(), AllocError>
+        ensures { OnOk result (page self.new
+            ≡ tabled_in row.now.known row.now.text.now row.now.cells.now row.now.line first
+            (page self.old)) }
+    {
+        let directly = self.goes_directly(first.depth);
+        if self.take_delimiters(alloc, row, first.cursor, directly)? {
+            return Ok(());
+        }
+        let before = self.blocks.len();
+        let within = first.depth < self.opened.len();
+        self.start_line(alloc, row, first)?;
+        let lazy = within && self.blocks.len() == before;
+        self.header = header_of(row.cells, first.cursor, lazy);
+        Ok(())
+    }
+
     #[tactic(auto, unfolding(crate::specs::Blocks::turn_of))]
     fn turn_of(&self, row: &Row<'_, '_>, place: LineStart) -> Turn
         ensures { result
@@ -670,6 +785,26 @@ impl BlocksSoFar {
             leaf_turn(row.text, row.cells, row.line, place.cursor, self.leaf)
         } else {
             Turn::Passes
+        }
+    }
+
+    /// Whether a line with the definition of a footnote ends the open table.
+    fn is_ended_by_note(&self, cells: &Cells, place: LineStart) -> bool
+        ensures { result ≡ is_ended_by_note cells.now place (page self.now) }
+    {
+        is_table(self.leaf) && note_at(cells, place.cursor.ink).is_some()
+    }
+
+    #[tactic(auto, unfolding(crate::specs::Blocks::turn_in))]
+    fn turn_in(&self, row: &Row<'_, '_>, place: LineStart) -> Turn
+        ensures { result
+            ≡ turn_in row.now.known row.now.text.now row.now.cells.now row.now.line place
+            (page self.now) }
+    {
+        if row.known.syntax.footnotes && self.is_ended_by_note(row.cells, place) {
+            Turn::Passes
+        } else {
+            self.turn_of(row, place)
         }
     }
 
@@ -701,13 +836,14 @@ impl BlocksSoFar {
         let (depth, cursor) = matched(row.cells, &self.opened, &self.quotes);
         let place = LineStart { cursor, depth };
         self.touch_line(row.line, depth);
-        match self.turn_of(row, place) {
+        match self.turn_in(row, place) {
             Turn::Closes => {
                 self.end_leaf(row.line);
                 Ok(())
             }
             Turn::Takes(column) => self.take_code(row, column),
-            Turn::Passes => self.start_line(alloc, row, place),
+            Turn::Passes => self.pass_line(alloc, row, place),
+            Turn::Row(table) => self.take_row(row, place, table),
         }
     }
 
@@ -749,6 +885,14 @@ impl BlocksSoFar {
         }
         Ok(())
     }
+}
+
+/// Whether some extension has a say in what a line begins.
+#[tactic(auto, unfolding(crate::specs::Blocks::extends_starts))]
+fn extends_starts(syntax: Syntax) -> bool
+    ensures { result ≡ extends_starts syntax }
+{
+    syntax.task_lists || syntax.yaml_metadata || syntax.pluses_metadata
 }
 
 #[tactic(auto, unfolding(crate::specs::Blocks::metadata_or))]

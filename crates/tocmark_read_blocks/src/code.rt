@@ -95,5 +95,6 @@ pub fn keeps_line(cells: &Cells, column: usize, leaf: Leaf) -> bool
         Leaf::Fenced(_) => true,
         Leaf::Html(_) => true,
         Leaf::Metadata(_) => true,
+        Leaf::Table(_) => true,
     }
 }

@@ -1,8 +1,9 @@
 //! What a line is to the open leaf block, and which leaf block it begins.
 
 ghost use Rattle.std.specs.Prelude.{◌≡◌};
-ghost use Rattle.tocmark_read_blocks.specs.Leaves.{is_paragraph, goes_past_blank, leaf_turn, html_at, underline_in, rule_at, mark_at, leaf_at};
+ghost use Rattle.tocmark_read_blocks.specs.Leaves.{is_paragraph, is_table, goes_past_blank, leaf_turn, html_at, underline_in, rule_at, mark_at, leaf_at};
 
+use crate::table::{Table, row_turn};
 use tocmark_event::event::{HeadingLevel, MetadataBlockKind};
 use tocmark_read_lines::beginnings::{
     Fence, Heading, Tail, closes_fence, fence_at, heading_at, is_rule, underline_at,
@@ -27,6 +28,8 @@ pub enum Leaf {
     Html(HtmlKind),
     /// Metadata of this kind.
     Metadata(MetadataBlockKind),
+    /// A table.
+    Table(Table),
 }
 
 /// What the open leaf does with a line.
@@ -38,6 +41,8 @@ pub enum Turn {
     Takes(usize),
     /// Neither: something else may begin.
     Passes,
+    /// The line is a row of the table, which is this one with it.
+    Row(Table),
 }
 
 /// What the rest of a line is: the leaf block that it begins, a setext heading's underline, or text.
@@ -77,6 +82,23 @@ pub fn is_paragraph(leaf: Leaf) -> bool
         Leaf::Fenced(_) => false,
         Leaf::Html(_) => false,
         Leaf::Metadata(_) => false,
+        Leaf::Table(_) => false,
+    }
+}
+
+/// Whether the leaf that is open is a table.
+#[tactic(auto, unfolding(crate::specs::Leaves::is_table))]
+pub fn is_table(leaf: Leaf) -> bool
+    ensures { result ≡ is_table leaf }
+{
+    match leaf {
+        Leaf::Paragraph => false,
+        Leaf::Nothing => false,
+        Leaf::Indented => false,
+        Leaf::Fenced(_) => false,
+        Leaf::Html(_) => false,
+        Leaf::Metadata(_) => false,
+        Leaf::Table(_) => true,
     }
 }
 
@@ -135,6 +157,10 @@ pub fn leaf_turn(text: &[u8], cells: &Cells, line: Line, cursor: Cursor, leaf: L
                 Turn::Takes(cursor.column)
             }
         }
+        Leaf::Table(table) => match row_turn(text, cells, line, cursor, table) {
+            None => Turn::Passes,
+            Some(longer) => Turn::Row(longer),
+        },
     }
 }
 

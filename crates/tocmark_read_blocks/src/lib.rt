@@ -11,6 +11,7 @@ pub mod code;
 pub mod definition;
 pub mod leaf;
 mod page;
+pub mod table;
 
 pub use block::{Blocks, read_blocks};
 pub use definition::{LinkDefinition, Piece};

@@ -1,10 +1,11 @@
 //! The blocks of a page as its lines come in.
 
 ghost use Rattle.std.specs.Prelude.{◌≡◌, drop, OnOk};
-ghost use Rattle.tocmark_read_blocks.specs.Pages.{page, first_page, raised_last, shortened, is_list, is_quote, quote_left, quote_entered, piece_pushed, ended, finished, leaf_finished, settled, leaf_closed, one_closed, times, closed_to, list_left, list_of, is_apart, loosened, had_marked, begun, opened_with, leaf_opened, piece_taken};
+ghost use Rattle.tocmark_read_blocks.specs.Pages.{page, first_page, raised_last, shortened, is_list, is_quote, is_note, quote_left, quote_entered, piece_pushed, ended, finished, leaf_finished, settled, leaf_closed, one_closed, times, closed_to, list_left, note_left, list_of, is_apart, loosened, had_marked, begun, opened_with, leaf_opened, piece_taken, table_finished};
 
 use crate::definition::{LinkDefinition, Piece, take_definitions};
 use crate::leaf::Leaf;
+use crate::table::{HeaderLine, Table};
 use std::alloc::{AllocError, Global};
 use tocmark_event::event::{HeadingLevel, MetadataBlockKind};
 use tocmark_read_lines::container::{Container, Opened, raise_at};
@@ -26,6 +27,13 @@ pub enum BlockKind {
     Html,
     Rule,
     Metadata(MetadataBlockKind),
+    /// The definition of a footnote, with the range of its name.
+    Note(usize, usize),
+    /// A table, with the range of its delimiter row.
+    Table(usize, usize),
+    TableHead,
+    TableRow,
+    TableCell,
 }
 
 /// The box of a task, with the place of its first byte.
@@ -65,6 +73,10 @@ pub struct BlocksSoFar {
     pub end: usize,
     pub line: usize,
     pub kept: usize,
+    /// What the last line of the open paragraph may be, where tables are read.
+    pub header: HeaderLine,
+    /// The number of blocks when definitions were last looked for in front of a header row.
+    pub tried: usize,
 }
 
 #[tactic(auto, unfolding(crate::specs::Pages::ended))]
@@ -97,6 +109,7 @@ fn list_of(opened: &[Opened]) -> Option<usize>
             let list = opened.get(opened.len().saturating_sub(2)).copied()?;
             Some(list.block)
         }
+        Container::Note => None,
     }
 }
 
@@ -152,6 +165,7 @@ pub fn is_list(container: Container) -> bool
         Container::Quote => false,
         Container::List(_) => true,
         Container::Item(_) => false,
+        Container::Note => false,
     }
 }
 
@@ -163,6 +177,19 @@ fn is_quote(container: Container) -> bool
         Container::Quote => true,
         Container::List(_) => false,
         Container::Item(_) => false,
+        Container::Note => false,
+    }
+}
+
+#[tactic(auto, unfolding(crate::specs::Pages::is_note))]
+fn is_note(container: Container) -> bool
+    ensures { result ≡ is_note container }
+{
+    match container {
+        Container::Quote => false,
+        Container::List(_) => false,
+        Container::Item(_) => false,
+        Container::Note => true,
     }
 }
 
@@ -205,6 +232,8 @@ impl BlocksSoFar {
             end: 0,
             line: 0,
             kept: 0,
+            header: HeaderLine::Never,
+            tried: 0,
         }
     }
 
@@ -228,6 +257,16 @@ impl BlocksSoFar {
         self.raise(self.end, self.line);
     }
 
+    /// Ends the open table.
+    #[tactic(auto, unfolding(crate::specs::Pages::table_finished))]
+    fn finish_table(&mut self, table: Table)
+        ensures { page self.new ≡ table_finished table (page self.old) }
+    {
+        end_block(&mut self.blocks, table.block, self.end);
+        self.leaf = Leaf::Nothing;
+        self.raise(self.end, self.line);
+    }
+
     /// Takes the definitions at the front of the open paragraph.
     #[tactic(auto, unfolding(crate::specs::Pages::settled))]
     pub fn settle(&mut self, alloc: Global, text: &[u8]) -> Result<(), AllocError>
@@ -246,9 +285,9 @@ impl BlocksSoFar {
         Ok(())
     }
 
-    /// Closes the open leaf.
+    /// Closes the open leaf. An `Err` says that memory ran out.
     #[tactic(auto, unfolding(crate::specs::Pages::leaf_closed))]
-    fn close_leaf(&mut self, alloc: Global, text: &[u8]) -> Result<(), AllocError>
+    pub fn close_leaf(&mut self, alloc: Global, text: &[u8]) -> Result<(), AllocError>
         ensures { OnOk result (page self.new ≡ leaf_closed text.now (page self.old)) }
     {
         match self.leaf {
@@ -261,6 +300,7 @@ impl BlocksSoFar {
             Leaf::Fenced(_) => self.finish_leaf(),
             Leaf::Html(_) => self.finish_leaf(),
             Leaf::Metadata(_) => self.finish_leaf(),
+            Leaf::Table(table) => self.finish_table(table),
         }
         Ok(())
     }
@@ -316,6 +356,19 @@ impl BlocksSoFar {
         let last = self.opened.len().saturating_sub(1);
         if let Some(one) = self.opened.get(last).copied() {
             if is_list(one.container) {
+                self.close_one();
+            }
+        }
+    }
+
+    /// Closes the innermost container if it is the definition of a footnote.
+    #[tactic(auto, unfolding(crate::specs::Pages::note_left))]
+    pub fn leave_note(&mut self)
+        ensures { page self.new ≡ note_left (page self.old) }
+    {
+        let last = self.opened.len().saturating_sub(1);
+        if let Some(one) = self.opened.get(last).copied() {
+            if is_note(one.container) {
                 self.close_one();
             }
         }

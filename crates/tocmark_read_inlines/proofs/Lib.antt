@@ -5,3 +5,4 @@ pub mod PlainParts
 pub mod PlainLeaf
 pub mod PlainNeighbours
 pub mod Sparse
+pub mod CoreRuns

@@ -31,7 +31,7 @@ one_underscore : (bytes rest : List ℕ) (p c : ℕ) → drop p bytes ≡ 95 ∷
 unfolding run_end is_in
 one_underscore bytes rest p c e h fits = let next : plus p 1 ≡ p + 1 = omega arith in rw (e, h, next) refl
 
-inert_run : (bytes : List ℕ) (p : ℕ) → run_end bytes p (Only 95) ≡ p + 1 → side_before bytes p ≡ Other → side_at bytes (p + 1) ≡ Other → run_at bytes p 95 ≡ record { place = p; count = p + 1 - p; length = p + 1 - p; byte = 95; opens = false; closes = false }
+inert_run : (bytes : List ℕ) (p : ℕ) → run_end bytes p (Only 95) ≡ p + 1 → side_before bytes p ≡ Other → side_at bytes (p + 1) ≡ Other → run_at bytes p 95 ≡ record { place = p; count = p + 1 - p; length = p + 1 - p; byte = 95; opens = false; closes = false; subscript = false }
 unfolding run_at run_between acts flanks is_space is_punctuation
 inert_run bytes p e before after = rw (e, before, after) refl
 
@@ -39,7 +39,7 @@ inert_run bytes p e before after = rw (e, before, after) refl
 pub underscore_is_read : (bytes rest : List ℕ) (ahead : s.Known) (defs : List ℕ → Option Entry) (p c : ℕ) → drop p bytes ≡ 95 ∷ c ∷ rest → (c == 95) ≡ false → p + 1 < 2 ^ 64 → side_before bytes p ≡ Other → side_at bytes (p + 1) ≡ Other → IsReadAt bytes ahead defs p (Bare 95)
 unfolding s.looked s.looked_mark s.run_taken
 underscore_is_read bytes rest ahead defs p c e h fits before after = λ t at resume.
-    let run : run_at bytes t.place 95 ≡ record { place = p; count = p + 1 - p; length = p + 1 - p; byte = 95; opens = false; closes = false } =
+    let run : run_at bytes t.place 95 ≡ record { place = p; count = p + 1 - p; length = p + 1 - p; byte = 95; opens = false; closes = false; subscript = false } =
     ap (λ k. run_at bytes k 95) at ∙ inert_run bytes p (one_underscore bytes rest p c e h fits) before after
     in
     (plus t.place (p + 1 - p), omega arith, ap (λ (r : Run). s.with_run r (record t { resume = plus t.place r.count })) run)

@@ -1,6 +1,7 @@
 -- The first pass over a leaf's text: what each byte is (CommonMark 6, and the algorithm of its appendix).
 use Rattle.std.specs.Prelude.{ℕ, Bool, true, false, not, ◌-◌, ◌==◌, ◌&&◌, ◌||◌, min, nat_lt, nat_le, if◌then◌else◌, List, [], ◌∷◌, ◌++◌, length, take, drop, fold, codes, slice_get, slice_set, Option, Some, None}
 use Rattle.std.specs.List.{list_any}
+use Rattle.std.specs.Option.{option_or, option_and_then}
 use Rattle.tocmark_read_scan.specs.Basic.{plus, byte_at, bytes_between, starts_at}
 use Rattle.tocmark_read_syntax.specs.declared.TheConstants.{CORE}
 use Rattle.tocmark_read_syntax.specs.declared.Syntax.{Syntax}
@@ -8,7 +9,10 @@ use Rattle.tocmark_read_scan.specs.Class.{run_end}
 use Rattle.tocmark_read_scan.specs.Repeat.{iterated}
 use Rattle.tocmark_read_tokens.specs.Html.{last_ends, raw_html}
 use Rattle.tocmark_read_tokens.specs.Autolink.{uri_end, mail_end}
-use Rattle.tocmark_read_tokens.specs.Reference.{is_escape, reference_at, unescaped}
+use Rattle.tocmark_read_tokens.specs.Reference.{is_escape, reference_at, unescaped_in}
+use Rattle.tocmark_read_tokens.specs.Name.{Named, named_in}
+use Rattle.tocmark_read_syntax.specs.declared.Names.{Names}
+use Rattle.tocmark_read_syntax.specs.declared.Names.TheVariants.{Four, All}
 use Rattle.tocmark_read_tokens.specs.Label.{collapsed, key_of}
 use Rattle.tocmark_read_scan.specs.declared.class.Class.TheVariants.{Only}
 use Rattle.tocmark_read_tokens.specs.declared.html.LastEnds.{LastEnds}
@@ -20,6 +24,10 @@ use Rattle.tocmark_read_spans.specs.Tick.{last_ticks, tick_end, push_shown, stri
 use Rattle.tocmark_read_spans.specs.Run.{run_at, tildes_at}
 use Rattle.tocmark_read_spans.specs.Emphasis.{emphasized}
 use Rattle.tocmark_read_spans.specs.Link.{inline_target, label_asked}
+use Rattle.tocmark_read_spans.specs.Notes.{note_key, label_sought}
+use Rattle.tocmark_read_tokens.specs.declared.word.Word.{Word}
+use Rattle.tocmark_read_spans.specs.declared.note.Sought.{Sought}
+use Rattle.tocmark_read_spans.specs.declared.note.Sought.TheVariants as sought_as
 use Rattle.tocmark_read_spans.specs.declared.definitions.Entry.{Entry}
 use Rattle.tocmark_read_spans.specs.declared.link.Bracket.{Bracket}
 use Rattle.tocmark_read_spans.specs.declared.link.InlineTarget.{InlineTarget}
@@ -28,6 +36,7 @@ use Rattle.tocmark_read_spans.specs.declared.role.Role.{Role}
 use Rattle.tocmark_read_spans.specs.declared.role.Role.TheVariants.{Fresh, Hidden, Open, Close, Single}
 use Rattle.tocmark_read_spans.specs.declared.role.Leaf.{Leaf}
 use Rattle.tocmark_read_spans.specs.declared.role.Leaf.TheVariants.{Character, Code, Html, SoftBreak, HardBreak}
+use Rattle.tocmark_read_spans.specs.declared.role.Leaf.TheVariants as leaf
 use Rattle.tocmark_read_spans.specs.declared.role.Span.TheVariants.{Link, Image}
 use Rattle.tocmark_read_spans.specs.declared.role.Stretch.{Stretch}
 use Rattle.tocmark_read_spans.specs.declared.role.Target.{Target}
@@ -105,8 +114,8 @@ unfoldable pub kept_code : List ℕ → State → State × Stretch
 kept_code text s = with_texts (push_shown s.texts (stripped text)) s
 
 -- a text is kept without its escapes and references
-unfoldable pub kept_resolved : List ℕ → State → State × Stretch
-kept_resolved text s = kept (unescaped text) s
+unfoldable pub kept_resolved_in : Names → List ℕ → State → State × Stretch
+kept_resolved_in names text s = kept (unescaped_in names text) s
 
 -- a target is kept, with its number
 unfoldable pub targeted : Target → State → State × ℕ
@@ -131,6 +140,19 @@ referred_to s (Some r) = put_leaf (Character r.character) r.next s
 -- an ampersand (CommonMark 2.5)
 unfoldable pub referred : List ℕ → State → State
 referred bytes s = referred_to s (reference_at bytes s.place)
+
+-- the characters of a named reference as a leaf, up to an end
+unfoldable pub name_put : List ℕ → ℕ → State → State
+name_put characters end s = let p = kept characters s in put_leaf (leaf.Text (p.1)) end (p.0)
+
+-- the characters of a name, if there is one, or else a reference by number
+abbrev pub named_to : List ℕ → State → Option Named → State
+named_to bytes s None = referred bytes s
+named_to bytes s (Some n) = name_put n.characters n.next s
+
+-- an ampersand where all names are known
+unfoldable pub named_taken : List ℕ → State → State
+named_taken bytes s = named_to bytes s (named_in All bytes s.place)
 
 -- a code span with its text between two places
 unfoldable pub code_put : List ℕ → ℕ → ℕ → ℕ → State → State
@@ -160,9 +182,9 @@ run_taken bytes byte s = let r = run_at bytes s.place byte in with_run r (record
 unfoldable pub run_kept : Run → State → State
 run_kept r s = with_run r (record s { resume = plus s.place r.count })
 
--- tildes of strikethrough
-unfoldable pub tildes_taken : List ℕ → State → State
-tildes_taken bytes s = run_kept (tildes_at bytes s.place) s
+-- tildes of strikethrough and subscripts
+unfoldable pub tildes_taken : Syntax → List ℕ → State → State
+tildes_taken syntax bytes s = run_kept (tildes_at syntax bytes s.place) s
 
 -- the innermost bracket, if there is one, has another in it
 abbrev pub marked_last : State → Option Bracket → State
@@ -267,10 +289,10 @@ abbrev pub inline_to : Stretch → Stretch → Target
 inline_to d t = record { link_type = Inline; destination = d; title = t; id = stretch 0 0 }
 
 -- the text of a bracket leads to a destination in parentheses
-unfoldable pub closed_inline : List ℕ → Bracket → InlineTarget → State → State
-closed_inline bytes b found s =
-    let p = kept_resolved (bytes_between bytes found.destination.start found.destination.end) s in
-    let q = kept_resolved (bytes_between bytes found.title.start found.title.end) (p.0) in
+unfoldable pub closed_inline_in : Names → List ℕ → Bracket → InlineTarget → State → State
+closed_inline_in names bytes b found s =
+    let p = kept_resolved_in names (bytes_between bytes found.destination.start found.destination.end) s in
+    let q = kept_resolved_in names (bytes_between bytes found.title.start found.title.end) (p.0) in
     linked b (inline_to (p.1) (q.1)) found.end (q.0)
 
 -- a text is a label that was missed
@@ -306,13 +328,13 @@ unfoldable pub closed_by_label : List ℕ → (List ℕ → Option Entry) → Br
 closed_by_label bytes definitions b s = closed_asked bytes definitions b s (label_asked bytes b s.place)
 
 -- parentheses, or else a label
-abbrev pub closed_found : List ℕ → (List ℕ → Option Entry) → Bracket → State → Option InlineTarget → State
-closed_found bytes definitions b s None = closed_by_label bytes definitions b s
-closed_found bytes definitions b s (Some found) = closed_inline bytes b found s
+abbrev pub closed_found_in : Names → List ℕ → (List ℕ → Option Entry) → Bracket → State → Option InlineTarget → State
+closed_found_in names bytes definitions b s None = closed_by_label bytes definitions b s
+closed_found_in names bytes definitions b s (Some found) = closed_inline_in names bytes b found s
 
 -- a bracket that can begin a link or an image is closed: parentheses first, then a label
-unfoldable pub closed_active : List ℕ → (List ℕ → Option Entry) → Bracket → State → State
-closed_active bytes definitions b s = closed_found bytes definitions b s (inline_target bytes (plus s.place 1))
+unfoldable pub closed_active_in : Names → List ℕ → (List ℕ → Option Entry) → Bracket → State → State
+closed_active_in names bytes definitions b s = closed_found_in names bytes definitions b s (inline_target bytes (plus s.place 1))
 
 -- the innermost bracket is taken away; whether it can begin a link or an image
 unfoldable pub popped : Bracket → State → State × Bool
@@ -321,17 +343,74 @@ popped b s =
     (record s { brackets = take height s.brackets; inactive = min s.inactive height }, b.image || nat_le s.inactive height)
 
 -- a bracket that can begin a link or an image, or a text
-abbrev pub closed_popped : List ℕ → (List ℕ → Option Entry) → Bracket → State × Bool → State
-closed_popped bytes definitions b (s, active) = if active then closed_active bytes definitions b s else s
+abbrev pub closed_popped_in : Names → List ℕ → (List ℕ → Option Entry) → Bracket → State × Bool → State
+closed_popped_in names bytes definitions b (s, active) = if active then closed_active_in names bytes definitions b s else s
 
 -- the innermost bracket, if there is one, is closed
-abbrev pub closed_last : List ℕ → (List ℕ → Option Entry) → State → Option Bracket → State
-closed_last bytes definitions s None = s
-closed_last bytes definitions s (Some b) = closed_popped bytes definitions b (popped b s)
+abbrev pub closed_last_in : Names → List ℕ → (List ℕ → Option Entry) → State → Option Bracket → State
+closed_last_in names bytes definitions s None = s
+closed_last_in names bytes definitions s (Some b) = closed_popped_in names bytes definitions b (popped b s)
 
 -- a closing bracket (CommonMark 6.3)
-unfoldable pub closed : List ℕ → (List ℕ → Option Entry) → State → State
-closed bytes definitions s = closed_last bytes definitions s (slice_get s.brackets (length s.brackets - 1))
+unfoldable pub closed_in : Names → List ℕ → (List ℕ → Option Entry) → State → State
+closed_in names bytes definitions s = closed_last_in names bytes definitions s (slice_get s.brackets (length s.brackets - 1))
+
+-- the same where four names are known
+abbrev pub closed : List ℕ → (List ℕ → Option Entry) → State → State
+closed = closed_in Four
+
+-- a reference to a footnote in place of a bracket and its text; no bracket before it begins anything any more
+unfoldable pub noted : Bracket → Stretch → State → State
+noted b name s = record s {
+  roles = slice_set s.roles (b.inner - 1) (Single (leaf.Note name) (plus s.place 1));
+  runs = take b.runs s.runs;
+  brackets = [];
+  inactive = 0;
+  resume = plus s.place 1;
+}
+
+-- a reference to a footnote that has a definition
+abbrev pub note_found : Bracket → List ℕ → State → Option Entry → State
+note_found b name s None = s
+note_found b name s (Some e) = let p = kept (collapsed name) s in noted b (p.1) (p.0)
+
+-- the label of a footnote
+unfoldable pub note_looked_up : List ℕ → (List ℕ → Option Entry) → Bracket → Word → State → State
+note_looked_up bytes definitions b w s =
+    let name = bytes_between bytes w.start w.end in note_found b name s (definitions (note_key name))
+
+-- the label of a link or of a footnote that is to be looked up, if there is one
+abbrev pub closed_sought : List ℕ → (List ℕ → Option Entry) → Bracket → State → Option Sought → State
+closed_sought bytes definitions b s None = s
+closed_sought bytes definitions b s (Some (sought_as.Label asked)) = looked_up bytes definitions b asked s
+closed_sought bytes definitions b s (Some (sought_as.Note w)) = note_looked_up bytes definitions b w s
+
+-- a bracket without parentheses behind it is closed, where footnotes are read
+unfoldable pub closed_by_sought : List ℕ → (List ℕ → Option Entry) → Bracket → State → State
+closed_by_sought bytes definitions b s = closed_sought bytes definitions b s (label_sought bytes b s.place)
+
+-- parentheses, or else a label of a link or of a footnote
+abbrev pub closed_found_or_sought : Names → List ℕ → (List ℕ → Option Entry) → Bracket → State → Option InlineTarget → State
+closed_found_or_sought names bytes definitions b s None = closed_by_sought bytes definitions b s
+closed_found_or_sought names bytes definitions b s (Some found) = closed_inline_in names bytes b found s
+
+-- a bracket that can begin a link, an image or a reference to a footnote is closed: parentheses first, then a label
+unfoldable pub closed_among_notes : Names → List ℕ → (List ℕ → Option Entry) → Bracket → State → State
+closed_among_notes names bytes definitions b s =
+    closed_found_or_sought names bytes definitions b s (inline_target bytes (plus s.place 1))
+
+-- a bracket that can begin something, or a text
+abbrev pub noted_popped : Names → List ℕ → (List ℕ → Option Entry) → Bracket → State × Bool → State
+noted_popped names bytes definitions b (s, active) = if active then closed_among_notes names bytes definitions b s else s
+
+-- the innermost bracket, if there is one, is closed
+abbrev pub noted_last : Names → List ℕ → (List ℕ → Option Entry) → State → Option Bracket → State
+noted_last names bytes definitions s None = s
+noted_last names bytes definitions s (Some b) = noted_popped names bytes definitions b (popped b s)
+
+-- a closing bracket, where footnotes are read
+unfoldable pub closed_or_noted : Names → List ℕ → (List ℕ → Option Entry) → State → State
+closed_or_noted names bytes definitions s = noted_last names bytes definitions s (slice_get s.brackets (length s.brackets - 1))
 
 -- a byte that is no bracket
 unfoldable pub looked_mark : List ℕ → List ℕ → ℕ → State → State
@@ -351,6 +430,17 @@ looked bytes ahead definitions b s =
     else (if b == 60 then angled bytes ahead.ends s
     else looked_mark bytes ahead.ticks b s)))
 
+-- the byte at the place where all names are known: an ampersand, and a bracket with a destination and a title behind it
+unfoldable pub looked_all : List ℕ → Known → (List ℕ → Option Entry) → ℕ → State → State
+looked_all bytes ahead definitions b s =
+    if b == 38 then named_taken bytes s
+    else (if b == 93 then closed_in All bytes definitions s else looked bytes ahead definitions b s)
+
+-- the byte at the place, by the names that are known
+abbrev pub looked_by : Names → List ℕ → Known → (List ℕ → Option Entry) → ℕ → State → State
+looked_by Four bytes ahead definitions b s = looked bytes ahead definitions b s
+looked_by All bytes ahead definitions b s = looked_all bytes ahead definitions b s
+
 -- a byte that can be more than one of a text
 unfoldable pub is_mark : ℕ → Bool
 is_mark b =
@@ -364,18 +454,66 @@ next_place s = record s { place = plus s.place 1 }
 abbrev pub with_place : ℕ → State → State
 with_place place s = record s { place = place }
 
--- a tilde is a mark where strikethrough is read
+-- a tilde is a mark where strikethrough or subscripts are read
 unfoldable pub is_tilde_in : Syntax → ℕ → Bool
-is_tilde_in syntax b = syntax.strikethrough && (b == 126)
+is_tilde_in syntax b = (syntax.strikethrough || syntax.subscript) && (b == 126)
+
+-- a caret is a mark where superscripts are read
+unfoldable pub is_caret_in : Syntax → ℕ → Bool
+is_caret_in syntax b = syntax.superscript && (b == 94)
 
 -- a byte that can be more than one of a text, in an extension or in CommonMark
 unfoldable pub is_mark_in : Syntax → ℕ → Bool
-is_mark_in syntax b = is_tilde_in syntax b || is_mark b
+is_mark_in syntax b = is_tilde_in syntax b || is_caret_in syntax b || is_mark b
+
+-- a closing bracket is another mark where footnotes are read
+unfoldable pub is_note_end_in : Syntax → ℕ → Bool
+is_note_end_in syntax b = syntax.footnotes && (b == 93)
+
+-- where the address ends that begins at a place
+unfoldable pub address_end : List ℕ → ℕ → Option ℕ
+address_end bytes place = option_or (uri_end bytes place) (mail_end bytes place)
+
+-- where it ends, if it has a bar
+unfoldable pub barred_end : List ℕ → ℕ → Option ℕ
+barred_end bytes place =
+    option_and_then (λ end. if list_any (λ b. b == 124) (bytes_between bytes place end) then Some end else None) (address_end bytes place)
+
+-- a text up to a place is one leaf
+abbrev pub text_put : ℕ → ℕ → State × Stretch → State
+text_put first last (s, text) = record s { roles = slice_set s.roles first (Single (leaf.Text text) last) }
+
+-- the text of an address is one leaf
+unfoldable pub address_shown : List ℕ → ℕ → State → State
+address_shown bytes end s = text_put (plus s.place 1) (end - 1) (kept (bytes_between bytes (plus s.place 1) (end - 1)) s)
+
+-- an address with a bar, in front of which a backslash may have stood
+abbrev pub shown_to : List ℕ → State → Option ℕ → State
+shown_to bytes s None = s
+shown_to bytes s (Some end) = address_shown bytes end s
+
+-- an opening angle bracket where tables are read
+unfoldable pub angled_in : List ℕ → LastEnds → State → State
+angled_in bytes ends s = angled bytes ends (shown_to bytes s (barred_end bytes s.place))
 
 -- the byte at the place, in an extension or in CommonMark
 unfoldable pub looked_in : Syntax → List ℕ → Known → (List ℕ → Option Entry) → ℕ → State → State
 looked_in syntax bytes ahead definitions b s =
-    if is_tilde_in syntax b then tildes_taken bytes s else looked bytes ahead definitions b s
+    if is_tilde_in syntax b then tildes_taken syntax bytes s
+    else (if is_caret_in syntax b then run_taken bytes b s
+    else (if is_note_end_in syntax b then closed_or_noted syntax.names bytes definitions s
+    else (if syntax.tables && (b == 60) then angled_in bytes ahead.ends s
+    else looked_by syntax.names bytes ahead definitions b s)))
+
+-- all names of character references are known
+abbrev pub knows_all : Names → Bool
+knows_all Four = false
+knows_all All = true
+
+-- some extension has a say in the inlines of a leaf
+unfoldable pub extends_inlines : Syntax → Bool
+extends_inlines syntax =
+    syntax.strikethrough || syntax.subscript || syntax.superscript || syntax.footnotes || syntax.tables || knows_all syntax.names
 
 -- one byte further
 unfoldable pub scan_step_in : Syntax → List ℕ → Known → (List ℕ → Option Entry) → State → ℕ → State

@@ -5,5 +5,6 @@
 #![tactic(auto)]
 
 pub mod inlines;
+mod note;
 mod scan;
 pub mod write;

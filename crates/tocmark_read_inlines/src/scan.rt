@@ -3,7 +3,7 @@
 ghost use Rattle.std.specs.Prelude.{◌≡◌, IfOk, OnOk, length, drop};
 ghost use Rattle.tocmark_read_scan.specs.Repeat.{iterated};
 ghost use Rattle.tocmark_read_spans.specs.Definitions.{entry_of};
-ghost use Rattle.tocmark_read_inlines.specs.Scan.{before_space, scan, ahead_view, ends_of, ticks_of, stretch, kept, kept_code, kept_resolved, targeted, put_leaf, escaped, referred, code_put, coded, run_taken, run_kept, tildes_taken, marked, opened, imaged, addressed, html_put, tagged, mailed, angled, line_ended, spanned, settled, linked, closed_inline, missing, looked_up, closed_by_label, closed_active, popped, closed, looked_mark, looked, is_mark, is_tilde_in, is_mark_in, looked_in, with_place, scan_step_in, ran_in, scanned_in};
+ghost use Rattle.tocmark_read_inlines.specs.Scan.{before_space, scan, ahead_view, ends_of, ticks_of, stretch, kept, kept_code, targeted, put_leaf, escaped, referred, code_put, coded, run_taken, run_kept, tildes_taken, marked, opened, imaged, addressed, html_put, tagged, mailed, angled, line_ended, spanned, settled, linked, missing, looked_up, closed_by_label, popped, looked_mark, looked, is_mark, is_tilde_in, is_caret_in, is_mark_in, looked_in, knows_all, extends_inlines, with_place, scan_step, scan_step_in, ran, ran_in, scanned_in, kept_resolved_in, name_put, named_taken, closed_inline_in, closed_active_in, closed_in, looked_all, looked_by, is_note_end_in, address_end, barred_end, address_shown, angled_in};
 
 use std::alloc::{AllocError, Global};
 use tocmark_event::event::LinkType;
@@ -15,10 +15,11 @@ use tocmark_read_spans::link::{Asked, Bracket, InlineTarget, inline_target, labe
 use tocmark_read_spans::role::{Leaf, Role, Roles, Span, Stretch, Target};
 use tocmark_read_spans::run::{Run, run_at, tildes_at};
 use tocmark_read_spans::tick::{last_ticks, push_code, tick_end};
-use tocmark_read_syntax::Syntax;
+use tocmark_read_syntax::{Names, Syntax};
 use tocmark_read_tokens::autolink::{mail_end, uri_end};
 use tocmark_read_tokens::html::{LastEnds, last_ends, raw_html};
 use tocmark_read_tokens::label::{collapsed, key_of};
+use tocmark_read_tokens::name::{NamedReference, named_in};
 use tocmark_read_tokens::reference::{is_escape, reference_at, unescaped};
 
 /// What is known of a text before it is read: where no end of raw HTML and no backticks follow.
@@ -26,6 +27,15 @@ use tocmark_read_tokens::reference::{is_escape, reference_at, unescaped};
 pub struct KnownAbsent {
     pub ends: LastEnds,
     pub ticks: Vec<usize>,
+}
+
+/// A leaf's text, what is known of it, what labels are defined as, and the extensions that are read.
+#[derive(Clone, Copy)]
+struct LeafText<'t, 'k, 'd> {
+    syntax: Syntax,
+    bytes: &'t [u8],
+    ahead: &'k KnownAbsent,
+    definitions: &'d Definitions,
 }
 
 /// The pass at a place: the roles of the bytes before it, the runs and brackets that aren't matched,
@@ -125,12 +135,20 @@ fn is_mark(byte: u8) -> bool
     bracket || delimiter || byte == b'\\' || byte == b'&' || byte == b'\n'
 }
 
-/// Whether a byte is a tilde, where strikethrough is read.
+/// Whether a byte is a tilde, where strikethrough or subscripts are read.
 #[tactic(auto, unfolding(crate::specs::Scan::is_tilde_in))]
 fn is_tilde_in(syntax: Syntax, byte: u8) -> bool
     ensures { result ≡ is_tilde_in syntax byte }
 {
-    syntax.strikethrough && byte == b'~'
+    (syntax.strikethrough || syntax.subscript) && byte == b'~'
+}
+
+/// Whether a byte is a caret, where superscripts are read.
+#[tactic(auto, unfolding(crate::specs::Scan::is_caret_in))]
+fn is_caret_in(syntax: Syntax, byte: u8) -> bool
+    ensures { result ≡ is_caret_in syntax byte }
+{
+    syntax.superscript && byte == b'^'
 }
 
 /// Whether a byte can be more than one of a text, in an extension or in CommonMark.
@@ -138,7 +156,62 @@ fn is_tilde_in(syntax: Syntax, byte: u8) -> bool
 fn is_mark_in(syntax: Syntax, byte: u8) -> bool
     ensures { result ≡ is_mark_in syntax byte }
 {
-    is_tilde_in(syntax, byte) || is_mark(byte)
+    is_tilde_in(syntax, byte) || is_caret_in(syntax, byte) || is_mark(byte)
+}
+
+/// Whether all names of character references are known.
+fn knows_all(names: Names) -> bool
+    ensures { result ≡ knows_all names }
+{
+    match names {
+        Names::Four => false,
+        Names::All => true,
+    }
+}
+
+/// Whether some extension has a say in the inlines of a leaf.
+#[tactic(auto, unfolding(crate::specs::Scan::extends_inlines))]
+fn extends_inlines(syntax: Syntax) -> bool
+    ensures { result ≡ extends_inlines syntax }
+{
+    syntax.strikethrough
+        || syntax.subscript
+        || syntax.superscript
+        || syntax.footnotes
+        || syntax.tables
+        || knows_all(syntax.names)
+}
+
+/// Whether a byte is a closing bracket, where footnotes are read.
+#[tactic(auto, unfolding(crate::specs::Scan::is_note_end_in))]
+fn is_note_end_in(syntax: Syntax, byte: u8) -> bool
+    ensures { result ≡ is_note_end_in syntax byte }
+{
+    syntax.footnotes && byte == b']'
+}
+
+/// Where the address ends that begins at a place.
+#[tactic(auto, unfolding(crate::specs::Scan::address_end))]
+fn address_end(bytes: &[u8], place: usize) -> Option<usize>
+    ensures { result ≡ address_end bytes.now place }
+{
+    match uri_end(bytes, place) {
+        Some(end) => Some(end),
+        None => mail_end(bytes, place),
+    }
+}
+
+/// Where the address ends that begins at a place, if it has a bar.
+#[tactic(auto, unfolding(crate::specs::Scan::barred_end))]
+fn barred_end(bytes: &[u8], place: usize) -> Option<usize>
+    ensures { result ≡ barred_end bytes.now place }
+{
+    let end = address_end(bytes, place)?;
+    if bytes_between(bytes, place, end).contains(&b'|') {
+        Some(end)
+    } else {
+        None
+    }
 }
 
 fn empty() -> Stretch
@@ -150,7 +223,7 @@ fn empty() -> Stretch
 impl Scanner {
     /// Keeps a text.
     #[tactic(auto, unfolding(crate::specs::Scan::kept))]
-    fn keep(&mut self, text: &[u8]) -> Result<Stretch, AllocError>
+    pub(crate) fn keep(&mut self, text: &[u8]) -> Result<Stretch, AllocError>
         ensures { IfOk result (λ s. (scan self.new, s) ≡ kept text.now (scan self.old)) }
     {
         let start = self.texts.len();
@@ -174,12 +247,18 @@ impl Scanner {
         })
     }
 
-    /// Keeps a text with its escapes and references resolved.
-    #[tactic(auto, unfolding(crate::specs::Scan::kept_resolved))]
-    fn keep_resolved(&mut self, alloc: Global, text: &[u8]) -> Result<Stretch, AllocError>
-        ensures { IfOk result (λ s. (scan self.new, s) ≡ kept_resolved text.now (scan self.old)) }
+    /// Keeps a text with its escapes and references resolved, by the names that are known.
+    #[tactic(auto, unfolding(crate::specs::Scan::kept_resolved_in))]
+    fn keep_resolved(
+        &mut self,
+        alloc: Global,
+        names: Names,
+        text: &[u8],
+    ) -> Result<Stretch, AllocError>
+        ensures { IfOk result (λ s.
+            (scan self.new, s) ≡ kept_resolved_in names text.now (scan self.old)) }
     {
-        let resolved = unescaped(alloc, text)?;
+        let resolved = unescaped(alloc, names, text)?;
         let stretch = self.keep(&resolved)?;
         Ok(stretch)
     }
@@ -229,6 +308,27 @@ impl Scanner {
         match reference_at(bytes, self.place) {
             Some(found) => self.put(Leaf::Character(found.character), found.next),
             None => Ok(()),
+        }
+    }
+
+    /// Puts the characters of a named reference.
+    #[tactic(auto, unfolding(crate::specs::Scan::name_put))]
+    fn put_name(&mut self, found: NamedReference) -> Result<(), AllocError>
+        ensures { OnOk result (scan self.new
+            ≡ name_put found.characters.now found.next (scan self.old)) }
+    {
+        let text = self.keep(found.characters)?;
+        self.put(Leaf::Text(text), found.next)
+    }
+
+    /// Reads an ampersand where all names are known.
+    #[tactic(auto, unfolding(crate::specs::Scan::named_taken))]
+    fn name(&mut self, bytes: &[u8]) -> Result<(), AllocError>
+        ensures { OnOk result (scan self.new ≡ named_taken bytes.now (scan self.old)) }
+    {
+        match named_in(Names::All, bytes, self.place) {
+            Some(found) => self.put_name(found),
+            None => self.reference(bytes),
         }
     }
 
@@ -290,10 +390,10 @@ impl Scanner {
 
     /// Reads tildes.
     #[tactic(auto, unfolding(crate::specs::Scan::tildes_taken))]
-    fn tildes(&mut self, bytes: &[u8]) -> Result<(), AllocError>
-        ensures { OnOk result (scan self.new ≡ tildes_taken bytes.now (scan self.old)) }
+    fn tildes(&mut self, syntax: Syntax, bytes: &[u8]) -> Result<(), AllocError>
+        ensures { OnOk result (scan self.new ≡ tildes_taken syntax bytes.now (scan self.old)) }
     {
-        self.keep_run(tildes_at(bytes, self.place))
+        self.keep_run(tildes_at(syntax, bytes, self.place))
     }
 
     /// Marks the innermost bracket as one with another in it.
@@ -475,23 +575,26 @@ impl Scanner {
     }
 
     /// Links the text of a bracket to a destination in parentheses.
-    #[tactic(auto, unfolding(crate::specs::Scan::closed_inline))]
-    fn close_inline(
+    #[tactic(auto, unfolding(crate::specs::Scan::closed_inline_in))]
+    pub(crate) fn close_inline(
         &mut self,
         alloc: Global,
+        names: Names,
         bytes: &[u8],
         bracket: Bracket,
         found: InlineTarget,
     ) -> Result<(), AllocError>
         ensures { OnOk result (scan self.new
-            ≡ closed_inline bytes.now bracket found (scan self.old)) }
+            ≡ closed_inline_in names bytes.now bracket found (scan self.old)) }
     {
         let destination = self.keep_resolved(
             alloc,
+            names,
             bytes_between(bytes, found.destination.start, found.destination.end),
         )?;
         let title = self.keep_resolved(
             alloc,
+            names,
             bytes_between(bytes, found.title.start, found.title.end),
         )?;
         let target = Target {
@@ -516,7 +619,7 @@ impl Scanner {
 
     /// Links the text of a bracket to what a label is defined as.
     #[tactic(auto, unfolding(crate::specs::Scan::looked_up))]
-    fn look_up(
+    pub(crate) fn look_up(
         &mut self,
         alloc: Global,
         bytes: &[u8],
@@ -563,26 +666,27 @@ impl Scanner {
     }
 
     /// Closes a bracket that can begin a link or an image.
-    #[tactic(auto, unfolding(crate::specs::Scan::closed_active))]
+    #[tactic(auto, unfolding(crate::specs::Scan::closed_active_in))]
     fn close_active(
         &mut self,
         alloc: Global,
+        names: Names,
         bytes: &[u8],
         definitions: &Definitions,
         bracket: Bracket,
     ) -> Result<(), AllocError>
         ensures { OnOk result (scan self.new
-            ≡ closed_active bytes.now (entry_of definitions.now) bracket (scan self.old)) }
+            ≡ closed_active_in names bytes.now (entry_of definitions.now) bracket (scan self.old)) }
     {
         match inline_target(bytes, self.place.saturating_add(1)) {
-            Some(found) => self.close_inline(alloc, bytes, bracket, found),
+            Some(found) => self.close_inline(alloc, names, bytes, bracket, found),
             None => self.close_by_label(alloc, bytes, definitions, bracket),
         }
     }
 
     /// Takes the innermost bracket away, and says whether it can begin a link or an image.
     #[tactic(auto, unfolding(crate::specs::Scan::popped))]
-    fn pop(&mut self, bracket: Bracket) -> bool
+    pub(crate) fn pop(&mut self, bracket: Bracket) -> bool
         ensures { (scan self.new, result) ≡ popped bracket (scan self.old) }
     {
         let height = self.brackets.len().saturating_sub(1);
@@ -593,20 +697,21 @@ impl Scanner {
     }
 
     /// Reads a closing bracket.
-    #[tactic(auto, unfolding(crate::specs::Scan::closed))]
+    #[tactic(auto, unfolding(crate::specs::Scan::closed_in))]
     fn close(
         &mut self,
         alloc: Global,
+        names: Names,
         bytes: &[u8],
         definitions: &Definitions,
     ) -> Result<(), AllocError>
         ensures { OnOk result (scan self.new
-            ≡ closed bytes.now (entry_of definitions.now) (scan self.old)) }
+            ≡ closed_in names bytes.now (entry_of definitions.now) (scan self.old)) }
     {
         match self.brackets.last().copied() {
             Some(bracket) => {
                 if self.pop(bracket) {
-                    self.close_active(alloc, bytes, definitions, bracket)
+                    self.close_active(alloc, names, bytes, definitions, bracket)
                 } else {
                     Ok(())
                 }
@@ -655,11 +760,81 @@ impl Scanner {
         } else if byte == b'!' {
             self.exclamation(bytes)
         } else if byte == b']' {
-            self.close(alloc, bytes, definitions)
+            self.close(alloc, Names::Four, bytes, definitions)
         } else if byte == b'<' {
             self.angle(bytes, ahead.ends)
         } else {
             self.look_mark(bytes, &ahead.ticks, byte)
+        }
+    }
+
+    /// Reads the byte at the place where all names are known: an ampersand, and a closing bracket, behind
+    /// which a destination and a title stand.
+    #[tactic(auto, unfolding(crate::specs::Scan::looked_all))]
+    fn look_all(
+        &mut self,
+        alloc: Global,
+        bytes: &[u8],
+        ahead: &KnownAbsent,
+        definitions: &Definitions,
+        byte: u8,
+    ) -> Result<(), AllocError>
+        ensures { OnOk result (scan self.new
+            ≡ looked_all bytes.now (ahead_view ahead.now) (entry_of definitions.now) byte
+            (scan self.old)) }
+    {
+        if byte == b'&' {
+            self.name(bytes)
+        } else if byte == b']' {
+            self.close(alloc, Names::All, bytes, definitions)
+        } else {
+            self.look(alloc, bytes, ahead, definitions, byte)
+        }
+    }
+
+    /// Reads the byte at the place, by the names that are known.
+    fn look_by(
+        &mut self,
+        alloc: Global,
+        names: Names,
+        bytes: &[u8],
+        ahead: &KnownAbsent,
+        definitions: &Definitions,
+        byte: u8,
+    ) -> Result<(), AllocError>
+        ensures { OnOk result (scan self.new
+            ≡ looked_by names bytes.now (ahead_view ahead.now) (entry_of definitions.now) byte
+            (scan self.old)) }
+    {
+        match names {
+            Names::Four => self.look(alloc, bytes, ahead, definitions, byte),
+            Names::All => self.look_all(alloc, bytes, ahead, definitions, byte),
+        }
+    }
+
+    /// Puts the text of the address between angle brackets as one leaf.
+    #[tactic(auto, unfolding(crate::specs::Scan::address_shown))]
+    fn show_address(&mut self, bytes: &[u8], end: usize) -> Result<(), AllocError>
+        ensures { OnOk result (scan self.new ≡ address_shown bytes.now end (scan self.old)) }
+    {
+        let first = self.place.saturating_add(1);
+        let last = end.saturating_sub(1);
+        let text = self.keep(bytes_between(bytes, first, last))?;
+        self.roles.put(first, Role::Single(Leaf::Text(text), last))
+    }
+
+    /// Reads an opening angle bracket where tables are read: the text of an address with a bar is one leaf,
+    /// since a backslash may have stood before the bar.
+    #[tactic(auto, unfolding(crate::specs::Scan::angled_in))]
+    fn angle_in(&mut self, bytes: &[u8], ends: LastEnds) -> Result<(), AllocError>
+        ensures { OnOk result (scan self.new ≡ angled_in bytes.now ends (scan self.old)) }
+    {
+        match barred_end(bytes, self.place) {
+            Some(end) => {
+                self.show_address(bytes, end)?;
+                self.angle(bytes, ends)
+            }
+            None => self.angle(bytes, ends),
         }
     }
 
@@ -668,20 +843,30 @@ impl Scanner {
     fn look_in(
         &mut self,
         alloc: Global,
-        syntax: Syntax,
-        bytes: &[u8],
-        ahead: &KnownAbsent,
-        definitions: &Definitions,
+        text: &LeafText<'_, '_, '_>,
         byte: u8,
     ) -> Result<(), AllocError>
         ensures { OnOk result (scan self.new
-            ≡ looked_in syntax bytes.now (ahead_view ahead.now) (entry_of definitions.now) byte
-            (scan self.old)) }
+            ≡ looked_in text.now.syntax text.now.bytes.now (ahead_view text.now.ahead.now)
+            (entry_of text.now.definitions.now) byte (scan self.old)) }
     {
-        if is_tilde_in(syntax, byte) {
-            self.tildes(bytes)
+        if is_tilde_in(text.syntax, byte) {
+            self.tildes(text.syntax, text.bytes)
+        } else if is_caret_in(text.syntax, byte) {
+            self.delimiters(text.bytes, byte)
+        } else if is_note_end_in(text.syntax, byte) {
+            self.close_in(alloc, text.syntax.names, text.bytes, text.definitions)
+        } else if text.syntax.tables && byte == b'<' {
+            self.angle_in(text.bytes, text.ahead.ends)
         } else {
-            self.look(alloc, bytes, ahead, definitions, byte)
+            self.look_by(
+                alloc,
+                text.syntax.names,
+                text.bytes,
+                text.ahead,
+                text.definitions,
+                byte,
+            )
         }
     }
 
@@ -690,44 +875,89 @@ impl Scanner {
     fn step(
         &mut self,
         alloc: Global,
-        syntax: Syntax,
-        bytes: &[u8],
-        ahead: &KnownAbsent,
-        definitions: &Definitions,
+        text: &LeafText<'_, '_, '_>,
         place: usize,
         byte: u8,
     ) -> Result<usize, AllocError>
         ensures { IfOk result (λ next.
             with_place next (scan self.new)
-            ≡ scan_step_in syntax bytes.now (ahead_view ahead.now) (entry_of definitions.now)
-            (with_place place (scan self.old)) byte) }
+            ≡ scan_step_in text.now.syntax text.now.bytes.now (ahead_view text.now.ahead.now)
+            (entry_of text.now.definitions.now) (with_place place (scan self.old)) byte) }
     {
-        if !is_mark_in(syntax, byte) || place < self.resume {
+        if !is_mark_in(text.syntax, byte) || place < self.resume {
             return Ok(place.saturating_add(1));
         }
         self.place = place;
-        self.look_in(alloc, syntax, bytes, ahead, definitions, byte)?;
+        self.look_in(alloc, text, byte)?;
         Ok(self.place.saturating_add(1))
     }
 
-    /// Reads all bytes of a text.
-    fn run(
+    /// One byte of CommonMark further, from a place that is kept apart; gives the next one.
+    #[tactic(auto, unfolding(crate::specs::Scan::scan_step_in, crate::specs::Scan::looked_in, crate::specs::Scan::is_mark_in, crate::specs::Scan::is_tilde_in, crate::specs::Scan::is_caret_in, crate::specs::Scan::is_note_end_in))]
+    fn core_step(
         &mut self,
         alloc: Global,
-        syntax: Syntax,
-        bytes: &[u8],
-        ahead: &KnownAbsent,
-        definitions: &Definitions,
+        text: &LeafText<'_, '_, '_>,
+        place: usize,
+        byte: u8,
+    ) -> Result<usize, AllocError>
+        ensures { IfOk result (λ next.
+            with_place next (scan self.new)
+            ≡ scan_step text.now.bytes.now (ahead_view text.now.ahead.now)
+            (entry_of text.now.definitions.now) (with_place place (scan self.old)) byte) }
+    {
+        if !is_mark(byte) || place < self.resume {
+            return Ok(place.saturating_add(1));
+        }
+        self.place = place;
+        self.look(alloc, text.bytes, text.ahead, text.definitions, byte)?;
+        Ok(self.place.saturating_add(1))
+    }
+
+    /// Reads all bytes of a text, with what extensions have in it.
+    fn run_with_extensions(
+        &mut self,
+        alloc: Global,
+        text: &LeafText<'_, '_, '_>,
     ) -> Result<(), AllocError>
         ensures { OnOk result (scan self.new
-            ≡ ran_in syntax bytes.now (ahead_view ahead.now) (entry_of definitions.now) (scan self.old)) }
+            ≡ ran_in text.now.syntax text.now.bytes.now (ahead_view text.now.ahead.now)
+            (entry_of text.now.definitions.now) (scan self.old)) }
     {
         let mut place = self.place;
-        for byte in bytes {
-            place = self.step(alloc, syntax, bytes, ahead, definitions, place, *byte)?;
+        for byte in text.bytes {
+            place = self.step(alloc, text, place, *byte)?;
         }
         self.place = place;
         Ok(())
+    }
+
+    /// Reads all bytes of a text as CommonMark has them.
+    fn run_core(&mut self, alloc: Global, text: &LeafText<'_, '_, '_>) -> Result<(), AllocError>
+        ensures { OnOk result (scan self.new
+            ≡ ran text.now.bytes.now (ahead_view text.now.ahead.now)
+            (entry_of text.now.definitions.now) (scan self.old)) }
+    {
+        let mut place = self.place;
+        for byte in text.bytes {
+            place = self.core_step(alloc, text, place, *byte)?;
+        }
+        self.place = place;
+        Ok(())
+    }
+
+    /// Reads all bytes of a text. Whether some extension has a say in it is asked once.
+    #[tactic(auto, using(crate::proofs::CoreRuns::ran_as_core))]
+    fn run(&mut self, alloc: Global, text: &LeafText<'_, '_, '_>) -> Result<(), AllocError>
+        ensures { OnOk result (scan self.new
+            ≡ ran_in text.now.syntax text.now.bytes.now (ahead_view text.now.ahead.now)
+            (entry_of text.now.definitions.now) (scan self.old)) }
+    {
+        if extends_inlines(text.syntax) {
+            self.run_with_extensions(alloc, text)
+        } else {
+            self.run_core(alloc, text)
+        }
     }
 
     /// Reads a text from its front, and gives each of its bytes a role. An `Err` says that memory ran out.
@@ -746,7 +976,13 @@ impl Scanner {
             ends: ends_of(bytes),
             ticks: ticks_of(alloc, bytes)?,
         };
-        self.run(alloc, syntax, bytes, &ahead, definitions)?;
+        let text = LeafText {
+            syntax,
+            bytes,
+            ahead: &ahead,
+            definitions,
+        };
+        self.run(alloc, &text)?;
         self.settle(alloc, 0)
     }
 }

@@ -5,6 +5,8 @@ use Rattle.std.specs.Option.{option_map, option_map_or, option_and_then}
 use Rattle.tocmark_read_scan.specs.Basic.{plus}
 use Rattle.tocmark_read_lines.specs.Cells.{cell_byte, first_cursor, indent_of, ink_from, is_blank_at, moved}
 use Rattle.tocmark_read_lines.specs.Marks.{is_rule, marker_at}
+use Rattle.tocmark_read_lines.specs.Notes.{note_start}
+use Rattle.tocmark_read_syntax.specs.declared.Syntax.{Syntax}
 use Rattle.tocmark_read_lines.specs.declared.cell.Cell.{Cell}
 use Rattle.tocmark_read_lines.specs.declared.cell.Cursor.{Cursor}
 use Rattle.tocmark_read_lines.specs.declared.beginnings.Marker.{Marker}
@@ -13,6 +15,7 @@ use Rattle.tocmark_read_lines.specs.declared.container.Container.{Container}
 use Rattle.tocmark_read_lines.specs.declared.container.Container.TheVariants as container
 use Rattle.tocmark_read_lines.specs.declared.container.Opened.{Opened}
 use Rattle.tocmark_read_lines.specs.declared.container.ItemStart.{ItemStart}
+use Rattle.tocmark_read_lines.specs.declared.note.NoteStart.{NoteStart}
 use Rattle.tocmark_read_lines.specs.declared.container.ContainerStart.{ContainerStart}
 use Rattle.tocmark_read_lines.specs.declared.container.ContainerStart.TheVariants as start
 
@@ -43,6 +46,7 @@ going_on_as container.Quote cells cursor had =
     if nat_le (indent_of cursor) 3 && (cell_byte cells cursor.ink == 62) then Some (after_quote cells cursor) else None
 going_on_as (container.List sort) cells cursor had = Some cursor
 going_on_as (container.Item width) cells cursor had = item_goes_on cells cursor width had
+going_on_as container.Note cells cursor had = item_goes_on cells cursor 4 true
 
 -- where a line goes on behind what it has of a container
 unfoldable pub going_on : List Cell → Cursor → Opened → Option Cursor
@@ -53,6 +57,7 @@ abbrev pub is_empty_as : Container → Bool → Bool
 is_empty_as container.Quote had = false
 is_empty_as (container.List sort) had = false
 is_empty_as (container.Item width) had = not had
+is_empty_as container.Note had = false
 
 -- a container that is an item in which no block stands
 unfoldable pub is_empty_item : Opened → Bool
@@ -133,3 +138,13 @@ container_at cells tail cursor in_paragraph =
     else (if cell_byte cells cursor.ink == 62 then Some start.Quote
     else (if is_rule cells tail cursor.ink then None
     else option_map (λ i. start.Item i) (item_at cells cursor in_paragraph)))
+
+-- the definition of a footnote, or what else begins there
+abbrev pub note_or : Option NoteStart → Option ContainerStart → Option ContainerStart
+note_or None other = other
+note_or (Some n) other = Some (start.Note n)
+
+-- the container that begins at a cursor, in an extension or in CommonMark
+unfoldable pub container_in : Syntax → List Cell → Tail → Cursor → Bool → Option ContainerStart
+container_in syntax cells tail cursor in_paragraph =
+    note_or (note_start syntax cells cursor) (container_at cells tail cursor in_paragraph)

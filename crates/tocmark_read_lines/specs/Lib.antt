@@ -5,3 +5,5 @@ pub mod Html
 pub mod Containers
 pub mod Metadata
 pub mod Tasks
+pub mod Notes
+pub mod Rows

@@ -1,13 +1,15 @@
 //! Block quotes, lists and their items: which of them go on in a line, and which a line begins.
 
 ghost use Rattle.std.specs.Prelude.{◌≡◌};
-ghost use Rattle.tocmark_read_lines.specs.Containers.{raised, raised_at, after_quote, item_goes_on, going_on, is_empty_item, blank_depth, quote_from, stopped, passed, matched_from, matched, touched_from, item_gap, may_interrupt, item_at, container_at};
+ghost use Rattle.tocmark_read_lines.specs.Containers.{raised, raised_at, after_quote, item_goes_on, going_on, is_empty_item, blank_depth, quote_from, stopped, passed, matched_from, matched, touched_from, item_gap, may_interrupt, item_at, container_at, container_in};
 
 use crate::beginnings::{Marker, Tail, is_rule, marker_at};
 use crate::cell::{
     Cells, Cursor, cell_byte, first_cursor, indent_of, ink_from, is_blank_at, moved,
 };
+use crate::note::{NoteStart, note_start};
 use tocmark_read_scan::basic::set;
+use tocmark_read_syntax::Syntax;
 
 /// What other blocks stand in.
 #[derive(Clone, Copy)]
@@ -18,6 +20,8 @@ pub enum Container {
     List(u8),
     /// An item with the number of columns that its lines are indented by.
     Item(usize),
+    /// The definition of a footnote, whose lines are indented by four columns.
+    Note,
 }
 
 /// A container that is open.
@@ -55,6 +59,8 @@ pub enum ContainerStart {
     Quote,
     /// An item of a list.
     Item(ItemStart),
+    /// The definition of a footnote.
+    Note(NoteStart),
 }
 
 /// A container that reaches at least to a line.
@@ -127,6 +133,7 @@ fn going_on(cells: &Cells, cursor: Cursor, one: Opened) -> Option<Cursor>
         }
         Container::List(_) => Some(cursor),
         Container::Item(width) => item_goes_on(cells, cursor, width, one.had),
+        Container::Note => item_goes_on(cells, cursor, 4, true),
     }
 }
 
@@ -139,6 +146,7 @@ pub fn is_empty_item(one: Opened) -> bool
         Container::Quote => false,
         Container::List(_) => false,
         Container::Item(_) => !one.had,
+        Container::Note => false,
     }
 }
 
@@ -286,5 +294,22 @@ pub fn container_at(
         None
     } else {
         item_at(cells, cursor, in_paragraph).map(ContainerStart::Item)
+    }
+}
+
+/// The container that begins at a cursor, in an extension or in CommonMark.
+#[tactic(auto, unfolding(crate::specs::Containers::container_in))]
+pub fn container_in(
+    syntax: Syntax,
+    cells: &Cells,
+    tail: Tail,
+    cursor: Cursor,
+    in_paragraph: bool,
+) -> Option<ContainerStart>
+    ensures { result ≡ container_in syntax cells.now tail cursor in_paragraph }
+{
+    match note_start(syntax, cells, cursor) {
+        Some(note) => Some(ContainerStart::Note(note)),
+        None => container_at(cells, tail, cursor, in_paragraph),
     }
 }

@@ -12,4 +12,6 @@ pub mod container;
 pub mod html;
 pub mod line;
 pub mod metadata;
+pub mod note;
+pub mod row;
 pub mod task;

@@ -4,3 +4,4 @@ pub mod Class
 pub mod Side
 pub mod Content
 pub mod PlainParts
+pub mod TableCell

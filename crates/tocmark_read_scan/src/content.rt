@@ -78,9 +78,9 @@ impl Pasted {
         Ok(())
     }
 
-    /// Writes the byte at a place of the source: U+FFFD for a zero.
+    /// Writes the byte at a place of the source: U+FFFD for a zero. An `Err` says that memory ran out.
     #[tactic(auto, unfolding(crate::specs::Content::put_byte))]
-    fn put_byte(&mut self, byte: u8, start: usize) -> Result<(), AllocError>
+    pub fn put_byte(&mut self, byte: u8, start: usize) -> Result<(), AllocError>
         ensures { OnOk result (pasted_view self.new
             ≡ put_byte byte start (pasted_view self.old)) }
     {

@@ -10,3 +10,4 @@ pub mod basic;
 pub mod class;
 pub mod content;
 pub mod side;
+pub mod table_cell;

@@ -4,7 +4,9 @@ use Rattle.std.specs.HashMap.{get_by_text}
 use Rattle.std.specs.Str.Lossy.{utf8_lossy}
 use Rattle.tocmark_read_scan.specs.Basic.{bytes_between}
 use Rattle.tocmark_read_tokens.specs.Label.{collapsed, key_of, distinct_from}
-use Rattle.tocmark_read_tokens.specs.Reference.{unescaped}
+use Rattle.tocmark_read_tokens.specs.Reference.{unescaped_in}
+use Rattle.tocmark_read_syntax.specs.declared.Names.{Names}
+use Rattle.tocmark_read_spans.specs.Notes.{note_key}
 use Rattle.tocmark_read_tokens.specs.declared.word.Definition.{Definition}
 use Rattle.tocmark_read_spans.specs.declared.definitions.Definitions.{Definitions}
 use Rattle.tocmark_read_spans.specs.declared.definitions.Entry.{Entry}
@@ -53,14 +55,14 @@ defined_as key label destination title s =
     }
 
 -- one more definition: the label collapsed, destination and title without escapes and references
-unfoldable pub defined_with : List ℕ → List ℕ → List ℕ → State → State
-defined_with label destination title s =
-    defined_as (key_of label) (collapsed label) (unescaped destination) (unescaped title) s
+unfoldable pub defined_with_in : Names → List ℕ → List ℕ → List ℕ → State → State
+defined_with_in names label destination title s =
+    defined_as (key_of label) (collapsed label) (unescaped_in names destination) (unescaped_in names title) s
 
 -- one more definition, as it was found in a text
-unfoldable pub defined : List ℕ → Definition → State → State
-defined bytes found s =
-    defined_with (bytes_between bytes found.label.start found.label.end)
+unfoldable pub defined_in : Names → List ℕ → Definition → State → State
+defined_in names bytes found s =
+    defined_with_in names (bytes_between bytes found.label.start found.label.end)
     (bytes_between bytes found.destination.start found.destination.end)
     (bytes_between bytes found.title.start found.title.end) s
 
@@ -85,3 +87,10 @@ abbrev pub distinct_labels : List ℕ → List Stretch → List (List ℕ)
 distinct_labels texts labels =
     let keys = map (label_key texts) labels in
     map (label_at texts labels) (distinct_from 0 keys keys)
+
+-- one more footnote: its name is a key, and none of the labels
+unfoldable pub noted_with : List ℕ → State → State
+noted_with name s = record s {
+  keys = s.keys ++ note_key name ∷ [];
+  entries = s.entries ++ record { destination = no_stretch; title = no_stretch } ∷ [];
+}

@@ -5,7 +5,7 @@ use Rattle.tocmark_read_scan.specs.Repeat.{repeated}
 use Rattle.tocmark_read_spans.specs.declared.role.Role.{Role}
 use Rattle.tocmark_read_spans.specs.declared.role.Role.TheVariants.{Hidden, Open, Close}
 use Rattle.tocmark_read_spans.specs.declared.role.Span.{Span}
-use Rattle.tocmark_read_spans.specs.declared.role.Span.TheVariants.{Emphasis, Strong, Strikethrough}
+use Rattle.tocmark_read_spans.specs.declared.role.Span.TheVariants.{Emphasis, Strong, Strikethrough, Subscript, Superscript}
 use Rattle.tocmark_read_spans.specs.declared.run.Run.{Run}
 use Rattle.tocmark_read_spans.specs.declared.emphasis.Openers.{Openers}
 
@@ -19,7 +19,7 @@ pub record State : Type 0 where
 abbrev pub openers : List Role → Openers → State
 openers roles o = record { roles = roles; stack = o.stack.items; bottoms = o.bottoms.items }
 
--- whether one run of `*` or `_` may open what another closes: the rule of three
+-- whether one run of `*`, `_` or `^` may open what another closes: the rule of three
 unfoldable pub emphasis_fits : Run → Run → Bool
 emphasis_fits opener closer =
     (opener.byte == closer.byte) &&
@@ -30,9 +30,13 @@ unfoldable pub fits : Run → Run → Bool
 fits opener closer =
     if closer.byte == 126 then (opener.byte == 126) && (opener.length == closer.length) else emphasis_fits opener closer
 
--- closers of one class fit the same openers; tildes have one, so that one that finds no opener bars those of both lengths
+-- a delimiter that is none in CommonMark
+unfoldable pub is_tilde_or_caret : ℕ → Bool
+is_tilde_or_caret byte = (byte == 126) || (byte == 94)
+
+-- closers of one class fit the same openers; tildes and carets share one, so that one that finds no opener bars both of any length
 unfoldable pub class_of : Run → ℕ
-class_of closer = if closer.byte == 126 then 12 else (if closer.byte == 42 then 0 else 6) + (if closer.opens then 0 else 3) + closer.length % 3
+class_of closer = if is_tilde_or_caret closer.byte then 12 else (if closer.byte == 42 then 0 else 6) + (if closer.opens then 0 else 3) + closer.length % 3
 
 -- what one run of the stack says of a search: stop, here, or go on
 abbrev pub found_at : Option Run → Run → ℕ → ℕ → Option ℕ → Option ℕ
@@ -48,9 +52,13 @@ found stack closer bottom (suc k) = found_at (slice_get stack k) closer bottom k
 abbrev pub with_count : ℕ → Run → Run
 with_count n r = record r { count = n }
 
+-- what a match of tildes or carets is
+unfoldable pub extended_span : Run → Span
+extended_span closer = if closer.byte == 94 then Superscript else (if closer.subscript then Subscript else Strikethrough)
+
 -- what a match of so many delimiters is
 unfoldable pub span_of : ℕ → Run → Span
-span_of width closer = if closer.byte == 126 then Strikethrough else (if width == 2 then Strong else Emphasis)
+span_of width closer = if is_tilde_or_caret closer.byte then extended_span closer else (if width == 2 then Strong else Emphasis)
 
 -- how many delimiters are matched at once
 unfoldable pub width_of : Run → Run → ℕ

@@ -4,3 +4,4 @@ pub mod Emphasis
 pub mod Tick
 pub mod Link
 pub mod Definitions
+pub mod Notes

@@ -6,6 +6,7 @@ use Rattle.tocmark_read_scan.specs.Side.{side_at, side_before}
 use Rattle.tocmark_read_scan.specs.declared.class.Class.TheVariants.{Only}
 use Rattle.tocmark_read_scan.specs.declared.side.Side.{Side}
 use Rattle.tocmark_read_scan.specs.declared.side.Side.TheVariants.{Space, Punctuation, Other}
+use Rattle.tocmark_read_syntax.specs.declared.Syntax.{Syntax}
 use Rattle.tocmark_read_spans.specs.declared.run.Run.{Run}
 
 -- white space
@@ -37,6 +38,7 @@ run_between bytes place end byte = record {
   byte = byte;
   opens = acts byte (side_at bytes end) (side_before bytes place);
   closes = acts byte (side_before bytes place) (side_at bytes end);
+  subscript = false;
 }
 
 -- the run of a byte that begins at a place
@@ -54,17 +56,26 @@ tildes_close count behind_tilde before after =
     ((count == 1) || (count == 2)) && not (is_space before)
     && (is_space after || is_punctuation after || ((count == 2) && not (is_punctuation before)) || behind_tilde)
 
+-- so many tildes are delimiters: two only where strikethrough is read
+unfoldable pub are_read : Syntax → ℕ → Bool
+are_read syntax count = syntax.strikethrough || (count == 1)
+
+-- a single tilde is a subscript where those are read
+unfoldable pub is_subscript : Syntax → ℕ → Bool
+is_subscript syntax count = syntax.subscript && (count == 1)
+
 -- the run of tildes between two places
-unfoldable pub tildes_between : List ℕ → ℕ → ℕ → Run
-tildes_between bytes place end = record {
+unfoldable pub tildes_between : Syntax → List ℕ → ℕ → ℕ → Run
+tildes_between syntax bytes place end = record {
   place = place;
   count = end - place;
   length = end - place;
   byte = 126;
-  opens = tildes_open (end - place) (side_before bytes place) (side_at bytes end);
-  closes = tildes_close (end - place) (nat_lt 0 place && (byte_at bytes (place - 1) == 126)) (side_before bytes place) (side_at bytes end);
+  opens = are_read syntax (end - place) && tildes_open (end - place) (side_before bytes place) (side_at bytes end);
+  closes = are_read syntax (end - place) && tildes_close (end - place) (nat_lt 0 place && (byte_at bytes (place - 1) == 126)) (side_before bytes place) (side_at bytes end);
+  subscript = is_subscript syntax (end - place);
 }
 
 -- the run of tildes that begins at a place
-unfoldable pub tildes_at : List ℕ → ℕ → Run
-tildes_at bytes place = tildes_between bytes place (run_end bytes place (Only 126))
+unfoldable pub tildes_at : Syntax → List ℕ → ℕ → Run
+tildes_at syntax bytes place = tildes_between syntax bytes place (run_end bytes place (Only 126))

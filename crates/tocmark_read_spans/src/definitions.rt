@@ -1,12 +1,14 @@
 //! The link reference definitions of a document, and lists of labels.
 
 ghost use Rattle.std.specs.Prelude.{◌≡◌, IfOk, OnOk, map, string_bytes};
-ghost use Rattle.tocmark_read_spans.specs.Definitions.{entry_of, label_key, collected_view, collected_none, kept, defined_with, defined, label_at, distinct_labels};
+ghost use Rattle.tocmark_read_spans.specs.Definitions.{entry_of, label_key, collected_view, collected_none, kept, defined_with_in, defined_in, label_at, distinct_labels, noted_with};
 
+use crate::note::note_key;
 use crate::role::Stretch;
 use std::alloc::{AllocError, Global};
 use std::collections::HashMap;
 use tocmark_read_scan::basic::bytes_between;
+use tocmark_read_syntax::Names;
 use tocmark_read_tokens::label::{collapsed, distinct, key_of};
 use tocmark_read_tokens::reference::unescaped;
 use tocmark_read_tokens::word::Definition;
@@ -78,41 +80,65 @@ impl Collected {
         }
     }
 
-    /// Adds a definition as it is written: a label, a destination and a title. An `Err` says that memory
-    /// ran out.
-    #[tactic(auto, unfolding(crate::specs::Definitions::defined_with))]
+    /// Adds a definition as it is written: a label, a destination and a title, by the names that are known.
+    /// An `Err` says that memory ran out.
+    #[tactic(auto, unfolding(crate::specs::Definitions::defined_with_in))]
     pub fn define(
         &mut self,
         alloc: Global,
+        names: Names,
         label: &[u8],
         destination: &[u8],
         title: &[u8],
     ) -> Result<(), AllocError>
         ensures { OnOk result (collected_view self.new
-            ≡ defined_with label.now destination.now title.now (collected_view self.old)) }
+            ≡ defined_with_in names label.now destination.now title.now (collected_view self.old)) }
     {
         self.keys.push(key_of(alloc, label)?)?;
         let label = collapsed(alloc, label)?;
         let label = keep(&mut self.texts, &label)?;
-        let destination = unescaped(alloc, destination)?;
+        let destination = unescaped(alloc, names, destination)?;
         let destination = keep(&mut self.texts, &destination)?;
-        let title = unescaped(alloc, title)?;
+        let title = unescaped(alloc, names, title)?;
         let title = keep(&mut self.texts, &title)?;
         self.labels.push(label)?;
         self.entries.push(Entry { destination, title })?;
         Ok(())
     }
 
-    /// Adds the definition that was found in a text. An `Err` says that memory ran out.
-    #[tactic(auto, unfolding(crate::specs::Definitions::defined))]
-    pub fn add(&mut self, alloc: Global, bytes: &[u8], found: Definition) -> Result<(), AllocError>
+    /// Adds the definition that was found in a text, by the names that are known. An `Err` says that memory
+    /// ran out.
+    #[tactic(auto, unfolding(crate::specs::Definitions::defined_in))]
+    pub fn add(
+        &mut self,
+        alloc: Global,
+        names: Names,
+        bytes: &[u8],
+        found: Definition,
+    ) -> Result<(), AllocError>
         ensures { OnOk result (collected_view self.new
-            ≡ defined bytes.now found (collected_view self.old)) }
+            ≡ defined_in names bytes.now found (collected_view self.old)) }
     {
         let label = bytes_between(bytes, found.label.start, found.label.end);
         let destination = bytes_between(bytes, found.destination.start, found.destination.end);
         let title = bytes_between(bytes, found.title.start, found.title.end);
-        self.define(alloc, label, destination, title)
+        self.define(alloc, names, label, destination, title)
+    }
+
+    /// Adds a footnote that has a definition, by its name as it is written. Its entry is empty, and it is
+    /// none of the labels. An `Err` says that memory ran out.
+    #[tactic(auto, unfolding(crate::specs::Definitions::noted_with))]
+    pub fn note(&mut self, alloc: Global, name: &[u8]) -> Result<(), AllocError>
+        ensures { OnOk result (collected_view self.new
+            ≡ noted_with name.now (collected_view self.old)) }
+    {
+        let none = Stretch { start: 0, end: 0 };
+        self.keys.push(note_key(alloc, name)?)?;
+        self.entries.push(Entry {
+            destination: none,
+            title: none,
+        })?;
+        Ok(())
     }
 }
 

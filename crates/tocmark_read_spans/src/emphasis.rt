@@ -1,9 +1,9 @@
-//! Emphasis, strong emphasis and strikethrough: runs of delimiters are matched with one another.
+//! Emphasis, strong emphasis, strikethrough, sub- and superscripts: runs of delimiters are matched with one another.
 
 ghost use Rattle.std.specs.Prelude.{◌≡◌, IfOk, OnOk, length};
 ghost use Rattle.tocmark_read_scan.specs.Repeat.{repeated};
 ghost use Rattle.tocmark_read_spans.specs.Role.{roles_of};
-ghost use Rattle.tocmark_read_spans.specs.Emphasis.{openers, emphasis_fits, fits, class_of, span_of, width_of, found, matched, once, run_step, emphasized, emphasis_start};
+ghost use Rattle.tocmark_read_spans.specs.Emphasis.{openers, emphasis_fits, fits, is_tilde_or_caret, class_of, extended_span, span_of, width_of, found, matched, once, run_step, emphasized, emphasis_start};
 
 use crate::role::{Role, Roles, Span};
 use crate::run::Run;
@@ -20,7 +20,7 @@ pub struct Openers {
     pub bottoms: Vec<usize>,
 }
 
-/// Whether one run of `*` or `_` may open what another closes: where one of them could do both, the sum of their
+/// Whether one run of `*`, `_` or `^` may open what another closes: where one of them could do both, the sum of their
 /// lengths is no multiple of 3, or both lengths are.
 #[tactic(auto, unfolding(crate::specs::Emphasis::emphasis_fits))]
 fn emphasis_fits(opener: Run, closer: Run) -> bool
@@ -44,13 +44,21 @@ fn fits(opener: Run, closer: Run) -> bool
     }
 }
 
-/// The class of a closer: closers of one class fit the same openers. Tildes have one of their own: one
-/// that finds no opener bars those of both lengths.
+/// Whether a delimiter is none in CommonMark.
+#[tactic(auto, unfolding(crate::specs::Emphasis::is_tilde_or_caret))]
+fn is_tilde_or_caret(byte: u8) -> bool
+    ensures { result ≡ is_tilde_or_caret byte }
+{
+    byte == b'~' || byte == b'^'
+}
+
+/// The class of a closer: closers of one class fit the same openers. Tildes and carets share one: one that
+/// finds no opener bars both, of any length.
 #[tactic(auto, unfolding(crate::specs::Emphasis::class_of))]
 fn class_of(closer: Run) -> usize
     ensures { result ≡ class_of closer }
 {
-    if closer.byte == b'~' {
+    if is_tilde_or_caret(closer.byte) {
         return 12;
     }
     let by_byte = if closer.byte == b'*' { 0 } else { 6 };
@@ -87,13 +95,27 @@ fn width_of(opener: Run, closer: Run) -> usize
     }
 }
 
+/// What a match of tildes or carets is.
+#[tactic(auto, unfolding(crate::specs::Emphasis::extended_span))]
+fn extended_span(closer: Run) -> Span
+    ensures { result ≡ extended_span closer }
+{
+    if closer.byte == b'^' {
+        Span::Superscript
+    } else if closer.subscript {
+        Span::Subscript
+    } else {
+        Span::Strikethrough
+    }
+}
+
 /// What a match of so many delimiters is.
 #[tactic(auto, unfolding(crate::specs::Emphasis::span_of))]
 fn span_of(width: usize, closer: Run) -> Span
     ensures { result ≡ span_of width closer }
 {
-    if closer.byte == b'~' {
-        Span::Strikethrough
+    if is_tilde_or_caret(closer.byte) {
+        extended_span(closer)
     } else if width == 2 {
         Span::Strong
     } else {

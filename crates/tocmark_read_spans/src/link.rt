@@ -111,7 +111,7 @@ pub fn inline_target(bytes: &[u8], place: usize) -> Option<InlineTarget>
 
 /// The text of the bracket as a label, where it can be one: it ends at a place.
 #[tactic(auto, unfolding(crate::specs::Link::own_label))]
-fn own_label(bytes: &[u8], bracket: Bracket, place: usize) -> Option<Word>
+pub(crate) fn own_label(bytes: &[u8], bracket: Bracket, place: usize) -> Option<Word>
     ensures { result ≡ own_label bytes.now bracket place }
 {
     if bracket.nested {
@@ -123,7 +123,7 @@ fn own_label(bytes: &[u8], bracket: Bracket, place: usize) -> Option<Word>
 
 /// The bracket's own text as the label to be looked up, in a collapsed or a shortcut link.
 #[tactic(auto, unfolding(crate::specs::Link::own_asked))]
-fn own_asked(bytes: &[u8], bracket: Bracket, place: usize) -> Option<Asked>
+pub(crate) fn own_asked(bytes: &[u8], bracket: Bracket, place: usize) -> Option<Asked>
     ensures { result ≡ own_asked bytes.now bracket place }
 {
     let label = own_label(bytes, bracket, place)?;

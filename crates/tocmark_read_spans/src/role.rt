@@ -45,6 +45,10 @@ pub enum Span {
     Link(usize),
     /// An image with its number.
     Image(usize),
+    /// A subscript.
+    Subscript,
+    /// A superscript.
+    Superscript,
 }
 
 /// An inline without children, other than a text.
@@ -60,6 +64,10 @@ pub enum Leaf {
     SoftBreak,
     /// A line ending behind a backslash or spaces.
     HardBreak,
+    /// A text that isn't as the source has it.
+    Text(Stretch),
+    /// A reference to a footnote with its name.
+    Note(Stretch),
 }
 
 /// What a byte of a leaf's text is.

@@ -1,11 +1,12 @@
-//! Runs of `*`, `_` and `~`, and what they can open and close.
+//! Runs of `*`, `_`, `~` and `^`, and what they can open and close.
 
 ghost use Rattle.std.specs.Prelude.{◌≡◌};
-ghost use Rattle.tocmark_read_spans.specs.Run.{is_space, is_punctuation, flanks, acts, run_between, run_at, tildes_open, tildes_close, tildes_between, tildes_at};
+ghost use Rattle.tocmark_read_spans.specs.Run.{is_space, is_punctuation, flanks, acts, run_between, run_at, tildes_open, tildes_close, are_read, is_subscript, tildes_between, tildes_at};
 
 use tocmark_read_scan::basic::byte_at;
 use tocmark_read_scan::class::{Class, run_end};
 use tocmark_read_scan::side::{Side, side_at, side_before};
+use tocmark_read_syntax::Syntax;
 
 /// A run of delimiters: its place and length now, and what it was.
 #[derive(Clone, Copy)]
@@ -16,12 +17,14 @@ pub struct Run {
     pub count: usize,
     /// The number of bytes that it had at first.
     pub length: usize,
-    /// Its byte, `*`, `_` or `~`.
+    /// Its byte, `*`, `_`, `~` or `^`.
     pub byte: u8,
-    /// Whether it can open emphasis, or strikethrough.
+    /// Whether it can open what its byte marks.
     pub opens: bool,
-    /// Whether it can close emphasis, or strikethrough.
+    /// Whether it can close what its byte marks.
     pub closes: bool,
+    /// Whether it is a single tilde that marks a subscript.
+    pub subscript: bool,
 }
 
 #[tactic(auto, unfolding(crate::specs::Run::is_space))]
@@ -80,6 +83,7 @@ fn run_between(bytes: &[u8], place: usize, end: usize, byte: u8) -> Run
         byte,
         opens: acts(byte, after, before),
         closes: acts(byte, before, after),
+        subscript: false,
     }
 }
 
@@ -111,28 +115,47 @@ fn tildes_close(count: usize, behind_tilde: bool, before: Side, after: Side) -> 
     (count == 1 || count == 2) && !is_space(before) && free
 }
 
+/// Whether so many tildes are delimiters: two only where strikethrough is read.
+#[tactic(auto, unfolding(crate::specs::Run::are_read))]
+fn are_read(syntax: Syntax, count: usize) -> bool
+    ensures { result ≡ are_read syntax count }
+{
+    syntax.strikethrough || count == 1
+}
+
+/// Whether so many tildes are a subscript.
+#[tactic(auto, unfolding(crate::specs::Run::is_subscript))]
+fn is_subscript(syntax: Syntax, count: usize) -> bool
+    ensures { result ≡ is_subscript syntax count }
+{
+    syntax.subscript && count == 1
+}
+
 #[tactic(auto, unfolding(crate::specs::Run::tildes_between))]
-fn tildes_between(bytes: &[u8], place: usize, end: usize) -> Run
-    ensures { result ≡ tildes_between bytes.now place end }
+fn tildes_between(syntax: Syntax, bytes: &[u8], place: usize, end: usize) -> Run
+    ensures { result ≡ tildes_between syntax bytes.now place end }
 {
     let before = side_before(bytes, place);
     let after = side_at(bytes, end);
     let count = end.saturating_sub(place);
     let behind_tilde = 0 < place && byte_at(bytes, place.saturating_sub(1)) == b'~';
+    let read = are_read(syntax, count);
     Run {
         place,
         count,
         length: count,
         byte: b'~',
-        opens: tildes_open(count, before, after),
-        closes: tildes_close(count, behind_tilde, before, after),
+        opens: read && tildes_open(count, before, after),
+        closes: read && tildes_close(count, behind_tilde, before, after),
+        subscript: is_subscript(syntax, count),
     }
 }
 
 /// The run of tildes that begins at a place.
 #[tactic(auto, unfolding(crate::specs::Run::tildes_at))]
-pub fn tildes_at(bytes: &[u8], place: usize) -> Run
-    ensures { result ≡ tildes_at bytes.now place }
+pub fn tildes_at(syntax: Syntax, bytes: &[u8], place: usize) -> Run
+    ensures { result ≡ tildes_at syntax bytes.now place }
 {
-    tildes_between(bytes, place, run_end(bytes, place, Class::Only(b'~')))
+    let end = run_end(bytes, place, Class::Only(b'~'));
+    tildes_between(syntax, bytes, place, end)
 }

@@ -4,6 +4,8 @@ use Rattle.std.specs.Char.{is_ascii_punctuation}
 use Rattle.tocmark_read_scan.specs.Basic.{plus, byte_at, character_of, bytes_between, starts_at}
 use Rattle.tocmark_read_scan.specs.Class.{run_end}
 use Rattle.tocmark_read_scan.specs.declared.class.Class.TheVariants.{Digit, HexDigit}
+use Rattle.tocmark_read_syntax.specs.declared.Names.{Names}
+use Rattle.tocmark_read_tokens.specs.Name.{Named, named_in}
 use Rattle.tocmark_read_tokens.specs.declared.reference.Reference.{Reference}
 use Rattle.tocmark_read_tokens.specs.declared.reference.Unescaping.{Unescaping}
 
@@ -91,14 +93,23 @@ unescape_at bytes b s =
 abbrev pub stepped : State → State
 stepped s = record s { place = plus s.place 1 }
 
+-- the characters of a name are written, or else what stands at the place otherwise
+abbrev pub named_or : List ℕ → ℕ → State → Option Named → State
+named_or bytes b s None = unescape_at bytes b s
+named_or bytes b s (Some n) = record s { out = s.out ++ n.characters; resume = n.next }
+
+-- what stands at the place, by the names that are known
+unfoldable pub unescape_at_in : Names → List ℕ → ℕ → State → State
+unescape_at_in names bytes b s = named_or bytes b s (named_in names bytes s.place)
+
 -- one byte further
-unfoldable pub unescape_step : List ℕ → State → ℕ → State
-unescape_step bytes s b = stepped (if nat_le s.resume s.place then unescape_at bytes b s else s)
+unfoldable pub unescape_step_in : Names → List ℕ → State → ℕ → State
+unescape_step_in names bytes s b = stepped (if nat_le s.resume s.place then unescape_at_in names bytes b s else s)
 
 -- nothing is resolved yet
 abbrev pub unescape_start : State
 unescape_start = record { out = []; place = 0; resume = 0 }
 
--- the text with its escapes and references resolved
-unfoldable pub unescaped : List ℕ → List ℕ
-unescaped bytes = (fold (unescape_step bytes) unescape_start bytes).out
+-- the text with its escapes and references resolved, by the names that are known
+unfoldable pub unescaped_in : Names → List ℕ → List ℕ
+unescaped_in names bytes = (fold (unescape_step_in names bytes) unescape_start bytes).out

@@ -10,5 +10,7 @@
 pub mod autolink;
 pub mod html;
 pub mod label;
+pub mod name;
+pub mod note;
 pub mod reference;
 pub mod word;

@@ -1,11 +1,13 @@
 //! Character references and escapes.
 
 ghost use Rattle.std.specs.Prelude.{◌≡◌, OnOk, IfOk};
-ghost use Rattle.tocmark_read_tokens.specs.Reference.{digit, number, character, closed_number, numeric, referred, named, reference_at, is_escape, unescaping, resolved, unescape_at, unescape_step, unescaped};
+ghost use Rattle.tocmark_read_tokens.specs.Reference.{digit, number, character, closed_number, numeric, referred, named, reference_at, is_escape, unescaping, resolved, unescape_at, unescape_at_in, unescape_step_in, unescaped_in};
 
+use crate::name::named_in;
 use std::alloc::{AllocError, Global};
 use tocmark_read_scan::basic::{byte_at, bytes_between, character_of, starts_at};
 use tocmark_read_scan::class::{Class, run_end};
+use tocmark_read_syntax::Names;
 
 /// A character, and the place behind its reference.
 #[derive(Clone, Copy)]
@@ -177,23 +179,52 @@ impl Unescaping {
         }
     }
 
-    #[tactic(auto, unfolding(crate::specs::Reference::unescape_step))]
-    fn step(&mut self, alloc: Global, bytes: &[u8], byte: u8) -> Result<(), AllocError>
+    /// Takes what stands at the place, by the names that are known.
+    #[tactic(auto, unfolding(crate::specs::Reference::unescape_at_in))]
+    fn take_in(
+        &mut self,
+        alloc: Global,
+        names: Names,
+        bytes: &[u8],
+        byte: u8,
+    ) -> Result<(), AllocError>
         ensures { OnOk result (unescaping self.new
-            ≡ unescape_step bytes.now (unescaping self.old) byte) }
+            ≡ unescape_at_in names bytes.now byte (unescaping self.old)) }
+    {
+        match named_in(names, bytes, self.place) {
+            Some(found) => {
+                self.out.extend_from_slice(found.characters)?;
+                self.resume = found.next;
+                Ok(())
+            }
+            None => self.take(alloc, bytes, byte),
+        }
+    }
+
+    #[tactic(auto, unfolding(crate::specs::Reference::unescape_step_in))]
+    fn step(
+        &mut self,
+        alloc: Global,
+        names: Names,
+        bytes: &[u8],
+        byte: u8,
+    ) -> Result<(), AllocError>
+        ensures { OnOk result (unescaping self.new
+            ≡ unescape_step_in names bytes.now (unescaping self.old) byte) }
     {
         if self.resume <= self.place {
-            self.take(alloc, bytes, byte)?;
+            self.take_in(alloc, names, bytes, byte)?;
         }
         self.place = self.place.saturating_add(1);
         Ok(())
     }
 }
 
-/// The text with its escapes and references resolved. An `Err` says that memory ran out.
-#[tactic(auto, unfolding(crate::specs::Reference::unescaped))]
-pub fn unescaped(alloc: Global, bytes: &[u8]) -> Result<Vec<u8>, AllocError>
-    ensures { IfOk result (λ v. v.items ≡ unescaped bytes.now) }
+/// The text with its escapes and references resolved, by the names that are known. An `Err` says that
+/// memory ran out.
+#[tactic(auto, unfolding(crate::specs::Reference::unescaped_in))]
+pub fn unescaped(alloc: Global, names: Names, bytes: &[u8]) -> Result<Vec<u8>, AllocError>
+    ensures { IfOk result (λ v. v.items ≡ unescaped_in names bytes.now) }
 {
     let mut machine = Unescaping {
         out: Vec::new(alloc),
@@ -201,7 +232,7 @@ pub fn unescaped(alloc: Global, bytes: &[u8]) -> Result<Vec<u8>, AllocError>
         resume: 0,
     };
     for byte in bytes {
-        machine.step(alloc, bytes, *byte)?;
+        machine.step(alloc, names, bytes, *byte)?;
     }
     Ok(machine.out)
 }

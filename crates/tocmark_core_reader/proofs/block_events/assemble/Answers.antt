@@ -1,7 +1,7 @@
 use Rattle.tocmark_read_spans.specs.Definitions.{entry_of}
 use Rattle.tocmark_core_reader.specs.Pages.{assembly_view, start_state}
 use Rattle.tocmark_core_reader.proofs.Behind.{more_behind}
-use Rattle.tocmark_core_reader.proofs.page.assemble.Goals as goal
+use Rattle.tocmark_core_reader.proofs.block_events.assemble.Goals as goal
 
 pub loop-block-preserved : goal.loop-block-preserved
 loop-block-preserved c =

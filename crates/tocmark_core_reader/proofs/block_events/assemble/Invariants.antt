@@ -2,7 +2,7 @@ use Rattle.std.proofs.Common.{◌≡◌, take}
 use Rattle.std.specs.List.{fold}
 use Rattle.tocmark_read_spans.specs.Definitions.{entry_of}
 use Rattle.tocmark_core_reader.specs.Pages.{assembly_view, block_step_in, start_state, written_alone}
-use Rattle.tocmark_core_reader.proofs.page.assemble.Given as goal
+use Rattle.tocmark_core_reader.proofs.block_events.assemble.Given as goal
 
 abbrev pub invariant-loop-block : goal.invariant-loop-block
 invariant-loop-block l =

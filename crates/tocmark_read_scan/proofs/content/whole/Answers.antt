@@ -4,4 +4,4 @@ use Rattle.tocmark_read_scan.proofs.content.whole.Goals as goal
 
 -- the lines stand one just behind the other
 pub returns-else-contains : goal.returns-else-contains
-returns-else-contains c = whole_text c.args.source.now c.args.lines.now c.in_ok-first.first c.others.result.now c.in_ok-end.end c.piece-text.result.now c.inked.result.now (search rules) c.others.ensures (search rules) c.piece-text.ensures (sym c.contains.ensures.value ∙ c.if-contains.false) c.inked.ensures
+returns-else-contains c = whole_text c.args.source.now c.args.lines.now c.in_ok-first.first c.others.result.now c.in_ok-end.end c.bytes_between-text.result.now c.inked.result.now (search rules) c.others.ensures (search rules) c.bytes_between-text.ensures (sym c.contains.ensures.value ∙ c.if-contains.false) c.inked.ensures

@@ -8,7 +8,7 @@ use Rattle.tocmark_spelling.proofs.Turns.{length-events}
 use Rattle.tocmark_write_lookahead.specs.Ahead.{character_before, character_after}
 use Rattle.tocmark_write_lookahead.specs.Sides.{AreRoundIf}
 use Rattle.tocmark_write_lookahead.specs.declared.preferred.Round.{Round}
-use Rattle.tocmark_write_lookahead.proofs.marks.characters_round.Goals as goal
+use Rattle.tocmark_write_lookahead.proofs.preferred.characters_round.Goals as goal
 
 pub beside-requires : goal.beside-requires
 beside-requires c = omega (arith, c.requires.place)

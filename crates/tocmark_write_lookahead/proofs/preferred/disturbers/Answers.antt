@@ -10,7 +10,7 @@ use Rattle.tocmark_spelling.specs.Runs.{start_width, close_width}
 use Rattle.tocmark_write_lookahead.specs.Sides.{mark_of}
 use Rattle.tocmark_write_lookahead.proofs.Disturbers.{mark-at, marks-step}
 use Rattle.tocmark_spelling.proofs.Turns.{drop-event, length-events}
-use Rattle.tocmark_write_lookahead.proofs.marks.disturbers.Goals as goal
+use Rattle.tocmark_write_lookahead.proofs.preferred.disturbers.Goals as goal
 
 pub loop-event-init : goal.loop-event-init
 loop-event-init g c =

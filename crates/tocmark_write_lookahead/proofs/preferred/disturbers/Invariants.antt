@@ -5,7 +5,7 @@ use Rattle.tocmark_event.specs.declared.event.flags.ParserOptions.{ParserOptions
 use Rattle.tocmark_write_lookahead.specs.Ahead.{disturbers}
 use Rattle.tocmark_spelling.specs.Buffered.{buffered_view}
 use Rattle.tocmark_spelling.specs.PlanOf.{setting_of}
-use Rattle.tocmark_write_lookahead.proofs.marks.disturbers.Given as goal
+use Rattle.tocmark_write_lookahead.proofs.preferred.disturbers.Given as goal
 
 abbrev pub invariant-loop-event : goal.invariant-loop-event
 invariant-loop-event g l =

@@ -2,7 +2,7 @@ use Rattle.std.proofs.Common.{◌∙◌, sym, ap, arith}
 use Rattle.tocmark_spelling.specs.Edges.{edge_after}
 use Rattle.tocmark_spelling.specs.Page.{front}
 use Rattle.tocmark_spelling.proofs.Turns.{drop-event}
-use Rattle.tocmark_write_lookahead.proofs.marks.edge_at.Goals as goal
+use Rattle.tocmark_write_lookahead.proofs.preferred.edge_at.Goals as goal
 
 pub returns-then-place-events : goal.returns-then-place-events
 returns-then-place-events c =

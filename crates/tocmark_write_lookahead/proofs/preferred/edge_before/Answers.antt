@@ -3,7 +3,7 @@ use Rattle.tocmark_spelling.specs.Buffered.{buffered_view}
 use Rattle.tocmark_spelling.specs.Edges.{edge_before}
 use Rattle.tocmark_spelling.specs.Page.{front}
 use Rattle.tocmark_spelling.proofs.Turns.{before-event, events-take}
-use Rattle.tocmark_write_lookahead.proofs.marks.edge_before.Goals as goal
+use Rattle.tocmark_write_lookahead.proofs.preferred.edge_before.Goals as goal
 
 pub returns-else-place-eq0 : goal.returns-else-place-eq0
 returns-else-place-eq0 c =

@@ -7,7 +7,7 @@ use Rattle.tocmark_spelling.specs.PlanOf.{setting_of}
 use Rattle.tocmark_spelling.specs.Runs.{counts, disturbs_at, start_width, close_width}
 use Rattle.tocmark_write_lookahead.specs.Ahead.{character_before, character_after}
 use Rattle.tocmark_write_lookahead.specs.Sides.{mark_of}
-use Rattle.tocmark_write_lookahead.proofs.marks.mark_at.Goals as goal
+use Rattle.tocmark_write_lookahead.proofs.preferred.mark_at.Goals as goal
 
 pub returns-then-counts : goal.returns-then-counts
 returns-then-counts g c = λ o flags label.

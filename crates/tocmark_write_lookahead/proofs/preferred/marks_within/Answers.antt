@@ -4,7 +4,7 @@ use Rattle.std.specs.List.{list_any}
 use Rattle.tocmark_write_lookahead.specs.Ahead.{comes_before}
 use Rattle.tocmark_write_lookahead.proofs.Nearest.{nearest-step, nearest-none, found-at, found-step}
 use Rattle.tocmark_write_lookahead.proofs.Ahead.{are-disturbed}
-use Rattle.tocmark_write_lookahead.proofs.marks.marks_within.Goals as goal
+use Rattle.tocmark_write_lookahead.proofs.preferred.marks_within.Goals as goal
 
 pub loop-i-init : goal.loop-i-init
 loop-i-init c =

@@ -2,7 +2,7 @@ use Rattle.std.proofs.Common.{◌≡◌, length, ℕ, ◌+◌, ◌-◌, ◌<◌,
 use Rattle.std.specs.Prelude.{unwrap_or}
 use Rattle.std.specs.List.{list_any}
 use Rattle.tocmark_write_lookahead.specs.Ahead.{first_mark}
-use Rattle.tocmark_write_lookahead.proofs.marks.marks_within.Given as goal
+use Rattle.tocmark_write_lookahead.proofs.preferred.marks_within.Given as goal
 
 abbrev pub invariant-loop-i : goal.invariant-loop-i
 invariant-loop-i l =

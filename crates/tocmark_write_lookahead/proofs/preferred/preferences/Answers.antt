@@ -6,7 +6,7 @@ use Rattle.tocmark_spelling.proofs.Turns.{length-events}
 use Rattle.tocmark_write_lookahead.specs.Ahead.{disturbers}
 use Rattle.tocmark_write_lookahead.specs.Sides.{AreRoundIf}
 use Rattle.tocmark_write_lookahead.specs.declared.preferred.Round.{Round}
-use Rattle.tocmark_write_lookahead.proofs.marks.preferences.Goals as goal
+use Rattle.tocmark_write_lookahead.proofs.preferred.preferences.Goals as goal
 
 pub disturbers-requires-clause-round : goal.disturbers-requires-clause-round
 disturbers-requires-clause-round g c =

@@ -3,7 +3,7 @@ use Rattle.std.proofs.lemmas.Result.{on_ok_weaker}
 use Rattle.tocmark_read_spans.specs.Definitions.{entry_of}
 use Rattle.tocmark_core_reader.specs.Pages.{assembly_view, leaf_inlines_in, written_by}
 use Rattle.tocmark_core_reader.proofs.Behind.{Find, bare_behind}
-use Rattle.tocmark_core_reader.proofs.page.Assembly.read_bare.Goals as goal
+use Rattle.tocmark_core_reader.proofs.block_events.Assembly.read_bare.Goals as goal
 
 pub returns : goal.returns
 returns c =

@@ -1,10 +1,10 @@
 use Rattle.std.proofs.Common.{◌≡◌}
 use Rattle.tocmark_read_scan.specs.Repeat.{repeated}
 use Rattle.tocmark_read_blocks.specs.Pages.{page}
-use Rattle.tocmark_read_blocks.specs.Blocks.{container_once, containers_opened}
+use Rattle.tocmark_read_blocks.specs.Blocks.{container_once_in, containers_opened_in}
 use Rattle.tocmark_read_blocks.proofs.page.BlocksSoFar.open_all.Given as goal
 
 abbrev pub invariant-loop-steps_left : goal.invariant-loop-steps_left
 invariant-loop-steps_left l =
-    repeated (container_once l.row.text.now l.row.cells.now l.row.line l.fn.tail) l._steps_left l.place (page l.self)
-    ≡ containers_opened l.row.text.now l.row.cells.now l.row.line l.fn.tail l.fn.first (page l.fn.self)
+    repeated (container_once_in l.row.known.syntax l.row.text.now l.row.cells.now l.row.line l.fn.tail) l._steps_left l.place (page l.self)
+    ≡ containers_opened_in l.row.known.syntax l.row.text.now l.row.cells.now l.row.line l.fn.tail l.fn.first (page l.fn.self)

@@ -1,0 +1,9 @@
+use Rattle.std.proofs.Common.{◌≡◌, take}
+use Rattle.std.specs.List.{fold}
+use Rattle.tocmark_read_spans.specs.Definitions.{entry_of}
+use Rattle.tocmark_read_inlines.specs.Scan.{scan, ahead_view, with_place, scan_step}
+use Rattle.tocmark_read_inlines.proofs.scan.Scanner.run_core.Given as goal
+
+abbrev pub invariant-loop-byte : goal.invariant-loop-byte
+invariant-loop-byte l =
+    with_place l.place (scan l.self) ≡ fold (scan_step l.text.bytes.now (ahead_view l.text.ahead.now) (entry_of l.text.definitions.now)) (scan l.fn.self) (take l.byte-index l.text.bytes.now)

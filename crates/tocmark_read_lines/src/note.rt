@@ -1,0 +1,49 @@
+//! The definitions of footnotes.
+
+ghost use Rattle.std.specs.Prelude.{◌≡◌};
+ghost use Rattle.tocmark_read_lines.specs.Notes.{note_at, note_start};
+
+use crate::cell::{Cells, Cursor, cell_byte, indent_of, ink_from, is_blank_at};
+use tocmark_read_syntax::Syntax;
+use tocmark_read_tokens::note::note_label;
+
+/// The definition of a footnote that a line begins.
+#[derive(Clone, Copy)]
+pub struct NoteStart {
+    /// The first column of its name.
+    pub from: usize,
+    /// The column behind its name.
+    pub to: usize,
+    /// The first column behind its colon that is no space.
+    pub next: usize,
+}
+
+/// The definition of a footnote at a column: a label, and a colon just behind it.
+#[tactic(auto, unfolding(crate::specs::Notes::note_at))]
+pub fn note_at(cells: &Cells, column: usize) -> Option<NoteStart>
+    ensures { result ≡ note_at cells.now column }
+{
+    let name = note_label(cells.bytes(), column)?;
+    if cell_byte(cells, name.next) == b':' {
+        Some(NoteStart {
+            from: name.start,
+            to: name.end,
+            next: ink_from(cells, name.next.saturating_add(1)),
+        })
+    } else {
+        None
+    }
+}
+
+/// The definition of a footnote that begins at a cursor, behind at most three spaces, where footnotes are
+/// read.
+#[tactic(auto, unfolding(crate::specs::Notes::note_start))]
+pub fn note_start(syntax: Syntax, cells: &Cells, cursor: Cursor) -> Option<NoteStart>
+    ensures { result ≡ note_start syntax cells.now cursor }
+{
+    if syntax.footnotes && !is_blank_at(cells, cursor) && indent_of(cursor) <= 3 {
+        note_at(cells, cursor.ink)
+    } else {
+        None
+    }
+}
