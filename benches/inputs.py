@@ -283,4 +283,68 @@ LARGE = [("guides", guides), ("plain paragraphs", plain_paragraphs)]
 # large texts for which programs are compared
 COMPARED = [("guides", guides), ("marked paragraphs", marked_paragraphs), ("standard", standard_examples)]
 
-GROUPS = {"named": NAMED, "blocks": BLOCKS, "inlines": INLINES}
+
+
+def rows_to_fill(size):
+    """A header of so many columns, and as many rows of one cell."""
+    side = int(size**0.5)
+    return "|a" * side + "|\n" + "|-" * side + "|\n" + "a\n" * side
+
+
+def rows_to_cut(size):
+    """A table of one column with a row of so many cells."""
+    return "|a|\n|-|\n" + "|a" * size
+
+
+def quoted_table(size):
+    """A table in as many quotes as it has rows."""
+    side = int(size**0.5)
+    quotes = "> " * side
+    return "".join(f"{quotes}{line}\n" for line in ["|a|b|", "|-|-|", *["|1|2|"] * side])
+
+
+# What extensions could make slow, read by the reader of extensions under all flags that it knows.
+EXTENDED = [
+    ("[x and rows that lack a column", DEPTH, headed("[x\n", "a|b\n-|-|-\n")),
+    ("[x and delimiter rows", DEPTH, headed("[x\n", "a|b\n-|-\n")),
+    ("[k]: /u and a header", DEPTH, followed("[k]: /u\n", "a|b\n-|-\n")),
+    ("rows to fill", SIZE, rows_to_fill),
+    ("rows to cut", SIZE, rows_to_cut),
+    ("bars alone", SIZE, headed("|a|\n|-|\n", "|")),
+    ("escaped bars in a cell", SIZE, headed("|a|\n|-|\n|", "\\|")),
+    ("addresses with bars in a cell", DEPTH, headed("|a|\n|-|\n|", "<http://a\\|b>")),
+    ("short rows", SIZE, headed("|a|b|\n|-|-|\n", "|1\n")),
+    ("tables behind one another", DEPTH, repeated("|a|\n|-|\n|1|\n\n")),
+    ("a table in quotes", SIZE, quoted_table),
+    ("dashes", SIZE, repeated("-")),
+    ("bars and dashes", SIZE, headed("a|b\n", "-|")),
+    ("--- and texts", DEPTH, headed("---\t\na\n\n", "a\n")),
+    ("---, a and a blank line", DEPTH, repeated("---\na\n\n")),
+    ("+++, a and a blank line", DEPTH, repeated("+++\na\n\n")),
+    ("--- in lines", SIZE, repeated("---\n")),
+    ("metadata behind one another", DEPTH, repeated("---\na: b\n---\n")),
+    ("boxes", DEPTH, repeated("- [ ] a\n")),
+    ("boxes in one line", SIZE, followed("- [ ] ")),
+    ("[^", SIZE, repeated("[^")),
+    ("[^a", SIZE, repeated("[^a")),
+    ("[^a]: in one line", SIZE, followed("[^a]: ")),
+    ("[^a] without a definition", SIZE, repeated("[^a]")),
+    ("[^a] with a definition", DEPTH, headed("[^a]: x\n\n", "[^a]")),
+    ("[^*a* and a bracket", DEPTH, followed("[^*a*", "]")),
+    ("definitions of footnotes", DEPTH, lambda size: "".join(f"[^{at}]: a\n" for at in range(size))),
+    ("footnotes and as many references", DEPTH, lambda size: "".join(f"[^{at}]: a\n" for at in range(size)) + "\n" + "".join(f"[^{at}]\n" for at in range(size))),
+    ("paragraphs in a footnote", DEPTH, headed("[^a]: b\n", "\n    c\n")),
+    ("~", SIZE, repeated("~")),
+    ("~a ", SIZE, repeated("~a ")),
+    ("~a and b~~", SIZE, mirrored("~a ", "", "b~~ ")),
+    ("^a and b~", SIZE, mirrored("^a ", "", "b~ ")),
+    ("~~a ~b ^c", SIZE, repeated("~~a ~b ^c ")),
+    ("^", SIZE, repeated("^")),
+    ("^a^", SIZE, repeated("^a^ ")),
+    ("&aaaa", SIZE, headed("&", "a")),
+    ("&a", SIZE, repeated("&a")),
+    ("&auml;", SIZE, repeated("&auml;")),
+    ("&zwnj;", SIZE, repeated("&zwnj;")),
+]
+
+GROUPS = {"named": NAMED, "blocks": BLOCKS, "inlines": INLINES, "extended": EXTENDED}

@@ -32,7 +32,7 @@ impl<'a> CountingReader<'a> {
 impl Reader for CountingReader<'_> {
     ghost use Rattle.test_script_lines.specs.Readers.{script_reading};
 
-    ghost reading = { λ r text _. script_reading r.reader.now text };
+    ghost reading = { λ r text flags. script_reading r.reader.now text flags };
 
     fn read(&self, alloc: Global, text: &str, flags: ParserOptions) -> Result<Reading, AllocError> {
         self.readings.set(self.readings.get().saturating_add(1));

@@ -7,14 +7,13 @@ use std::alloc::{AllocError, Global};
 use test_script_events::line::EventLine;
 use test_script_events::string::Quoted;
 use test_script_lines::script::Script;
-use tocmark::core_reader::CoreReader;
 use tocmark::reader::{Reader, Reading};
 use tocmark::{
     Error, cmark, cmark_with_options, cmark_with_source_range, cmark_with_source_range_and_options,
 };
 
 fn read(alloc: Global, script: &Script<'static>, text: &str) -> Result<Reading, AllocError> {
-    CoreReader.read(alloc, text, script.flags)
+    script.reader.read(alloc, text, script.flags)
 }
 
 fn write_labels(answer: &mut String, name: &str, labels: &[String]) -> Result<(), AllocError> {
@@ -88,9 +87,9 @@ fn write_back(
     let (flags, events) = (script.flags, reading.events());
     if script.has_options {
         let options = script.options();
-        ended(cmark_with_options(alloc, events, output, CoreReader, flags, options))
+        ended(cmark_with_options(alloc, events, output, &script.reader, flags, options))
     } else {
-        ended(cmark(alloc, events, output, CoreReader, flags))
+        ended(cmark(alloc, events, output, &script.reader, flags))
     }
 }
 
@@ -106,10 +105,16 @@ fn write_back_ranged(
     if script.has_options {
         let options = script.options();
         ended(cmark_with_source_range_and_options(
-            alloc, pairs, text, output, CoreReader, flags, options,
+            alloc,
+            pairs,
+            text,
+            output,
+            &script.reader,
+            flags,
+            options,
         ))
     } else {
-        ended(cmark_with_source_range(alloc, pairs, text, output, CoreReader, flags))
+        ended(cmark_with_source_range(alloc, pairs, text, output, &script.reader, flags))
     }
 }
 

@@ -5,10 +5,13 @@ use Rattle.std.specs.HashMap.{get_by_text}
 use Rattle.tocmark_event.specs.Text.{ParserEvent, text_of}
 use Rattle.tocmark_event.specs.View.{EventView, event_view}
 use Rattle.tocmark_event.specs.Reading.{ReadingView}
-use Rattle.tocmark_core_reader.specs.Reading.{core_reading}
+use Rattle.tocmark_event.specs.declared.event.flags.ParserOptions.{ParserOptions}
+use Rattle.tocmark_core_reader.specs.Reading.{core_reading, reading_of}
+use Rattle.tocmark_extended_reader.specs.Flags.{syntax_of}
+use Rattle.tocmark_read_syntax.specs.declared.Names.TheVariants.{All}
 use Rattle.test_script_lines.specs.declared.readers.Table.{Table as ReadingTable}
 use Rattle.test_script_lines.specs.declared.readers.ScriptReader.{ScriptReader}
-use Rattle.test_script_lines.specs.declared.readers.ScriptReader.TheVariants.{Core, Labelled, Table}
+use Rattle.test_script_lines.specs.declared.readers.ScriptReader.TheVariants.{Core, Labelled, Table, Extended}
 
 -- an event with its range, as a plain value
 abbrev pub ranged_view : ParserEvent × (ℕ × ℕ) → EventView × (ℕ × ℕ)
@@ -34,8 +37,10 @@ labelled_reading label text = let found = core_reading text in record {
   unresolved = found.unresolved ++ (label ∷ []);
 }
 
--- the core reader's reading, with its label or without, or the table's, which depends on the text alone
-abbrev pub script_reading : ScriptReader → List ℕ → ReadingView
-script_reading Core text = core_reading text
-script_reading (Labelled l) text = labelled_reading (string_bytes l) text
-script_reading (Table t) text = table_reading t text
+-- the core reader's reading, with its label or without, the table's, which depend on the text alone, or that with the
+-- extensions that the flags name
+abbrev pub script_reading : ScriptReader → List ℕ → ParserOptions → ReadingView
+script_reading Core text flags = core_reading text
+script_reading (Labelled l) text flags = labelled_reading (string_bytes l) text
+script_reading (Table t) text flags = table_reading t text
+script_reading Extended text flags = reading_of (syntax_of All flags) text

@@ -10,6 +10,7 @@ use std::collections::HashMap;
 use tocmark_core_reader::CoreReader;
 use tocmark_event::event::{Event, ParserOptions};
 use tocmark_event::reader::{Reader, Reading};
+use tocmark_extended_reader::ExtendedReader;
 
 /// The events that a text is read as, each with its range in bytes.
 pub type ReadEvents<'a> = Vec<(Event<'a>, (usize, usize))>;
@@ -22,12 +23,13 @@ pub struct Table<'a> {
 }
 
 /// The reader of a script: the core reader, that with one label more that it looked up in vain in each
-/// text, or a table of readings.
+/// text, a table of readings, or the reader of the extensions that the flags name.
 #[derive(Drop)]
 pub enum ScriptReader<'a> {
     Core,
     Labelled(String),
     Table(Table<'a>),
+    Extended,
 }
 
 fn copied_events(
@@ -86,17 +88,18 @@ fn read_with_label(
     Ok(reading)
 }
 
-/// The core reader has its reading of a text, and a table the events that it has for it.
+/// The core reader and the extended one have their reading of a text, and a table the events that it has for it.
 impl Reader for ScriptReader<'_> {
     ghost use Rattle.test_script_lines.specs.Readers.{script_reading};
 
-    ghost reading = { λ r text _. script_reading r text };
+    ghost reading = { λ r text flags. script_reading r text flags };
 
     fn read(&self, alloc: Global, text: &str, flags: ParserOptions) -> Result<Reading, AllocError> {
         match self {
             ScriptReader::Core => CoreReader.read(alloc, text, flags),
             ScriptReader::Labelled(label) => read_with_label(alloc, text, flags, label.as_str()),
             ScriptReader::Table(table) => table.read(alloc, text),
+            ScriptReader::Extended => ExtendedReader::new().read(alloc, text, flags),
         }
     }
 }

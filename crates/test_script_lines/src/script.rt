@@ -80,6 +80,8 @@ pub enum Setting {
     ReadFailAt(usize),
     /// The core reader, which looks this label up in vain in each text, too.
     Unresolved(String),
+    /// The reader of the extensions that the flags name.
+    Extended,
 }
 
 /// What a script says.
@@ -146,6 +148,7 @@ impl<'a> Script<'a> {
             Setting::FailAt(place) => self.refused_text = Some(place),
             Setting::ReadFailAt(place) => self.refused_reading = Some(place),
             Setting::Unresolved(label) => put(&mut self.reader, ScriptReader::Labelled(label)),
+            Setting::Extended => put(&mut self.reader, ScriptReader::Extended),
         }
     }
 

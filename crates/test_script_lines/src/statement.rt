@@ -230,12 +230,26 @@ fn unresolved(alloc: Global, cursor: &mut WordsLeft<'_>) -> Result<Setting, Line
     cursor.string(alloc).map(Setting::Unresolved)
 }
 
+/// The readers that a script can name.
+#[derive(Clone, Copy)]
+enum ReaderName {
+    Nothing,
+    Unresolved,
+    Extended,
+}
+
+const READERS: [(&str, ReaderName); 3] = [
+    ("nothing", ReaderName::Nothing),
+    ("unresolved", ReaderName::Unresolved),
+    ("extended", ReaderName::Extended),
+];
+
 fn reader(alloc: Global, cursor: &mut WordsLeft<'_>) -> Result<Other, LineFault> {
-    let readers = [("nothing", false), ("unresolved", true)];
-    if cursor.expect_known(&readers, "nothing, or unresolved and a string")? {
-        return unresolved(alloc, cursor).map(Other::Set);
+    match cursor.expect_known(&READERS, "nothing, extended, or unresolved and a string")? {
+        ReaderName::Nothing => Ok(Other::ReaderNothing),
+        ReaderName::Unresolved => unresolved(alloc, cursor).map(Other::Set),
+        ReaderName::Extended => Ok(Other::Set(Setting::Extended)),
     }
-    Ok(Other::ReaderNothing)
 }
 
 fn reads(alloc: Global, cursor: &mut WordsLeft<'_>) -> Result<Other, LineFault> {

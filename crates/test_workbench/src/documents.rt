@@ -2,7 +2,7 @@
 //! stand in them. Behind each stands a line that begins with `%`: what is wrong, or nothing more where it is read as
 //! the document is.
 
-use crate::rewriting::{are_read_alike, rewritten, rewritten_from_source};
+use crate::rewriting::{CORE, are_read_alike, rewritten, rewritten_from_source};
 use std::alloc::Global;
 use std::io::{self, Write};
 use tocmark::Error;
@@ -18,7 +18,7 @@ fn answer<W: Write>(
         Ok(text) => text,
         Err(error) => return writeln!(output, "% {error}"),
     };
-    if are_read_alike(alloc, document, text.as_str())? {
+    if are_read_alike(alloc, CORE, document, text.as_str())? {
         writeln!(output, "{text}\n%")
     } else {
         writeln!(output, "{text}\n% is read otherwise")
@@ -35,8 +35,13 @@ pub fn answer_documents<W: Write>(alloc: Global, output: &mut W, text: &str) -> 
     for line in text.split('\n') {
         if line == "%" {
             let whole = document.as_str();
-            answer(alloc, output, whole, rewritten(alloc, whole))?;
-            answer(alloc, output, whole, rewritten_from_source(alloc, whole))?;
+            answer(alloc, output, whole, rewritten(alloc, CORE, whole))?;
+            answer(
+                alloc,
+                output,
+                whole,
+                rewritten_from_source(alloc, CORE, whole),
+            )?;
             document = String::new(alloc);
         } else {
             document.push_str(line)?;

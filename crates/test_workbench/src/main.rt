@@ -3,7 +3,8 @@
 //! Without an argument, writes texts back and reads what is written: the lists of texts on standard input, the examples
 //! of the CommonMark standard first; behind a line `%%` whole documents; and every text of one and of two characters.
 //!
-//! With `read N` the Markdown on standard input is read N times, and with `write SHAPE N HOW` a list of events is made
+//! With `read N` the Markdown on standard input is read N times by the core reader, with `read N FLAGS` by the reader of
+//! extensions under flags in hexadecimal digits, and with `write SHAPE N HOW` a list of events is made
 //! and written: `SHAPE` is a text as `shape` describes it, `N` how often what is in its braces is repeated, and `HOW` is
 //! `made` where the list is to be made alone, `written` where one call of `cmark` writes it, and `stepwise` where a state
 //! takes each event by a call of its own.
@@ -21,18 +22,19 @@ mod writing;
 use crate::documents::answer_documents;
 use crate::reading::measure_readings;
 use crate::short_texts::answer_short_texts;
-use crate::texts::answer_lists;
+use crate::texts::{answer_lists, flags_of};
 use crate::writing::{How, measure_writing};
 use std::alloc::Global;
 use std::env;
 use std::io::{self, Read, Write};
 use std::process::ExitCode;
+use tocmark_event::event::ParserOptions;
 
 /// What the arguments ask for.
 #[derive(Drop)]
 enum Task {
     ComeBack,
-    Read(u64),
+    Read(u64, Option<ParserOptions>),
     Write(String, usize, How),
 }
 
@@ -48,7 +50,11 @@ fn task_of(rt: &HostRuntime) -> io::Result<Task> {
     let second = words.next().ok_or(invalid())?;
     if first.as_str() == "read" {
         let count = second.as_str().parse().map_err(|_| invalid())?;
-        return Ok(Task::Read(count));
+        let flags = match words.next() {
+            None => None,
+            Some(digits) => Some(flags_of(digits.as_str())?),
+        };
+        return Ok(Task::Read(count, flags));
     }
     if first.as_str() != "write" {
         return Err(invalid());
@@ -75,10 +81,10 @@ fn run(rt: &HostRuntime) -> io::Result<()> {
     let alloc = rt.alloc();
     match task_of(rt)? {
         Task::ComeBack => come_back(alloc, &mut rt.stdin(), &mut rt.stdout()),
-        Task::Read(count) => {
+        Task::Read(count, extensions) => {
             let text = io::read_to_string(alloc, rt.stdin())?;
             let (output, times) = (&mut rt.stdout(), &mut rt.stderr());
-            measure_readings(alloc, rt, text.as_str(), count, output, times)
+            measure_readings(alloc, rt, text.as_str(), (count, extensions), output, times)
         }
         Task::Write(shape, count, how) => {
             measure_writing(alloc, shape.as_str(), count, how, &mut rt.stdout())

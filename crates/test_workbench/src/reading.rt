@@ -1,19 +1,32 @@
 //! How long readings take.
 
-use std::alloc::Global;
+use std::alloc::{AllocError, Global};
 use std::io::{self, Write};
 use std::time::CpuClock;
 use tocmark_core_reader::CoreReader;
 use tocmark_event::event::ParserOptions;
-use tocmark_event::reader::Reader;
+use tocmark_event::reader::{Reader, Reading};
+use tocmark_extended_reader::ExtendedReader;
+
+/// Reads a text as CommonMark, or with the extensions of flags.
+fn read(
+    alloc: Global,
+    text: &str,
+    extensions: Option<ParserOptions>,
+) -> Result<Reading, AllocError> {
+    match extensions {
+        None => CoreReader.read(alloc, text, ParserOptions(0)),
+        Some(flags) => ExtendedReader::new().read(alloc, text, flags),
+    }
+}
 
 /// The number of events of a text.
-fn event_count(alloc: Global, text: &str) -> io::Result<usize> {
-    let reading = CoreReader.read(alloc, text, ParserOptions(0))?;
+fn event_count(alloc: Global, text: &str, extensions: Option<ParserOptions>) -> io::Result<usize> {
+    let reading = read(alloc, text, extensions)?;
     Ok(reading.events.len())
 }
 
-/// Reads a text so many times. `output` gets a line with the number of its events for each reading,
+/// Reads a text so many times, as CommonMark or with the extensions of flags. `output` gets a line with the number of its events for each reading,
 /// `times` one with the nanoseconds of processor time that it took.
 ///
 /// # Errors
@@ -23,13 +36,13 @@ pub fn measure_readings<C: CpuClock, O: Write, T: Write>(
     alloc: Global,
     clock: &C,
     text: &str,
-    count: u64,
+    (count, extensions): (u64, Option<ParserOptions>),
     output: &mut O,
     times: &mut T,
 ) -> io::Result<()> {
     for _reading in 0..count {
         let before = clock.process_cpu_time()?;
-        let events = event_count(alloc, text)?;
+        let events = event_count(alloc, text, extensions)?;
         let after = clock.process_cpu_time()?;
         writeln!(output, "{events} events")?;
         writeln!(times, "{}", after.saturating_sub(before).as_nanos())?;

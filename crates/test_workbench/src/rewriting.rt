@@ -1,15 +1,34 @@
-//! Texts that the core reader reads, written back by the default options, and whether two texts are read
-//! alike.
+//! Texts that a reader reads, written back by the default options, and whether two texts are read alike.
 
 use std::alloc::{AllocError, Global};
-use tocmark::{Error, cmark, cmark_with_source_range};
-use tocmark_core_reader::CoreReader;
+use tocmark::{Error, StringWriter, cmark, cmark_with_source_range};
 use tocmark_event::event::{OwnedEvent, ParserOptions, merge_all};
 use tocmark_event::reader::{Reader, Reading};
+use tocmark_extended_reader::{ExtendedReader, Names};
 use tocmark_write_read_back::event::same_events;
 
-/// CommonMark alone.
-pub const FLAGS: ParserOptions = ParserOptions(0);
+/// How texts are read: the names of character references that are known, and the flags of extensions.
+#[derive(Clone, Copy)]
+pub struct Syntax {
+    pub reader: ExtendedReader,
+    pub flags: ParserOptions,
+}
+
+/// As `CoreReader` reads.
+pub const CORE: Syntax = Syntax {
+    reader: ExtendedReader { names: Names::Four },
+    flags: ParserOptions(0),
+};
+
+impl Syntax {
+    /// The extensions of these flags, and all names.
+    pub fn extended(flags: ParserOptions) -> Syntax {
+        Syntax {
+            reader: ExtendedReader::new(),
+            flags,
+        }
+    }
+}
 
 /// The events of a reading, each stretch of texts as one.
 ///
@@ -25,8 +44,8 @@ pub fn merged(alloc: Global, reading: &Reading) -> Result<Vec<OwnedEvent>, Alloc
 }
 
 /// The events of a text, each stretch of texts as one.
-fn events_in(alloc: Global, text: &str) -> Result<Vec<OwnedEvent>, AllocError> {
-    let reading = CoreReader.read(alloc, text, FLAGS)?;
+fn events_in(alloc: Global, syntax: Syntax, text: &str) -> Result<Vec<OwnedEvent>, AllocError> {
+    let reading = syntax.reader.read(alloc, text, syntax.flags)?;
     merged(alloc, &reading)
 }
 
@@ -35,15 +54,25 @@ fn events_in(alloc: Global, text: &str) -> Result<Vec<OwnedEvent>, AllocError> {
 /// # Errors
 ///
 /// `AllocError` where memory runs out.
-pub fn are_read_alike(alloc: Global, left: &str, right: &str) -> Result<bool, AllocError> {
-    let left = events_in(alloc, left)?;
-    let right = events_in(alloc, right)?;
+pub fn are_read_alike(
+    alloc: Global,
+    syntax: Syntax,
+    left: &str,
+    right: &str,
+) -> Result<bool, AllocError> {
+    let left = events_in(alloc, syntax, left)?;
+    let right = events_in(alloc, syntax, right)?;
     Ok(same_events(&left, &right))
 }
 
 /// Writes the events of a reading.
-fn write(alloc: Global, reading: &Reading, output: &mut String) -> Result<(), Error> {
-    drop(cmark(alloc, reading.events(), output, CoreReader, FLAGS)?);
+fn write(
+    alloc: Global,
+    syntax: Syntax,
+    reading: &Reading,
+    output: &mut StringWriter,
+) -> Result<(), Error> {
+    drop(cmark(alloc, reading.events(), output, syntax.reader, syntax.flags)?);
     Ok(())
 }
 
@@ -53,22 +82,23 @@ fn write(alloc: Global, reading: &Reading, output: &mut String) -> Result<(), Er
 ///
 /// The error of the call that writes, such as `Unrepresentable` where no spelling of a unit reads back, and
 /// `OutOfMemory` where memory runs out.
-pub fn rewritten(alloc: Global, text: &str) -> Result<String, Error> {
-    let reading = CoreReader.read(alloc, text, FLAGS)?;
-    let mut output = String::new(alloc);
-    write(alloc, &reading, &mut output)?;
-    Ok(output)
+pub fn rewritten(alloc: Global, syntax: Syntax, text: &str) -> Result<String, Error> {
+    let reading = syntax.reader.read(alloc, text, syntax.flags)?;
+    let mut output = StringWriter::new(alloc);
+    write(alloc, syntax, &reading, &mut output)?;
+    Ok(output.text)
 }
 
 /// Writes the events of a text's reading, with the spelling of its texts taken from it.
 fn write_from_source(
     alloc: Global,
+    syntax: Syntax,
     reading: &Reading,
     source: &str,
     output: &mut String,
 ) -> Result<(), Error> {
     let pairs = reading.pairs();
-    drop(cmark_with_source_range(alloc, pairs, source, output, CoreReader, FLAGS)?);
+    drop(cmark_with_source_range(alloc, pairs, source, output, syntax.reader, syntax.flags)?);
     Ok(())
 }
 
@@ -77,9 +107,9 @@ fn write_from_source(
 /// # Errors
 ///
 /// The error of the call that writes, as for `rewritten`.
-pub fn rewritten_from_source(alloc: Global, text: &str) -> Result<String, Error> {
-    let reading = CoreReader.read(alloc, text, FLAGS)?;
+pub fn rewritten_from_source(alloc: Global, syntax: Syntax, text: &str) -> Result<String, Error> {
+    let reading = syntax.reader.read(alloc, text, syntax.flags)?;
     let mut output = String::new(alloc);
-    write_from_source(alloc, &reading, text, &mut output)?;
+    write_from_source(alloc, syntax, &reading, text, &mut output)?;
     Ok(output)
 }

@@ -1,15 +1,18 @@
 //! Every text of one and of two characters from U+0020 to U+007E that doesn't end with a space, written and
 //! read back, and counted: alone in a paragraph, and as its second line behind the line `a`.
 
-use crate::rewriting::{FLAGS, merged};
+use crate::rewriting::merged;
 use std::alloc::{AllocError, Global};
 use std::fmt;
 use std::io::{self, Write};
 use tocmark::cmark;
 use tocmark_core_reader::CoreReader;
-use tocmark_event::event::{CowStr, Event, Tag, TagEnd};
+use tocmark_event::event::{CowStr, Event, ParserOptions, Tag, TagEnd};
 use tocmark_event::reader::Reader;
 use tocmark_write_read_back::event::same_events;
+
+/// CommonMark alone.
+const FLAGS: ParserOptions = ParserOptions(0);
 
 /// Takes texts together, and counts them.
 #[derive(Drop)]

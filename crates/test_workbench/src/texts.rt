@@ -2,12 +2,14 @@
 //!
 //! A text that doesn't come back as the same events is told by its number, with what is wrong. A line `%` ends a
 //! list of texts; behind each list, and the last one, stands how many of its texts come back. Empty lines and those that
-//! begin with `#` say nothing.
+//! begin with `#` say nothing. Behind a line `Flags` with hexadecimal digits the rest of a list is read with the
+//! extensions of these flags and all names of references; in front of it texts are read as CommonMark.
 
-use crate::rewriting::{are_read_alike, rewritten};
+use crate::rewriting::{CORE, Syntax, are_read_alike, rewritten};
 use serde_json::Value;
 use std::alloc::Global;
 use std::io::{self, ErrorKind, Write};
+use tocmark_event::event::ParserOptions;
 
 /// The text of a JSON string.
 fn text_of(alloc: Global, line: &str) -> io::Result<String> {
@@ -21,21 +23,34 @@ fn text_of(alloc: Global, line: &str) -> io::Result<String> {
     }
 }
 
+/// The flags of hexadecimal digits.
+///
+/// # Errors
+///
+/// `InvalidData` where these aren't the digits of a number below 2^32.
+pub fn flags_of(digits: &str) -> io::Result<ParserOptions> {
+    match u32::from_str_radix(digits, 16) {
+        Ok(bits) => Ok(ParserOptions(bits)),
+        Err(_error) => Err(io::Error::from(ErrorKind::InvalidData)),
+    }
+}
+
 /// Whether a text comes back as the same events; a line says what is wrong where it doesn't.
 fn comes_back<W: Write>(
     alloc: Global,
+    syntax: Syntax,
     output: &mut W,
     number: usize,
     text: &str,
 ) -> io::Result<bool> {
-    let written = match rewritten(alloc, text) {
+    let written = match rewritten(alloc, syntax, text) {
         Ok(written) => written,
         Err(error) => {
             writeln!(output, "{number}: {error}")?;
             return Ok(false);
         }
     };
-    let is_same = are_read_alike(alloc, text, written.as_str())?;
+    let is_same = are_read_alike(alloc, syntax, text, written.as_str())?;
     if !is_same {
         writeln!(output, "{number}: what is written is read otherwise")?;
     }
@@ -63,17 +78,21 @@ fn write_counts<W: Write>(output: &mut W, counts: Counts) -> io::Result<()> {
 ///
 /// # Errors
 ///
-/// `InvalidData` at a line that is no JSON string, and the error of the output or of memory.
+/// `InvalidData` at a line that is no JSON string and sets no flags, and the error of the output or of memory.
 pub fn answer_lists<W: Write>(alloc: Global, output: &mut W, lines: &str) -> io::Result<()> {
     let mut counts = NONE;
+    let mut syntax = CORE;
     for line in lines.split('\n') {
         if line == "%" {
             write_counts(output, counts)?;
             counts = NONE;
+            syntax = CORE;
+        } else if let Some(digits) = line.strip_prefix("Flags ") {
+            syntax = Syntax::extended(flags_of(digits)?);
         } else if !line.is_empty() && !line.starts_with('#') {
             counts.texts = counts.texts.saturating_add(1);
             let text = text_of(alloc, line)?;
-            if comes_back(alloc, output, counts.texts, text.as_str())? {
+            if comes_back(alloc, syntax, output, counts.texts, text.as_str())? {
                 counts.same = counts.same.saturating_add(1);
             }
         }
