@@ -1,10 +1,12 @@
 //! What a call asks for.
 
-use crate::settings;
+use crate::settings::{Unset, extension_named, set, syntax_named};
 use clap::{Arg, ArgAction, ArgMatches, Command};
 use std::alloc::{AllocError, Global};
-use tocmark::Options;
+use std::fmt;
 use tocmark::event::ParserOptions;
+use tocmark::{Options, OptionsError};
+use tocmark_json::fault::OptionFault;
 
 /// What is to be done.
 #[derive(Clone, Copy, Drop)]
@@ -23,27 +25,63 @@ pub enum Job<'a> {
     },
 }
 
-fn syntax_arguments<'a>(alloc: Global, command: Command<'a>) -> Result<Command<'a>, AllocError> {
+/// Why arguments are wrong.
+#[derive(Clone, Copy, Drop)]
+pub enum Refusal<'a> {
+    NoVerb,
+    Syntax,
+    Extension,
+    NoPair,
+    Option(OptionFault<'a>),
+    Invalid(OptionsError),
+    OutOfMemory,
+}
+
+impl<'a> fmt::Display for Refusal<'a> {
+    fn fmt<W: fmt::Write>(&self, f: &mut fmt::Formatter<W>) -> fmt::Result {
+        match self {
+            Refusal::NoVerb => write!(f, "read, write or check is wanted"),
+            Refusal::Syntax => write!(f, "--syntax wants commonmark, gfm or all"),
+            Refusal::Extension => write!(f, "--extension wants a name that --help lists"),
+            Refusal::NoPair => write!(f, "--option wants KEY=VALUE"),
+            Refusal::Option(fault) => write!(f, "--option: {fault}"),
+            Refusal::Invalid(error) => write!(f, "{error}"),
+            Refusal::OutOfMemory => write!(f, "out of memory"),
+        }
+    }
+}
+
+/// What `--help` says of the arguments that both directions take.
+#[derive(Clone, Copy)]
+pub struct Help<'a> {
+    /// Of `--syntax`.
+    pub syntax: &'a str,
+    /// Of `--extension`.
+    pub extension: &'a str,
+}
+
+fn syntax_arguments<'a>(
+    alloc: Global,
+    command: Command<'a>,
+    help: Help<'a>,
+) -> Result<Command<'a>, AllocError> {
     let syntax = Arg::new(alloc, "syntax")
         .long("syntax")
         .value_name("NAME")
-        .help("The Markdown that is read: commonmark");
+        .help(help.syntax);
     let extension = Arg::new(alloc, "extension")
         .long("extension")
         .value_name("NAME")
         .action(ArgAction::Append)
-        .help(EXTENSIONS);
+        .help(help.extension);
     command.arg(syntax)?.arg(extension)
 }
-
-const EXTENSIONS: &str =
-    "An extension that is read too: strikethrough, tasklists, yaml-metadata or pluses-metadata";
 
 const CHECK: &str =
     "Events as JSON on standard input to the same, without spaces and in one order of keys";
 
 /// The command line. `docs/JSON.md` says what its parts mean.
-pub fn command<'a>(alloc: Global) -> Result<Command<'a>, AllocError> {
+pub fn command<'a>(alloc: Global, help: Help<'a>) -> Result<Command<'a>, AllocError> {
     let read = Command::new(alloc, "read").about("Markdown on standard input to events as JSON");
     let write = Command::new(alloc, "write").about("Events as JSON on standard input to Markdown");
     let check = Command::new(alloc, "check").about(CHECK);
@@ -60,37 +98,30 @@ pub fn command<'a>(alloc: Global) -> Result<Command<'a>, AllocError> {
         .value_name("KEY=VALUE")
         .action(ArgAction::Append)
         .help("An option of the writer, as list_token=-");
-    let write = write.arg(source)?.arg(reads_back)?.arg(option)?;
+    let options = Arg::new(alloc, "options")
+        .long("options")
+        .value_name("FILE")
+        .help("The options of the writer, as a JSON object");
+    let write = write.arg(source)?.arg(reads_back)?;
+    let write = write.arg(options)?.arg(option)?;
     Command::new(alloc, "tocmark-events")
         .version("0.1.0")
         .about("Markdown to events as JSON, and back")
         .subcommand_required(true)
-        .subcommand(syntax_arguments(alloc, read)?)?
+        .subcommand(syntax_arguments(alloc, read, help)?)?
         .subcommand(check)?
-        .subcommand(syntax_arguments(alloc, write)?)
+        .subcommand(syntax_arguments(alloc, write, help)?)
 }
 
-/// The flag of an extension that is read.
-fn flag_named(name: &str) -> Option<ParserOptions> {
-    match name {
-        "strikethrough" => Some(ParserOptions::ENABLE_STRIKETHROUGH),
-        "tasklists" => Some(ParserOptions::ENABLE_TASKLISTS),
-        "yaml-metadata" => Some(ParserOptions::ENABLE_YAML_STYLE_METADATA_BLOCKS),
-        "pluses-metadata" => Some(ParserOptions::ENABLE_PLUSES_DELIMITED_METADATA_BLOCKS),
-        _ => None,
-    }
-}
-
-/// The flags of the extensions that are named.
-fn flags_of(matches: &ArgMatches<'_>) -> Result<ParserOptions, &'static str> {
-    if matches.get_str("syntax").unwrap_or("commonmark") != "commonmark" {
-        return Err("only --syntax commonmark is there yet");
-    }
-    let mut flags = ParserOptions::empty();
+/// The flags of the syntax and the extensions that are named.
+fn flags_of(matches: &ArgMatches<'_>) -> Result<ParserOptions, Refusal<'static>> {
+    let Some(mut flags) = syntax_named(matches.get_str("syntax").unwrap_or("commonmark")) else {
+        return Err(Refusal::Syntax);
+    };
     if let Some(names) = matches.get_strs("extension") {
         for name in names {
-            let Some(flag) = flag_named(name) else {
-                return Err("--extension wants a name that --help lists");
+            let Some(flag) = extension_named(name) else {
+                return Err(Refusal::Extension);
             };
             flags.insert(flag);
         }
@@ -98,31 +129,44 @@ fn flags_of(matches: &ArgMatches<'_>) -> Result<ParserOptions, &'static str> {
     Ok(flags)
 }
 
-fn options_of(
-    matches: &ArgMatches<'_>,
-    flags: ParserOptions,
-) -> Result<Options<'static>, &'static str> {
-    let mut options = Options::default();
-    options.check_plain_blocks = matches.get_flag("check-plain-blocks");
+fn options_of<'a>(
+    alloc: Global,
+    matches: &ArgMatches<'a>,
+    given: Options<'static>,
+) -> Result<Options<'static>, Refusal<'a>> {
+    let mut options = given;
+    if matches.get_flag("check-plain-blocks") {
+        options.check_plain_blocks = true;
+    }
     if let Some(words) = matches.get_strs("option") {
         for word in words {
-            if !settings::set(&mut options, word) {
-                return Err(
-                    "--option wants KEY=VALUE with an option's name and a value of its type",
-                );
+            match set(alloc, &mut options, word) {
+                Ok(()) => {}
+                Err(Unset::NoPair) => return Err(Refusal::NoPair),
+                Err(Unset::Refused(fault)) => return Err(Refusal::Option(fault)),
+                Err(Unset::OutOfMemory) => return Err(Refusal::OutOfMemory),
             }
         }
     }
-    match options.validate(flags) {
-        Ok(()) => Ok(options),
-        Err(_error) => Err("an option's value is refused"),
+    Ok(options)
+}
+
+/// The file of the options, if one is named.
+pub fn options_file<'a>(matches: &ArgMatches<'a>) -> Option<&'a str> {
+    match matches.subcommand() {
+        Some(("write", matches)) => matches.get_str("options"),
+        _ => None,
     }
 }
 
-/// What the arguments ask for, or in one line why they are wrong.
-pub fn asked<'a>(matches: &ArgMatches<'a>) -> Result<Job<'a>, &'static str> {
+/// What the arguments ask for, beginning with these options, or why they are wrong.
+pub fn asked<'a>(
+    alloc: Global,
+    matches: &ArgMatches<'a>,
+    given: Options<'static>,
+) -> Result<Job<'a>, Refusal<'a>> {
     let Some((name, matches)) = matches.subcommand() else {
-        return Err("read, write or check is wanted");
+        return Err(Refusal::NoVerb);
     };
     if name == "check" {
         return Ok(Job::Check);
@@ -131,7 +175,10 @@ pub fn asked<'a>(matches: &ArgMatches<'a>) -> Result<Job<'a>, &'static str> {
     if name == "read" {
         return Ok(Job::Read { flags });
     }
-    let options = options_of(matches, flags)?;
+    let options = options_of(alloc, matches, given)?;
+    if let Err(error) = options.validate(flags) {
+        return Err(Refusal::Invalid(error));
+    }
     Ok(Job::Write {
         flags,
         options,

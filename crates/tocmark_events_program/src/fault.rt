@@ -15,6 +15,12 @@ pub enum Fault {
     Read,
     #[error("tocmark-events: cannot read the source, or it is not UTF-8")]
     Source,
+    #[error("tocmark-events: cannot read the options, or they are not UTF-8")]
+    Options,
+    #[error("tocmark-events: the options are no JSON: {0}")]
+    OptionsNotJson(serde_json::Error),
+    #[error("tocmark-events: the options: {0}")]
+    NotOptions(String),
     #[error("tocmark-events: standard input is not UTF-8")]
     NotUtf8,
     #[error("tocmark-events: standard input is no JSON: {0}")]

@@ -1,7 +1,7 @@
 //! The program for other languages: Markdown on standard input to events as JSON on standard output, and back.
 //! `docs/JSON.md` has the form.
 //!
-//! It stands on the library (`tocmark`) and on `tocmark_json`. `arguments` has its options, `settings` what they set,
+//! It stands on the library (`tocmark`) and on `tocmark_json`. `arguments` has its options, `settings` what they name,
 //! `pairs` the events of what was read, and `fault` its lines on standard error.
 #![tactic(auto)]
 
@@ -20,12 +20,14 @@ ghost use Rattle.tocmark_event.specs.View.{event_view};
 ghost use Rattle.tocmark_json.specs.Json.{events_json, pair_view, pairs_json};
 ghost use Rattle.tocmark_event.specs.Options.{options_view};
 ghost use Rattle.tocmark_state.specs.Ranges.{Pair, unranged};
-ghost use Rattle.tocmark_events_program.specs.Events.{IsAnswer, IsAnswered, IsJsonOf, IsWriteFault, IsWritten, IsWrittenAgain, IsWrittenFrom, reading_json};
+ghost use Rattle.tocmark_events_program.specs.Events.{IsAnswer, IsAnswered, IsJsonOf, IsWriteFault, IsWritten, IsWrittenAgain, IsWrittenFrom, places_left, reading_json};
 
-use arguments::{Job, asked, command};
+use arguments::{Help, Job, asked, command, options_file};
+use clap::ArgMatches;
 use fault::Fault;
 use pairs::EventPairs;
 use serde_json::Value;
+use settings::{extension_help, syntax_help};
 use std::alloc::Global;
 use std::io::{Read, Write};
 use std::process::ExitCode;
@@ -33,7 +35,8 @@ use std::{env, fs, io};
 use tocmark::event::{Event, ParserOptions};
 use tocmark::reader::Reader;
 use tocmark::{Error, Options, cmark_with_source_range_and_options};
-use tocmark_extended_reader::ExtendedReader;
+use tocmark_extended_reader::{ExtendedReader, Names};
+use tocmark_json::options::options_from_json;
 use tocmark_json::reading::{events_from_json, pairs_from_json};
 use tocmark_json::writing::{events_to_json, pairs_to_json, ranged_to_json};
 
@@ -45,7 +48,8 @@ fn read_events(alloc: Global, text: &str, flags: ParserOptions) -> Result<String
     ensures fault { IfErr result (λ fault. ¬ (IsWriteFault fault)) }
     ensures read { IfOk result (λ output. IsInOrder (string_bytes output) (reading_json flags text.now)) }
 {
-    let reading = ExtendedReader.read(alloc, text, flags)?;
+    let reader = ExtendedReader { names: Names::All };
+    let reading = reader.read(alloc, text, flags)?;
     let value = ranged_to_json(alloc, &reading.events)?;
     Ok(value.to_string(alloc)?)
 }
@@ -168,21 +172,21 @@ fn lent(pairs: &Vec<Placed>) -> &[(Event<'_>, Option<(usize, usize)>)]
 /// The Markdown of events over the source of their ranges.
 fn written<'a>(
     alloc: Global,
-    pairs: &'a [(Event<'a>, Option<(usize, usize)>)],
+    pairs: EventPairs<'a>,
     source: &str,
     flags: ParserOptions,
     options: Options<'static>,
 ) -> Result<String, Error>
     ensures { IfOk result (λ output. IsWritten (options_view options.entry) flags source.now
-        (map (pair_view text_of) pairs.now) (string_bytes output)) }
+        (places_left pairs.entry) (string_bytes output)) }
 {
     let mut output = String::new(alloc);
     let state = cmark_with_source_range_and_options(
         alloc,
-        EventPairs::new(pairs),
+        pairs,
         source,
         &mut output,
-        ExtendedReader,
+        ExtendedReader { names: Names::All },
         flags,
         options,
     )?;
@@ -190,21 +194,23 @@ fn written<'a>(
     Ok(output)
 }
 
-/// The Markdown of the events that a text has as JSON.
+/// The Markdown of the events that a text has as JSON. Without a source their ranges are dropped.
 fn write_events(
     alloc: Global,
     text: &str,
     source: &str,
+    has_source: bool,
     flags: ParserOptions,
     options: Options<'static>,
 ) -> Result<String, Fault>
     ensures fault { IfErr result (λ fault. ¬ (IsWriteFault fault)) }
-    ensures written { IfOk result (λ output. IsWrittenFrom (options_view options.entry) flags source.now
-        text.now (string_bytes output)) }
+    ensures written { IfOk result (λ output. IsWrittenFrom (options_view options.entry) flags
+        has_source source.now text.now (string_bytes output)) }
 {
     let value = value_of(alloc, text)?;
     let pairs = pairs_of(alloc, &value)?;
-    match written(alloc, lent(&pairs), source, flags, options) {
+    let placed = EventPairs::new(lent(&pairs), has_source);
+    match written(alloc, placed, source, flags, options) {
         Ok(output) => Ok(output),
         Err(error) => Err(Fault::Markdown(error)),
     }
@@ -239,7 +245,11 @@ fn answered(alloc: Global, job: Job<'_>, source: &str, text: &str) -> Result<Str
     match job {
         Job::Read { flags } => read_events(alloc, text, flags),
         Job::Check => checked_events(alloc, text),
-        Job::Write { flags, options, .. } => write_events(alloc, text, source, flags, options),
+        Job::Write {
+            flags,
+            options,
+            source: file,
+        } => write_events(alloc, text, source, file.is_some(), flags, options),
     }
 }
 
@@ -318,6 +328,32 @@ fn source_of(rt: &HostRuntime, job: Job<'_>) -> Result<String, Fault> {
     }
 }
 
+/// The options that a JSON text has.
+fn options_of_text(alloc: Global, text: &str) -> Result<Options<'static>, Fault> {
+    let value = match Value::from_str(alloc, text) {
+        Ok(value) => value,
+        Err(error) => return Err(Fault::OptionsNotJson(error)),
+    };
+    match options_from_json(&value) {
+        Ok(options) => Ok(options),
+        Err(fault) => match format!(in alloc; "{fault}") {
+            Ok(line) => Err(Fault::NotOptions(line)),
+            Err(_) => Err(Fault::OutOfMemory),
+        },
+    }
+}
+
+/// The options of the file that the arguments name, and else the default ones.
+fn options_of(rt: &HostRuntime, matches: &ArgMatches<'_>) -> Result<Options<'static>, Fault> {
+    let Some(file) = options_file(matches) else {
+        return Ok(Options::default());
+    };
+    match fs::read_to_string(rt, file) {
+        Ok(text) => options_of_text(rt.alloc(), text.as_str()),
+        Err(_error) => Err(Fault::Options),
+    }
+}
+
 /// Says what is wrong with the arguments: the first line of it.
 fn refuse<F: Write>(faults: &mut F, why: &str) -> ExitCode {
     let line = why.lines().next().unwrap_or("");
@@ -365,18 +401,40 @@ fn perform(rt: &HostRuntime, job: Job<'_>) -> ExitCode {
     ))
 }
 
+/// Does what right arguments ask for.
+fn start(rt: &HostRuntime, matches: &ArgMatches<'_>) -> ExitCode {
+    let options = match options_of(rt, matches) {
+        Ok(options) => options,
+        Err(fault) => {
+            complain(&mut rt.stderr(), &fault);
+            return ExitCode::from(1);
+        }
+    };
+    match asked(rt.alloc(), matches, options) {
+        Ok(job) => perform(rt, job),
+        Err(refusal) => {
+            let _ = writeln!(rt.stderr(), "tocmark-events: {refusal}");
+            ExitCode::from(2)
+        }
+    }
+}
+
 fn main(rt: HostRuntime) -> ExitCode {
     let Ok(words) = words_of(&rt) else {
         return refuse(&mut rt.stderr(), "the arguments cannot be read");
     };
-    let Ok(command) = command(rt.alloc()) else {
+    let (Ok(syntax), Ok(extension)) = (syntax_help(rt.alloc()), extension_help(rt.alloc())) else {
+        return refuse(&mut rt.stderr(), "out of memory");
+    };
+    let help = Help {
+        syntax: syntax.as_str(),
+        extension: extension.as_str(),
+    };
+    let Ok(command) = command(rt.alloc(), help) else {
         return refuse(&mut rt.stderr(), "out of memory");
     };
     match command.try_get_matches_from(words.as_slice()) {
-        Ok(matches) => match asked(&matches) {
-            Ok(job) => perform(&rt, job),
-            Err(why) => refuse(&mut rt.stderr(), why),
-        },
+        Ok(matches) => start(&rt, &matches),
         Err(error) => show(&rt, &error),
     }
 }

@@ -5,20 +5,32 @@ ghost use Rattle.std.specs.Iterator.{item_count, YieldsFirstBy};
 ghost use Rattle.tocmark_event.specs.Text.{text_of};
 ghost use Rattle.tocmark_json.specs.Json.{pair_view};
 ghost use Rattle.tocmark_event.specs.Reading.{lent_pair};
-ghost use Rattle.tocmark_events_program.specs.Events.{places_left};
+ghost use Rattle.tocmark_events_program.specs.Events.{in_source, kept, places_left};
 
 use tocmark::event::Event;
 
-/// Events, one after the other, each with its range if it has one.
+/// Events, one after the other, each with its range, if it has one and there is a source that it is of.
 #[derive(Drop)]
-pub struct EventPairs<'a>(std::slice::Iter<'a, (Event<'a>, Option<(usize, usize)>)>);
+pub struct EventPairs<'a> {
+    pairs: std::slice::Iter<'a, (Event<'a>, Option<(usize, usize)>)>,
+    has_source: bool,
+}
 
 impl<'a> EventPairs<'a> {
-    pub fn new(pairs: &'a [(Event<'a>, Option<(usize, usize)>)]) -> EventPairs<'a>
-        ensures { places_left result ≡ map (pair_view text_of) pairs.now }
+    pub fn new(pairs: &'a [(Event<'a>, Option<(usize, usize)>)], has_source: bool) -> EventPairs<'a>
+        ensures { places_left result ≡ in_source has_source (map (pair_view text_of) pairs.now) }
     {
-        EventPairs(pairs.iter())
+        EventPairs {
+            pairs: pairs.iter(),
+            has_source,
+        }
     }
+}
+
+fn kept(has_source: bool, range: Option<(usize, usize)>) -> Option<(usize, usize)>
+    ensures { result ≡ kept has_source range }
+{
+    if has_source { range } else { None }
 }
 
 impl<'a> Iterator for EventPairs<'a> {
@@ -29,8 +41,9 @@ impl<'a> Iterator for EventPairs<'a> {
     ghost remaining = { item_count places_left };
 
     fn next(&mut self) -> Option<(&'a Event<'a>, Option<(usize, usize)>)> {
-        match self.0.next() {
-            Some(pair) => Some((&pair.0, pair.1)),
+        let has_source = self.has_source;
+        match self.pairs.next() {
+            Some(pair) => Some((&pair.0, kept(has_source, pair.1))),
             None => None,
         }
     }

@@ -1,80 +1,132 @@
-//! How an option of the writer is set by a word.
+//! What the arguments name: syntaxes, extensions, options of the writer.
 
+use serde_json::Value;
+use std::alloc::{AllocError, Global};
+use std::fmt;
+use std::fmt::Write;
 use tocmark::Options;
+use tocmark::event::ParserOptions;
+use tocmark_extended_reader::EXTENSIONS;
+use tocmark_json::fault::OptionFault;
+use tocmark_json::options::set_option;
 
-fn set_size(options: &mut Options<'static>, key: &str, size: usize) -> bool {
-    match key {
-        "newlines_after_headline" => options.newlines_after_headline = size,
-        "newlines_after_paragraph" => options.newlines_after_paragraph = size,
-        "newlines_after_codeblock" => options.newlines_after_codeblock = size,
-        "newlines_after_htmlblock" => options.newlines_after_htmlblock = size,
-        "newlines_after_table" => options.newlines_after_table = size,
-        "newlines_after_rule" => options.newlines_after_rule = size,
-        "newlines_after_list" => options.newlines_after_list = size,
-        "newlines_after_blockquote" => options.newlines_after_blockquote = size,
-        "newlines_after_rest" => options.newlines_after_rest = size,
-        "newlines_after_metadata" => options.newlines_after_metadata = size,
-        "code_block_token_count" => options.code_block_token_count = size,
-        _ => return false,
-    }
-    true
-}
+/// The extensions by their names.
+const NAMED: [(&str, ParserOptions); 8] = [
+    ("tables", ParserOptions::ENABLE_TABLES),
+    ("footnotes", ParserOptions::ENABLE_FOOTNOTES),
+    ("strikethrough", ParserOptions::ENABLE_STRIKETHROUGH),
+    ("subscript", ParserOptions::ENABLE_SUBSCRIPT),
+    ("superscript", ParserOptions::ENABLE_SUPERSCRIPT),
+    ("tasklists", ParserOptions::ENABLE_TASKLISTS),
+    (
+        "yaml-metadata",
+        ParserOptions::ENABLE_YAML_STYLE_METADATA_BLOCKS,
+    ),
+    (
+        "pluses-metadata",
+        ParserOptions::ENABLE_PLUSES_DELIMITED_METADATA_BLOCKS,
+    ),
+];
 
-fn set_truth(options: &mut Options<'static>, key: &str, truth: bool) -> bool {
-    match key {
-        "increment_ordered_list_bullets" => options.increment_ordered_list_bullets = truth,
-        "use_html_for_super_sub_script" => options.use_html_for_super_sub_script = truth,
-        "check_plain_blocks" => options.check_plain_blocks = truth,
-        _ => return false,
-    }
-    true
-}
+/// Of what GitHub reads beside CommonMark, that which the reader reads.
+const GFM: ParserOptions = ParserOptions(
+    (ParserOptions::ENABLE_TABLES.0
+        | ParserOptions::ENABLE_STRIKETHROUGH.0
+        | ParserOptions::ENABLE_TASKLISTS.0
+        | ParserOptions::ENABLE_FOOTNOTES.0)
+        & EXTENSIONS.0,
+);
 
-fn set_character(options: &mut Options<'static>, key: &str, character: char) -> bool {
-    match key {
-        "code_block_token" => options.code_block_token = character,
-        "list_token" => options.list_token = character,
-        "ordered_list_token" => options.ordered_list_token = character,
-        "emphasis_token" => options.emphasis_token = character,
-        _ => return false,
-    }
-    true
-}
-
-fn only_character(text: &str) -> Option<char> {
-    let mut chars = text.chars();
-    match (chars.next(), chars.next()) {
-        (Some(character), None) => Some(character),
+/// The flags of a syntax.
+pub fn syntax_named(name: &str) -> Option<ParserOptions> {
+    match name {
+        "commonmark" => Some(ParserOptions::empty()),
+        "gfm" => Some(GFM),
+        "all" => Some(EXTENSIONS),
         _ => None,
     }
 }
 
-fn set_token(options: &mut Options<'static>, key: &str, value: &str) -> bool {
-    if key == "strong_token" {
-        options.strong_token = match value {
-            "**" => "**",
-            "__" => "__",
-            _ => return false,
-        };
-        return true;
+/// The flag of an extension.
+pub fn extension_named(name: &str) -> Option<ParserOptions> {
+    for (known, flag) in &NAMED {
+        if *known == name {
+            return Some(*flag);
+        }
     }
-    match only_character(value) {
-        Some(character) => set_character(options, key, character),
-        None => false,
+    None
+}
+
+/// Writes the names of the extensions among these flags.
+fn name_extensions(help: &mut String, flags: ParserOptions) -> fmt::Result {
+    let mut is_later = false;
+    for (name, flag) in &NAMED {
+        if flags.contains(*flag) {
+            if is_later {
+                help.write_str(", ")?;
+            }
+            help.write_str(name)?;
+            is_later = true;
+        }
+    }
+    Ok(())
+}
+
+/// What `--syntax` takes, and what each reads.
+pub fn syntax_help(alloc: Global) -> Result<String, fmt::Error> {
+    let mut help = String::new(alloc);
+    help.write_str("The Markdown that is read: commonmark, gfm (that with ")?;
+    name_extensions(&mut help, GFM)?;
+    help.write_str(") or all (with ")?;
+    name_extensions(&mut help, EXTENSIONS)?;
+    help.write_str(")")?;
+    Ok(help)
+}
+
+/// What `--extension` takes.
+pub fn extension_help(alloc: Global) -> Result<String, fmt::Error> {
+    let mut help = String::new(alloc);
+    help.write_str("An extension that is read too: ")?;
+    name_extensions(&mut help, EXTENSIONS)?;
+    Ok(help)
+}
+
+/// Why a word sets no option.
+#[derive(Clone, Copy, Drop)]
+pub enum Unset<'a> {
+    /// There is no `=` in it.
+    NoPair,
+    /// It names no option, or has no value for it.
+    Refused(OptionFault<'a>),
+    OutOfMemory,
+}
+
+/// The JSON of a value: a number or a truth, and else a string.
+fn value_of(alloc: Global, word: &str) -> Result<Value, AllocError> {
+    match word {
+        "true" => Ok(Value::Bool(true)),
+        "false" => Ok(Value::Bool(false)),
+        _ => match word.parse::<u64>() {
+            Ok(number) => Ok(Value::from(number)),
+            Err(_) => Value::try_from_str(alloc, word),
+        },
     }
 }
 
-/// Sets the option that a word `KEY=VALUE` names. Returns whether it names one and has a value for it.
-pub fn set(options: &mut Options<'static>, word: &str) -> bool {
-    let Some((key, value)) = word.split_once('=') else {
-        return false;
+/// Sets the option that a word `KEY=VALUE` names.
+pub fn set<'w>(
+    alloc: Global,
+    options: &mut Options<'static>,
+    word: &'w str,
+) -> Result<(), Unset<'w>> {
+    let Some((key, text)) = word.split_once('=') else {
+        return Err(Unset::NoPair);
     };
-    if let Ok(size) = value.parse::<usize>() {
-        return set_size(options, key, size);
-    }
-    match value {
-        "true" => set_truth(options, key, true),
-        "false" => set_truth(options, key, false),
-        _ => set_token(options, key, value),
+    let Ok(value) = value_of(alloc, text) else {
+        return Err(Unset::OutOfMemory);
+    };
+    match set_option(options, key, &value) {
+        Ok(()) => Ok(()),
+        Err(fault) => Err(Unset::Refused(fault)),
     }
 }

@@ -1,5 +1,9 @@
 //! Why a JSON value isn't a list of events.
 
+ghost use Rattle.std.specs.Prelude.{◌≡◌};
+ghost use Rattle.tocmark_json.specs.Place.{IsAt};
+ghost use Rattle.tocmark_json.specs.declared.fault.JsonError.TheVariants.{OutOfMemory as out_of_memory};
+
 use std::alloc::{AllocError, AllocFailed};
 use std::fmt;
 
@@ -48,12 +52,16 @@ pub enum JsonError {
 }
 
 impl From<AllocError> for JsonError {
+    ghost from_gives = { λ _ e. e ≡ out_of_memory };
+
     fn from(_fault: AllocError) -> JsonError {
         JsonError::OutOfMemory
     }
 }
 
 impl<T: Drop> From<AllocFailed<T>> for JsonError {
+    ghost from_gives = { λ _ e. e ≡ out_of_memory };
+
     fn from(_fault: AllocFailed<T>) -> JsonError {
         JsonError::OutOfMemory
     }
@@ -61,7 +69,9 @@ impl<T: Drop> From<AllocFailed<T>> for JsonError {
 
 impl Fault {
     /// The error that the element of this number has this fault.
-    pub fn at(self, index: usize) -> JsonError {
+    pub fn at(self, index: usize) -> JsonError
+        ensures { IsAt index result }
+    {
         match self {
             Fault::Wanted { key, wanted } => JsonError::Event { index, key, wanted },
             Fault::OutOfMemory => JsonError::OutOfMemory,
@@ -82,3 +92,28 @@ impl fmt::Display for JsonError {
 }
 
 impl std::error::Error for JsonError {}
+
+/// Why a value isn't that of options.
+#[derive(Clone, Copy, Debug, PartialEq, Eq)]
+pub enum OptionFault<'a> {
+    /// The value isn't an object.
+    NotAnObject,
+    /// Something else is wanted at this key, or another key.
+    Wanted {
+        /// The key, as it stands in the object.
+        key: &'a str,
+        /// What should stand there.
+        wanted: &'static str,
+    },
+}
+
+impl<'a> fmt::Display for OptionFault<'a> {
+    fn fmt<W: fmt::Write>(&self, f: &mut fmt::Formatter<W>) -> fmt::Result {
+        match self {
+            OptionFault::NotAnObject => write!(f, "expected an object of options"),
+            OptionFault::Wanted { key, wanted } => write!(f, "{key}: expected {wanted}"),
+        }
+    }
+}
+
+impl<'a> std::error::Error for OptionFault<'a> {}

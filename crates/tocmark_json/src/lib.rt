@@ -1,7 +1,7 @@
 //! Events as JSON, in the form of pulldown-cmark's feature `serde`, and JSON as events. `docs/JSON.md` has the form.
 //!
 //! Below it stand `tocmark_event` and the kit's `serde_json`, above it `tocmark_events_program`. Enter at `writing`
-//! for events as JSON and at `reading` for JSON as events. `parts` reads one value of one sort, `names` has the names
+//! for events as JSON, at `reading` for JSON as events and at `options` for JSON as options. `parts` reads one value of one sort, `names` has the names
 //! that stand in JSON, `fault` what is wrong with a value and where, and `laws` says that what is written is read
 //! back.
 #![tactic(auto)]
@@ -9,6 +9,7 @@
 pub mod fault;
 pub mod laws;
 pub mod names;
+pub mod options;
 pub mod parts;
 pub mod reading;
 pub mod writing;

@@ -1,11 +1,12 @@
 //! Events from their JSON value.
 
-ghost use Rattle.std.specs.Prelude.{◌≡◌, IfOk, IfSome, codes, map};
+ghost use Rattle.std.specs.Prelude.{◌≡◌, IfErr, IfOk, IfSome, codes, map};
 ghost use Rattle.std.specs.Option.{option_map};
 ghost use Rattle.serde_json.specs.Data.{array, boolean, string};
 ghost use Rattle.serde_json.specs.View.{items_view, view};
 ghost use Rattle.tocmark_event.specs.View.{attribute_view, code_view, event_view, tag_view};
 ghost use Rattle.tocmark_json.specs.Json.{alignment_json, attribute_json, code_json, end_json, event_json, events_json, heading_json, level_json, link_json, link_type_json, listed, metadata_json, optional, pair_json, pair_view, pairs_json, quote_json, range_json, size_json, tag_json, tagged};
+ghost use Rattle.tocmark_json.specs.Place.{IsAt, StandsIn};
 
 use crate::fault::{Fault, JsonError};
 use crate::names::{alignment_named, level_named, link_type_named, metadata_named, quote_named};
@@ -593,8 +594,9 @@ fn event_at<U: OwnedWords + Drop>(
     value: &Value,
     index: usize,
 ) -> Result<EventOf<U>, JsonError>
-    ensures { IfOk result (λ event. view value.now
+    ensures event { IfOk result (λ event. view value.now
         ≡ event_json (event_view U.Words.bytes event)) }
+    ensures place { IfErr result (IsAt index) }
 {
     match event_from_json(alloc, value) {
         Ok(event) => Ok(event),
@@ -607,7 +609,9 @@ fn pair_at<U: OwnedWords + Drop>(
     value: &Value,
     index: usize,
 ) -> Result<(EventOf<U>, Option<(usize, usize)>), JsonError>
-    ensures { IfOk result (λ pair. view value.now ≡ pair_json (pair_view U.Words.bytes pair)) }
+    ensures pair { IfOk result (λ pair. view value.now
+        ≡ pair_json (pair_view U.Words.bytes pair)) }
+    ensures place { IfErr result (IsAt index) }
 {
     match pair_from(alloc, value) {
         Ok(pair) => Ok(pair),
@@ -619,8 +623,9 @@ fn events_in<U: OwnedWords + Drop>(
     alloc: Global,
     items: &[Value],
 ) -> Result<Vec<EventOf<U>>, JsonError>
-    ensures { IfOk result (λ events. array (items_view items.now)
+    ensures events { IfOk result (λ events. array (items_view items.now)
         ≡ events_json (map (event_view U.Words.bytes) events.items)) }
+    ensures place { IfErr result (StandsIn event_json (array (items_view items.now))) }
 {
     let mut events = Vec::new(alloc);
     for item in items {
@@ -634,8 +639,9 @@ fn pairs_in<U: OwnedWords + Drop>(
     alloc: Global,
     items: &[Value],
 ) -> Result<Vec<(EventOf<U>, Option<(usize, usize)>)>, JsonError>
-    ensures { IfOk result (λ pairs. array (items_view items.now)
+    ensures pairs { IfOk result (λ pairs. array (items_view items.now)
         ≡ pairs_json (map (pair_view U.Words.bytes) pairs.items)) }
+    ensures place { IfErr result (StandsIn pair_json (array (items_view items.now))) }
 {
     let mut pairs = Vec::new(alloc);
     for item in items {
@@ -646,13 +652,15 @@ fn pairs_in<U: OwnedWords + Drop>(
 }
 
 /// The events of a JSON value, which is then exactly that of these events. Any other value is refused,
-/// with the number of the first element that is no event, the nearest key and what is wanted there.
+/// with the number of the first element that is no event (those before it are), the nearest key and what is
+/// wanted there.
 pub fn events_from_json<U: OwnedWords + Drop>(
     alloc: Global,
     value: &Value,
 ) -> Result<Vec<EventOf<U>>, JsonError>
-    ensures { IfOk result (λ events. view value.now
+    ensures events { IfOk result (λ events. view value.now
         ≡ events_json (map (event_view U.Words.bytes) events.items)) }
+    ensures place { IfErr result (StandsIn event_json (view value.now)) }
 {
     match value {
         Value::Array(items) => events_in(alloc, items),
@@ -666,8 +674,9 @@ pub fn pairs_from_json<U: OwnedWords + Drop>(
     alloc: Global,
     value: &Value,
 ) -> Result<Vec<(EventOf<U>, Option<(usize, usize)>)>, JsonError>
-    ensures { IfOk result (λ pairs. view value.now
+    ensures pairs { IfOk result (λ pairs. view value.now
         ≡ pairs_json (map (pair_view U.Words.bytes) pairs.items)) }
+    ensures place { IfErr result (StandsIn pair_json (view value.now)) }
 {
     match value {
         Value::Array(items) => pairs_in(alloc, items),
