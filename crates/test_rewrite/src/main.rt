@@ -3,11 +3,13 @@
 //! Standard input has texts, each as a JSON string on a line of its own. For each there are three lines: whether it stays
 //! as it is where no event was changed; what it becomes where each `http:` destination is one by `https:`; and what it
 //! becomes where each heading moves one level down. Behind a line `%` the texts are only counted. Empty lines and those
-//! that begin with `#` say nothing.
+//! that begin with `#` say nothing. With the argument `https`, `mark` or `lower` there is one line for each text: what it
+//! becomes where that alone is done, `mark` being a word behind each destination.
 #![tactic(auto)]
 
 use serde_json::Value;
 use std::alloc::{AllocError, Global};
+use std::env;
 use std::io::{self, ErrorKind, Read, Write};
 use tocmark::Options;
 use tocmark::core_reader::CoreReader;
@@ -16,28 +18,57 @@ use tocmark::reader::Reader;
 use tocmark_rewrite::edits::{Shift, set_destination, shift_headings};
 use tocmark_rewrite::{Fault, rewritten};
 
+/// What is put behind each destination.
+const MARK: &str = "-marked";
+
 /// What is done with the events of a text.
 #[derive(Clone, Copy)]
 enum Edit {
     Nothing,
     Secure,
+    Mark,
     Lower,
 }
 
-/// The destination of a link or an image behind `http:`, if it begins so.
-fn without_scheme<'e>(event: &'e Event<'static>) -> Option<&'e str> {
+fn edit_named(name: &str) -> io::Result<Edit> {
+    match name {
+        "https" => Ok(Edit::Secure),
+        "mark" => Ok(Edit::Mark),
+        "lower" => Ok(Edit::Lower),
+        _ => Err(io::Error::from(ErrorKind::InvalidInput)),
+    }
+}
+
+/// Where an event leads, if it begins a link or an image.
+fn destination_in<'e>(event: &'e Event<'static>) -> Option<&'e str> {
     match event {
-        Event::Start(Tag::Link { dest_url, .. }) => dest_url.as_ref().strip_prefix("http:"),
-        Event::Start(Tag::Image { dest_url, .. }) => dest_url.as_ref().strip_prefix("http:"),
+        Event::Start(Tag::Link { dest_url, .. }) => Some(dest_url.as_ref()),
+        Event::Start(Tag::Image { dest_url, .. }) => Some(dest_url.as_ref()),
         _ => None,
     }
 }
 
-/// The same destination by `https:`, if an event has one by `http:`.
-fn secure(alloc: Global, event: &Event<'static>) -> Result<Option<String>, AllocError> {
-    match without_scheme(event) {
+/// The same destination by `https:`, if it is one by `http:`.
+fn secured(alloc: Global, destination: &str) -> Result<Option<String>, AllocError> {
+    match destination.strip_prefix("http:") {
         None => Ok(None),
         Some(rest) => Ok(Some(format!(in alloc; "https:{rest}")?)),
+    }
+}
+
+/// Where an event is to lead, if that isn't where it leads.
+fn changed(
+    alloc: Global,
+    event: &Event<'static>,
+    edit: Edit,
+) -> Result<Option<String>, AllocError> {
+    let Some(destination) = destination_in(event) else {
+        return Ok(None);
+    };
+    match edit {
+        Edit::Secure => secured(alloc, destination),
+        Edit::Mark => Ok(Some(format!(in alloc; "{destination}{MARK}")?)),
+        Edit::Nothing | Edit::Lower => Ok(None),
     }
 }
 
@@ -48,14 +79,14 @@ fn make_edit(
 ) -> Result<(), AllocError> {
     match edit {
         Edit::Nothing => {}
-        Edit::Secure => {
+        Edit::Lower => shift_headings(events, Shift::Down(1)),
+        Edit::Secure | Edit::Mark => {
             for (event, _range) in events.iter_mut() {
-                if let Some(destination) = secure(alloc, event)? {
+                if let Some(destination) = changed(alloc, event, edit)? {
                     set_destination(event, CowStr::Owned(destination));
                 }
             }
         }
-        Edit::Lower => shift_headings(events, Shift::Down(1)),
     }
     Ok(())
 }
@@ -163,8 +194,26 @@ fn answer_all<W: Write>(alloc: Global, output: &mut W, lines: &str) -> io::Resul
     Ok(())
 }
 
+/// A line for each text: what it becomes.
+fn answer_one<W: Write>(alloc: Global, output: &mut W, lines: &str, how: Edit) -> io::Result<()> {
+    for line in lines.split('\n') {
+        if !line.is_empty() && !line.starts_with('#') {
+            let text = text_of(alloc, line)?;
+            write_edited(alloc, output, text.as_str(), how)?;
+        }
+    }
+    Ok(())
+}
+
 fn main(rt: HostRuntime) -> io::Result<()> {
     let mut lines = String::new(rt.alloc());
     rt.stdin().read_to_string(&mut lines)?;
-    answer_all(rt.alloc(), &mut rt.stdout(), lines.as_str())
+    let mut output = rt.stdout();
+    match env::args(&rt)?.nth(1) {
+        None => answer_all(rt.alloc(), &mut output, lines.as_str()),
+        Some(name) => {
+            let how = edit_named(name.as_str())?;
+            answer_one(rt.alloc(), &mut output, lines.as_str(), how)
+        }
+    }
 }

@@ -59,16 +59,18 @@ pub struct Rewritten {
     pub trees: Vec<RewrittenTree>,
 }
 
-/// The first part from one on that copies all of these bytes.
+/// The first part from one on that copies all of these bytes; none is looked for behind one that copies later bytes.
 fn part_of(parts: &[Part], next: usize, from: usize, to: usize) -> Option<usize>
     ensures { IfSome result (λ at. Copies parts.now at from to) }
 {
     for at in next..parts.len() {
-        if let Some(Part::Source(first, past)) = parts.get(at)
-            && *first <= from
-            && to <= *past
-        {
-            return Some(at);
+        if let Some(Part::Source(first, past)) = parts.get(at) {
+            if *first <= from && to <= *past {
+                return Some(at);
+            }
+            if *first > from {
+                return None;
+            }
         }
     }
     None

@@ -103,7 +103,8 @@ pub fn set_text(event: &mut Event<'static>, text: CowStr<'static>)
     }
 }
 
-fn number_of(level: HeadingLevel) -> usize
+/// How many `#` a heading of this level has.
+pub fn number_of(level: HeadingLevel) -> usize
     ensures { result ≡ number_of level }
 {
     match level {
@@ -134,7 +135,8 @@ fn level_of(number: usize) -> HeadingLevel
     }
 }
 
-fn shifted(level: HeadingLevel, shift: Shift) -> HeadingLevel
+/// A level that is moved; not above the first nor below the sixth.
+pub fn shifted(level: HeadingLevel, shift: Shift) -> HeadingLevel
     ensures { result ≡ shifted shift level }
 {
     match shift {

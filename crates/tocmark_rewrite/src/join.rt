@@ -29,6 +29,13 @@ pub(crate) fn patched(alloc: Global, source: &str, patches: &[Patch]) -> Result<
     Ok(output)
 }
 
+/// What stands between the blocks of the source: where these are, and which definitions are written anew.
+#[derive(Clone, Copy)]
+struct Between<'b> {
+    blocks: &'b [Block],
+    definitions: &'b Definitions,
+}
+
 /// The source between the tree before this one and this one.
 fn gap(source: &str, blocks: &[Block], k: usize) -> (usize, usize) {
     let from = match k.checked_sub(1) {
@@ -62,8 +69,7 @@ fn separate(alloc: Global, source: &str, output: &mut Output) -> Result<(), Allo
 fn put_gaps(
     alloc: Global,
     source: &str,
-    blocks: &[Block],
-    definitions: &Definitions,
+    between: Between<'_>,
     first: usize,
     last: usize,
     output: &mut Output,
@@ -72,11 +78,11 @@ fn put_gaps(
     ensures { OnOk result (IsMadeOf source.now (string_bytes output.new.text) output.new.parts.items) }
 {
     for k in first..last {
-        let (from, to) = gap(source, blocks, k);
+        let (from, to) = gap(source, between.blocks, k);
         if has_text(source.as_bytes(), from, to) {
             separate(alloc, source, output)?;
             let (start, past) = trimmed(source.as_bytes(), from, to);
-            copy_lines(alloc, source, definitions, start, past, output)?;
+            copy_lines(alloc, source, between.definitions, start, past, output)?;
         }
     }
     Ok(())
@@ -174,27 +180,20 @@ fn put_definitions(
 fn put_tail(
     alloc: Global,
     source: &str,
-    blocks: &[Block],
-    definitions: &Definitions,
+    between: Between<'_>,
     next: usize,
     output: &mut Output,
 ) -> Result<(), AllocError>
     requires { IsMadeOf source.now (string_bytes output.old.text) output.old.parts.items }
     ensures { OnOk result (IsMadeOf source.now (string_bytes output.new.text) output.new.parts.items) }
 {
-    if next == blocks.len() {
-        let (from, to) = gap(source, blocks, next);
-        return copy_lines(alloc, source, definitions, from, to, output);
+    let count = between.blocks.len();
+    if next == count {
+        let (from, to) = gap(source, between.blocks, next);
+        return copy_lines(alloc, source, between.definitions, from, to, output);
     }
-    put_gaps(
-        alloc,
-        source,
-        blocks,
-        definitions,
-        next,
-        blocks.len().saturating_add(1),
-        output,
-    )?;
+    let past = count.saturating_add(1);
+    put_gaps(alloc, source, between, next, past, output)?;
     if source.ends_with("\r\n") {
         output.put(source, String::from_str(alloc, "\r\n")?)?;
     } else if source.ends_with("\n") {
@@ -207,8 +206,7 @@ fn put_tail(
 fn put_before(
     alloc: Global,
     source: &str,
-    blocks: &[Block],
-    definitions: &Definitions,
+    between: Between<'_>,
     next: usize,
     stands_for: Option<usize>,
     raw: bool,
@@ -221,18 +219,11 @@ fn put_before(
         None => separate(alloc, source, output),
         Some(place) => {
             if raw && place == next {
-                let (from, to) = gap(source, blocks, place);
-                return copy_lines(alloc, source, definitions, from, to, output);
+                let (from, to) = gap(source, between.blocks, place);
+                return copy_lines(alloc, source, between.definitions, from, to, output);
             }
-            put_gaps(
-                alloc,
-                source,
-                blocks,
-                definitions,
-                next,
-                place.saturating_add(1),
-                output,
-            )?;
+            let past = place.saturating_add(1);
+            put_gaps(alloc, source, between, next, past, output)?;
             separate(alloc, source, output)
         }
     }
@@ -270,29 +261,24 @@ pub(crate) fn joined(
     let mut output = Output::new(alloc, source);
     let none = Definitions::none(alloc);
     let redefined = if manner.redefines { definitions } else { &none };
+    let between = Between {
+        blocks,
+        definitions: redefined,
+    };
     // the first block of the source that isn't passed, and whether the one before was kept
     let mut next = 0usize;
     let mut follows = true;
     for (plan, piece) in plans.iter().zip(pieces) {
         let raw = !manner.apart || (follows && plan.kept.is_some());
         let place = plan.stands_for;
-        put_before(
-            alloc,
-            source,
-            blocks,
-            redefined,
-            next,
-            place,
-            raw,
-            &mut output,
-        )?;
+        put_before(alloc, source, between, next, place, raw, &mut output)?;
         put_block(source, plan, piece, &mut output)?;
         if let Some(place) = place {
             next = place.saturating_add(1);
         }
         follows = plan.kept.is_some();
     }
-    put_tail(alloc, source, blocks, redefined, next, &mut output)?;
+    put_tail(alloc, source, between, next, &mut output)?;
     if manner.defines {
         put_definitions(alloc, source, definitions, &mut output)?;
     }

@@ -3,6 +3,7 @@
 //! What is made here is tried, and no more: `rewritten` answers a text only if it is read as the events
 //! that were given.
 
+use crate::edits::number_of;
 use crate::trees::line_end;
 use std::alloc::{AllocError, Global};
 use std::collections::HashMap;
@@ -24,8 +25,8 @@ pub(crate) struct Patch {
 #[derive(Drop)]
 pub(crate) struct Patches {
     pub(crate) list: Vec<Patch>,
-    /// The new destinations of definitions, by the key of the label.
-    definitions: HashMap<String, String>,
+    /// The old destination of definitions and the new one, by the key of the label.
+    definitions: HashMap<String, (String, String)>,
     /// The Starts that are open.
     open: Vec<usize>,
     /// Whether a text stands as it is, as in code.
@@ -160,6 +161,94 @@ fn spelled_destination(alloc: Global, text: &str) -> Result<String, AllocError> 
     String::from_str(alloc, closing.as_str().get(2..end).unwrap_or(""))
 }
 
+/// How many bytes two texts begin with alike.
+fn common_front(one: &str, other: &str) -> usize {
+    let (left, right) = (one.as_bytes(), other.as_bytes());
+    for at in 0..left.len().min(right.len()) {
+        if left.get(at) != right.get(at) {
+            return at;
+        }
+    }
+    left.len().min(right.len())
+}
+
+/// The text of which some bytes in the middle are replaced, if these are whole characters.
+fn with_middle(
+    alloc: Global,
+    text: &str,
+    from: usize,
+    to: usize,
+    middle: &str,
+) -> Result<Option<String>, AllocError> {
+    let (Some(front), Some(back)) = (text.get(..from), text.get(to..)) else {
+        return Ok(None);
+    };
+    Ok(Some(format!(in alloc; "{front}{middle}{back}")?))
+}
+
+/// The text of a spelling, in which some bytes at one place were put in or taken out to make a new text of the old one;
+/// none if that isn't how they differ, or if the spelling differs from the old text before that place. The text begins
+/// at a byte of the spelling.
+fn with_change(
+    alloc: Global,
+    spelled: &str,
+    begins: usize,
+    old: &str,
+    new: &str,
+) -> Result<Option<String>, AllocError> {
+    let front = common_front(old, new);
+    let same = common_front(spelled.get(begins..).unwrap_or(""), old);
+    let (Some(left), Some(right)) = (old.get(front..), new.get(front..)) else {
+        return Ok(None);
+    };
+    let place = begins.saturating_add(front);
+    if let Some(added) = right.strip_suffix(left)
+        && is_bare(added)
+        && same >= front
+    {
+        return with_middle(alloc, spelled, place, place, added);
+    }
+    match left.strip_suffix(right) {
+        Some(taken) if same >= front.saturating_add(taken.len()) => {
+            let past = place.saturating_add(taken.len());
+            with_middle(alloc, spelled, place, past, "")
+        }
+        _ => Ok(None),
+    }
+}
+
+/// A changed destination that is spelled as the old one was, but for the bytes in which the two differ; none if these
+/// aren't found there.
+fn spelled_alike(
+    alloc: Global,
+    spelled: &str,
+    old: &str,
+    new: &str,
+) -> Result<Option<String>, AllocError> {
+    let begins = usize::from(spelled.starts_with('<'));
+    if let Some(added) = new.strip_prefix(old)
+        && is_bare(added)
+        && !spelled.is_empty()
+    {
+        let end = spelled.len().saturating_sub(begins);
+        return with_middle(alloc, spelled, end, end, added);
+    }
+    with_change(alloc, spelled, begins, old, new)
+}
+
+/// A changed destination in place of the old one, which is spelled so: as little as can be is spelled anew.
+fn respelled(alloc: Global, spelled: &str, old: &str, new: &str) -> Result<String, AllocError> {
+    match spelled_alike(alloc, spelled, old, new)? {
+        Some(text) => Ok(text),
+        None => spelled_destination(alloc, new),
+    }
+}
+
+/// Whether a byte may stand before a definition on its line: a blank, or one of a container's mark.
+fn is_marking(byte: u8) -> bool {
+    b" \t>-+*.)0123456789".contains(&byte)
+}
+
 /// A title as it is spelled, behind a space; nothing for the empty one.
 fn spelled_title(alloc: Global, text: &str) -> Result<String, AllocError> {
     let closing = closing(alloc, "a", text)?;
@@ -202,8 +291,9 @@ fn inline_patch(
         text: String::new(alloc),
     };
     if old.destination != new.destination {
+        let spelled = source.get(start..word.next).unwrap_or("");
         patch.from = start;
-        patch.text = spelled_destination(alloc, new.destination)?;
+        patch.text = respelled(alloc, spelled, old.destination, new.destination)?;
     }
     if old.title != new.title {
         patch.to = last;
@@ -237,17 +327,6 @@ fn address_patch(
         to: range.1,
         text,
     }))
-}
-
-fn number_of(level: HeadingLevel) -> usize {
-    match level {
-        HeadingLevel::H1 => 1,
-        HeadingLevel::H2 => 2,
-        HeadingLevel::H3 => 3,
-        HeadingLevel::H4 => 4,
-        HeadingLevel::H5 => 5,
-        HeadingLevel::H6 => 6,
-    }
 }
 
 /// A heading of another level: its `#`, or the line under it.
@@ -319,6 +398,33 @@ fn text_patch(
     }))
 }
 
+/// What of an event can be replaced by itself.
+#[derive(Clone, Copy)]
+enum ReplaceablePart<'t> {
+    Text(&'t str),
+    Html(&'t str),
+    Info(&'t str),
+    Level(HeadingLevel),
+}
+
+fn replaceable_part_of_tag<'t>(tag: &'t Tag<'_>) -> Option<ReplaceablePart<'t>> {
+    match tag {
+        Tag::CodeBlock(CodeBlockKindOf::Fenced(info)) => Some(ReplaceablePart::Info(info.as_ref())),
+        Tag::Heading { level, .. } => Some(ReplaceablePart::Level(*level)),
+        _ => None,
+    }
+}
+
+fn replaceable_part<'t>(event: &'t Event<'_>) -> Option<ReplaceablePart<'t>> {
+    match event {
+        Event::Start(tag) => replaceable_part_of_tag(tag),
+        Event::Text(text) => Some(ReplaceablePart::Text(text.as_ref())),
+        Event::Html(text) => Some(ReplaceablePart::Html(text.as_ref())),
+        Event::InlineHtml(text) => Some(ReplaceablePart::Html(text.as_ref())),
+        _ => None,
+    }
+}
+
 /// The patch for an event of the source that was changed; none where there is no small one.
 fn event_patch(
     alloc: Global,
@@ -327,20 +433,23 @@ fn event_patch(
     old: &(Event<'_>, (usize, usize)),
     new: &Event<'_>,
 ) -> Result<Option<Patch>, AllocError> {
-    match (&old.0, new) {
-        (Event::Text(_), Event::Text(text)) => text_patch(alloc, old.1, is_raw, text.as_ref()),
-        (Event::Html(_), Event::Html(text)) => text_patch(alloc, old.1, true, text.as_ref()),
-        (Event::InlineHtml(_), Event::InlineHtml(text)) => {
-            text_patch(alloc, old.1, true, text.as_ref())
+    let range = old.1;
+    let (Some(before), Some(after)) = (replaceable_part(&old.0), replaceable_part(new)) else {
+        return Ok(None);
+    };
+    match (before, after) {
+        (ReplaceablePart::Text(_), ReplaceablePart::Text(text)) => text_patch(
+            alloc, range, is_raw, text,
+        ),
+        (ReplaceablePart::Html(_), ReplaceablePart::Html(text)) => text_patch(
+            alloc, range, true, text,
+        ),
+        (ReplaceablePart::Info(_), ReplaceablePart::Info(info)) => info_patch(
+            alloc, source, range.0, info,
+        ),
+        (ReplaceablePart::Level(level), ReplaceablePart::Level(other)) => {
+            heading_patch(alloc, source, range, level, other)
         }
-        (
-            Event::Start(Tag::CodeBlock(CodeBlockKindOf::Fenced(_))),
-            Event::Start(Tag::CodeBlock(CodeBlockKindOf::Fenced(info))),
-        ) => info_patch(alloc, source, old.1.0, info.as_ref()),
-        (
-            Event::Start(Tag::Heading { level, .. }),
-            Event::Start(Tag::Heading { level: other, .. }),
-        ) => heading_patch(alloc, source, old.1, *level, *other),
         _ => Ok(None),
     }
 }
@@ -410,8 +519,9 @@ impl Patches {
         }
         if is_reference(old.link_type) && old.title == new.title {
             let key = key_of(alloc, old.id.as_bytes())?;
-            self.definitions
-                .insert(key, spelled_destination(alloc, new.destination)?)?;
+            let old = String::from_str(alloc, old.destination)?;
+            let new = String::from_str(alloc, new.destination)?;
+            self.definitions.insert(key, (old, new))?;
             return Ok(true);
         }
         if old.link_type != LinkType::Inline {
@@ -524,29 +634,40 @@ impl Patches {
         let key = key_of(alloc, bytes.get(word.start..word.end).unwrap_or(&[]))?;
         match self.definitions.remove(key.as_str()) {
             None => Ok(None),
-            Some(text) => Ok(Some(Patch {
+            Some(change) => Ok(Some(Patch {
                 from,
                 to: old.next,
-                text,
+                text: respelled(
+                    alloc,
+                    source.get(from..old.next).unwrap_or(""),
+                    change.0.as_str(),
+                    change.1.as_str(),
+                )?,
             })),
         }
     }
 
-    /// Adds those of the definitions: the first one of each label whose destination was changed.
+    /// Adds those of the definitions, the first one of each label whose destination was changed, and puts all in the
+    /// order of their places.
     pub(crate) fn add_definitions(
         &mut self,
         alloc: Global,
         source: &str,
     ) -> Result<(), AllocError> {
-        if self.definitions.is_empty() {
-            return Ok(());
-        }
+        // whether nothing stands before on the line but marks of containers
+        let mut begins = true;
         for at in 0..source.len() {
-            if byte_at(source, at) == b'['
+            if self.definitions.is_empty() {
+                break;
+            }
+            let byte = byte_at(source, at);
+            if begins
+                && byte == b'['
                 && let Some(patch) = self.definition(alloc, source, at)?
             {
                 self.list.push(patch)?;
             }
+            begins = byte == b'\n' || byte == b'\r' || begins && is_marking(byte);
         }
         self.list.sort_by_key(|patch| patch.from)?;
         Ok(())

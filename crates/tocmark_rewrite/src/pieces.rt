@@ -12,6 +12,17 @@ use tocmark_event::options::{Error, Options};
 use tocmark_event::reader::Reader;
 use tocmark_state::state::State;
 
+/// What reading and writing take beside a text or its events.
+#[derive(Drop)]
+pub(crate) struct Tools<'t, 'o, R> {
+    pub(crate) alloc: Global,
+    pub(crate) reader: &'t R,
+    pub(crate) flags: ParserOptions,
+    pub(crate) options: Options<'o>,
+    /// Whether lines of the source end with a carriage return and a line feed.
+    pub(crate) has_returns: bool,
+}
+
 /// A changed tree as it is written; empty for a kept one.
 #[derive(Drop)]
 pub(crate) struct Piece {
@@ -30,18 +41,24 @@ pub(crate) struct Definitions {
 }
 
 /// A text with the line ends of the source, without line feeds before it.
-fn in_manner_of(alloc: Global, source: &str, text: &str) -> Result<String, AllocError> {
+fn in_manner_of(alloc: Global, has_returns: bool, text: &str) -> Result<String, AllocError> {
     let bare = text.trim_start_matches('\n');
-    if source.contains("\r\n") {
+    if has_returns {
         bare.replace(alloc, "\n", "\r\n")
     } else {
         String::from_str(alloc, bare)
     }
 }
 
-/// The options with the bullet with which a tree begins in the source.
-fn with_bullet<'o>(source: &str, begins: usize, options: Options<'o>) -> Options<'o> {
-    match source.as_bytes().get(begins) {
+/// The byte behind the digits that begin at a place; the place itself where there are none.
+fn behind_digits(source: &str, begins: usize) -> Option<&u8> {
+    let digits = source.as_bytes().get(begins..)?;
+    digits.iter().find(|byte| !byte.is_ascii_digit())
+}
+
+/// The options with the bullet, or the sign behind the number, with which a tree begins in the source.
+fn with_marker<'o>(source: &str, begins: usize, options: Options<'o>) -> Options<'o> {
+    match behind_digits(source, begins) {
         Some(b'-') => Options {
             list_token: '-',
             ..options
@@ -52,6 +69,14 @@ fn with_bullet<'o>(source: &str, begins: usize, options: Options<'o>) -> Options
         },
         Some(b'*') => Options {
             list_token: '*',
+            ..options
+        },
+        Some(b')') => Options {
+            ordered_list_token: ')',
+            ..options
+        },
+        Some(b'.') => Options {
+            ordered_list_token: '.',
             ..options
         },
         _ => options,
@@ -71,22 +96,23 @@ fn hand<'a, R: Reader + Drop>(
     Ok(())
 }
 
-/// A tree and the definitions that it asks for, written by a state of its own.
+/// A tree that begins at a byte of the source, and the definitions that it asks for, written by a state
+/// of its own.
 pub(crate) fn write_tree<'a, R: Reader>(
-    alloc: Global,
+    tools: &Tools<'_, '_, R>,
     source: &str,
+    begins: usize,
     events: &'a [(Event<'a>, (usize, usize))],
-    reader: &R,
-    flags: ParserOptions,
-    options: Options<'_>,
 ) -> Result<Piece, Error> {
+    let alloc = tools.alloc;
+    let options = with_marker(source, begins, tools.options);
     let mut texts = Texts::new(alloc);
-    let mut state = State::new(alloc, reader, flags, options)?;
+    let mut state = State::new(alloc, tools.reader, tools.flags, options)?;
     let handed = hand(&mut state, source, events, &mut texts);
     drop(state);
     handed?;
-    let body = in_manner_of(alloc, source, texts.text_at(0))?;
-    let ends = in_manner_of(alloc, source, texts.text_at(1))?;
+    let body = in_manner_of(alloc, tools.has_returns, texts.text_at(0))?;
+    let ends = in_manner_of(alloc, tools.has_returns, texts.text_at(1))?;
     Ok(Piece {
         body,
         definitions: ends,
@@ -103,24 +129,20 @@ pub(crate) fn events_of<'e>(
 
 /// The piece of a tree, or why and where it is refused.
 fn piece_of<'a, R: Reader>(
-    alloc: Global,
+    tools: &Tools<'_, '_, R>,
     source: &str,
     blocks: &[Block],
     plan: &Plan,
     events: &'a [(Event<'a>, (usize, usize))],
-    reader: &R,
-    flags: ParserOptions,
-    options: Options<'_>,
 ) -> Result<Piece, Fault> {
     if plan.kept.is_some() {
         return Ok(Piece {
-            body: String::new(alloc),
-            definitions: String::new(alloc),
+            body: String::new(tools.alloc),
+            definitions: String::new(tools.alloc),
         });
     }
     let some = events_of(events, plan.tree);
-    let options = with_bullet(source, plan.tree.begins, options);
-    match write_tree(alloc, source, some, reader, flags, options) {
+    match write_tree(tools, source, plan.tree.begins, some) {
         Ok(piece) => Ok(piece),
         Err(Error::OutOfMemory) => Err(Fault::OutOfMemory),
         Err(error) => Err(Fault::Refused(place_of(blocks, plan), error)),
@@ -129,18 +151,15 @@ fn piece_of<'a, R: Reader>(
 
 /// The trees that aren't kept, each written by itself. An `Err` names the first one that is refused.
 pub(crate) fn make_pieces<'a, R: Reader>(
-    alloc: Global,
+    tools: &Tools<'_, '_, R>,
     source: &str,
     blocks: &[Block],
     plans: &[Plan],
     events: &'a [(Event<'a>, (usize, usize))],
-    reader: &R,
-    flags: ParserOptions,
-    options: Options<'_>,
 ) -> Result<Vec<Piece>, Fault> {
-    let mut all = Vec::new(alloc);
+    let mut all = Vec::new(tools.alloc);
     for plan in plans {
-        let piece = piece_of(alloc, source, blocks, plan, events, reader, flags, options)?;
+        let piece = piece_of(tools, source, blocks, plan, events)?;
         all.push(piece)?;
     }
     Ok(all)

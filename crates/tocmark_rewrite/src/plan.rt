@@ -6,7 +6,7 @@ ghost use Rattle.tocmark_rewrite.specs.Given.{given_events};
 ghost use Rattle.tocmark_rewrite.specs.Kept.{AreSame, HasEventsOf, IsHonest};
 
 use crate::fault::Place;
-use crate::same::are_same;
+use crate::same::{are_same, differ};
 use crate::trees::{Block, Tree};
 use std::alloc::{AllocError, Global};
 use tocmark_event::event::Event;
@@ -40,6 +40,9 @@ fn have_same(
     let Some(right) = events.get(tree.first..tree.past) else {
         return Ok(false);
     };
+    if differ(left, right) {
+        return Ok(false);
+    }
     let same = are_same(alloc, left, right)?;
     Ok(same)
 }

@@ -13,9 +13,9 @@ use crate::fault::{Fault, Place};
 use crate::join::{Manner, joined, patched};
 use crate::output::{Output, Part};
 use crate::patch::{Patch, Patches};
-use crate::pieces::{Definitions, Piece, events_of, make_pieces, write_tree};
+use crate::pieces::{Definitions, Tools, events_of, make_pieces, write_tree};
 use crate::plan::{Plan, place_of, planned};
-use crate::same::are_same;
+use crate::same::{are_same, differ};
 use crate::trees::{Block, Tree, blocks, trees};
 use std::alloc::{AllocError, Global};
 use tocmark_event::event::{Event, ParserOptions};
@@ -49,21 +49,21 @@ fn is_read_as<R: Reader>(
 
 /// The new text, if it is read as the events.
 fn accepted<R: Reader>(
-    alloc: Global,
+    tools: &Tools<'_, '_, R>,
     source: &str,
     output: Output,
-    reader: &R,
-    flags: ParserOptions,
     events: &[(Event<'_>, (usize, usize))],
 ) -> Result<Option<Output>, AllocError>
     requires { IsMadeOf source.now (string_bytes output.text) output.parts.items }
     ensures same { IfOk result (λ answer. IfSome answer (λ output.
-        merged (found_events (R.reading reader.now (string_bytes output.text) flags))
+        merged (found_events
+        (R.reading tools.now.reader.now (string_bytes output.text) tools.now.flags))
         ≡ merged (given_events events.now))) }
     ensures parts { IfOk result (λ answer. IfSome answer (λ output.
         IsMadeOf source.now (string_bytes output.text) output.parts.items)) }
 {
-    if is_read_as(alloc, reader, flags, output.text.as_str(), events)? {
+    let text = output.text.as_str();
+    if is_read_as(tools.alloc, tools.reader, tools.flags, text, events)? {
         Ok(Some(output))
     } else {
         Ok(None)
@@ -137,16 +137,13 @@ fn add_small<'a>(
 
 /// Adds the patch that replaces a block's lines by its tree as it is written; false if it is refused.
 fn add_written<'a, R: Reader>(
-    alloc: Global,
+    tools: &Tools<'_, '_, R>,
     source: &str,
     patches: &mut Patches,
     block: Block,
     new: &'a [(Event<'a>, (usize, usize))],
-    reader: &R,
-    flags: ParserOptions,
-    options: Options<'_>,
 ) -> Result<bool, AllocError> {
-    let Ok(piece) = write_tree(alloc, source, new, reader, flags, options) else {
+    let Ok(piece) = write_tree(tools, source, block.begins, new) else {
         return Ok(false);
     };
     patches.list.push(Patch {
@@ -159,33 +156,22 @@ fn add_written<'a, R: Reader>(
 
 /// The patches of all trees, where each stands for the block in its place; none if one is refused.
 fn all_patches<'a, R: Reader>(
-    alloc: Global,
+    tools: &Tools<'_, '_, R>,
     source: &str,
     work: &Work<'_>,
     events: &'a [(Event<'a>, (usize, usize))],
-    reader: &R,
-    flags: ParserOptions,
-    options: Options<'_>,
 ) -> Result<Option<Patches>, AllocError> {
     if !are_in_place(work) {
         return Ok(None);
     }
+    let alloc = tools.alloc;
     let mut patches = Patches::new(alloc);
     for (plan, block) in work.plans.iter().zip(work.blocks) {
         if plan.kept.is_none() {
             let old = work.found.get(block.first..block.past).unwrap_or(&[]);
             let new = events_of(events, plan.tree);
             if !add_small(alloc, source, &mut patches, old, new)?
-                && !add_written(
-                    alloc,
-                    source,
-                    &mut patches,
-                    *block,
-                    new,
-                    reader,
-                    flags,
-                    options,
-                )?
+                && !add_written(tools, source, &mut patches, *block, new)?
             {
                 return Ok(None);
             }
@@ -197,26 +183,24 @@ fn all_patches<'a, R: Reader>(
 
 /// The source with just what was edited replaced, if it is read as the events.
 fn patched_text<'a, R: Reader>(
-    alloc: Global,
+    tools: &Tools<'_, '_, R>,
     source: &str,
     work: &Work<'_>,
     events: &'a [(Event<'a>, (usize, usize))],
-    reader: &R,
-    flags: ParserOptions,
-    options: Options<'_>,
 ) -> Result<Option<Output>, AllocError>
     ensures same { IfOk result (λ answer. IfSome answer (λ output.
-        merged (found_events (R.reading reader.now (string_bytes output.text) flags))
+        merged (found_events
+        (R.reading tools.now.reader.now (string_bytes output.text) tools.now.flags))
         ≡ merged (given_events events.now))) }
     ensures parts { IfOk result (λ answer. IfSome answer (λ output.
         IsMadeOf source.now (string_bytes output.text) output.parts.items)) }
 {
-    let Some(patches) = all_patches(alloc, source, work, events, reader, flags, options)? else {
+    let Some(patches) = all_patches(tools, source, work, events)? else {
         return Ok(None);
     };
-    let output = patched(alloc, source, &patches.list)?;
+    let output = patched(tools.alloc, source, &patches.list)?;
     drop(patches);
-    accepted(alloc, source, output, reader, flags, events)
+    accepted(tools, source, output, events)
 }
 
 /// Whether a tree that was read is one that was given.
@@ -236,14 +220,13 @@ fn is_tree<'e>(
 
 /// The first tree at which a text is read otherwise.
 fn difference<R: Reader>(
-    alloc: Global,
+    tools: &Tools<'_, '_, R>,
     work: &Work<'_>,
     events: &[(Event<'_>, (usize, usize))],
-    reader: &R,
-    flags: ParserOptions,
     text: &str,
 ) -> Result<Place, AllocError> {
-    let reading = reader.read(alloc, text, flags)?;
+    let alloc = tools.alloc;
+    let reading = tools.reader.read(alloc, text, tools.flags)?;
     let found = trees(alloc, &reading.events)?;
     let mut place = Place {
         event: 0,
@@ -264,22 +247,21 @@ fn difference<R: Reader>(
 
 /// Kept blocks and written ones side by side, in the first manner in which they are read as the events.
 fn joined_text<'a, R: Reader>(
-    alloc: Global,
+    tools: &Tools<'_, '_, R>,
     source: &str,
     work: &Work<'_>,
     events: &'a [(Event<'a>, (usize, usize))],
-    reader: &R,
-    flags: ParserOptions,
-    options: Options<'_>,
 ) -> Result<Output, Fault>
     ensures same { IfOk result (λ output.
-        merged (found_events (R.reading reader.now (string_bytes output.text) flags))
+        merged (found_events
+        (R.reading tools.now.reader.now (string_bytes output.text) tools.now.flags))
         ≡ merged (given_events events.now)) }
     ensures parts { IfOk result (λ output.
         IsMadeOf source.now (string_bytes output.text) output.parts.items) }
 {
+    let alloc = tools.alloc;
     let (blocks, plans) = (work.blocks, work.plans);
-    let pieces = make_pieces(alloc, source, blocks, plans, events, reader, flags, options)?;
+    let pieces = make_pieces(tools, source, blocks, plans, events)?;
     let definitions = Definitions::of(alloc, &pieces)?;
     let mut manner = Manner {
         apart: false,
@@ -294,42 +276,40 @@ fn joined_text<'a, R: Reader>(
                 defines,
             };
             let output = joined(alloc, source, blocks, plans, &pieces, &definitions, manner)?;
-            if let Some(output) = accepted(alloc, source, output, reader, flags, events)? {
+            if let Some(output) = accepted(tools, source, output, events)? {
                 return Ok(output);
             }
         }
     }
     let last = joined(alloc, source, blocks, plans, &pieces, &definitions, manner)?;
-    let place = difference(alloc, work, events, reader, flags, last.text.as_str())?;
+    let place = difference(tools, work, events, last.text.as_str())?;
     Err(Fault::ReadOtherwise(place))
 }
 
 /// The new text: the source if nothing was changed, else with patches, else kept and written blocks.
 fn new_text<'a, R: Reader>(
-    alloc: Global,
+    tools: &Tools<'_, '_, R>,
     source: &str,
     work: &Work<'_>,
     events: &'a [(Event<'a>, (usize, usize))],
-    reader: &R,
-    flags: ParserOptions,
-    options: Options<'_>,
 ) -> Result<Output, Fault>
     requires { given_events work.now.found.now
-        ≡ found_events (R.reading reader.now source.now flags) }
+        ≡ found_events (R.reading tools.now.reader.now source.now tools.now.flags) }
     ensures same { IfOk result (λ output.
-        merged (found_events (R.reading reader.now (string_bytes output.text) flags))
+        merged (found_events
+        (R.reading tools.now.reader.now (string_bytes output.text) tools.now.flags))
         ≡ merged (given_events events.now)) }
     ensures parts { IfOk result (λ output.
         IsMadeOf source.now (string_bytes output.text) output.parts.items) }
 {
-    if are_same(alloc, work.found, events)? {
-        let output = whole(alloc, source)?;
+    if !differ(work.found, events) && are_same(tools.alloc, work.found, events)? {
+        let output = whole(tools.alloc, source)?;
         return Ok(output);
     }
-    if let Some(output) = patched_text(alloc, source, work, events, reader, flags, options)? {
+    if let Some(output) = patched_text(tools, source, work, events)? {
         return Ok(output);
     }
-    joined_text(alloc, source, work, events, reader, flags, options)
+    joined_text(tools, source, work, events)
 }
 
 /// The edited document: what wasn't changed stays byte for byte.
@@ -377,7 +357,14 @@ pub fn rewritten<'a, R: Reader>(
         blocks: &blocks,
         plans: &plans,
     };
-    let output = new_text(alloc, source, &work, events, reader, flags, options)?;
+    let tools = Tools {
+        alloc,
+        reader,
+        flags,
+        options,
+        has_returns: source.contains("\r\n"),
+    };
+    let output = new_text(&tools, source, &work, events)?;
     let answer = answer(alloc, &work, output)?;
     Ok(answer)
 }

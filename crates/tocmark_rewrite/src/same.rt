@@ -12,6 +12,13 @@ use std::alloc::{AllocError, Global};
 use tocmark_event::event::Event;
 use tocmark_write_read_back::event::{same_event, same_events};
 
+fn is_text(event: &Event<'_>) -> bool {
+    match event {
+        Event::Text(_) => true,
+        _ => false,
+    }
+}
+
 /// Whether two lists have the same events, one by one. It takes no memory.
 fn are_equal(found: &[(Event<'_>, (usize, usize))], given: &[(Event<'_>, (usize, usize))]) -> bool
     ensures { result ≡ same_events (given_events found.now) (given_events given.now) }
@@ -55,4 +62,18 @@ pub(crate) fn are_same(
         return Ok(true);
     }
     are_alike(alloc, found, given)
+}
+
+/// Whether the first events in which two lists differ are there on both sides, and neither is a text: then
+/// the lists say different things however texts are cut. It takes no memory.
+pub(crate) fn differ(
+    found: &[(Event<'_>, (usize, usize))],
+    given: &[(Event<'_>, (usize, usize))],
+) -> bool {
+    for (one, other) in found.iter().zip(given) {
+        if !same_event(&one.0, &other.0) {
+            return !is_text(&one.0) && !is_text(&other.0);
+        }
+    }
+    false
 }
