@@ -1,14 +1,21 @@
 # shellcheck shell=bash disable=SC2154
-# What ./tocmark and tools/install share: the program's names, and whether it is what the sources say. It is sourced, with
-# the repository's top in top.
+# What ./tocmark, ./tocmark-events and tools/install share: a program's names, whether it is what the sources say, and
+# an answer where it isn't. It is sourced, with the repository's top in top, and speaks of tocmark then.
 
-name=tocmark_program
-folder=$top/crates/$name
-out=$folder/out
-program=$out/$name
+# name_program COMMAND CRATE BUILDER: from now on it is this program, and BUILDER says what builds it.
+name_program() {
+  command=$1
+  name=$2
+  builder=$3
+  folder=$top/crates/$name
+  out=$folder/out
+  program=$out/$name
+  find_crates
+  find_sources
+}
 
 say() {
-  printf 'tocmark: %s\n' "$1" >&2
+  printf '%s: %s\n' "$command" "$1" >&2
 }
 
 fail() {
@@ -16,9 +23,12 @@ fail() {
   exit 1
 }
 
+# rt answers Ctrl-C by a status of its own, behind which a script would go on.
+trap 'say interrupted; trap - INT; kill -INT $$' INT
+
 ask_for_rt() {
   command -v rt >/dev/null ||
-    fail "rt isn't on PATH. Install the Rattle toolchain; README.md has the line that 'rt version' prints for the right one"
+    fail "rt isn't on PATH. Install the Rattle toolchain; README.md says what 'rt version' prints of the right one"
 }
 
 # Sets crates: the program's crate and those that it stands on, lowest first, as they stand in crates.txt.
@@ -50,5 +60,31 @@ is_stale() {
   [[ ! -x $program || -n $(find "${sources[@]}" -newer "$program" -print -quit) ]]
 }
 
-find_crates
-find_sources
+# rt try takes standard input for ended where it is silent for two seconds, and may write a part of an answer that it
+# then gives up. So both go through files.
+answer_unproved() {
+  local last
+  ask_for_rt
+  room=$(mktemp -d) || fail "no temporary folder can be made"
+  trap 'rm -rf "$room"' EXIT
+  say "no proved program is built: this answer is unproved and takes a minute or more; $builder"
+  if ! LC_ALL=C cat >"$room/input" 2>"$room/said"; then
+    ! grep -q '^cat: -:' "$room/said" || fail "cannot read standard input"
+    fail "cannot write to the temporary folder $room"
+  fi
+  (cd "$folder" && exec rt try -- "$@") <"$room/input" >"$room/output" 2>"$room/said"
+  last=$(tail -n 1 "$room/said")
+  if [[ $last == run=no-answer* ]] || grep -q '^rt: standard input did not end' "$room/said"; then
+    fail "no unproved answer: rt try stops past 60 seconds, 1 MiB of output or 64 MiB of input, which the proved program doesn't: $builder"
+  fi
+  if [[ ! $last =~ ^run=ended\ status=([0-9]+)\  ]]; then
+    tail -n 20 "$room/said" | cut -c 1-300 >&2
+    fail "no unproved answer: rt try failed in $folder and says what stands above"
+  fi
+  # What rt try adds to the program's own lines stands behind them.
+  sed '/^checked: /,$d; /^interpreter: /d; /^$/d' "$room/said" >&2
+  cat "$room/output" 2>/dev/null || fail "cannot write standard output"
+  exit "${BASH_REMATCH[1]}"
+}
+
+name_program tocmark tocmark_program "tools/install proves and builds the program, in some 40 processor minutes"
