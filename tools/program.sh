@@ -1,12 +1,16 @@
 # shellcheck shell=bash disable=SC2154
-# What ./tocmark, ./tocmark-events and tools/install share: a program's names, whether it is what the sources say, and
+# What ./tocmark, ./tocmark-events and tools/install share: the programs' names, whether one is what the sources say, and
 # an answer where it isn't. It is sourced, with the repository's top in top, and speaks of tocmark then.
 
-# name_program COMMAND CRATE BUILDER: from now on it is this program, and BUILDER says what builds it.
+# Each command with its crate; tools/install builds them in this order.
+declare -A crate_of=([tocmark]=tocmark_program [tocmark-events]=tocmark_events_program)
+commands=(tocmark tocmark-events)
+builder="tools/install proves and builds the programs, in some 50 processor minutes"
+
+# name_program COMMAND: from now on it is this program.
 name_program() {
   command=$1
-  name=$2
-  builder=$3
+  name=${crate_of[$1]}
   folder=$top/crates/$name
   out=$folder/out
   program=$out/$name
@@ -87,4 +91,4 @@ answer_unproved() {
   exit "${BASH_REMATCH[1]}"
 }
 
-name_program tocmark tocmark_program "tools/install proves and builds the program, in some 40 processor minutes"
+name_program tocmark
