@@ -126,8 +126,8 @@ adds_paragraph syntax text find pieces unwrapped b =
 
 adds_kind : (syntax : Syntax) (k : BlockKind) (text : List ℕ) (find : Find) (pieces : List Piece) (unwrapped : Bool) (b : Block) → Adds text (taken_as_in syntax k text find pieces unwrapped b)
 adds_kind syntax kind.Paragraph text find pieces unwrapped b = adds_paragraph syntax text find pieces unwrapped b
-adds_kind syntax (kind.Heading level) text find pieces unwrapped b = adds_wrapped syntax text find pieces b
-adds_kind syntax kind.Quote text find pieces unwrapped b = adds_block text b
+adds_kind syntax (kind.Heading level braces) text find pieces unwrapped b = adds_wrapped syntax text find pieces b
+adds_kind syntax (kind.Quote q) text find pieces unwrapped b = adds_block text b
 adds_kind syntax (kind.List first) text find pieces unwrapped b = adds_block text b
 adds_kind syntax kind.Item text find pieces unwrapped b = adds_block text b
 adds_kind syntax kind.Indented text find pieces unwrapped b = adds_lines text false b pieces

@@ -18,6 +18,7 @@ use Rattle.tocmark_read_blocks.specs.declared.page.BlockKind.{BlockKind}
 use Rattle.tocmark_read_blocks.specs.declared.page.BlockKind.TheVariants as kind
 use Rattle.tocmark_read_inlines.specs.Inlines as inlines
 use Rattle.tocmark_read_spans.specs.declared.definitions.Entry.{Entry}
+use Rattle.tocmark_core_reader.specs.Attributes.{heading_tag}
 use Rattle.tocmark_core_reader.specs.Emitted.{ItemView, NodeView, Container, Given, Writing, emission_view, step}
 use Rattle.tocmark_core_reader.specs.Inlines.{inline_node}
 use Rattle.tocmark_core_reader.specs.Words.{cleaned, info_text, info_text_in, spaces_text, name_text}
@@ -57,11 +58,11 @@ lines_nodes text html depth lines = flat_map (line_nodes text html depth) lines
 
 -- the container that a block is
 unfoldable pub block_tag : List ℕ → BlockKind → view.TagView
-block_tag text kind.Quote = view.BlockQuote None
+block_tag text (kind.Quote k) = view.BlockQuote k
 block_tag text (kind.List first) = view.ListOf first
 block_tag text kind.Item = view.Item
 block_tag text kind.Paragraph = view.Paragraph
-block_tag text (kind.Heading level) = view.Heading level None [] []
+block_tag text (kind.Heading level braces) = heading_tag text level braces
 block_tag text kind.Indented = view.CodeBlock view.Indented
 block_tag text (kind.Fenced from to) = view.CodeBlock (view.Fenced (info_text (bytes_between text from to)))
 block_tag text kind.Html = view.HtmlBlock
@@ -177,8 +178,8 @@ paragraph_taken_in syntax text find pieces unwrapped b s =
 -- a block of this kind
 abbrev pub taken_as_in : Syntax → BlockKind → List ℕ → (List ℕ → Option Entry) → List Piece → Bool → Block → State → State
 taken_as_in syntax kind.Paragraph text find pieces unwrapped b s = paragraph_taken_in syntax text find pieces unwrapped b s
-taken_as_in syntax (kind.Heading level) text find pieces unwrapped b s = wrapped_in syntax text find pieces b s
-taken_as_in syntax kind.Quote text find pieces unwrapped b s = with_block text b s
+taken_as_in syntax (kind.Heading level braces) text find pieces unwrapped b s = wrapped_in syntax text find pieces b s
+taken_as_in syntax (kind.Quote k) text find pieces unwrapped b s = with_block text b s
 taken_as_in syntax (kind.List first) text find pieces unwrapped b s = with_block text b s
 taken_as_in syntax kind.Item text find pieces unwrapped b s = with_block text b s
 taken_as_in syntax kind.Indented text find pieces unwrapped b s = with_lines text false b pieces s

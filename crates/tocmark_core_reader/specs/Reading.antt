@@ -27,11 +27,11 @@ collected_in names all = fold (define_step_in names) defs.collected_none all
 
 -- one more footnote, if a block is the definition of one
 unfoldable pub noted_as : List ℕ → defs.State → BlockKind → defs.State
-noted_as text s kind.Quote = s
+noted_as text s (kind.Quote k) = s
 noted_as text s (kind.List first) = s
 noted_as text s kind.Item = s
 noted_as text s kind.Paragraph = s
-noted_as text s (kind.Heading level) = s
+noted_as text s (kind.Heading level braces) = s
 noted_as text s kind.Indented = s
 noted_as text s (kind.Fenced from to) = s
 noted_as text s kind.Html = s

@@ -9,6 +9,7 @@ ghost use Rattle.tocmark_read_inlines.specs.Inlines.{inlines_view};
 ghost use Rattle.tocmark_core_reader.specs.Emitted.{item_view, emission_view, step};
 ghost use Rattle.tocmark_core_reader.specs.Pages.{pieces_of, content_line, space_nodes, line_item, line_nodes, lines_nodes, block_tag, is_unwrapped, block_node, assembly_view, task_nodes, leaf_inlines_in, with_block, with_task, bare_in, with_lines, with_rule, wrapped_in, paragraph_taken_in, fence_node_in, with_fence_in, block_taken_in, assembled_in, written_alone, written_by, cell_inlines_in, cell_taken_in};
 
+use crate::attributes::heading_tag;
 use crate::emit::{Emission, Node, NodeKind};
 use crate::inline::write_inlines;
 use crate::words::{cleaned_part, info_text, name_text, spaces_text};
@@ -145,16 +146,11 @@ fn block_tag(alloc: Global, text: &str, kind: BlockKind) -> Result<Tag<'static>,
     ensures { IfOk result (λ t. tag_view text_of t ≡ block_tag text.now kind) }
 {
     match kind {
-        BlockKind::Quote => Ok(Tag::BlockQuote(None)),
+        BlockKind::Quote(kind) => Ok(Tag::BlockQuote(kind)),
         BlockKind::List(first) => Ok(Tag::List(first)),
         BlockKind::Item => Ok(Tag::Item),
         BlockKind::Paragraph => Ok(Tag::Paragraph),
-        BlockKind::Heading(level) => Ok(Tag::Heading {
-            level,
-            id: None,
-            classes: Vec::new(alloc),
-            attrs: Vec::new(alloc),
-        }),
+        BlockKind::Heading(level, braces) => heading_tag(alloc, text, level, braces),
         BlockKind::Indented => Ok(Tag::CodeBlock(CodeBlockKind::Indented)),
         BlockKind::Fenced(from, to) => {
             let info = info_text(alloc, Names::Four, bytes_between(text.as_bytes(), from, to))?;
@@ -270,6 +266,14 @@ fn no_inlines(alloc: Global, texts: Vec<u8>) -> Inlines
     }
 }
 
+/// A text with the syntax that it is read by, and what its brackets can lead to.
+#[derive(Clone, Copy)]
+pub struct Document<'t, 'd> {
+    pub syntax: Syntax,
+    pub text: &'t str,
+    pub definitions: &'d Definitions,
+}
+
 /// What is written so far, what the inlines have beside the source, and a list for the lines of a leaf.
 #[derive(Drop)]
 pub struct Assembly {
@@ -284,24 +288,30 @@ impl Assembly {
     fn read_leaf(
         &mut self,
         alloc: Global,
-        syntax: Syntax,
-        text: &str,
-        definitions: &Definitions,
+        document: &Document<'_, '_>,
         pieces: &[Piece],
         depth: usize,
     ) -> Result<(), AllocError>
-        ensures { OnOk result (assembly_view self.new ≡ written_by text.now
-            (leaf_inlines_in syntax text.now (entry_of definitions.now) pieces.now depth)
+        ensures { OnOk result (assembly_view self.new ≡ written_by document.now.text.now
+            (leaf_inlines_in document.now.syntax document.now.text.now
+            (entry_of document.now.definitions.now) pieces.now depth)
             (assembly_view self.old)) }
     {
         content_lines(&mut self.lines, pieces)?;
-        let content = content_of(alloc, text.as_bytes(), &self.lines)?;
+        let content = content_of(alloc, document.text.as_bytes(), &self.lines)?;
         let before = mem::replace(&mut self.inlines, no_inlines(alloc, Vec::new(alloc)));
-        let mut found = read_inlines(alloc, syntax, before, &content, depth, definitions)?;
+        let mut found = read_inlines(
+            alloc,
+            document.syntax,
+            before,
+            &content,
+            depth,
+            document.definitions,
+        )?;
         write_inlines(
             alloc,
             &mut self.emission,
-            text,
+            document.text,
             &found.texts,
             &found.targets,
             &found.nodes,
@@ -316,24 +326,30 @@ impl Assembly {
     fn read_cell(
         &mut self,
         alloc: Global,
-        syntax: Syntax,
-        text: &str,
-        definitions: &Definitions,
+        document: &Document<'_, '_>,
         block: Block,
     ) -> Result<(), AllocError>
-        ensures { OnOk result (assembly_view self.new ≡ written_by text.now
-            (cell_inlines_in syntax text.now (entry_of definitions.now) block)
+        ensures { OnOk result (assembly_view self.new ≡ written_by document.now.text.now
+            (cell_inlines_in document.now.syntax document.now.text.now
+            (entry_of document.now.definitions.now) block)
             (assembly_view self.old)) }
     {
-        let cell = cell_content(alloc, text.as_bytes(), block.start, block.end)?;
+        let cell = cell_content(alloc, document.text.as_bytes(), block.start, block.end)?;
         let content = Content::Pasted(cell);
         let before = mem::replace(&mut self.inlines, no_inlines(alloc, Vec::new(alloc)));
         let depth = block.depth.saturating_add(1);
-        let mut found = read_cell(alloc, syntax, before, &content, depth, definitions)?;
+        let mut found = read_cell(
+            alloc,
+            document.syntax,
+            before,
+            &content,
+            depth,
+            document.definitions,
+        )?;
         write_inlines(
             alloc,
             &mut self.emission,
-            text,
+            document.text,
             &found.texts,
             &found.targets,
             &found.nodes,
@@ -390,22 +406,30 @@ impl Assembly {
     fn take_fence(
         &mut self,
         alloc: Global,
-        names: Names,
-        text: &str,
+        document: &Document<'_, '_>,
         from: usize,
         to: usize,
         block: Block,
         lines: &[Piece],
     ) -> Result<(), AllocError>
         ensures { OnOk result (assembly_view self.new
-            ≡ written_by text.now (with_fence_in names text.now from to block lines.now)
+            ≡ written_by document.now.text.now
+            (with_fence_in document.now.syntax.names document.now.text.now from to block lines.now)
             (assembly_view self.old)) }
     {
-        write_fence(alloc, names, &mut self.emission, text, from, to, block)?;
+        write_fence(
+            alloc,
+            document.syntax.names,
+            &mut self.emission,
+            document.text,
+            from,
+            to,
+            block,
+        )?;
         write_lines(
             alloc,
             &mut self.emission,
-            text,
+            document.text,
             false,
             block.depth.saturating_add(1),
             lines,
@@ -430,83 +454,72 @@ impl Assembly {
     fn read_wrapped(
         &mut self,
         alloc: Global,
-        syntax: Syntax,
-        text: &str,
-        definitions: &Definitions,
+        document: &Document<'_, '_>,
         pieces: &[Piece],
         block: Block,
     ) -> Result<(), AllocError>
-        ensures { OnOk result (assembly_view self.new ≡ written_by text.now
-            (wrapped_in syntax text.now (entry_of definitions.now) pieces.now block)
+        ensures { OnOk result (assembly_view self.new ≡ written_by document.now.text.now
+            (wrapped_in document.now.syntax document.now.text.now
+            (entry_of document.now.definitions.now) pieces.now block)
             (assembly_view self.old)) }
     {
-        self.open(alloc, text, block)?;
-        self.read_leaf(
-            alloc,
-            syntax,
-            text,
-            definitions,
-            pieces,
-            block.depth.saturating_add(1),
-        )
+        self.open(alloc, document.text, block)?;
+        self.read_leaf(alloc, document, pieces, block.depth.saturating_add(1))
     }
 
     /// The box and the inlines of a paragraph without its container.
     fn read_bare(
         &mut self,
         alloc: Global,
-        syntax: Syntax,
-        text: &str,
-        definitions: &Definitions,
+        document: &Document<'_, '_>,
         pieces: &[Piece],
         block: Block,
     ) -> Result<(), AllocError>
-        ensures { OnOk result (assembly_view self.new ≡ written_by text.now
-            (bare_in syntax text.now (entry_of definitions.now) pieces.now block)
+        ensures { OnOk result (assembly_view self.new ≡ written_by document.now.text.now
+            (bare_in document.now.syntax document.now.text.now
+            (entry_of document.now.definitions.now) pieces.now block)
             (assembly_view self.old)) }
     {
-        self.take_task(alloc, text, block)?;
-        self.read_leaf(alloc, syntax, text, definitions, pieces, block.depth)
+        self.take_task(alloc, document.text, block)?;
+        self.read_leaf(alloc, document, pieces, block.depth)
     }
 
     /// A cell of a table with its inlines.
     fn take_cell(
         &mut self,
         alloc: Global,
-        syntax: Syntax,
-        text: &str,
-        definitions: &Definitions,
+        document: &Document<'_, '_>,
         block: Block,
     ) -> Result<(), AllocError>
-        ensures { OnOk result (assembly_view self.new ≡ written_by text.now
-            (cell_taken_in syntax text.now (entry_of definitions.now) block)
+        ensures { OnOk result (assembly_view self.new ≡ written_by document.now.text.now
+            (cell_taken_in document.now.syntax document.now.text.now
+            (entry_of document.now.definitions.now) block)
             (assembly_view self.old)) }
     {
-        self.open(alloc, text, block)?;
-        self.read_cell(alloc, syntax, text, definitions, block)
+        self.open(alloc, document.text, block)?;
+        self.read_cell(alloc, document, block)
     }
 
     #[tactic(auto, unfolding(crate::specs::Pages::paragraph_taken_in))]
     fn read_paragraph(
         &mut self,
         alloc: Global,
-        syntax: Syntax,
-        text: &str,
-        definitions: &Definitions,
+        document: &Document<'_, '_>,
         pieces: &[Piece],
         unwrapped: bool,
         block: Block,
     ) -> Result<(), AllocError>
-        ensures { OnOk result (assembly_view self.new ≡ written_by text.now
-            (paragraph_taken_in syntax text.now (entry_of definitions.now) pieces.now unwrapped block)
+        ensures { OnOk result (assembly_view self.new ≡ written_by document.now.text.now
+            (paragraph_taken_in document.now.syntax document.now.text.now
+            (entry_of document.now.definitions.now) pieces.now unwrapped block)
             (assembly_view self.old)) }
     {
         if block.last <= block.first {
             Ok(())
         } else if unwrapped {
-            self.read_bare(alloc, syntax, text, definitions, pieces, block)
+            self.read_bare(alloc, document, pieces, block)
         } else {
-            self.read_wrapped(alloc, syntax, text, definitions, pieces, block)
+            self.read_wrapped(alloc, document, pieces, block)
         }
     }
 
@@ -515,45 +528,37 @@ impl Assembly {
     fn read_block(
         &mut self,
         alloc: Global,
-        syntax: Syntax,
-        text: &str,
-        definitions: &Definitions,
+        document: &Document<'_, '_>,
         all: &[Piece],
         unwrapped: bool,
         block: Block,
     ) -> Result<(), AllocError>
-        ensures { OnOk result (assembly_view self.new ≡ written_by text.now
-            (block_taken_in syntax text.now (entry_of definitions.now) all.now unwrapped block)
+        ensures { OnOk result (assembly_view self.new ≡ written_by document.now.text.now
+            (block_taken_in document.now.syntax document.now.text.now
+            (entry_of document.now.definitions.now) all.now unwrapped block)
             (assembly_view self.old)) }
     {
         let pieces = pieces_of(all, block.first, block.last);
         match block.kind {
             BlockKind::Paragraph => {
-                self.read_paragraph(alloc, syntax, text, definitions, pieces, unwrapped, block)
+                self.read_paragraph(alloc, document, pieces, unwrapped, block)
             }
-            BlockKind::Heading(_) => self.read_wrapped(
-                alloc,
-                syntax,
-                text,
-                definitions,
-                pieces,
-                block,
-            ),
-            BlockKind::Quote => self.open(alloc, text, block),
-            BlockKind::List(_) => self.open(alloc, text, block),
-            BlockKind::Item => self.open(alloc, text, block),
-            BlockKind::Indented => self.take_lines(alloc, text, false, block, pieces),
+            BlockKind::Heading(_, _) => self.read_wrapped(alloc, document, pieces, block),
+            BlockKind::Quote(_) => self.open(alloc, document.text, block),
+            BlockKind::List(_) => self.open(alloc, document.text, block),
+            BlockKind::Item => self.open(alloc, document.text, block),
+            BlockKind::Indented => self.take_lines(alloc, document.text, false, block, pieces),
             BlockKind::Fenced(from, to) => {
-                self.take_fence(alloc, syntax.names, text, from, to, block, pieces)
+                self.take_fence(alloc, document, from, to, block, pieces)
             }
-            BlockKind::Html => self.take_lines(alloc, text, true, block, pieces),
-            BlockKind::Rule => self.take_rule(alloc, text, block),
-            BlockKind::Metadata(_) => self.take_lines(alloc, text, false, block, pieces),
-            BlockKind::Note(_, _) => self.open(alloc, text, block),
-            BlockKind::Table(_, _) => self.open(alloc, text, block),
-            BlockKind::TableHead => self.open(alloc, text, block),
-            BlockKind::TableRow => self.open(alloc, text, block),
-            BlockKind::TableCell => self.take_cell(alloc, syntax, text, definitions, block),
+            BlockKind::Html => self.take_lines(alloc, document.text, true, block, pieces),
+            BlockKind::Rule => self.take_rule(alloc, document.text, block),
+            BlockKind::Metadata(_) => self.take_lines(alloc, document.text, false, block, pieces),
+            BlockKind::Note(_, _) => self.open(alloc, document.text, block),
+            BlockKind::Table(_, _) => self.open(alloc, document.text, block),
+            BlockKind::TableHead => self.open(alloc, document.text, block),
+            BlockKind::TableRow => self.open(alloc, document.text, block),
+            BlockKind::TableCell => self.take_cell(alloc, document, block),
         }
     }
 }
@@ -562,15 +567,14 @@ impl Assembly {
 /// written before the next one is read.
 pub fn assemble(
     alloc: Global,
-    syntax: Syntax,
-    text: &str,
-    definitions: &Definitions,
+    document: &Document<'_, '_>,
     blocks: &[Block],
     pieces: &[Piece],
     texts: Vec<u8>,
 ) -> Result<Assembly, AllocError>
-    ensures { IfOk result (λ a. assembly_view a ≡ written_alone text.now
-        (assembled_in syntax text.now (entry_of definitions.now) blocks.now pieces.now texts.items)) }
+    ensures { IfOk result (λ a. assembly_view a ≡ written_alone document.now.text.now
+        (assembled_in document.now.syntax document.now.text.now
+        (entry_of document.now.definitions.now) blocks.now pieces.now texts.items)) }
 {
     let mut assembly = Assembly {
         emission: Emission {
@@ -582,7 +586,7 @@ pub fn assemble(
     };
     for block in blocks {
         let unwrapped = is_unwrapped(blocks, *block);
-        assembly.read_block(alloc, syntax, text, definitions, pieces, unwrapped, *block)?;
+        assembly.read_block(alloc, document, pieces, unwrapped, *block)?;
     }
     Ok(assembly)
 }

@@ -6,6 +6,7 @@
 //! stand.
 #![tactic(auto)]
 
+mod attributes;
 pub mod block_events;
 mod emit;
 mod inline;

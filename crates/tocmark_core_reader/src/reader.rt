@@ -7,7 +7,7 @@ ghost use Rattle.tocmark_read_spans.specs.Definitions.{collected_view, entry_of}
 ghost use Rattle.tocmark_core_reader.specs.Reading.{define_step_in, collected_in, noted_as, noted, collected_from, first_entry, found_under, reading_of};
 ghost use Rattle.tocmark_event.specs.Reading.{reading_view};
 
-use crate::block_events::assemble;
+use crate::block_events::{Document, assemble};
 use crate::words::replaced_bytes;
 use std::alloc::{AllocError, Global};
 use tocmark_event::event::ParserOptions;
@@ -124,15 +124,12 @@ pub fn find(alloc: Global, syntax: Syntax, text: &str) -> Result<Reading, AllocE
     } = collect_from(alloc, syntax, text.as_bytes(), &blocks)?;
     let defined = distinct_labels(alloc, &texts, &labels)?;
     let definitions = definitions(alloc, &keys, entries)?;
-    let page = assemble(
-        alloc,
+    let document = Document {
         syntax,
         text,
-        &definitions,
-        &blocks.blocks,
-        &blocks.pieces,
-        texts,
-    )?;
+        definitions: &definitions,
+    };
+    let page = assemble(alloc, &document, &blocks.blocks, &blocks.pieces, texts)?;
     drop(blocks);
     let unresolved = distinct_labels(alloc, &page.inlines.texts, &page.inlines.missed)?;
     Ok(Reading {

@@ -11,7 +11,7 @@ use tocmark_json::fault::OptionFault;
 use tocmark_json::options::set_option;
 
 /// The extensions by their names.
-const NAMED: [(&str, ParserOptions); 8] = [
+const NAMED: [(&str, ParserOptions); 10] = [
     ("tables", ParserOptions::ENABLE_TABLES),
     ("footnotes", ParserOptions::ENABLE_FOOTNOTES),
     ("strikethrough", ParserOptions::ENABLE_STRIKETHROUGH),
@@ -26,6 +26,11 @@ const NAMED: [(&str, ParserOptions); 8] = [
         "pluses-metadata",
         ParserOptions::ENABLE_PLUSES_DELIMITED_METADATA_BLOCKS,
     ),
+    ("quote-kinds", ParserOptions::ENABLE_GFM),
+    (
+        "heading-attributes",
+        ParserOptions::ENABLE_HEADING_ATTRIBUTES,
+    ),
 ];
 
 /// Of what GitHub reads beside CommonMark, that which the reader reads.
@@ -33,7 +38,8 @@ const GFM: ParserOptions = ParserOptions(
     (ParserOptions::ENABLE_TABLES.0
         | ParserOptions::ENABLE_STRIKETHROUGH.0
         | ParserOptions::ENABLE_TASKLISTS.0
-        | ParserOptions::ENABLE_FOOTNOTES.0)
+        | ParserOptions::ENABLE_FOOTNOTES.0
+        | ParserOptions::ENABLE_GFM.0)
         & EXTENSIONS.0,
 );
 

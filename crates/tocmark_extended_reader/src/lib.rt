@@ -20,7 +20,7 @@ pub use tocmark_read_syntax::Names;
 use tocmark_read_syntax::Syntax;
 
 /// The flags of the extensions that `ExtendedReader` reads: strikethrough, subscripts, superscripts, task
-/// lists, both kinds of metadata, footnotes, and tables.
+/// lists, both kinds of metadata, footnotes, tables, kinds of block quotes, and attributes of headings.
 pub const EXTENSIONS: ParserOptions = ParserOptions(
     ParserOptions::ENABLE_STRIKETHROUGH.0
         | ParserOptions::ENABLE_SUBSCRIPT.0
@@ -29,7 +29,9 @@ pub const EXTENSIONS: ParserOptions = ParserOptions(
         | ParserOptions::ENABLE_TABLES.0
         | ParserOptions::ENABLE_YAML_STYLE_METADATA_BLOCKS.0
         | ParserOptions::ENABLE_PLUSES_DELIMITED_METADATA_BLOCKS.0
-        | ParserOptions::ENABLE_FOOTNOTES.0,
+        | ParserOptions::ENABLE_FOOTNOTES.0
+        | ParserOptions::ENABLE_GFM.0
+        | ParserOptions::ENABLE_HEADING_ATTRIBUTES.0,
 );
 
 /// The extensions that flags name, with the names of character references that are known.
@@ -46,6 +48,8 @@ fn syntax_of(names: Names, flags: ParserOptions) -> Syntax
         task_lists: flags.contains(ParserOptions::ENABLE_TASKLISTS),
         yaml_metadata: flags.contains(ParserOptions::ENABLE_YAML_STYLE_METADATA_BLOCKS),
         pluses_metadata: flags.contains(ParserOptions::ENABLE_PLUSES_DELIMITED_METADATA_BLOCKS),
+        quote_kinds: flags.contains(ParserOptions::ENABLE_GFM),
+        heading_attributes: flags.contains(ParserOptions::ENABLE_HEADING_ATTRIBUTES),
         names,
     }
 }
@@ -76,6 +80,16 @@ fn syntax_of(names: Names, flags: ParserOptions) -> Syntax
 /// divides cells if no backslash stands just before it; that backslash is no part of the cell. A row has as
 /// many cells as the header: further ones are dropped, missing ones are empty at its end, up to 262,144 in
 /// one table, which ends there.
+///
+/// The kind of a block quote stands just behind the mark that begins it, and at most one space or tab:
+/// `[!NOTE]`, `[!TIP]`, `[!IMPORTANT]`, `[!WARNING]` or `[!CAUTION]` in any case, with nothing but spaces
+/// and tabs behind it. That line has no events, and the lines behind it go on as those of a paragraph do
+/// that has no text yet: what can't interrupt a paragraph is its text, but for a tag alone on its line.
+///
+/// The attributes of a heading stand between braces at the end of its one line, or of its last line above an
+/// underline, before a closing sequence of `#` is looked for: words between spaces, tabs and form feeds,
+/// without braces, angle brackets and backslashes. Of `#id` the last counts, `.class` is a class, and any
+/// other word an attribute, whose value stands behind its first `=`; a word of one byte says nothing.
 ///
 /// The label of a footnote is a caret and a name between brackets, on one line. A colon just behind it, at
 /// the front of a container's line, begins a definition: a container whose further lines are indented by

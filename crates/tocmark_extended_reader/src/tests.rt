@@ -1,7 +1,9 @@
 //! Readings of texts with extensions, and without them.
 
+mod attributes;
 mod footnotes;
 mod names;
+mod quote_kinds;
 mod scripts;
 mod tables;
 

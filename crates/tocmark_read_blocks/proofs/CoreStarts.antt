@@ -6,7 +6,7 @@ use Rattle.tocmark_read_lines.specs.declared.metadata.Known.{Known}
 use Rattle.tocmark_read_blocks.specs.declared.leaf.LeafStart.{LeafStart}
 use Rattle.tocmark_read_blocks.specs.declared.block.LineStart.{LineStart}
 use Rattle.tocmark_read_blocks.specs.Pages.{State}
-use Rattle.tocmark_read_blocks.specs.Blocks.{extends_starts, start_or, task_or, task_in, metadata_or, metadata_in}
+use Rattle.tocmark_read_blocks.specs.Blocks.{extends_starts, start_or, task_or, task_in, metadata_or, metadata_in, quote_kind_or, quote_kind_in, tag_or, tag_in}
 
 -- of a sum that is false both parts are
 first_false : (a b : Bool) → a || b ≡ false → a ≡ false
@@ -18,10 +18,12 @@ second_false false b h = h
 second_false true b h = absurd (true≢false h)
 
 pub starts_as_core : (known : Known) (text : List ℕ) (cells : List Cell) (line : Line) (place : LineStart) (directly : Bool) (s : State) (core : LeafStart) → extends_starts known.syntax ≡ false → core ≡ start_or known text cells line place directly s core
-unfolding extends_starts task_or task_in metadata_or metadata_in
+unfolding extends_starts task_or task_in metadata_or metadata_in quote_kind_or quote_kind_in tag_or tag_in
 starts_as_core known text cells line place directly s core h =
-    let two : known.syntax.task_lists || known.syntax.yaml_metadata ≡ false = first_false (known.syntax.task_lists || known.syntax.yaml_metadata) known.syntax.pluses_metadata h in
+    let three : known.syntax.task_lists || known.syntax.yaml_metadata || known.syntax.pluses_metadata ≡ false = first_false (known.syntax.task_lists || known.syntax.yaml_metadata || known.syntax.pluses_metadata) known.syntax.quote_kinds h in
+    let kinds : known.syntax.quote_kinds ≡ false = second_false (known.syntax.task_lists || known.syntax.yaml_metadata || known.syntax.pluses_metadata) known.syntax.quote_kinds h in
+    let two : known.syntax.task_lists || known.syntax.yaml_metadata ≡ false = first_false (known.syntax.task_lists || known.syntax.yaml_metadata) known.syntax.pluses_metadata three in
     let tasks : known.syntax.task_lists ≡ false = first_false known.syntax.task_lists known.syntax.yaml_metadata two in
     let yaml : known.syntax.yaml_metadata ≡ false = second_false known.syntax.task_lists known.syntax.yaml_metadata two in
-    let pluses : known.syntax.pluses_metadata ≡ false = second_false (known.syntax.task_lists || known.syntax.yaml_metadata) known.syntax.pluses_metadata h in
-    rw (tasks, yaml, pluses) refl
+    let pluses : known.syntax.pluses_metadata ≡ false = second_false (known.syntax.task_lists || known.syntax.yaml_metadata) known.syntax.pluses_metadata three in
+    rw (kinds, tasks, yaml, pluses) refl

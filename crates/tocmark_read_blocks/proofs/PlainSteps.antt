@@ -4,7 +4,7 @@ use Rattle.std.proofs.Math.Seq.{take-length}
 use Rattle.tocmark_read_scan.specs.Basic.{byte_at, bytes_between}
 use Rattle.tocmark_read_scan.proofs.Repeats.{repeated_stop}
 use Rattle.tocmark_read_lines.specs.Cells.{cells_of, cell_byte, cell_place, first_cursor}
-use Rattle.tocmark_read_blocks.specs.Blocks.{leaf_started_in, started_in, metadata_in, metadata_or, task_in, task_or, cells_taken_in, line_taken_in, container_once_in, container_once, containers_opened, leaf_started, started_at, text_taken, text_started, goes_directly, passed_in, turn_in, turn_of, touched, cells_taken, line_taken, begun_at, started}
+use Rattle.tocmark_read_blocks.specs.Blocks.{leaf_started_in, started_in, metadata_in, metadata_or, task_in, task_or, quote_kind_in, quote_kind_or, tag_in, tag_or, cells_taken_in, line_taken_in, container_once_in, container_once, containers_opened, leaf_started, started_at, text_taken, text_started, goes_directly, passed_in, turn_in, turn_of, touched, cells_taken, line_taken, begun_at, started}
 use Rattle.tocmark_read_blocks.specs.Codes.{piece_of, text_piece}
 use Rattle.tocmark_read_lines.specs.Containers.{container_at, container_in, item_at, raised_at}
 use Rattle.tocmark_read_lines.specs.Notes.{note_start}
@@ -91,7 +91,7 @@ opens_none text cells l s h =
     (sym (ap (begun_at text cells l here s) (no_container (bytes_between text l.start l.end) cells (goes_directly 0 s) h)))
 
 starts_text : (text : List ℕ) (cells : List Cell) (l : Line) (s : State) → cell_place cells 0 l.end ≡ l.start → BeginsNothing (bytes_between text l.start l.end) cells → leaf_started text cells l here s ≡ text_taken text cells l here s
-unfolding leaf_started_in started_in metadata_in metadata_or task_in task_or
+unfolding leaf_started_in started_in metadata_in metadata_or task_in task_or quote_kind_in quote_kind_or tag_in tag_or
 starts_text text cells l s p h =
     ap (started_at text cells l (tail_of cells)) (opens_none text cells l s h)
     ∙ ap (λ at. started (leaf_at cells (bytes_between text at l.end) (tail_of cells) front (is_paragraph s.leaf) (goes_directly 0 s)) text cells l (tail_of cells) here s) p

@@ -13,7 +13,7 @@ use Rattle.tocmark_read_lines.specs.declared.cell.Cell.{Cell}
 use Rattle.tocmark_read_lines.specs.declared.line.Line.{Line}
 use Rattle.tocmark_read_lines.specs.declared.metadata.Known.{Known}
 use Rattle.tocmark_read_lines.specs.declared.beginnings.Tail.{Tail}
-use Rattle.tocmark_read_blocks.specs.Blocks.{container_once_in, started_in, started_at_in, leaf_started_in, is_front, metadata_in, metadata_or, task_in, task_or}
+use Rattle.tocmark_read_blocks.specs.Blocks.{container_once_in, started_in, started_at_in, leaf_started_in, is_front, metadata_in, metadata_or, task_in, task_or, quote_kind_in, quote_kind_or, is_first_line, tag_in, tag_or}
 use Rattle.tocmark_read_blocks.specs.Pages.{State, closed_to, times}
 use Rattle.tocmark_read_blocks.specs.declared.block.LineStart.{LineStart}
 
@@ -39,7 +39,7 @@ blank_opens syntax text cells line tail place s zero h = refl
 blank_opens syntax text cells line tail place s (suc n) h = rw (h, never syntax.footnotes) refl
 
 pub blank_started : (known : Known) (text : List ℕ) (cells : List Cell) (line : Line) (place : LineStart) (s : State) → is_blank_at cells place.cursor ≡ true → leaf_started_in known text cells line place s ≡ closed_to text place.depth s
-unfolding leaf_started_in leaf_at started_in is_front metadata_in metadata_or task_in task_or
+unfolding leaf_started_in leaf_at started_in is_front metadata_in metadata_or task_in task_or quote_kind_in quote_kind_or is_first_line tag_in tag_or
 blank_started known text cells line place s h =
     ap (started_at_in known text cells line (tail_of cells)) (blank_opens known.syntax text cells line (tail_of cells) place s (length cells) h)
-    ∙ rw (h, never known.syntax.task_lists, never known.syntax.yaml_metadata, never known.syntax.pluses_metadata) refl
+    ∙ rw (h, never known.syntax.quote_kinds, never known.syntax.task_lists, never known.syntax.yaml_metadata, never known.syntax.pluses_metadata) refl

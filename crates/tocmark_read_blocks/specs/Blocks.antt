@@ -1,7 +1,8 @@
 -- How a line changes a page (CommonMark, appendix "A parsing strategy").
-use Rattle.std.specs.Prelude.{ℕ, ◌-◌, Bool, true, false, not, ◌==◌, ◌&&◌, ◌||◌, nat_lt, nat_le, if◌then◌else◌, List, [], length, map, slice_get, slice_set, Option, Some, None, is_some, unwrap_or}
+use Rattle.std.specs.Prelude.{ℕ, ◌-◌, Bool, true, false, not, ◌==◌, ◌&&◌, ◌||◌, nat_lt, nat_le, if◌then◌else◌, List, [], length, map, take, slice_get, slice_set, Option, Some, None, is_some, unwrap_or}
 use Rattle.std.specs.List.{fold}
 use Rattle.std.specs.Option.{option_map, option_map_or}
+use Rattle.tocmark_event.specs.declared.event.BlockQuoteKind.{BlockQuoteKind}
 use Rattle.tocmark_event.specs.declared.event.HeadingLevel.{HeadingLevel}
 use Rattle.tocmark_event.specs.declared.event.MetadataBlockKind.{MetadataBlockKind}
 use Rattle.tocmark_event.specs.declared.event.MetadataBlockKind.TheVariants as metadata
@@ -9,24 +10,27 @@ use Rattle.tocmark_read_scan.specs.Basic.{plus, bytes_between}
 use Rattle.tocmark_read_scan.specs.Repeat.{repeated}
 use Rattle.tocmark_read_syntax.specs.declared.Syntax.{Syntax}
 use Rattle.tocmark_read_syntax.specs.declared.TheConstants.{CORE}
+use Rattle.tocmark_read_lines.specs.Attributes.{before_braces, braces_in, heading_braces, placed_braces}
 use Rattle.tocmark_read_lines.specs.Lines.{lines_of}
 use Rattle.tocmark_read_lines.specs.Notes.{note_at}
 use Rattle.tocmark_read_lines.specs.Cells.{cells_of, cell_place, indent_of, ink_from, is_blank_at, moved, trimmed}
 use Rattle.tocmark_read_blocks.specs.Codes.{code_piece, piece_of, text_piece, heading_piece, keeps_line}
 use Rattle.tocmark_read_blocks.specs.Definitions.{DefinitionView, definition_view}
 use Rattle.tocmark_read_lines.specs.Containers.{after_quote, container_in, is_empty_item, matched, touched_from}
-use Rattle.tocmark_read_lines.specs.Html.{html_ends}
+use Rattle.tocmark_read_lines.specs.Html.{html_ends, html_kind}
 use Rattle.tocmark_read_lines.specs.Metadata.{begins_metadata, behind_blanks, known_of}
+use Rattle.tocmark_read_lines.specs.Quotes.{quote_kind_of}
 use Rattle.tocmark_read_lines.specs.Tasks.{box_at}
+use Rattle.tocmark_read_lines.specs.declared.attributes.Braces.{Braces}
 use Rattle.tocmark_read_lines.specs.declared.metadata.Known.{Known}
 use Rattle.tocmark_read_blocks.specs.Leaves.{is_paragraph, is_table, leaf_at, leaf_turn, rule_at}
 use Rattle.tocmark_read_lines.specs.Marks.{tail_of}
-use Rattle.tocmark_read_blocks.specs.Pages.{State, first_page, innermost, is_list, leaf_finished, settled, closed_to, list_left, note_left, opened_with, leaf_opened, piece_taken}
+use Rattle.tocmark_read_blocks.specs.Pages.{State, first_page, innermost, is_list, is_quote, leaf_finished, settled, closed_to, list_left, note_left, opened_with, leaf_opened, piece_taken}
 use Rattle.tocmark_read_lines.specs.declared.line.Line.{Line}
 use Rattle.tocmark_read_lines.specs.declared.cell.Cell.{Cell}
 use Rattle.tocmark_read_lines.specs.declared.cell.Cursor.{Cursor}
 use Rattle.tocmark_read_blocks.specs.Rows.{header_of}
-use Rattle.tocmark_read_blocks.specs.Tables.{delimiters_taken, row_taken}
+use Rattle.tocmark_read_blocks.specs.Tables.{delimiters_taken, last_piece, row_taken}
 use Rattle.tocmark_read_blocks.specs.declared.block.LineStart.{LineStart}
 use Rattle.tocmark_read_blocks.specs.declared.block.Blocks.{Blocks}
 use Rattle.tocmark_read_blocks.specs.declared.definition.Piece.{Piece}
@@ -38,6 +42,7 @@ use Rattle.tocmark_read_lines.specs.declared.note.NoteStart.{NoteStart}
 use Rattle.tocmark_read_lines.specs.declared.container.ContainerStart.{ContainerStart}
 use Rattle.tocmark_read_lines.specs.declared.container.ContainerStart.TheVariants as begins
 use Rattle.tocmark_read_lines.specs.declared.html.HtmlKind.{HtmlKind}
+use Rattle.tocmark_read_lines.specs.declared.html.HtmlKind.TheVariants as html
 use Rattle.tocmark_read_blocks.specs.declared.leaf.Leaf.{Leaf}
 use Rattle.tocmark_read_blocks.specs.declared.leaf.Leaf.TheVariants as leaf
 use Rattle.tocmark_read_blocks.specs.declared.leaf.LeafStart.{LeafStart}
@@ -74,7 +79,7 @@ with_place cursor s = (s, record { cursor = cursor; depth = length s.opened })
 unfoldable pub quote_opened : List ℕ → List Cell → Line → LineStart → State → State × LineStart
 quote_opened text cells line place s =
     with_place (after_quote cells place.cursor)
-    (opened_with container.Quote kind.Quote (start_of cells place line) line (list_left (closed_to text place.depth s)))
+    (opened_with container.Quote (kind.Quote None) (start_of cells place line) line (list_left (closed_to text place.depth s)))
 
 -- a list whose markers end with this byte
 abbrev pub is_list_of : ℕ → Container → Bool
@@ -177,12 +182,24 @@ indented_started text cells line place column s =
     code_taken text cells column line
     (leaf_opened leaf.Indented kind.Indented (cell_place cells column line.end) line (closed_to text place.depth s))
 
--- a heading on one line (CommonMark 4.2)
-unfoldable pub heading_started : List ℕ → List Cell → Line → LineStart → Heading → State → State
-heading_started text cells line place heading s =
+-- a heading on one line (CommonMark 4.2), with attributes or without
+unfoldable pub heading_put : List ℕ → List Cell → Line → LineStart → Option Braces → Heading → State → State
+heading_put text cells line place braces heading s =
     leaf_finished
     (piece_taken (heading_piece cells heading line) line true
-    (leaf_opened leaf.Nothing (kind.Heading heading.level) (start_of cells place line) line (closed_to text place.depth s)))
+    (leaf_opened leaf.Nothing (kind.Heading heading.level braces) (start_of cells place line) line (closed_to text place.depth s)))
+
+-- the text of a heading ends before its braces
+abbrev pub heading_ended : List ℕ → List Cell → Line → LineStart → Heading → State → Option Braces → State
+heading_ended text cells line place heading s None = heading_put text cells line place None heading s
+heading_ended text cells line place heading s (Some b) =
+    heading_put text cells line place (Some (placed_braces cells heading line.end b)) (before_braces cells heading b) s
+
+-- a heading on one line, whose attributes may be read
+unfoldable pub heading_started_in : Known → List ℕ → List Cell → Line → LineStart → Heading → State → State
+heading_started_in known text cells line place heading s =
+    if known.syntax.heading_attributes then heading_ended text cells line place heading s (heading_braces cells heading)
+    else heading_put text cells line place None heading s
 
 -- a fenced code block begins (CommonMark 4.5)
 unfoldable pub fence_started : List ℕ → List Cell → Line → LineStart → Fence → State → State
@@ -208,9 +225,36 @@ has_text s = option_map_or (λ (b : Block). nat_lt b.first (length s.pieces)) (s
 abbrev pub of_kind : BlockKind → List Block → List Block
 of_kind k blocks = option_map_or (λ (b : Block). slice_set blocks (length blocks - 1) (record b { kind = k })) (slice_get blocks (length blocks - 1)) blocks
 
--- the open paragraph is a heading that ends with this line
-unfoldable pub underlined : HeadingLevel → Line → State → State
-underlined level line s = leaf_finished (record s { blocks = of_kind (kind.Heading level) s.blocks; end = line.end; line = line.number })
+-- the open paragraph is a heading that ends with this line, with attributes or without
+unfoldable pub underlined : HeadingLevel → Option Braces → Line → State → State
+underlined level braces line s =
+    leaf_finished (record s { blocks = of_kind (kind.Heading level braces) s.blocks; end = line.end; line = line.number })
+
+-- the last line of the open paragraph ends before its braces, and goes if it has nothing else
+unfoldable pub cut_before : Piece → Braces → State → State
+cut_before p b s =
+    let last = length s.pieces - 1 in
+    record s { pieces = if b.from == 0 then take last s.pieces else slice_set s.pieces last (record p { end = plus p.start b.from }) }
+
+-- where the braces in a line stand
+abbrev pub braces_from : ℕ → Braces → Braces
+braces_from start b = record { from = plus start b.from; to = plus start b.to }
+
+-- a heading whose last line may end with braces
+abbrev pub underlined_as : HeadingLevel → Line → State → Piece → Option Braces → State
+underlined_as level line s p None = underlined level None line s
+underlined_as level line s p (Some b) = underlined level (Some (braces_from p.start b)) line (cut_before p b s)
+
+-- the open paragraph is a heading, whose last line may end with attributes
+unfoldable pub underlined_attributed : List ℕ → HeadingLevel → Line → State → State
+underlined_attributed text level line s =
+    option_map_or (λ (p : Piece). underlined_as level line s p (braces_in (bytes_between text p.start p.end))) (last_piece s.pieces)
+    (underlined level None line s)
+
+-- the same where attributes may be read
+unfoldable pub underlined_in : Known → List ℕ → HeadingLevel → Line → State → State
+underlined_in known text level line s =
+    if known.syntax.heading_attributes then underlined_attributed text level line s else underlined level None line s
 
 -- metadata begins (outside of all containers)
 unfoldable pub metadata_started : List ℕ → List Cell → Line → LineStart → MetadataBlockKind → State → State
@@ -256,14 +300,61 @@ task_in known text cells line place s =
 unfoldable pub task_or : Option Bool → LeafStart → LeafStart
 task_or found other = option_map_or (λ done. start.Task done) found other
 
+-- a block begins in this line
+abbrev pub begins_in : Line → Option Block → Bool
+begins_in line found = option_map_or (λ (b : Block). nat_le line.start b.start) found false
+
+-- the innermost container is a quote that began in this line
+unfoldable pub is_new_quote : Line → State → Bool
+is_new_quote line s =
+    option_map_or (λ (o : Opened). is_quote o.container && begins_in line (slice_get s.blocks o.block)) (innermost s.opened) false
+
+-- the kind just behind the mark of a quote
+unfoldable pub quote_kind_in : Known → List ℕ → List Cell → Line → LineStart → State → Option BlockQuoteKind
+quote_kind_in known text cells line place s =
+    if known.syntax.quote_kinds && (not (is_blank_at cells place.cursor) && is_new_quote line s)
+    then quote_kind_of (bytes_between text (code_piece cells place.cursor.column line).start line.end) else None
+
+-- a kind, or what else stands there
+unfoldable pub quote_kind_or : Option BlockQuoteKind → LeafStart → LeafStart
+quote_kind_or found other = option_map_or (λ k. start.QuoteKind k) found other
+
+-- a tag alone on its line
+abbrev pub is_alone : Option HtmlKind → Bool
+is_alone None = false
+is_alone (Some html.Raw) = false
+is_alone (Some html.Comment) = false
+is_alone (Some html.Instruction) = false
+is_alone (Some html.Declaration) = false
+is_alone (Some html.CharacterData) = false
+is_alone (Some html.Named) = false
+is_alone (Some html.Alone) = true
+
+-- a line directly in an open paragraph that has no line yet
+unfoldable pub is_first_line : List Cell → LineStart → Bool → State → Bool
+is_first_line cells place directly s =
+    not (is_blank_at cells place.cursor) && nat_le (indent_of place.cursor) 3 && directly && not (has_text s)
+
+-- a tag alone on the line behind a quote's kind begins HTML, since the paragraph there has no line
+unfoldable pub tag_in : Known → List ℕ → List Cell → Line → LineStart → Bool → State → Bool
+tag_in known text cells line place directly s =
+    if known.syntax.quote_kinds && is_first_line cells place directly s
+    then is_alone (html_kind (bytes_between text (start_of cells place line) line.end)) else false
+
+-- HTML that is a tag alone on its line, or what else stands there
+unfoldable pub tag_or : Bool → LeafStart → LeafStart
+tag_or found other = if found then start.Html html.Alone else other
+
 -- some extension has a say in what a line begins
 unfoldable pub extends_starts : Syntax → Bool
-extends_starts syntax = syntax.task_lists || syntax.yaml_metadata || syntax.pluses_metadata
+extends_starts syntax = syntax.task_lists || syntax.yaml_metadata || syntax.pluses_metadata || syntax.quote_kinds
 
 -- what a line begins, in an extension or in CommonMark
 abbrev pub start_or : Known → List ℕ → List Cell → Line → LineStart → Bool → State → LeafStart → LeafStart
 start_or known text cells line place directly s other =
-    task_or (task_in known text cells line place s) (metadata_or (metadata_in known text cells line place directly s) other)
+    quote_kind_or (quote_kind_in known text cells line place s)
+    (tag_or (tag_in known text cells line place directly s)
+    (task_or (task_in known text cells line place s) (metadata_or (metadata_in known text cells line place directly s) other)))
 
 -- the last block has a box
 unfoldable pub with_task : Bool → ℕ → State → State
@@ -286,6 +377,11 @@ task_started text cells line place done s =
     let behind = behind_blanks text (plus start 3) in
     if nat_lt behind line.end then boxed_taken text line place done start behind s else with_task done start s
 
+-- the line that began a quote names its kind, and the lines behind it go on as those of a paragraph
+unfoldable pub quote_kind_started : List Cell → Line → LineStart → BlockQuoteKind → State → State
+quote_kind_started cells line place k s =
+    leaf_opened leaf.Paragraph kind.Paragraph (start_of cells place line) line (record s { blocks = of_kind (kind.Quote (Some k)) s.blocks })
+
 -- a thematic break or metadata where one stands, and text elsewhere
 abbrev pub rule_or_text : LeafStart → List ℕ → List Cell → Line → LineStart → State → State
 rule_or_text start.Rule text cells line place s = rule_started text cells line place s
@@ -298,17 +394,18 @@ rule_or_text (start.Html k) text cells line place s = text_taken text cells line
 rule_or_text (start.Underline l) text cells line place s = text_taken text cells line place s
 rule_or_text (start.Metadata k) text cells line place s = metadata_started text cells line place k s
 rule_or_text (start.Task d) text cells line place s = text_taken text cells line place s
+rule_or_text (start.QuoteKind k) text cells line place s = text_taken text cells line place s
 
 -- a heading is underlined only if it has text (CommonMark 4.3)
-abbrev pub underlined_if : Bool → LeafStart → List ℕ → List Cell → Line → LineStart → HeadingLevel → State → State
-underlined_if true other text cells line place level s = underlined level line s
-underlined_if false other text cells line place level s = rule_or_text other text cells line place s
+abbrev pub underlined_if : Known → Bool → LeafStart → List ℕ → List Cell → Line → LineStart → HeadingLevel → State → State
+underlined_if known true other text cells line place level s = underlined_in known text level line s
+underlined_if known false other text cells line place level s = rule_or_text other text cells line place s
 
 -- behind definitions alone, an underline is metadata, a thematic break or text
 unfoldable pub underline_taken_in : Known → List ℕ → List Cell → Line → Tail → LineStart → HeadingLevel → State → State
 underline_taken_in known text cells line tail place level s =
     let t = settled text s in
-    underlined_if (has_text t) (metadata_or (metadata_in known text cells line place false t) (rule_at cells tail place.cursor.ink))
+    underlined_if known (has_text t) (metadata_or (metadata_in known text cells line place false t) (rule_at cells tail place.cursor.ink))
     text cells line place level t
 
 -- what the rest of a line begins comes into the page
@@ -316,13 +413,14 @@ unfoldable pub started_in : Known → LeafStart → List ℕ → List Cell → L
 started_in known start.Blank text cells line tail place s = closed_to text place.depth s
 started_in known start.Text text cells line tail place s = text_taken text cells line place s
 started_in known (start.Indented column) text cells line tail place s = indented_started text cells line place column s
-started_in known (start.Heading heading) text cells line tail place s = heading_started text cells line place heading s
+started_in known (start.Heading heading) text cells line tail place s = heading_started_in known text cells line place heading s
 started_in known (start.Fence fence) text cells line tail place s = fence_started text cells line place fence s
 started_in known (start.Html k) text cells line tail place s = html_started text cells line place k s
 started_in known (start.Underline level) text cells line tail place s = underline_taken_in known text cells line tail place level s
 started_in known start.Rule text cells line tail place s = rule_started text cells line place s
 started_in known (start.Metadata k) text cells line tail place s = metadata_started text cells line place k s
 started_in known (start.Task done) text cells line tail place s = task_started text cells line place done s
+started_in known (start.QuoteKind k) text cells line tail place s = quote_kind_started cells line place k s
 
 -- the leaf that begins behind the containers that began
 abbrev pub started_at_in : Known → List ℕ → List Cell → Line → Tail → State × LineStart → State

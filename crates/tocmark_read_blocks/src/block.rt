@@ -3,16 +3,17 @@
 ghost use Rattle.std.specs.Prelude.{◌≡◌, IfOk, OnOk};
 ghost use Rattle.std.specs.List.{fold};
 ghost use Rattle.tocmark_read_blocks.specs.Pages.{page};
-ghost use Rattle.tocmark_read_blocks.specs.Blocks.{info_of, goes_directly, quote_opened, is_in_list, list_started, item_opened, code_taken, html_ended, text_taken, text_started, indented_started, heading_started, fence_started, html_started, rule_started, metadata_started, is_outside, is_front, metadata_in, metadata_or, is_new_item, task_in, task_or, extends_starts, start_or, with_task, boxed_taken, task_started, has_text, underlined, underline_taken_in, started_in, leaf_started_in, turn_of, is_ended_by_note, turn_in, leaf_ended, touched, cells_taken_in, line_taken_in, page_in, blocks_view, blocks_in, note_opened, container_once_in, containers_opened_in, passed_in, tabled_in};
+ghost use Rattle.tocmark_read_blocks.specs.Blocks.{info_of, goes_directly, quote_opened, is_in_list, list_started, item_opened, code_taken, html_ended, text_taken, text_started, indented_started, fence_started, html_started, rule_started, metadata_started, is_outside, is_front, metadata_in, metadata_or, is_new_item, task_in, task_or, extends_starts, start_or, with_task, boxed_taken, task_started, has_text, underline_taken_in, started_in, leaf_started_in, turn_of, is_ended_by_note, turn_in, leaf_ended, touched, cells_taken_in, line_taken_in, page_in, blocks_view, blocks_in, note_opened, container_once_in, containers_opened_in, passed_in, tabled_in};
 
-use crate::code::{code_piece, heading_piece, keeps_line, text_piece};
+use crate::code::{code_piece, keeps_line, text_piece};
 use crate::definition::{LinkDefinition, Piece};
 use crate::leaf::{Leaf, LeafStart, Turn, is_paragraph, is_table, leaf_at, leaf_turn, rule_at};
 use crate::page::{Block, BlockKind, BlocksSoFar, Task, is_list};
+use crate::quote::{quote_kind_or, tag_or};
 use crate::table::header_of;
 use std::alloc::{AllocError, Global};
 use tocmark_event::event::{HeadingLevel, MetadataBlockKind};
-use tocmark_read_lines::beginnings::{Fence, Heading, Tail, tail_of};
+use tocmark_read_lines::beginnings::{Fence, Tail, tail_of};
 use tocmark_read_lines::cell::{
     Cells, Cursor, cell_place, indent_of, ink_from, is_blank_at, moved, trimmed,
 };
@@ -87,7 +88,7 @@ impl BlocksSoFar {
         self.close_to(alloc, row.text, place.depth)?;
         self.leave_list();
         let start = cell_place(row.cells, place.cursor.ink, row.line.end);
-        self.open(Container::Quote, BlockKind::Quote, start, row.line)?;
+        self.open(Container::Quote, BlockKind::Quote(None), start, row.line)?;
         Ok(LineStart {
             cursor: after_quote(row.cells, place.cursor),
             depth: self.opened.len(),
@@ -315,27 +316,6 @@ impl BlocksSoFar {
         let start = cell_place(row.cells, column, row.line.end);
         self.open_leaf(Leaf::Indented, BlockKind::Indented, start, row.line)?;
         self.take_code(row, column)
-    }
-
-    #[tactic(auto, unfolding(crate::specs::Blocks::heading_started))]
-    fn start_heading(
-        &mut self,
-        alloc: Global,
-        row: &Row<'_, '_>,
-        place: LineStart,
-        heading: Heading,
-    ) -> Result<(), AllocError>
-        ensures { OnOk result (page self.new
-            ≡ heading_started row.now.text.now row.now.cells.now row.now.line place heading
-            (page self.old)) }
-    {
-        self.close_to(alloc, row.text, place.depth)?;
-        let start = cell_place(row.cells, place.cursor.ink, row.line.end);
-        let kind = BlockKind::Heading(heading.level);
-        self.open_leaf(Leaf::Nothing, kind, start, row.line)?;
-        self.take_piece(heading_piece(row.cells, heading, row.line), row.line, true)?;
-        self.finish_leaf();
-        Ok(())
     }
 
     #[tactic(auto, unfolding(crate::specs::Blocks::fence_started))]
@@ -568,7 +548,7 @@ impl BlocksSoFar {
 
     /// Whether the open paragraph has a line behind its definitions.
     #[tactic(auto, unfolding(crate::specs::Blocks::has_text))]
-    fn has_text(&self) -> bool
+    pub fn has_text(&self) -> bool
         ensures { result ≡ has_text (page self.now) }
     {
         match self
@@ -579,21 +559,6 @@ impl BlocksSoFar {
             None => false,
             Some(block) => block.first < self.pieces.len(),
         }
-    }
-
-    /// Makes the open paragraph a heading that ends with this line.
-    #[tactic(auto, unfolding(crate::specs::Blocks::underlined))]
-    fn underline(&mut self, level: HeadingLevel, line: Line)
-        ensures { page self.new ≡ underlined level line (page self.old) }
-    {
-        let index = self.blocks.len().saturating_sub(1);
-        if let Some(block) = self.blocks.get(index).copied() {
-            let kind = BlockKind::Heading(level);
-            set(&mut self.blocks, index, Block { kind, ..block });
-        }
-        self.end = line.end;
-        self.line = line.number;
-        self.finish_leaf();
     }
 
     /// Takes a line that would underline a heading: where the paragraph has definitions alone it is
@@ -614,7 +579,7 @@ impl BlocksSoFar {
     {
         self.settle(alloc, row.text)?;
         if self.has_text() {
-            self.underline(level, row.line);
+            self.make_heading(row, level);
             return Ok(());
         }
         let metadata = self.metadata_in(row, place, false);
@@ -650,6 +615,7 @@ impl BlocksSoFar {
             LeafStart::Rule => self.start_rule(alloc, row, place),
             LeafStart::Metadata(kind) => self.start_metadata(alloc, row, place, kind),
             LeafStart::Task(done) => self.start_task(alloc, row, place, done),
+            LeafStart::QuoteKind(kind) => self.start_quote_kind(row, place, kind),
         }
     }
 
@@ -666,7 +632,12 @@ impl BlocksSoFar {
     {
         let metadata = self.metadata_in(row, place, directly);
         let task = self.task_in(row, place);
-        task_or(task, metadata_or(metadata, core))
+        let tag = self.tag_in(row, place, directly);
+        let kind = self.quote_kind_in(row, place);
+        quote_kind_or(
+            kind,
+            tag_or(tag, task_or(task, metadata_or(metadata, core))),
+        )
     }
 
     /// What a line begins. Whether some extension has a say in it is asked first.
@@ -892,7 +863,7 @@ impl BlocksSoFar {
 fn extends_starts(syntax: Syntax) -> bool
     ensures { result ≡ extends_starts syntax }
 {
-    syntax.task_lists || syntax.yaml_metadata || syntax.pluses_metadata
+    syntax.task_lists || syntax.yaml_metadata || syntax.pluses_metadata || syntax.quote_kinds
 }
 
 #[tactic(auto, unfolding(crate::specs::Blocks::metadata_or))]

@@ -4,7 +4,7 @@ ghost use Rattle.std.specs.Prelude.{◌≡◌};
 ghost use Rattle.tocmark_read_blocks.specs.Leaves.{is_paragraph, is_table, goes_past_blank, leaf_turn, html_at, underline_in, rule_at, mark_at, leaf_at};
 
 use crate::table::{Table, row_turn};
-use tocmark_event::event::{HeadingLevel, MetadataBlockKind};
+use tocmark_event::event::{BlockQuoteKind, HeadingLevel, MetadataBlockKind};
 use tocmark_read_lines::beginnings::{
     Fence, Heading, Tail, closes_fence, fence_at, heading_at, is_rule, underline_at,
 };
@@ -68,6 +68,8 @@ pub enum LeafStart {
     Metadata(MetadataBlockKind),
     /// The box of a task, true where it is checked.
     Task(bool),
+    /// The kind of the quote that the line began.
+    QuoteKind(BlockQuoteKind),
 }
 
 /// Whether the leaf that is open is a paragraph.

@@ -9,8 +9,10 @@
 mod block;
 pub mod code;
 pub mod definition;
+mod heading;
 pub mod leaf;
 mod page;
+mod quote;
 pub mod table;
 
 pub use block::{Blocks, read_blocks};

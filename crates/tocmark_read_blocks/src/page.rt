@@ -7,7 +7,8 @@ use crate::definition::{LinkDefinition, Piece, take_definitions};
 use crate::leaf::Leaf;
 use crate::table::{HeaderLine, Table};
 use std::alloc::{AllocError, Global};
-use tocmark_event::event::{HeadingLevel, MetadataBlockKind};
+use tocmark_event::event::{BlockQuoteKind, HeadingLevel, MetadataBlockKind};
+use tocmark_read_lines::attributes::Braces;
 use tocmark_read_lines::container::{Container, Opened, raise_at};
 use tocmark_read_lines::line::Line;
 use tocmark_read_scan::basic::set;
@@ -15,12 +16,14 @@ use tocmark_read_scan::basic::set;
 /// What a block is.
 #[derive(Clone, Copy)]
 pub enum BlockKind {
-    Quote,
+    /// A block quote of a kind, or of none.
+    Quote(Option<BlockQuoteKind>),
     /// A list with its first number, or none for bullets.
     List(Option<u64>),
     Item,
     Paragraph,
-    Heading(HeadingLevel),
+    /// A heading, with the braces round its attributes, if it has them.
+    Heading(HeadingLevel, Option<Braces>),
     Indented,
     /// A fenced code block, with the range of its info string.
     Fenced(usize, usize),
@@ -170,7 +173,7 @@ pub fn is_list(container: Container) -> bool
 }
 
 #[tactic(auto, unfolding(crate::specs::Pages::is_quote))]
-fn is_quote(container: Container) -> bool
+pub fn is_quote(container: Container) -> bool
     ensures { result ≡ is_quote container }
 {
     match container {

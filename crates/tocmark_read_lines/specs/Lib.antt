@@ -7,3 +7,5 @@ pub mod Metadata
 pub mod Tasks
 pub mod Notes
 pub mod Rows
+pub mod Attributes
+pub mod Quotes

@@ -29,15 +29,15 @@ unfoldable pub is_behind : List Cell → ℕ → Bool
 is_behind cells column = nat_le (length cells) column || (cell_byte cells column == 32)
 
 -- the text of an ATX heading ends before spaces, and before `#` with a space before them (CommonMark 4.2)
-unfoldable pub heading_end : List Cell → ℕ → ℕ
-heading_end cells from =
-    let whole = trimmed cells from (length cells) 32 in
+unfoldable pub heading_end_before : List Cell → ℕ → ℕ → ℕ
+heading_end_before cells from limit =
+    let whole = trimmed cells from limit 32 in
     let open_end = trimmed cells from whole 35 in
     if nat_le open_end from || (cell_byte cells (open_end - 1) == 32) then trimmed cells from open_end 32 else whole
 
 -- a heading whose text begins at a column
 abbrev pub heading_from : List Cell → ℕ → HeadingLevel → Heading
-heading_from cells from l = record { level = l; from = from; to = heading_end cells from }
+heading_from cells from l = record { level = l; from = from; to = heading_end_before cells from (length cells) }
 
 -- one to six `#` and a space or the end of the line (CommonMark 4.2)
 unfoldable pub heading_at : List Cell → ℕ → Option Heading

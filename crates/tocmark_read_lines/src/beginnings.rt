@@ -2,7 +2,7 @@
 
 ghost use Rattle.std.specs.Char.{is_ascii_digit};
 ghost use Rattle.std.specs.Prelude.{◌≡◌, ◌==◌, ◌||◌, length, reverse, take_while};
-ghost use Rattle.tocmark_read_lines.specs.Marks.{level_of, is_behind, heading_end, heading_at, is_fence_byte, fence_at, closes_fence, tail_length, tail_of, is_rule_byte, is_rule, is_underline_byte, underline_at, digit_count, number_step, number_of, bullet_at, ordered_at, marker_at};
+ghost use Rattle.tocmark_read_lines.specs.Marks.{level_of, is_behind, heading_end_before, heading_at, is_fence_byte, fence_at, closes_fence, tail_length, tail_of, is_rule_byte, is_rule, is_underline_byte, underline_at, digit_count, number_step, number_of, bullet_at, ordered_at, marker_at};
 
 use crate::cell::{
     Cells, Cursor, cell_byte, count_of, indent_of, ink_from, run_of, trailing, trimmed,
@@ -75,12 +75,13 @@ fn is_behind(cells: &Cells, column: usize) -> bool
     cells.len() <= column || cell_byte(cells, column) == b' '
 }
 
-/// The end of a heading's text: spaces at its end don't count, nor do `#` with a space before them.
-#[tactic(auto, unfolding(crate::specs::Marks::heading_end))]
-fn heading_end(cells: &Cells, from: usize) -> usize
-    ensures { result ≡ heading_end cells.now from }
+/// The end of a heading's text, which ends before a column at the latest: spaces at its end don't count,
+/// nor do `#` with a space before them.
+#[tactic(auto, unfolding(crate::specs::Marks::heading_end_before))]
+pub(crate) fn heading_end_before(cells: &Cells, from: usize, limit: usize) -> usize
+    ensures { result ≡ heading_end_before cells.now from limit }
 {
-    let whole = trimmed(cells, from, cells.len(), b' ');
+    let whole = trimmed(cells, from, limit, b' ');
     let open = trimmed(cells, from, whole, b'#');
     let closed = open <= from || cell_byte(cells, open.saturating_sub(1)) == b' ';
     if closed {
@@ -104,7 +105,7 @@ pub fn heading_at(cells: &Cells, column: usize) -> Option<Heading>
     Some(Heading {
         level,
         from,
-        to: heading_end(cells, from),
+        to: heading_end_before(cells, from, cells.len()),
     })
 }
 

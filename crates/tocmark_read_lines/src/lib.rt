@@ -6,6 +6,7 @@
 //! the containers that go on in it.
 #![tactic(auto)]
 
+pub mod attributes;
 pub mod beginnings;
 pub mod cell;
 pub mod container;
@@ -13,5 +14,6 @@ pub mod html;
 pub mod line;
 pub mod metadata;
 pub mod note;
+pub mod quote;
 pub mod row;
 pub mod task;

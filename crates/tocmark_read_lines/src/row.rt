@@ -251,7 +251,8 @@ pub fn cell_count(text: &[u8], start: usize, end: usize) -> usize
     count
 }
 
-fn trailing_blanks(bytes: &[u8]) -> usize
+/// The number of spaces and tabs at the end.
+pub(crate) fn trailing_blanks(bytes: &[u8]) -> usize
     ensures { result ≡ length (take_while (λ b. (b == 32) || (b == 9)) (reverse bytes.now)) }
 {
     bytes

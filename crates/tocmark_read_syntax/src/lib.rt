@@ -31,6 +31,10 @@ pub struct Syntax {
     pub yaml_metadata: bool,
     /// Metadata between lines of `+++`.
     pub pluses_metadata: bool,
+    /// Kinds of block quotes: a word such as `[!NOTE]` on a quote's first line.
+    pub quote_kinds: bool,
+    /// Attributes of headings: words between braces behind a heading's text.
+    pub heading_attributes: bool,
     /// The names of character references.
     pub names: Names,
 }
@@ -45,5 +49,7 @@ pub const CORE: Syntax = Syntax {
     task_lists: false,
     yaml_metadata: false,
     pluses_metadata: false,
+    quote_kinds: false,
+    heading_attributes: false,
     names: Names::Four,
 };

@@ -7,4 +7,4 @@ use Rattle.tocmark_core_reader.proofs.block_events.assemble.Given as goal
 abbrev pub invariant-loop-block : goal.invariant-loop-block
 invariant-loop-block l =
     assembly_view l.assembly
-    ≡ written_alone l.text (fold (block_step_in l.syntax l.text (entry_of l.definitions) l.blocks l.pieces) (start_state l.fn.texts.items) (take l.block-index l.blocks))
+    ≡ written_alone l.document.text.now (fold (block_step_in l.document.syntax l.document.text.now (entry_of l.document.definitions.now) l.blocks l.pieces) (start_state l.fn.texts.items) (take l.block-index l.blocks))

@@ -7,10 +7,10 @@ use Rattle.tocmark_core_reader.proofs.block_events.Assembly.read_bare.Goals as g
 
 pub returns : goal.returns
 returns c =
-    let find : Find = entry_of c.args.definitions.now in
+    let find : Find = entry_of c.args.document.now.definitions.now in
     on_ok_weaker c.read_leaf.result
     (λ read.
     read
-    ∙ ap (written_by c.args.text.now (leaf_inlines_in c.args.syntax c.args.text.now find c.args.pieces.now _)) c.in_ok-take_task.ensures
-    ∙ sym (bare_behind c.args.syntax c.args.text.now find c.args.pieces.now c.args.block (assembly_view c.args.self.now)))
+    ∙ ap (written_by c.args.document.now.text.now (leaf_inlines_in c.args.document.now.syntax c.args.document.now.text.now find c.args.pieces.now _)) c.in_ok-take_task.ensures
+    ∙ sym (bare_behind c.args.document.now.syntax c.args.document.now.text.now find c.args.pieces.now c.args.block (assembly_view c.args.self.now)))
     c.read_leaf.ensures
