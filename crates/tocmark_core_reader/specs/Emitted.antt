@@ -4,7 +4,7 @@ use Rattle.std.specs.List.{fold}
 use Rattle.tocmark_read_scan.specs.Basic.{bytes_between}
 use Rattle.tocmark_core_reader.specs.Words.{cleaned}
 use Rattle.tocmark_event.specs.Text.{ParserEvent, text_of}
-use Rattle.tocmark_event.specs.View.{EventView, Start, End, Leaf, TagView, LeafView, Text, Code, Html, InlineHtml, SoftBreak, HardBreak, Rule, TaskListMarker, FootnoteReference, tag_view, event_view, end_of}
+use Rattle.tocmark_event.specs.View.{EventView, Start, End, Leaf, TagView, LeafView, Text, Code, Html, InlineHtml, SoftBreak, HardBreak, Rule, TaskListMarker, FootnoteReference, InlineMath, DisplayMath, tag_view, event_view, end_of}
 use Rattle.tocmark_core_reader.specs.Range.{snapped}
 use Rattle.tocmark_core_reader.specs.declared.emit.Emission.{Emission}
 use Rattle.tocmark_core_reader.specs.declared.emit.NodeKind.{NodeKind}
@@ -38,6 +38,8 @@ item_view item.HardBreak = Given HardBreak
 item_view item.Rule = Given Rule
 item_view (item.TaskListMarker done) = Given (TaskListMarker done)
 item_view (item.FootnoteReference t) = Given (FootnoteReference (text_of t))
+item_view (item.InlineMath t) = Given (InlineMath (text_of t))
+item_view (item.DisplayMath t) = Given (DisplayMath (text_of t))
 
 -- a node as plain values
 abbrev pub node_view : Node → NodeView

@@ -1,6 +1,6 @@
 -- From the nodes of inlines to those of events.
 use Rattle.std.specs.Prelude.{ℕ, List, encode_utf8, slice_get, unwrap_or}
-use Rattle.tocmark_event.specs.View.{TagView, Emphasis, Strong, Strikethrough, Link, Image, Subscript, Superscript, Text, Code, InlineHtml, SoftBreak, HardBreak, FootnoteReference}
+use Rattle.tocmark_event.specs.View.{TagView, Emphasis, Strong, Strikethrough, Link, Image, Subscript, Superscript, Text, Code, InlineHtml, SoftBreak, HardBreak, FootnoteReference, InlineMath, DisplayMath}
 use Rattle.tocmark_event.specs.declared.event.LinkType.TheVariants.{Inline}
 use Rattle.tocmark_read_spans.specs.Definitions.{stretch_text, no_stretch}
 use Rattle.tocmark_read_spans.specs.declared.role.Leaf.{Leaf}
@@ -45,6 +45,8 @@ leaf_item texts leaf.SoftBreak = Given SoftBreak
 leaf_item texts leaf.HardBreak = Given HardBreak
 leaf_item texts (leaf.Text s) = Given (Text (stretch_text texts s))
 leaf_item texts (leaf.Note name) = Given (FootnoteReference (stretch_text texts name))
+leaf_item texts (leaf.InlineMath s) = Given (InlineMath (stretch_text texts s))
+leaf_item texts (leaf.DisplayMath s) = Given (DisplayMath (stretch_text texts s))
 
 -- the item that an inline is
 unfoldable pub inline_item : List ℕ → List Target → InlineKind → ItemView

@@ -29,6 +29,8 @@ pub enum NodeKind {
     TaskListMarker(bool),
     /// A reference to a footnote with its name.
     FootnoteReference(CowStr<'static>),
+    InlineMath(CowStr<'static>),
+    DisplayMath(CowStr<'static>),
 }
 
 /// A part of a text, in bytes: `end` is the place behind the last one. Nodes stand in the order of
@@ -160,6 +162,8 @@ impl Emission {
             NodeKind::Rule => Event::Rule,
             NodeKind::TaskListMarker(done) => Event::TaskListMarker(done),
             NodeKind::FootnoteReference(name) => Event::FootnoteReference(name),
+            NodeKind::InlineMath(words) => Event::InlineMath(words),
+            NodeKind::DisplayMath(words) => Event::DisplayMath(words),
         };
         push(&mut self.events, event, range)
     }

@@ -92,6 +92,12 @@ fn leaf_item(alloc: Global, texts: &[u8], leaf: Leaf) -> Result<NodeKind, AllocE
         Leaf::HardBreak => Ok(NodeKind::HardBreak),
         Leaf::Text(stretch) => Ok(NodeKind::Text(stretch_text(alloc, texts, stretch)?)),
         Leaf::Note(name) => Ok(NodeKind::FootnoteReference(stretch_text(alloc, texts, name)?)),
+        Leaf::InlineMath(stretch) => {
+            Ok(NodeKind::InlineMath(stretch_text(alloc, texts, stretch)?))
+        }
+        Leaf::DisplayMath(stretch) => {
+            Ok(NodeKind::DisplayMath(stretch_text(alloc, texts, stretch)?))
+        }
     }
 }
 

@@ -11,12 +11,13 @@ use tocmark_json::fault::OptionFault;
 use tocmark_json::options::set_option;
 
 /// The extensions by their names.
-const NAMED: [(&str, ParserOptions); 10] = [
+const NAMED: [(&str, ParserOptions); 11] = [
     ("tables", ParserOptions::ENABLE_TABLES),
     ("footnotes", ParserOptions::ENABLE_FOOTNOTES),
     ("strikethrough", ParserOptions::ENABLE_STRIKETHROUGH),
     ("subscript", ParserOptions::ENABLE_SUBSCRIPT),
     ("superscript", ParserOptions::ENABLE_SUPERSCRIPT),
+    ("math", ParserOptions::ENABLE_MATH),
     ("tasklists", ParserOptions::ENABLE_TASKLISTS),
     (
         "yaml-metadata",

@@ -19,12 +19,14 @@ use tocmark_event::reader::{Reader, Reading};
 pub use tocmark_read_syntax::Names;
 use tocmark_read_syntax::Syntax;
 
-/// The flags of the extensions that `ExtendedReader` reads: strikethrough, subscripts, superscripts, task
-/// lists, both kinds of metadata, footnotes, tables, kinds of block quotes, and attributes of headings.
+/// The flags of the extensions that `ExtendedReader` reads: strikethrough, subscripts, superscripts,
+/// mathematics, task lists, both kinds of metadata, footnotes, tables, kinds of block quotes, and attributes
+/// of headings.
 pub const EXTENSIONS: ParserOptions = ParserOptions(
     ParserOptions::ENABLE_STRIKETHROUGH.0
         | ParserOptions::ENABLE_SUBSCRIPT.0
         | ParserOptions::ENABLE_SUPERSCRIPT.0
+        | ParserOptions::ENABLE_MATH.0
         | ParserOptions::ENABLE_TASKLISTS.0
         | ParserOptions::ENABLE_TABLES.0
         | ParserOptions::ENABLE_YAML_STYLE_METADATA_BLOCKS.0
@@ -45,6 +47,7 @@ fn syntax_of(names: Names, flags: ParserOptions) -> Syntax
         strikethrough: flags.contains(ParserOptions::ENABLE_STRIKETHROUGH),
         subscript: flags.contains(ParserOptions::ENABLE_SUBSCRIPT),
         superscript: flags.contains(ParserOptions::ENABLE_SUPERSCRIPT),
+        math: flags.contains(ParserOptions::ENABLE_MATH),
         task_lists: flags.contains(ParserOptions::ENABLE_TASKLISTS),
         yaml_metadata: flags.contains(ParserOptions::ENABLE_YAML_STYLE_METADATA_BLOCKS),
         pluses_metadata: flags.contains(ParserOptions::ENABLE_PLUSES_DELIMITED_METADATA_BLOCKS),
@@ -63,6 +66,12 @@ fn syntax_of(names: Names, flags: ParserOptions) -> Syntax
 /// two tildes without strikethrough are a text. A superscript stands between carets, which open and close
 /// as underscores do: `^a^` and `^^a^^` are one each, `x^2^` is none. A closing tilde or caret for which
 /// no opening one stands ends all that were opened before it.
+///
+/// Mathematics stands between dollar signs, two where it is set on lines of its own: `$a$`, `$$a$$`. A
+/// dollar sign belongs to the next one with balanced braces between them; a byte behind an escaping
+/// backslash counts as neither. Between single ones no white space stands at either end; behind the second
+/// of two the one that it belongs to is followed by another. Nothing is resolved in between, and what
+/// opens first wins, mathematics or code. All other dollar signs are a text.
 ///
 /// A box stands just behind the marker of an item: a space, `x` or `X` between brackets, and a space or
 /// the line ending behind them. The rest of its line begins a paragraph, whatever it looks like, which

@@ -2,6 +2,7 @@
 
 mod attributes;
 mod footnotes;
+mod math;
 mod names;
 mod quote_kinds;
 mod scripts;
@@ -367,6 +368,7 @@ fn without_flags_the_core_is_read(rt: HostRuntime) -> Result<(), Fail> {
         "- [ ] a\n- [x]\n",
         "~~a~~ ~b~",
         "^a^ ^^b^^",
+        "$a$ $$b$$",
         "&amp; &auml; [a](/&ouml; \"&quot;&copy;\")",
         "~~~ &lt;&uuml;\n",
         "|a|b|\n|-|-|\n|1|2|",

@@ -23,19 +23,21 @@ four_names All h = absurd (true≢false h)
 
 -- one byte further
 step_as_core : (syntax : Syntax) (bytes : List ℕ) (ahead : s.Known) (defs : List ℕ → Option Entry) (t : s.State) (b : ℕ) → s.extends_inlines syntax ≡ false → s.scan_step bytes ahead defs t b ≡ s.scan_step_in syntax bytes ahead defs t b
-unfolding s.scan_step_in s.looked_in s.is_mark_in s.is_tilde_in s.is_caret_in s.is_note_end_in s.extends_inlines
+unfolding s.scan_step_in s.looked_in s.is_mark_in s.is_tilde_in s.is_caret_in s.is_dollar_in s.is_note_end_in s.extends_inlines
 step_as_core syntax bytes ahead defs t b h =
-    let five : syntax.strikethrough || syntax.subscript || syntax.superscript || syntax.footnotes || syntax.tables ≡ false = first_false (syntax.strikethrough || syntax.subscript || syntax.superscript || syntax.footnotes || syntax.tables) (s.knows_all syntax.names) h in
-    let names : syntax.names ≡ Four = four_names syntax.names (second_false (syntax.strikethrough || syntax.subscript || syntax.superscript || syntax.footnotes || syntax.tables) (s.knows_all syntax.names) h) in
-    let tables : syntax.tables ≡ false = second_false (syntax.strikethrough || syntax.subscript || syntax.superscript || syntax.footnotes) syntax.tables five in
-    let four : syntax.strikethrough || syntax.subscript || syntax.superscript || syntax.footnotes ≡ false = first_false (syntax.strikethrough || syntax.subscript || syntax.superscript || syntax.footnotes) syntax.tables five in
-    let notes : syntax.footnotes ≡ false = second_false (syntax.strikethrough || syntax.subscript || syntax.superscript) syntax.footnotes four in
-    let three : syntax.strikethrough || syntax.subscript || syntax.superscript ≡ false = first_false (syntax.strikethrough || syntax.subscript || syntax.superscript) syntax.footnotes four in
+    let six : syntax.strikethrough || syntax.subscript || syntax.superscript || syntax.math || syntax.footnotes || syntax.tables ≡ false = first_false (syntax.strikethrough || syntax.subscript || syntax.superscript || syntax.math || syntax.footnotes || syntax.tables) (s.knows_all syntax.names) h in
+    let names : syntax.names ≡ Four = four_names syntax.names (second_false (syntax.strikethrough || syntax.subscript || syntax.superscript || syntax.math || syntax.footnotes || syntax.tables) (s.knows_all syntax.names) h) in
+    let tables : syntax.tables ≡ false = second_false (syntax.strikethrough || syntax.subscript || syntax.superscript || syntax.math || syntax.footnotes) syntax.tables six in
+    let five : syntax.strikethrough || syntax.subscript || syntax.superscript || syntax.math || syntax.footnotes ≡ false = first_false (syntax.strikethrough || syntax.subscript || syntax.superscript || syntax.math || syntax.footnotes) syntax.tables six in
+    let notes : syntax.footnotes ≡ false = second_false (syntax.strikethrough || syntax.subscript || syntax.superscript || syntax.math) syntax.footnotes five in
+    let four : syntax.strikethrough || syntax.subscript || syntax.superscript || syntax.math ≡ false = first_false (syntax.strikethrough || syntax.subscript || syntax.superscript || syntax.math) syntax.footnotes five in
+    let math : syntax.math ≡ false = second_false (syntax.strikethrough || syntax.subscript || syntax.superscript) syntax.math four in
+    let three : syntax.strikethrough || syntax.subscript || syntax.superscript ≡ false = first_false (syntax.strikethrough || syntax.subscript || syntax.superscript) syntax.math four in
     let two : syntax.strikethrough || syntax.subscript ≡ false = first_false (syntax.strikethrough || syntax.subscript) syntax.superscript three in
     let struck : syntax.strikethrough ≡ false = first_false syntax.strikethrough syntax.subscript two in
     let below : syntax.subscript ≡ false = second_false syntax.strikethrough syntax.subscript two in
     let above : syntax.superscript ≡ false = second_false (syntax.strikethrough || syntax.subscript) syntax.superscript three in
-    rw (struck, below, above, notes, tables, names) refl
+    rw (struck, below, above, math, notes, tables, names) refl
 
 folds_as_core : (syntax : Syntax) (bytes all : List ℕ) (ahead : s.Known) (defs : List ℕ → Option Entry) (t : s.State) → s.extends_inlines syntax ≡ false → fold (s.scan_step all ahead defs) t bytes ≡ fold (s.scan_step_in syntax all ahead defs) t bytes
 folds_as_core syntax [] all ahead defs t h = refl

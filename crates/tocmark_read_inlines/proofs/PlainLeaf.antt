@@ -1,6 +1,7 @@
 -- The inlines of a leaf whose text is made of parts that are read as they are meant: its nodes, with ranges in the source.
 use Rattle.std.proofs.Common.{◌≡◌, ℕ, zero, suc, ◌+◌, ◌-◌, ◌^◌, ◌<◌, ◌≤◌, List, [], ◌∷◌, ◌++◌, length, map, slice_get, Option, Some, None, refl, ap, ◌∙◌, arith, length-append}
 use Rattle.std.proofs.lemmas.List.{map-append}
+use Rattle.tocmark_read_syntax.specs.declared.TheConstants.{CORE}
 use Rattle.tocmark_read_tokens.specs.Html.{last_ends}
 use Rattle.tocmark_read_scan.specs.Content as content
 use Rattle.tocmark_read_scan.proofs.PlainContent.{places_of}
@@ -22,7 +23,7 @@ use Rattle.tocmark_read_scan.specs.PlainParts.{Part, Bare, Escaped, Referred, Fe
 
 -- what is known of a text before it is read
 abbrev pub known : List ℕ → s.Known
-known bytes = s.ahead_of bytes
+known bytes = s.ahead_in CORE bytes
 
 scanned_parts : (parts : List Part) (defs : List ℕ → Option Entry) (targets : List Target) (texts : List ℕ) (missed : List Stretch) → AreRead (spelled parts) (known (spelled parts)) defs 0 parts → length (spelled parts) < 2 ^ 64 → (r : ℕ) × (s.scanned (spelled parts) defs (scan_start (length (spelled parts)) targets texts missed) ≡ record (scan_start (length (spelled parts)) targets texts missed) { roles = roles 0 parts; place = 0 + length (spelled parts); resume = r })
 unfolding s.scanned_in s.settled scan_start emphasized

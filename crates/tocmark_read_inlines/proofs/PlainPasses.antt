@@ -45,14 +45,14 @@ set_behind xs ys y z n e = ap (λ k. slice_set (xs ++ y ∷ ys) k z) e ∙ here 
 
 -- a byte at which the pass is taken up again
 step_at : (bytes : List ℕ) (ahead : s.Known) (defs : List ℕ → Option Entry) (b : ℕ) (t : s.State) → s.is_mark b ≡ true → t.resume ≤ t.place → s.scan_step bytes ahead defs t b ≡ s.next_place (s.looked bytes ahead defs b t)
-unfolding s.scan_step_in s.is_mark_in s.looked_in s.is_tilde_in s.is_caret_in s.is_note_end_in
+unfolding s.scan_step_in s.is_mark_in s.looked_in s.is_tilde_in s.is_caret_in s.is_dollar_in s.is_note_end_in
 step_at bytes ahead defs b t mark h =
     let yes : nat_le t.resume t.place ≡ true = grind (arith, nat_tests) in
     rw (mark, yes) refl
 
 -- a byte that is no mark is passed over
 step_over : (bytes : List ℕ) (ahead : s.Known) (defs : List ℕ → Option Entry) (b : ℕ) (t : s.State) → s.is_mark b ≡ false → s.scan_step bytes ahead defs t b ≡ s.next_place t
-unfolding s.scan_step_in s.is_mark_in s.looked_in s.is_tilde_in s.is_caret_in s.is_note_end_in
+unfolding s.scan_step_in s.is_mark_in s.looked_in s.is_tilde_in s.is_caret_in s.is_dollar_in s.is_note_end_in
 step_over bytes ahead defs b t mark = rw mark refl
 
 -- a backslash, an ampersand and a line feed are marks
@@ -74,7 +74,7 @@ never false = refl
 
 -- bytes that are part of what was read already
 skipped : (bytes : List ℕ) (ahead : s.Known) (defs : List ℕ → Option Entry) (xs : List ℕ) (t : s.State) → t.place + length xs ≤ t.resume → t.place + length xs < 2 ^ 64 → fold (s.scan_step bytes ahead defs) t xs ≡ record t { place = t.place + length xs }
-unfolding s.scan_step_in s.is_mark_in s.looked_in s.is_tilde_in s.is_caret_in s.is_note_end_in
+unfolding s.scan_step_in s.is_mark_in s.looked_in s.is_tilde_in s.is_caret_in s.is_dollar_in s.is_note_end_in
 skipped bytes ahead defs [] t h fits = ap (λ p. record t { place = p }) (let q : t.place ≡ t.place + 0 = omega arith in q)
 skipped bytes ahead defs (x ∷ xs) t h fits =
     let no : nat_le t.resume t.place ≡ false = grind (arith, nat_tests) in

@@ -22,6 +22,7 @@ use Rattle.tocmark_event.specs.declared.event.LinkType.TheVariants.{Inline, Auto
 use Rattle.tocmark_read_spans.specs.Role.{roles_of}
 use Rattle.tocmark_read_spans.specs.Tick.{last_ticks, tick_end, push_shown, stripped}
 use Rattle.tocmark_read_spans.specs.Run.{run_at, tildes_at}
+use Rattle.tocmark_read_spans.specs.Math.{partners, math_at}
 use Rattle.tocmark_read_spans.specs.Emphasis.{emphasized}
 use Rattle.tocmark_read_spans.specs.Link.{inline_target, label_asked}
 use Rattle.tocmark_read_spans.specs.Notes.{note_key, label_sought}
@@ -29,6 +30,7 @@ use Rattle.tocmark_read_tokens.specs.declared.word.Word.{Word}
 use Rattle.tocmark_read_spans.specs.declared.note.Sought.{Sought}
 use Rattle.tocmark_read_spans.specs.declared.note.Sought.TheVariants as sought_as
 use Rattle.tocmark_read_spans.specs.declared.definitions.Entry.{Entry}
+use Rattle.tocmark_read_spans.specs.declared.math.Math.{Math}
 use Rattle.tocmark_read_spans.specs.declared.link.Bracket.{Bracket}
 use Rattle.tocmark_read_spans.specs.declared.link.InlineTarget.{InlineTarget}
 use Rattle.tocmark_read_spans.specs.declared.link.Asked.{Asked}
@@ -41,7 +43,7 @@ use Rattle.tocmark_read_spans.specs.declared.role.Span.TheVariants.{Link, Image}
 use Rattle.tocmark_read_spans.specs.declared.role.Stretch.{Stretch}
 use Rattle.tocmark_read_spans.specs.declared.role.Target.{Target}
 use Rattle.tocmark_read_spans.specs.declared.run.Run.{Run}
-use Rattle.tocmark_read_inlines.specs.declared.scan.KnownAbsent.{KnownAbsent}
+use Rattle.tocmark_read_inlines.specs.declared.scan.KnownAhead.{KnownAhead}
 use Rattle.tocmark_read_inlines.specs.declared.scan.Scanner.{Scanner}
 
 -- the pass at a place
@@ -74,10 +76,11 @@ scan s = record {
 pub record Known : Type 0 where
   pub ends : LastEnds
   pub ticks : List ℕ
+  pub partners : List (Option ℕ)
 
 -- what is known as lists
-abbrev pub ahead_view : KnownAbsent → Known
-ahead_view a = record { ends = a.ends; ticks = a.ticks.items }
+abbrev pub ahead_view : KnownAhead → Known
+ahead_view a = record { ends = a.ends; ticks = a.ticks.items; partners = a.partners.items }
 
 -- the ends of raw HTML, where one can begin
 unfoldable pub ends_of : List ℕ → LastEnds
@@ -89,9 +92,13 @@ ends_of bytes =
 unfoldable pub ticks_of : List ℕ → List ℕ
 ticks_of bytes = if list_any (λ b. b == 96) bytes then last_ticks bytes else []
 
+-- the partners of dollar signs, where mathematics is read and one stands
+unfoldable pub partners_in : Syntax → List ℕ → List (Option ℕ)
+partners_in syntax bytes = if syntax.math && list_any (λ b. b == 36) bytes then partners bytes else []
+
 -- what is known of a text before it is read
-abbrev pub ahead_of : List ℕ → Known
-ahead_of bytes = record { ends = ends_of bytes; ticks = ticks_of bytes }
+abbrev pub ahead_in : Syntax → List ℕ → Known
+ahead_in syntax bytes = record { ends = ends_of bytes; ticks = ticks_of bytes; partners = partners_in syntax bytes }
 
 -- a stretch by its two places
 abbrev pub stretch : ℕ → ℕ → Stretch
@@ -185,6 +192,21 @@ run_kept r s = with_run r (record s { resume = plus s.place r.count })
 -- tildes of strikethrough and subscripts
 unfoldable pub tildes_taken : Syntax → List ℕ → State → State
 tildes_taken syntax bytes s = run_kept (tildes_at syntax bytes s.place) s
+
+-- mathematics as a leaf
+unfoldable pub math_put : List ℕ → Math → State → State
+math_put bytes m s =
+    let p = kept (bytes_between bytes m.start m.end) s in
+    put_leaf (if m.display then leaf.DisplayMath (p.1) else leaf.InlineMath (p.1)) m.next (p.0)
+
+-- mathematics, or a dollar sign that is a text
+abbrev pub math_to : List ℕ → State → Option Math → State
+math_to bytes s None = s
+math_to bytes s (Some m) = math_put bytes m s
+
+-- a dollar sign
+unfoldable pub math_taken : List ℕ → List (Option ℕ) → State → State
+math_taken bytes partners s = math_to bytes s (math_at bytes partners s.place)
 
 -- the innermost bracket, if there is one, has another in it
 abbrev pub marked_last : State → Option Bracket → State
@@ -462,9 +484,13 @@ is_tilde_in syntax b = (syntax.strikethrough || syntax.subscript) && (b == 126)
 unfoldable pub is_caret_in : Syntax → ℕ → Bool
 is_caret_in syntax b = syntax.superscript && (b == 94)
 
+-- a dollar sign is a mark where mathematics is read
+unfoldable pub is_dollar_in : Syntax → ℕ → Bool
+is_dollar_in syntax b = syntax.math && (b == 36)
+
 -- a byte that can be more than one of a text, in an extension or in CommonMark
 unfoldable pub is_mark_in : Syntax → ℕ → Bool
-is_mark_in syntax b = is_tilde_in syntax b || is_caret_in syntax b || is_mark b
+is_mark_in syntax b = is_tilde_in syntax b || is_caret_in syntax b || is_dollar_in syntax b || is_mark b
 
 -- a closing bracket is another mark where footnotes are read
 unfoldable pub is_note_end_in : Syntax → ℕ → Bool
@@ -501,9 +527,10 @@ unfoldable pub looked_in : Syntax → List ℕ → Known → (List ℕ → Optio
 looked_in syntax bytes ahead definitions b s =
     if is_tilde_in syntax b then tildes_taken syntax bytes s
     else (if is_caret_in syntax b then run_taken bytes b s
+    else (if is_dollar_in syntax b then math_taken bytes ahead.partners s
     else (if is_note_end_in syntax b then closed_or_noted syntax.names bytes definitions s
     else (if syntax.tables && (b == 60) then angled_in bytes ahead.ends s
-    else looked_by syntax.names bytes ahead definitions b s)))
+    else looked_by syntax.names bytes ahead definitions b s))))
 
 -- all names of character references are known
 abbrev pub knows_all : Names → Bool
@@ -513,7 +540,8 @@ knows_all All = true
 -- some extension has a say in the inlines of a leaf
 unfoldable pub extends_inlines : Syntax → Bool
 extends_inlines syntax =
-    syntax.strikethrough || syntax.subscript || syntax.superscript || syntax.footnotes || syntax.tables || knows_all syntax.names
+    syntax.strikethrough || syntax.subscript || syntax.superscript || syntax.math || syntax.footnotes || syntax.tables
+    || knows_all syntax.names
 
 -- one byte further
 unfoldable pub scan_step_in : Syntax → List ℕ → Known → (List ℕ → Option Entry) → State → ℕ → State
@@ -526,7 +554,7 @@ ran_in syntax bytes ahead definitions s = fold (scan_step_in syntax bytes ahead 
 
 -- all bytes of a text
 unfoldable pub scanned_in : Syntax → List ℕ → (List ℕ → Option Entry) → State → State
-scanned_in syntax bytes definitions s = settled 0 (ran_in syntax bytes (ahead_of bytes) definitions s)
+scanned_in syntax bytes definitions s = settled 0 (ran_in syntax bytes (ahead_in syntax bytes) definitions s)
 
 -- the same of CommonMark alone
 abbrev pub scan_step : List ℕ → Known → (List ℕ → Option Entry) → State → ℕ → State

@@ -3,7 +3,7 @@
 ghost use Rattle.std.specs.Prelude.{◌≡◌, IfOk, OnOk, length, drop};
 ghost use Rattle.tocmark_read_scan.specs.Repeat.{iterated};
 ghost use Rattle.tocmark_read_spans.specs.Definitions.{entry_of};
-ghost use Rattle.tocmark_read_inlines.specs.Scan.{before_space, scan, ahead_view, ends_of, ticks_of, stretch, kept, kept_code, targeted, put_leaf, escaped, referred, code_put, coded, run_taken, run_kept, tildes_taken, marked, opened, imaged, addressed, html_put, tagged, mailed, angled, line_ended, spanned, settled, linked, missing, looked_up, closed_by_label, popped, looked_mark, looked, is_mark, is_tilde_in, is_caret_in, is_mark_in, looked_in, knows_all, extends_inlines, with_place, scan_step, scan_step_in, ran, ran_in, scanned_in, kept_resolved_in, name_put, named_taken, closed_inline_in, closed_active_in, closed_in, looked_all, looked_by, is_note_end_in, address_end, barred_end, address_shown, angled_in};
+ghost use Rattle.tocmark_read_inlines.specs.Scan.{before_space, scan, ahead_view, ends_of, ticks_of, partners_in, stretch, kept, kept_code, targeted, put_leaf, escaped, referred, code_put, coded, run_taken, run_kept, tildes_taken, math_put, math_taken, marked, opened, imaged, addressed, html_put, tagged, mailed, angled, line_ended, spanned, settled, linked, missing, looked_up, closed_by_label, popped, looked_mark, looked, is_mark, is_tilde_in, is_caret_in, is_dollar_in, is_mark_in, looked_in, knows_all, extends_inlines, with_place, scan_step, scan_step_in, ran, ran_in, scanned_in, kept_resolved_in, name_put, named_taken, closed_inline_in, closed_active_in, closed_in, looked_all, looked_by, is_note_end_in, address_end, barred_end, address_shown, angled_in};
 
 use std::alloc::{AllocError, Global};
 use tocmark_event::event::LinkType;
@@ -12,6 +12,7 @@ use tocmark_read_scan::class::{Class, run_end};
 use tocmark_read_spans::definitions::Definitions;
 use tocmark_read_spans::emphasis::emphasize;
 use tocmark_read_spans::link::{Asked, Bracket, InlineTarget, inline_target, label_asked};
+use tocmark_read_spans::math::{Math, math_at, partners};
 use tocmark_read_spans::role::{Leaf, Role, Roles, Span, Stretch, Target};
 use tocmark_read_spans::run::{Run, run_at, tildes_at};
 use tocmark_read_spans::tick::{last_ticks, push_code, tick_end};
@@ -22,11 +23,13 @@ use tocmark_read_tokens::label::{collapsed, key_of};
 use tocmark_read_tokens::name::{NamedReference, named_in};
 use tocmark_read_tokens::reference::{is_escape, reference_at, unescaped};
 
-/// What is known of a text before it is read: where no end of raw HTML and no backticks follow.
+/// What is known of a text before it is read: where no end of raw HTML and no backticks follow, and which
+/// dollar signs belong together.
 #[derive(Drop)]
-pub struct KnownAbsent {
+pub struct KnownAhead {
     pub ends: LastEnds,
     pub ticks: Vec<usize>,
+    pub partners: Vec<Option<usize>>,
 }
 
 /// A leaf's text, what is known of it, what labels are defined as, and the extensions that are read.
@@ -34,7 +37,7 @@ pub struct KnownAbsent {
 struct LeafText<'t, 'k, 'd> {
     syntax: Syntax,
     bytes: &'t [u8],
-    ahead: &'k KnownAbsent,
+    ahead: &'k KnownAhead,
     definitions: &'d Definitions,
 }
 
@@ -125,6 +128,23 @@ fn ticks_of(alloc: Global, bytes: &[u8]) -> Result<Vec<usize>, AllocError>
     }
 }
 
+/// The partners of dollar signs, where mathematics is read and one stands. An `Err` says that memory ran
+/// out.
+#[tactic(auto, unfolding(crate::specs::Scan::partners_in))]
+fn partners_in(
+    alloc: Global,
+    syntax: Syntax,
+    bytes: &[u8],
+) -> Result<Vec<Option<usize>>, AllocError>
+    ensures { IfOk result (λ v. v.items ≡ partners_in syntax bytes.now) }
+{
+    if syntax.math && bytes.contains(&b'$') {
+        partners(alloc, bytes)
+    } else {
+        Ok(Vec::new(alloc))
+    }
+}
+
 /// Whether a byte can be more than one of a text.
 #[tactic(auto, unfolding(crate::specs::Scan::is_mark))]
 fn is_mark(byte: u8) -> bool
@@ -151,12 +171,23 @@ fn is_caret_in(syntax: Syntax, byte: u8) -> bool
     syntax.superscript && byte == b'^'
 }
 
+/// Whether a byte is a dollar sign, where mathematics is read.
+#[tactic(auto, unfolding(crate::specs::Scan::is_dollar_in))]
+fn is_dollar_in(syntax: Syntax, byte: u8) -> bool
+    ensures { result ≡ is_dollar_in syntax byte }
+{
+    syntax.math && byte == b'$'
+}
+
 /// Whether a byte can be more than one of a text, in an extension or in CommonMark.
 #[tactic(auto, unfolding(crate::specs::Scan::is_mark_in))]
 fn is_mark_in(syntax: Syntax, byte: u8) -> bool
     ensures { result ≡ is_mark_in syntax byte }
 {
-    is_tilde_in(syntax, byte) || is_caret_in(syntax, byte) || is_mark(byte)
+    is_tilde_in(syntax, byte)
+        || is_caret_in(syntax, byte)
+        || is_dollar_in(syntax, byte)
+        || is_mark(byte)
 }
 
 /// Whether all names of character references are known.
@@ -177,6 +208,7 @@ fn extends_inlines(syntax: Syntax) -> bool
     syntax.strikethrough
         || syntax.subscript
         || syntax.superscript
+        || syntax.math
         || syntax.footnotes
         || syntax.tables
         || knows_all(syntax.names)
@@ -394,6 +426,32 @@ impl Scanner {
         ensures { OnOk result (scan self.new ≡ tildes_taken syntax bytes.now (scan self.old)) }
     {
         self.keep_run(tildes_at(syntax, bytes, self.place))
+    }
+
+    /// Puts the mathematics that is found at the place.
+    #[tactic(auto, unfolding(crate::specs::Scan::math_put))]
+    fn put_math(&mut self, bytes: &[u8], found: Math) -> Result<(), AllocError>
+        ensures { OnOk result (scan self.new ≡ math_put bytes.now found (scan self.old)) }
+    {
+        let text = self.keep(bytes_between(bytes, found.start, found.end))?;
+        let leaf = if found.display {
+            Leaf::DisplayMath(text)
+        } else {
+            Leaf::InlineMath(text)
+        };
+        self.put(leaf, found.next)
+    }
+
+    /// Reads a dollar sign.
+    #[tactic(auto, unfolding(crate::specs::Scan::math_taken))]
+    fn math(&mut self, bytes: &[u8], partners: &[Option<usize>]) -> Result<(), AllocError>
+        ensures { OnOk result (scan self.new
+            ≡ math_taken bytes.now partners.now (scan self.old)) }
+    {
+        match math_at(bytes, partners, self.place) {
+            Some(found) => self.put_math(bytes, found),
+            None => Ok(()),
+        }
     }
 
     /// Marks the innermost bracket as one with another in it.
@@ -747,7 +805,7 @@ impl Scanner {
         &mut self,
         alloc: Global,
         bytes: &[u8],
-        ahead: &KnownAbsent,
+        ahead: &KnownAhead,
         definitions: &Definitions,
         byte: u8,
     ) -> Result<(), AllocError>
@@ -775,7 +833,7 @@ impl Scanner {
         &mut self,
         alloc: Global,
         bytes: &[u8],
-        ahead: &KnownAbsent,
+        ahead: &KnownAhead,
         definitions: &Definitions,
         byte: u8,
     ) -> Result<(), AllocError>
@@ -798,7 +856,7 @@ impl Scanner {
         alloc: Global,
         names: Names,
         bytes: &[u8],
-        ahead: &KnownAbsent,
+        ahead: &KnownAhead,
         definitions: &Definitions,
         byte: u8,
     ) -> Result<(), AllocError>
@@ -854,6 +912,8 @@ impl Scanner {
             self.tildes(text.syntax, text.bytes)
         } else if is_caret_in(text.syntax, byte) {
             self.delimiters(text.bytes, byte)
+        } else if is_dollar_in(text.syntax, byte) {
+            self.math(text.bytes, &text.ahead.partners)
         } else if is_note_end_in(text.syntax, byte) {
             self.close_in(alloc, text.syntax.names, text.bytes, text.definitions)
         } else if text.syntax.tables && byte == b'<' {
@@ -893,7 +953,7 @@ impl Scanner {
     }
 
     /// One byte of CommonMark further, from a place that is kept apart; gives the next one.
-    #[tactic(auto, unfolding(crate::specs::Scan::scan_step_in, crate::specs::Scan::looked_in, crate::specs::Scan::is_mark_in, crate::specs::Scan::is_tilde_in, crate::specs::Scan::is_caret_in, crate::specs::Scan::is_note_end_in))]
+    #[tactic(auto, unfolding(crate::specs::Scan::scan_step_in, crate::specs::Scan::looked_in, crate::specs::Scan::is_mark_in, crate::specs::Scan::is_tilde_in, crate::specs::Scan::is_caret_in, crate::specs::Scan::is_dollar_in, crate::specs::Scan::is_note_end_in))]
     fn core_step(
         &mut self,
         alloc: Global,
@@ -972,9 +1032,10 @@ impl Scanner {
         ensures { OnOk result (scan self.new
             ≡ scanned_in syntax bytes.now (entry_of definitions.now) (scan self.old)) }
     {
-        let ahead = KnownAbsent {
+        let ahead = KnownAhead {
             ends: ends_of(bytes),
             ticks: ticks_of(alloc, bytes)?,
+            partners: partners_in(alloc, syntax, bytes)?,
         };
         let text = LeafText {
             syntax,

@@ -2,3 +2,4 @@ pub mod Search
 pub mod Marks
 pub mod NotedRuns
 pub mod Runless
+pub mod Partners

@@ -4,13 +4,14 @@
 //! Below it stand `tocmark_read_scan`, `tocmark_read_tokens` and `tocmark_read_syntax`, above it
 //! `tocmark_read_inlines`. Enter at `role`: the role that each byte of the text gets. It comes from runs of `*` and
 //! `_`, and of `~` and `^` where extensions have these (`run`), and how they match
-//! (`emphasis`), code spans (`tick`), what stands behind the text of a link or an image (`link`), and what labels are
+//! (`emphasis`), code spans (`tick`), mathematics (`math`), what stands behind the text of a link or an image (`link`), and what labels are
 //! defined as (`definitions`).
 #![tactic(auto)]
 
 pub mod definitions;
 pub mod emphasis;
 pub mod link;
+pub mod math;
 pub mod note;
 pub mod role;
 pub mod run;

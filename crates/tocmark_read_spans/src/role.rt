@@ -68,6 +68,10 @@ pub enum Leaf {
     Text(Stretch),
     /// A reference to a footnote with its name.
     Note(Stretch),
+    /// Mathematics within a line, with its text.
+    InlineMath(Stretch),
+    /// Mathematics that is set on lines of its own, with its text.
+    DisplayMath(Stretch),
 }
 
 /// What a byte of a leaf's text is.

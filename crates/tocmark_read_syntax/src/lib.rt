@@ -25,6 +25,8 @@ pub struct Syntax {
     pub subscript: bool,
     /// Superscripts: carets on either side.
     pub superscript: bool,
+    /// Mathematics: one or two dollar signs on either side.
+    pub math: bool,
     /// Task lists: boxes at the front of items.
     pub task_lists: bool,
     /// Metadata between lines of `---`.
@@ -46,6 +48,7 @@ pub const CORE: Syntax = Syntax {
     strikethrough: false,
     subscript: false,
     superscript: false,
+    math: false,
     task_lists: false,
     yaml_metadata: false,
     pluses_metadata: false,
