@@ -9,9 +9,6 @@ ghost use Rattle.std.specs.Prelude.{◌≡◌};
 ghost use Rattle.tocmark_extended_reader.specs.Flags.{syntax_of};
 ghost use Rattle.tocmark_read_syntax.specs.declared.Names.TheVariants.{All};
 
-#[cfg(test)]
-mod tests;
-
 use std::alloc::{AllocError, Global};
 use tocmark_core_reader::find;
 use tocmark_event::event::ParserOptions;
