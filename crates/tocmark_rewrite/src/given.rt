@@ -5,8 +5,8 @@ ghost use Rattle.std.specs.Iterator.{item_count, YieldsFirstBy};
 ghost use Rattle.tocmark_event.specs.Text.{text_of};
 ghost use Rattle.tocmark_event.specs.View.{event_view};
 ghost use Rattle.tocmark_event.specs.Merged.{merged};
-ghost use Rattle.tocmark_event.specs.Reading.{lent_pair};
-ghost use Rattle.tocmark_rewrite.specs.Given.{given_events, given_left};
+ghost use Rattle.tocmark_event.specs.Reading.{lent_event, lent_pair};
+ghost use Rattle.tocmark_rewrite.specs.Given.{given_alone, given_events, given_left};
 
 use std::alloc::{AllocError, Global};
 use tocmark_event::event::{Event, merge_texts};
@@ -33,6 +33,33 @@ impl<'a> Iterator for GivenPairs<'a> {
     fn next(&mut self) -> Option<(&'a Event<'a>, Option<(usize, usize)>)> {
         match self.0.next() {
             Some(pair) => Some((&pair.0, Some(pair.1))),
+            None => None,
+        }
+    }
+}
+
+/// The events of a list without their ranges, one after the other.
+#[derive(Drop)]
+pub struct GivenEvents<'a>(std::slice::Iter<'a, (Event<'a>, (usize, usize))>);
+
+impl<'a> GivenEvents<'a> {
+    pub fn new(events: &'a [(Event<'a>, (usize, usize))]) -> GivenEvents<'a>
+        ensures { given_alone result ≡ given_events events.now }
+    {
+        GivenEvents(events.iter())
+    }
+}
+
+impl<'a> Iterator for GivenEvents<'a> {
+    type Item = &'a Event<'a>;
+
+    ghost next_gives = { YieldsFirstBy lent_event given_alone };
+
+    ghost remaining = { item_count given_alone };
+
+    fn next(&mut self) -> Option<&'a Event<'a>> {
+        match self.0.next() {
+            Some(pair) => Some(&pair.0),
             None => None,
         }
     }

@@ -22,12 +22,12 @@ pub mod given;
 mod join;
 pub mod output;
 mod patch;
-mod pieces;
+pub mod pieces;
 mod plan;
 pub mod rewrite;
-mod same;
+pub mod same;
 mod texts;
-mod trees;
+pub mod trees;
 
 pub use answer::{Fate, Kept, Rewritten, RewrittenTree};
 pub use fault::{Fault, Place};

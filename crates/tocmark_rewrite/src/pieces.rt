@@ -1,7 +1,7 @@
 //! The trees that were changed, each written by itself.
 
 use crate::fault::Fault;
-use crate::given::GivenPairs;
+use crate::given::{GivenEvents, GivenPairs};
 use crate::plan::{Plan, place_of};
 use crate::texts::Texts;
 use crate::trees::{Block, Tree};
@@ -14,21 +14,23 @@ use tocmark_state::state::State;
 
 /// What reading and writing take beside a text or its events.
 #[derive(Drop)]
-pub(crate) struct Tools<'t, 'o, R> {
-    pub(crate) alloc: Global,
-    pub(crate) reader: &'t R,
-    pub(crate) flags: ParserOptions,
-    pub(crate) options: Options<'o>,
+pub struct Tools<'t, 'o, R> {
+    pub alloc: Global,
+    pub reader: &'t R,
+    pub flags: ParserOptions,
+    pub options: Options<'o>,
     /// Whether lines of the source end with a carriage return and a line feed.
-    pub(crate) has_returns: bool,
+    pub has_returns: bool,
+    /// Whether texts are spelled as in the source.
+    pub has_ranges: bool,
 }
 
 /// A changed tree as it is written; empty for a kept one.
 #[derive(Drop)]
-pub(crate) struct Piece {
-    pub(crate) body: String,
+pub struct Piece {
+    pub body: String,
     /// The definitions that it asks for, a line each.
-    definitions: String,
+    pub definitions: String,
 }
 
 /// The definitions that written trees ask for.
@@ -87,28 +89,36 @@ fn with_marker<'o>(source: &str, begins: usize, options: Options<'o>) -> Options
 /// it asks for.
 fn hand<'a, R: Reader + Drop>(
     state: &mut State<R>,
-    source: &str,
+    source: Option<&str>,
     events: &'a [(Event<'a>, (usize, usize))],
     texts: &mut Texts,
 ) -> Result<(), Error> {
-    state.process_with_source_range(GivenPairs::new(events), source, texts)?;
+    match source {
+        Some(source) => {
+            state.process_with_source_range(GivenPairs::new(events), source, texts)?;
+        }
+        None => {
+            state.process(GivenEvents::new(events), texts)?;
+        }
+    }
     state.finish(texts)?;
     Ok(())
 }
 
-/// A tree that begins at a byte of the source, and the definitions that it asks for, written by a state
-/// of its own.
-pub(crate) fn write_tree<'a, R: Reader>(
+/// A tree, and the definitions that it asks for, written under these options by a state of its own.
+///
+/// An `Err` is one of those of `State::process_with_source_range`.
+pub fn write_with<'a, R: Reader>(
     tools: &Tools<'_, '_, R>,
+    options: Options<'_>,
     source: &str,
-    begins: usize,
     events: &'a [(Event<'a>, (usize, usize))],
 ) -> Result<Piece, Error> {
     let alloc = tools.alloc;
-    let options = with_marker(source, begins, tools.options);
+    let spelled = if tools.has_ranges { Some(source) } else { None };
     let mut texts = Texts::new(alloc);
     let mut state = State::new(alloc, tools.reader, tools.flags, options)?;
-    let handed = hand(&mut state, source, events, &mut texts);
+    let handed = hand(&mut state, spelled, events, &mut texts);
     drop(state);
     handed?;
     let body = in_manner_of(alloc, tools.has_returns, texts.text_at(0))?;
@@ -119,8 +129,19 @@ pub(crate) fn write_tree<'a, R: Reader>(
     })
 }
 
+/// A tree that begins at a byte of the source, written with the marker that stands there.
+pub(crate) fn write_tree<'a, R: Reader>(
+    tools: &Tools<'_, '_, R>,
+    source: &str,
+    begins: usize,
+    events: &'a [(Event<'a>, (usize, usize))],
+) -> Result<Piece, Error> {
+    let options = with_marker(source, begins, tools.options);
+    write_with(tools, options, source, events)
+}
+
 /// The events of a tree.
-pub(crate) fn events_of<'e>(
+pub fn events_of<'e>(
     events: &'e [(Event<'e>, (usize, usize))],
     tree: Tree,
 ) -> &'e [(Event<'e>, (usize, usize))] {

@@ -363,6 +363,7 @@ pub fn rewritten<'a, R: Reader>(
         flags,
         options,
         has_returns: source.contains("\r\n"),
+        has_ranges: true,
     };
     let output = new_text(&tools, source, &work, events)?;
     let answer = answer(alloc, &work, output)?;

@@ -50,7 +50,7 @@ fn are_alike(
 
 /// Whether two lists have the same events, on either side with each longest stretch of texts as one. It
 /// takes memory only where texts are cut otherwise; an `Err` says that it ran out.
-pub(crate) fn are_same(
+pub fn are_same(
     alloc: Global,
     found: &[(Event<'_>, (usize, usize))],
     given: &[(Event<'_>, (usize, usize))],

@@ -79,7 +79,7 @@ fn lines_end(bytes: &[u8], from: usize, to: usize) -> usize {
 }
 
 /// Whether some byte of a stretch isn't blank.
-pub(crate) fn has_text(bytes: &[u8], from: usize, to: usize) -> bool {
+pub fn has_text(bytes: &[u8], from: usize, to: usize) -> bool {
     for k in from..to {
         if let Some(byte) = bytes.get(k)
             && !is_blank(*byte)
@@ -91,7 +91,7 @@ pub(crate) fn has_text(bytes: &[u8], from: usize, to: usize) -> bool {
 }
 
 /// The stretch without blank lines before it and blank bytes behind it.
-pub(crate) fn trimmed(bytes: &[u8], from: usize, to: usize) -> (usize, usize) {
+pub fn trimmed(bytes: &[u8], from: usize, to: usize) -> (usize, usize) {
     let mut first = from;
     for k in from..to {
         if let Some(byte) = bytes.get(k) {
@@ -149,7 +149,7 @@ fn make_tree(events: &[(Event<'_>, (usize, usize))], first: usize, past: usize) 
 }
 
 /// The trees at the top, in their order. An `Err` says that memory ran out.
-pub(crate) fn trees(
+pub fn trees(
     alloc: Global,
     events: &[(Event<'_>, (usize, usize))],
 ) -> Result<Vec<Tree>, AllocError> {
@@ -175,7 +175,7 @@ pub(crate) fn trees(
 }
 
 /// The trees that the reader found, with their lines. An `Err` says that memory ran out.
-pub(crate) fn blocks(
+pub fn blocks(
     alloc: Global,
     source: &str,
     events: &[(Event<'_>, (usize, usize))],
