@@ -1,11 +1,15 @@
 # shellcheck shell=bash disable=SC2154
-# What ./tocmark, ./tocmark-events and tools/install share: the programs' names, whether one is what the sources say, and
-# an answer where it isn't. It is sourced, with the repository's top in top, and speaks of tocmark then.
+# What ./tocmark, ./tocmark-events, ./tocmark-format and tools/install share: the programs' names, whether one is what the
+# sources say, and an answer where it isn't. It is sourced, with the repository's top in top, and speaks of tocmark then.
 
 # Each command with its crate; tools/install builds them in this order.
-declare -A crate_of=([tocmark]=tocmark_program [tocmark-events]=tocmark_events_program)
-commands=(tocmark tocmark-events)
-builder="tools/install proves and builds the programs, in some 50 processor minutes"
+commands=(tocmark tocmark-format tocmark-events)
+declare -A crate_of=(
+  [tocmark]=tocmark_program
+  [tocmark-format]=tocmark_format_program
+  [tocmark-events]=tocmark_events_program
+)
+builder="tools/install proves and builds the programs, in some 60 processor minutes"
 
 # name_program COMMAND: from now on it is this program.
 name_program() {

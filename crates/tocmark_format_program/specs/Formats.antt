@@ -1,0 +1,29 @@
+-- What is written for a text, and for standard input.
+use Rattle.std.specs.Prelude.{◌≡◌, ℕ, List, Option}
+use Rattle.std.specs.Io.KnownBytes.{Appends}
+use Rattle.tocmark_event.specs.Merged.{merged}
+use Rattle.tocmark_event.specs.Reading.{ReadingView}
+use Rattle.tocmark_rewrite.specs.Given.{found_events}
+use Rattle.tocmark_format_program.specs.declared.fault.Fault.{Fault}
+use Rattle.tocmark_format_program.specs.declared.fault.Fault.TheVariants as fault
+
+-- a reader finds the same events in both texts, on either side with each longest stretch of texts as one
+abbrev pub SaysTheSame : (List ℕ → ReadingView) → List ℕ → List ℕ → Type 0
+SaysTheSame reading old new = merged (found_events (reading new)) ≡ merged (found_events (reading old))
+
+-- a text that says the same as the input stands behind what the output held
+pub record IsFormatted (reading : List ℕ → ReadingView) (input : List ℕ) (old new : Option (List ℕ)) : Type 0 where
+  pub text : List ℕ
+  pub same : SaysTheSame reading input text
+  pub appended : Appends old new text
+
+-- the output could not be written whole
+abbrev pub IsOutputFault : Fault → Type 0
+IsOutputFault (fault.Read e) = ⊥
+IsOutputFault fault.NotUtf8 = ⊥
+IsOutputFault fault.NotRegular = ⊥
+IsOutputFault (fault.Write e) = ⊥
+IsOutputFault (fault.Attributes e) = ⊥
+IsOutputFault fault.Changed = ⊥
+IsOutputFault (fault.Output e) = Unit {0}
+IsOutputFault fault.OutOfMemory = ⊥

@@ -1,0 +1,221 @@
+//! What a call asks for.
+
+use crate::settings::{KEYS, Key, Settings, set};
+use clap::{Arg, ArgAction, ArgMatches, Command};
+use std::alloc::{AllocError, Global};
+
+/// What becomes of formatted texts.
+#[derive(Clone, Copy, Drop)]
+pub struct Task {
+    /// Nothing is written, and a file that would change is a reason for status 1.
+    pub checks: bool,
+    /// Nothing is written, and what would change is shown.
+    pub shows: bool,
+}
+
+impl Task {
+    /// Whether no file is changed.
+    pub fn is_dry(&self) -> bool {
+        self.checks || self.shows
+    }
+}
+
+/// How much is said.
+#[derive(Clone, Copy, Drop)]
+pub struct Voice {
+    pub is_quiet: bool,
+    pub is_verbose: bool,
+}
+
+/// Whether a diff is coloured.
+#[derive(Clone, Copy, Drop)]
+pub enum Color {
+    Auto,
+    Always,
+    Never,
+}
+
+/// What `--help` says of the options whose values it lists.
+#[derive(Clone, Copy)]
+pub struct Help<'a> {
+    pub syntax: &'a str,
+    pub extension: &'a str,
+}
+
+/// A value on the command line that its option doesn't take.
+#[derive(Clone, Copy, Drop)]
+pub struct Refusal {
+    pub option: &'static str,
+    pub wanted: &'static str,
+}
+
+const COLORS: [(&str, Color); 3] = [
+    ("auto", Color::Auto),
+    ("always", Color::Always),
+    ("never", Color::Never),
+];
+
+/// The options that say how a document looks.
+fn with_style<'a>(alloc: Global, command: Command<'a>) -> Result<Command<'a>, AllocError> {
+    let bullet = Arg::new(alloc, "bullet")
+        .long("bullet")
+        .value_name("BULLET")
+        .allow_hyphen_values(true)
+        .help("The bullet of lists: *, -, + or source (the default: each as it is)");
+    let ordered = Arg::new(alloc, "ordered")
+        .long("ordered")
+        .value_name("DELIMITER")
+        .help("What follows the numbers of lists: ., ) or source (the default)");
+    let numbering = Arg::new(alloc, "numbering")
+        .long("numbering")
+        .value_name("NUMBERS")
+        .help(
+            "The numbers of lists: source (the default: counting where they count), first or increment",
+        );
+    let emphasis = Arg::new(alloc, "emphasis")
+        .long("emphasis")
+        .value_name("MARKER")
+        .help("What stands round emphasis: * (the default) or _");
+    let strong = Arg::new(alloc, "strong")
+        .long("strong")
+        .value_name("MARKER")
+        .help("What stands round strong emphasis: ** (the default) or __");
+    let command = command.arg(bullet)?.arg(ordered)?.arg(numbering)?;
+    with_fences(alloc, command.arg(emphasis)?.arg(strong)?)
+}
+
+fn with_fences<'a>(alloc: Global, command: Command<'a>) -> Result<Command<'a>, AllocError> {
+    let fence = Arg::new(alloc, "fence")
+        .long("fence")
+        .value_name("SIGN")
+        .help("What fences of code are made of: `, ~ or source (the default)");
+    let length = Arg::new(alloc, "fence-length")
+        .long("fence-length")
+        .value_name("N")
+        .help("The least length of a fence: 3 (the default) to 1000");
+    let escape = Arg::new(alloc, "escape")
+        .long("escape")
+        .value_name("CHARACTERS")
+        .help(
+            "What has a backslash: minimal (the default: as it stands) or all special characters",
+        );
+    command.arg(fence)?.arg(length)?.arg(escape)
+}
+
+/// The options that say what is done.
+fn with_task<'a>(alloc: Global, command: Command<'a>) -> Result<Command<'a>, AllocError> {
+    let check = Arg::new(alloc, "check")
+        .long("check")
+        .action(ArgAction::SetTrue)
+        .help(
+            "Write nothing; name the files that would change, and end with status 1 if there are some",
+        );
+    let diff = Arg::new(alloc, "diff")
+        .long("diff")
+        .action(ArgAction::SetTrue)
+        .help("Write nothing; show what would change, as a unified diff");
+    let config = Arg::new(alloc, "config")
+        .long("config")
+        .value_name("FILE")
+        .help(
+            "The configuration of all files, in place of the nearest .tocmark.toml upwards from each",
+        );
+    let quiet = Arg::new(alloc, "quiet")
+        .long("quiet")
+        .action(ArgAction::SetTrue)
+        .help("Say no count at the end");
+    let verbose = Arg::new(alloc, "verbose")
+        .long("verbose")
+        .action(ArgAction::SetTrue)
+        .help("Name each file that is changed, too");
+    let color = Arg::new(alloc, "color")
+        .long("color")
+        .value_name("WHEN")
+        .help("Colour the diff: auto (the default: on a terminal), always or never");
+    let command = command.arg(check)?.arg(diff)?.arg(config)?;
+    command.arg(quiet)?.arg(verbose)?.arg(color)
+}
+
+/// The command line. `docs/FORMAT.md` says what its parts mean.
+pub fn command<'a>(alloc: Global, help: Help<'a>) -> Result<Command<'a>, AllocError> {
+    let paths = Arg::new(alloc, "path")
+        .value_name("FILE|FOLDER|-")
+        .action(ArgAction::Append)
+        .num_args(0..)
+        .help(
+            "Files are formatted in place, and below folders those named *.md or *.markdown; none, or -: standard input to standard output",
+        );
+    let syntax = Arg::new(alloc, "syntax")
+        .long("syntax")
+        .value_name("NAME")
+        .help(help.syntax);
+    let extension = Arg::new(alloc, "extension")
+        .long("extension")
+        .value_name("NAME")
+        .action(ArgAction::Append)
+        .help(help.extension);
+    let command = Command::new(alloc, "tocmark-format")
+        .version("0.1.0")
+        .about("Formats Markdown, and never changes what it says")
+        .arg(paths)?;
+    let command = with_task(alloc, command)?;
+    with_style(alloc, command.arg(syntax)?.arg(extension)?)
+}
+
+/// What is to be done.
+pub fn task_of(matches: &ArgMatches<'_>) -> Task {
+    Task {
+        checks: matches.get_flag("check"),
+        shows: matches.get_flag("diff"),
+    }
+}
+
+/// How much is to be said.
+pub fn voice_of(matches: &ArgMatches<'_>) -> Voice {
+    Voice {
+        is_quiet: matches.get_flag("quiet"),
+        is_verbose: matches.get_flag("verbose"),
+    }
+}
+
+/// When a diff is coloured.
+pub fn color_of(matches: &ArgMatches<'_>) -> Result<Color, Refusal> {
+    let Some(word) = matches.get_str("color") else {
+        return Ok(Color::Auto);
+    };
+    for (name, color) in &COLORS {
+        if *name == word {
+            return Ok(*color);
+        }
+    }
+    Err(Refusal {
+        option: "color",
+        wanted: "auto, always or never",
+    })
+}
+
+/// Sets an option to what each of its words says. `false`: it doesn't take one of them.
+fn set_all(settings: &mut Settings, key: Key, words: &[&str]) -> bool {
+    for word in words {
+        if !set(settings, key, word) {
+            return false;
+        }
+    }
+    true
+}
+
+/// The settings with what the command line says.
+pub fn settings_of(matches: &ArgMatches<'_>, given: Settings) -> Result<Settings, Refusal> {
+    let mut settings = given;
+    for (option, key, wanted) in &KEYS {
+        if let Some(words) = matches.get_strs(option)
+            && !set_all(&mut settings, *key, words)
+        {
+            return Err(Refusal {
+                option: *option,
+                wanted: *wanted,
+            });
+        }
+    }
+    Ok(settings)
+}

@@ -1,0 +1,38 @@
+//! Why a file or a call isn't done.
+
+use std::alloc::{AllocError, AllocFailed};
+use std::io;
+use thiserror::Error;
+
+/// What is wrong with one file, said behind its name.
+#[derive(Debug, Drop, Error)]
+pub enum Fault {
+    #[error("cannot be read: {0}")]
+    Read(io::Error),
+    #[error("is not UTF-8")]
+    NotUtf8,
+    #[error("is no regular file")]
+    NotRegular,
+    #[error("cannot be written: {0}")]
+    Write(io::Error),
+    #[error("its owner and permissions cannot be kept: {0}")]
+    Attributes(io::Error),
+    #[error("was changed while it was formatted")]
+    Changed,
+    #[error("standard output cannot be written: {0}")]
+    Output(io::Error),
+    #[error("out of memory")]
+    OutOfMemory,
+}
+
+impl From<AllocError> for Fault {
+    fn from(_fault: AllocError) -> Fault {
+        Fault::OutOfMemory
+    }
+}
+
+impl<T: Drop> From<AllocFailed<T>> for Fault {
+    fn from(_fault: AllocFailed<T>) -> Fault {
+        Fault::OutOfMemory
+    }
+}

@@ -1,0 +1,239 @@
+//! What the options of formatting name, on the command line and in configuration files.
+
+use std::alloc::Global;
+use std::fmt;
+use std::fmt::Write;
+use tocmark_event::event::ParserOptions;
+use tocmark_extended_reader::EXTENSIONS;
+use tocmark_format::{Bullet, Delimiter, Escapes, Fence, Marker, Numbering, Style};
+
+/// What a text is read as, and how it is to look.
+#[derive(Clone, Copy)]
+pub struct Settings {
+    pub flags: ParserOptions,
+    pub style: Style,
+}
+
+/// An option of formatting.
+#[derive(Clone, Copy, Drop)]
+pub enum Key {
+    Syntax,
+    Extension,
+    Bullet,
+    Ordered,
+    Numbering,
+    Emphasis,
+    Strong,
+    Fence,
+    FenceLength,
+    Escape,
+}
+
+/// The options by their names, with what each takes.
+pub const KEYS: [(&str, Key, &str); 10] = [
+    ("syntax", Key::Syntax, "commonmark, gfm or all"),
+    (
+        "extension",
+        Key::Extension,
+        "a name that --help lists, or no- before one",
+    ),
+    ("bullet", Key::Bullet, "*, -, + or source"),
+    ("ordered", Key::Ordered, "., ) or source"),
+    ("numbering", Key::Numbering, "source, first or increment"),
+    ("emphasis", Key::Emphasis, "* or _"),
+    ("strong", Key::Strong, "** or __"),
+    ("fence", Key::Fence, "`, ~ or source"),
+    ("fence-length", Key::FenceLength, "a number from 3 to 1000"),
+    ("escape", Key::Escape, "minimal or all"),
+];
+
+/// The extensions by their names.
+const EXTENSION_NAMES: [(&str, ParserOptions); 11] = [
+    ("tables", ParserOptions::ENABLE_TABLES),
+    ("footnotes", ParserOptions::ENABLE_FOOTNOTES),
+    ("strikethrough", ParserOptions::ENABLE_STRIKETHROUGH),
+    ("subscript", ParserOptions::ENABLE_SUBSCRIPT),
+    ("superscript", ParserOptions::ENABLE_SUPERSCRIPT),
+    ("math", ParserOptions::ENABLE_MATH),
+    ("tasklists", ParserOptions::ENABLE_TASKLISTS),
+    (
+        "yaml-metadata",
+        ParserOptions::ENABLE_YAML_STYLE_METADATA_BLOCKS,
+    ),
+    (
+        "pluses-metadata",
+        ParserOptions::ENABLE_PLUSES_DELIMITED_METADATA_BLOCKS,
+    ),
+    ("quote-kinds", ParserOptions::ENABLE_GFM),
+    (
+        "heading-attributes",
+        ParserOptions::ENABLE_HEADING_ATTRIBUTES,
+    ),
+];
+
+/// What documents on GitHub have beside CommonMark, front matter among it, so far as the reader reads it.
+const GFM: ParserOptions = ParserOptions(
+    (ParserOptions::ENABLE_TABLES.0
+        | ParserOptions::ENABLE_STRIKETHROUGH.0
+        | ParserOptions::ENABLE_TASKLISTS.0
+        | ParserOptions::ENABLE_FOOTNOTES.0
+        | ParserOptions::ENABLE_GFM.0
+        | ParserOptions::ENABLE_YAML_STYLE_METADATA_BLOCKS.0
+        | ParserOptions::ENABLE_PLUSES_DELIMITED_METADATA_BLOCKS.0)
+        & EXTENSIONS.0,
+);
+
+const SYNTAXES: [(&str, ParserOptions); 3] = [
+    ("commonmark", ParserOptions(0)),
+    ("gfm", GFM),
+    ("all", EXTENSIONS),
+];
+
+const BULLETS: [(&str, Option<Bullet>); 4] = [
+    ("*", Some(Bullet::Asterisk)),
+    ("-", Some(Bullet::Hyphen)),
+    ("+", Some(Bullet::Plus)),
+    ("source", None),
+];
+
+const DELIMITERS: [(&str, Option<Delimiter>); 3] = [
+    (".", Some(Delimiter::Period)),
+    (")", Some(Delimiter::Parenthesis)),
+    ("source", None),
+];
+
+const NUMBERINGS: [(&str, Numbering); 3] = [
+    ("source", Numbering::Source),
+    ("first", Numbering::First),
+    ("increment", Numbering::Increment),
+];
+
+const EMPHASES: [(&str, Marker); 2] = [("*", Marker::Asterisk), ("_", Marker::Underscore)];
+
+const STRONGS: [(&str, Marker); 2] = [("**", Marker::Asterisk), ("__", Marker::Underscore)];
+
+const FENCES: [(&str, Option<Fence>); 3] = [
+    ("`", Some(Fence::Backtick)),
+    ("~", Some(Fence::Tilde)),
+    ("source", None),
+];
+
+const ESCAPES: [(&str, Escapes); 2] = [("minimal", Escapes::Minimal), ("all", Escapes::All)];
+
+impl Settings {
+    /// GFM with front matter, in the style that changes least.
+    pub fn new() -> Settings {
+        Settings {
+            flags: GFM,
+            style: Style::new(),
+        }
+    }
+}
+
+/// The value that a name stands for.
+fn named<T: Copy>(table: &[(&str, T)], name: &str) -> Option<T> {
+    for (known, value) in table {
+        if *known == name {
+            return Some(*value);
+        }
+    }
+    None
+}
+
+/// The option with this name, the name, and what it takes.
+pub fn key_named(name: &str) -> Option<(Key, &'static str, &'static str)> {
+    for (known, key, wanted) in &KEYS {
+        if *known == name {
+            return Some((*key, *known, *wanted));
+        }
+    }
+    None
+}
+
+/// Puts a value into a field, if there is one, and says whether there is.
+fn put<T: Copy>(field: &mut T, value: Option<T>) -> bool {
+    match value {
+        Some(value) => {
+            *field = value;
+            true
+        }
+        None => false,
+    }
+}
+
+/// The flags with the extension of this name, or without it where `no-` stands before.
+fn extended(flags: ParserOptions, name: &str) -> Option<ParserOptions> {
+    match name.strip_prefix("no-") {
+        Some(name) => {
+            let flag = named(&EXTENSION_NAMES, name)?;
+            Some(ParserOptions(flags.0 & !flag.0))
+        }
+        None => {
+            let flag = named(&EXTENSION_NAMES, name)?;
+            Some(ParserOptions(flags.0 | flag.0))
+        }
+    }
+}
+
+/// The length of a fence that a word says.
+fn length_of(word: &str) -> Option<usize> {
+    let length: usize = word.parse().ok()?;
+    if length < 3 || length > 1000 {
+        return None;
+    }
+    Some(length)
+}
+
+/// Sets an option to what a word says. `false`: it takes no such word, and nothing is changed.
+pub fn set(settings: &mut Settings, key: Key, word: &str) -> bool {
+    let Settings { flags, style } = settings;
+    match key {
+        Key::Syntax => put(flags, named(&SYNTAXES, word)),
+        Key::Extension => {
+            let extended = extended(*flags, word);
+            put(flags, extended)
+        }
+        Key::Bullet => put(&mut style.bullet, named(&BULLETS, word)),
+        Key::Ordered => put(&mut style.delimiter, named(&DELIMITERS, word)),
+        Key::Numbering => put(&mut style.numbering, named(&NUMBERINGS, word)),
+        Key::Emphasis => put(&mut style.emphasis, named(&EMPHASES, word)),
+        Key::Strong => put(&mut style.strong, named(&STRONGS, word)),
+        Key::Fence => put(&mut style.fence, named(&FENCES, word)),
+        Key::FenceLength => put(&mut style.fence_length, length_of(word)),
+        Key::Escape => put(&mut style.escapes, named(&ESCAPES, word)),
+    }
+}
+
+/// Writes the names of the extensions among these flags.
+fn name_extensions(help: &mut String, flags: ParserOptions) -> fmt::Result {
+    let mut is_later = false;
+    for (name, flag) in &EXTENSION_NAMES {
+        if flags.contains(*flag) {
+            if is_later {
+                help.write_str(", ")?;
+            }
+            help.write_str(name)?;
+            is_later = true;
+        }
+    }
+    Ok(())
+}
+
+/// What `--syntax` takes, and what each reads.
+pub fn syntax_help(alloc: Global) -> Result<String, fmt::Error> {
+    let mut help = String::new(alloc);
+    help.write_str("The Markdown that is read: commonmark, gfm (the default: that with ")?;
+    name_extensions(&mut help, GFM)?;
+    help.write_str(") or all (with ")?;
+    name_extensions(&mut help, EXTENSIONS)?;
+    help.write_str(")")?;
+    Ok(help)
+}
+
+/// What `--extension` takes.
+pub fn extension_help(alloc: Global) -> Result<String, fmt::Error> {
+    let mut help = String::new(alloc);
+    help.write_str("An extension that is read too, or with no- before its name isn't: ")?;
+    name_extensions(&mut help, EXTENSIONS)?;
+    Ok(help)
+}

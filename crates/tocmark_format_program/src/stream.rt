@@ -1,0 +1,126 @@
+//! Standard input, formatted to standard output.
+
+ghost use Rattle.std.specs.Prelude.{◌≡◌, IfErr, IfOk, IfSome, OnOk, string_bytes};
+ghost use Rattle.std.specs.Io.KnownBytes.{Appends};
+ghost use Rattle.tocmark_format_program.specs.Formats.{IsFormatted, IsOutputFault, SaysTheSame};
+
+use crate::decide::{Decision, decided};
+use crate::fault::Fault;
+use crate::settings::Settings;
+use std::alloc::Global;
+use std::io::{Read, Write};
+use tocmark_event::reader::Reader;
+use tocmark_extended_reader::{ExtendedReader, Names};
+use tocmark_format::Left;
+
+/// The reader of all documents.
+pub const READER: ExtendedReader = ExtendedReader { names: Names::All };
+
+/// What became of a text.
+#[derive(Drop)]
+pub struct Passed {
+    pub is_changed: bool,
+    /// The blocks of it that were left as they stand.
+    pub left: Vec<Left>,
+}
+
+/// All that a reader has, as text.
+pub fn text_in<I: Read>(alloc: Global, input: &mut I) -> Result<String, Fault>
+    ensures text { IfSome (I.remaining input.old) (λ bytes.
+        IfOk result (λ text. string_bytes text ≡ bytes)) }
+    ensures fault { IfErr result (λ fault. ¬ (IsOutputFault fault)) }
+{
+    let mut bytes = Vec::new(alloc);
+    if let Err(error) = input.read_to_end(&mut bytes) {
+        return Err(Fault::Read(error));
+    }
+    match String::from_utf8(bytes) {
+        Ok(text) => Ok(text),
+        Err(_) => Err(Fault::NotUtf8),
+    }
+}
+
+/// Writes a text.
+pub fn write_out<O: Write>(output: &mut O, text: &str) -> Result<(), Fault>
+    ensures done { OnOk result (Appends (O.contents output.old) (O.contents output.new) text.now) }
+    ensures fault { IfErr result IsOutputFault }
+{
+    if let Err(error) = output.write_all(text.as_bytes()) {
+        return Err(Fault::Output(error));
+    }
+    match output.flush() {
+        Ok(()) => Ok(()),
+        Err(error) => Err(Fault::Output(error)),
+    }
+}
+
+/// A text as it is formatted, and what became of it.
+fn formatted_text<R: Reader>(
+    alloc: Global,
+    reader: &R,
+    settings: Settings,
+    text: &str,
+) -> Result<(String, Passed), Fault>
+    ensures same { IfOk result (λ done. SaysTheSame
+        (λ t. R.reading reader.now t settings.flags) text.now (string_bytes done.0)) }
+    ensures fault { IfErr result (λ fault. ¬ (IsOutputFault fault)) }
+{
+    let Decision {
+        text: written,
+        left,
+    } = decided(alloc, text, reader, settings)?;
+    match written {
+        Some(written) => Ok((
+            written,
+            Passed {
+                is_changed: true,
+                left,
+            },
+        )),
+        None => {
+            let same = String::from_str(alloc, text)?;
+            Ok((
+                same,
+                Passed {
+                    is_changed: false,
+                    left,
+                },
+            ))
+        }
+    }
+}
+
+/// All that an input has, as it is formatted, and what became of it.
+fn formatted_input<R: Reader, I: Read>(
+    alloc: Global,
+    reader: &R,
+    settings: Settings,
+    input: &mut I,
+) -> Result<(String, Passed), Fault>
+    ensures same { IfSome (I.remaining input.old) (λ bytes. IfOk result (λ done. SaysTheSame
+        (λ t. R.reading reader.now t settings.flags) bytes (string_bytes done.0))) }
+    ensures fault { IfErr result (λ fault. ¬ (IsOutputFault fault)) }
+{
+    let text = text_in(alloc, input)?;
+    formatted_text(alloc, reader, settings, text.as_str())
+}
+
+/// Writes all that an input has, as it is formatted. What is written says the same as the input. After an `Err` that
+/// isn't of the output, nothing is written.
+pub fn format_stream<R: Reader, I: Read, O: Write>(
+    alloc: Global,
+    reader: &R,
+    settings: Settings,
+    input: &mut I,
+    output: &mut O,
+) -> Result<Passed, Fault>
+    ensures same { IfSome (I.remaining input.old) (λ bytes. OnOk result (IsFormatted
+        (λ t. R.reading reader.now t settings.flags) bytes
+        (O.contents output.old) (O.contents output.new))) }
+    ensures unwritten { IfErr result (λ fault.
+        ¬ (IsOutputFault fault) → output.new ≡ output.old) }
+{
+    let (text, passed) = formatted_input(alloc, reader, settings, input)?;
+    write_out(output, text.as_str())?;
+    Ok(passed)
+}
