@@ -1,5 +1,8 @@
 //! Why a file or a call isn't done.
 
+ghost use Rattle.std.specs.Prelude.{◌≡◌};
+ghost use Rattle.tocmark_format_program.specs.declared.fault.Fault.TheVariants.{OutOfMemory};
+
 use std::alloc::{AllocError, AllocFailed};
 use std::io;
 use thiserror::Error;
@@ -26,12 +29,16 @@ pub enum Fault {
 }
 
 impl From<AllocError> for Fault {
+    ghost from_gives = { λ _ e. e ≡ OutOfMemory };
+
     fn from(_fault: AllocError) -> Fault {
         Fault::OutOfMemory
     }
 }
 
 impl<T: Drop> From<AllocFailed<T>> for Fault {
+    ghost from_gives = { λ _ e. e ≡ OutOfMemory };
+
     fn from(_fault: AllocFailed<T>) -> Fault {
         Fault::OutOfMemory
     }
