@@ -1,0 +1,318 @@
+/* Tests the library over the texts on standard input, one JSON string a line ('#' starts a comment): what is answered into
+ * room of each size, the same by two threads at once, texts with bytes changed at random, and, where it is linked with
+ * --wrap=malloc,--wrap=realloc, each refusal of memory. The status is 1 if something is wrong. */
+#include "tocmark.h"
+
+#include <pthread.h>
+#include <stdio.h>
+#include <stdlib.h>
+#include <string.h>
+
+enum { MUTATIONS = 1000, LONGEST = 1 << 16 };
+
+struct text {
+  uint8_t *bytes;
+  size_t size;
+};
+
+static struct text *texts;
+static size_t count;
+
+static void wrong(const char *what, const struct text *text) {
+  fprintf(stderr, "test: %s: %.*s\n", what, text ? (int)text->size : 0, text ? (const char *)text->bytes : "");
+  exit(1);
+}
+
+/* --- memory that is refused --- */
+
+#ifndef SHARED
+static _Thread_local long allowed = -1;
+void *__real_malloc(size_t size);
+void *__real_realloc(void *block, size_t size);
+
+static int is_refused(void) { return allowed >= 0 && allowed-- == 0; }
+void *__wrap_malloc(size_t size) { return is_refused() ? NULL : __real_malloc(size); }
+void *__wrap_realloc(void *block, size_t size) { return is_refused() ? NULL : __real_realloc(block, size); }
+#endif
+
+static void *memory(size_t size) {
+  void *block = malloc(size ? size : 1);
+  if (block == NULL)
+    wrong("no memory", NULL);
+  return block;
+}
+
+/* --- one call, of one kind or the other --- */
+
+struct call {
+  const struct text *text;
+  const struct text *source; /* NULL: the text is Markdown, and is read */
+  const char *options;
+  uint32_t flags;
+};
+
+static ptrdiff_t made(const struct call *call, uint8_t *out, size_t out_len) {
+  if (call->source == NULL)
+    return tocmark_read_json(call->text->bytes, call->text->size, call->flags, out, out_len);
+  return tocmark_write_json(call->text->bytes, call->text->size, call->source->bytes, call->source->size, call->flags,
+                            (const uint8_t *)call->options, strlen(call->options), out, out_len);
+}
+
+/* What a call answers: its size is tried with no room, one byte too few, just enough and more. */
+static ptrdiff_t answer(const struct call *call, struct text *answered) {
+  uint8_t none = 0xA5;
+  ptrdiff_t size = made(call, &none, 0);
+  answered->bytes = NULL;
+  answered->size = 0;
+  if (none != 0xA5)
+    wrong("a byte is written where there is no room", call->text);
+  if (size < 0)
+    return size;
+  size_t n = (size_t)size;
+  uint8_t *room = memory(n + 8);
+  memset(room, 0xA5, n + 8);
+  if (n > 0 && made(call, room, n - 1) != size)
+    wrong("another size where the room is too small", call->text);
+  for (size_t i = 0; i < n + 8; i++)
+    if (room[i] != 0xA5)
+      wrong("a byte is written where the room is too small", call->text);
+  if (made(call, room, n) != size)
+    wrong("another size where the room is just enough", call->text);
+  for (size_t i = n; i < n + 8; i++)
+    if (room[i] != 0xA5)
+      wrong("a byte is written behind the room", call->text);
+  answered->bytes = memory(n + 8);
+  answered->size = n;
+  memset(answered->bytes, 0x5A, n + 8);
+  if (made(call, answered->bytes, n + 8) != size || memcmp(room, answered->bytes, n) != 0)
+    wrong("another text where there is more room", call->text);
+  for (size_t i = n; i < n + 8; i++)
+    if (answered->bytes[i] != 0x5A)
+      wrong("a byte is written behind the text", call->text);
+  free(room);
+  return size;
+}
+
+/* --- whole runs --- */
+
+static uint64_t noted(uint64_t sum, ptrdiff_t code, const struct text *text) {
+  sum = (sum ^ (uint64_t)code) * 1099511628211u;
+  for (size_t i = 0; i < text->size; i++)
+    sum = (sum ^ text->bytes[i]) * 1099511628211u;
+  return sum;
+}
+
+/* A text is read and written over itself and over nothing. */
+static uint64_t round_trip(uint64_t sum, const struct text *text, uint32_t flags, int is_mutated) {
+  static const char *const options[] = {"", "{\"list_token\": \"-\", \"newlines_after_headline\": 1}"};
+  static const struct text nothing = {(uint8_t *)"", 0};
+  struct text json, markdown;
+  ptrdiff_t code = answer(&(struct call){text, NULL, "", flags}, &json);
+  sum = noted(sum, code, &json);
+  if (code < 0 && !(is_mutated && code == TOCMARK_NOT_UTF8))
+    wrong("it isn't read", text);
+  for (size_t i = 0; code >= 0 && i < 2; i++) {
+    struct call call = {&json, i ? text : &nothing, options[i], flags};
+    ptrdiff_t ended = answer(&call, &markdown);
+    sum = noted(sum, ended, &markdown);
+    if (ended < 0 && !(is_mutated && ended == TOCMARK_UNREPRESENTABLE))
+      wrong("it isn't written", text);
+    free(markdown.bytes);
+  }
+  free(json.bytes);
+  return sum;
+}
+
+static uint32_t next(uint32_t *seed) {
+  *seed ^= *seed << 13;
+  *seed ^= *seed >> 17;
+  *seed ^= *seed << 5;
+  return *seed;
+}
+
+/* A copy of a text with some bytes changed, dropped or doubled. */
+static struct text mutated(const struct text *text, uint32_t *seed) {
+  static const char marks[] = "*_`~[]()<>#-+.:|\\!&;\n \t\"{}1aA\xC3\xA9\xFF";
+  struct text copy = {memory(2 * text->size + 16), 0};
+  for (size_t i = 0; i < text->size; i++) {
+    uint32_t how = next(seed) % 24;
+    if (how == 0)
+      continue;
+    copy.bytes[copy.size++] = how == 1 ? (uint8_t)marks[next(seed) % (sizeof marks - 1)] : text->bytes[i];
+    if (how == 2)
+      copy.bytes[copy.size++] = (uint8_t)marks[next(seed) % (sizeof marks - 1)];
+  }
+  return copy;
+}
+
+/* JSON of events with bytes changed: any error may come, and the answers stay the same. */
+static uint64_t broken_json(uint64_t sum, const struct text *text, uint32_t *seed) {
+  struct text json, broken, markdown;
+  if (answer(&(struct call){text, NULL, "", TOCMARK_GFM}, &json) < 0)
+    return sum;
+  broken = mutated(&json, seed);
+  for (size_t i = 0; i < 2; i++) {
+    struct call call = {&broken, i ? text : &(struct text){(uint8_t *)"", 0}, "", TOCMARK_GFM};
+    ptrdiff_t code = answer(&call, &markdown);
+    sum = noted(sum, code, &markdown);
+    free(markdown.bytes);
+  }
+  free(broken.bytes);
+  free(json.bytes);
+  return sum;
+}
+
+static void *run(void *sum) {
+  uint64_t found = 1469598103934665603u;
+  uint32_t seed = 2463534242u;
+  for (size_t i = 0; i < count; i++)
+    found = round_trip(found, &texts[i], i % 2 ? TOCMARK_GFM : 0, 0);
+  for (size_t i = 0; i < MUTATIONS; i++) {
+    struct text text = mutated(&texts[i % count], &seed);
+    found = round_trip(found, &text, i % 2 ? TOCMARK_GFM : 0, 1);
+    if (i % 4 == 0)
+      found = broken_json(found, &text, &seed);
+    free(text.bytes);
+  }
+  *(uint64_t *)sum = found;
+  return NULL;
+}
+
+/* --- what each error is caused by --- */
+
+static void expect(ptrdiff_t code, ptrdiff_t wanted, const char *what) {
+  if (code != wanted) {
+    fprintf(stderr, "test: %s: %td, and not %td\n", what, code, wanted);
+    exit(1);
+  }
+}
+
+static ptrdiff_t writes(const char *json, const char *source, uint32_t flags, const char *options) {
+  uint8_t out[100];
+  return tocmark_write_json((const uint8_t *)json, strlen(json), (const uint8_t *)source, strlen(source), flags,
+                            (const uint8_t *)options, strlen(options), out, sizeof out);
+}
+
+static int is_no_error(ptrdiff_t code) {
+  static const char none[] = "no error of tocmark";
+  uint8_t out[100];
+  ptrdiff_t size = tocmark_error_text(code, out, sizeof out);
+  return size == sizeof none - 1 && memcmp(out, none, sizeof none - 1) == 0;
+}
+
+static void errors(void) {
+  static const char rule[] = "[\"Rule\"]";
+  uint8_t out[100];
+  expect(tocmark_version(), TOCMARK_VERSION, "the version");
+  expect(tocmark_read_json((const uint8_t *)"\xFF", 1, 0, out, sizeof out), TOCMARK_NOT_UTF8, "text");
+  expect(writes("\xFF", "", 0, ""), TOCMARK_NOT_UTF8, "JSON");
+  expect(writes(rule, "\xFF", 0, ""), TOCMARK_SOURCE_NOT_UTF8, "source");
+  expect(writes(rule, "", 0, "\xFF"), TOCMARK_OPTIONS_NOT_UTF8, "options");
+  expect(writes("[", "", 0, ""), TOCMARK_NOT_JSON, "an array that has no end");
+  expect(writes("[1]", "", 0, ""), TOCMARK_NOT_EVENTS, "a number");
+  expect(writes("1", "", 0, ""), TOCMARK_NOT_EVENTS, "no array");
+  expect(writes(rule, "", 0, "{"), TOCMARK_OPTIONS_NOT_JSON, "an object that has no end");
+  expect(writes(rule, "", 0, "[]"), TOCMARK_NOT_OPTIONS, "no object");
+  expect(writes(rule, "", 0, "{\"a\": 1}"), TOCMARK_NOT_OPTIONS, "an unknown key");
+  expect(writes(rule, "", 1, ""), TOCMARK_INVALID_OPTIONS, "an unknown flag");
+  expect(writes("[{\"End\": \"Paragraph\"}]", "", 0, ""), TOCMARK_UNEXPECTED_EVENT, "an End alone");
+  expect(writes("[{\"Start\": \"Paragraph\"}]", "", 0, ""), TOCMARK_UNEXPECTED_EVENT, "a Start alone");
+  expect(writes("[{\"Start\": \"Paragraph\"}, {\"Start\": \"Strikethrough\"}, {\"Text\": \"a\"}, {\"End\": \"Strikethrough\"},"
+                " {\"End\": \"Paragraph\"}]",
+                "", 0, ""),
+         TOCMARK_UNREPRESENTABLE, "strikethrough that isn't read");
+  expect(writes("[[\"Rule\", {\"start\": 2, \"end\": 9}]]", "---", 0, ""), TOCMARK_INVALID_SOURCE_RANGE, "a range");
+  expect(writes("[[\"Rule\", {\"start\": 2, \"end\": 9}]]", "", 0, ""), 3, "a range of no source");
+  expect(writes("[]", "", 0, ""), 0, "no events");
+  expect(tocmark_read_json((const uint8_t *)"", 0, 0, out, sizeof out), 2, "an empty text");
+  expect(tocmark_error_text(TOCMARK_OUT_OF_MEMORY, out, sizeof out), 13, "the text of an error");
+  if (memcmp(out, "out of memory", 13) != 0)
+    wrong("the text of an error", NULL);
+  for (ptrdiff_t code = -14; code < 0; code++)
+    if (is_no_error(code))
+      wrong("an error has no text", NULL);
+  if (!is_no_error(-15) || !is_no_error(0) || !is_no_error(1) || !is_no_error(PTRDIFF_MIN) || !is_no_error(PTRDIFF_MAX))
+    wrong("what is no error has a text", NULL);
+}
+
+/* Each allocation in turn is refused: the answer is that memory ran out, and nothing is written. */
+static void refusals(void) {
+#ifndef SHARED
+  static const char markdown[] = "# A &copy; *b*\n\n* ~~c~~ [d](/e)\n  > f\n\n| g |\n|---|\n| h |\n";
+  struct text text = {(uint8_t *)markdown, sizeof markdown - 1}, json;
+  answer(&(struct call){&text, NULL, "", TOCMARK_GFM}, &json);
+  struct call calls[] = {{&text, NULL, "", TOCMARK_GFM}, {&json, &text, "{\"list_token\": \"-\"}", TOCMARK_GFM}};
+  for (size_t i = 0; i < 2; i++) {
+    static uint8_t out[LONGEST];
+    ptrdiff_t wanted = made(&calls[i], out, sizeof out), code = TOCMARK_OUT_OF_MEMORY;
+    for (long at = 0; code == TOCMARK_OUT_OF_MEMORY; at++) {
+      memset(out, 0xA5, sizeof out);
+      allowed = at;
+      code = made(&calls[i], out, sizeof out);
+      if (allowed >= 0 && code != wanted)
+        wrong("an error where no memory was refused", &text);
+      allowed = -1;
+      for (size_t j = 0; code < 0 && j < sizeof out; j++)
+        if (out[j] != 0xA5)
+          wrong("a byte is written where memory ran out", &text);
+    }
+    expect(code, wanted, "the answer where memory is there");
+  }
+  free(json.bytes);
+#endif
+}
+
+/* --- the texts --- */
+
+static unsigned hexadecimal(const char *at) {
+  char digits[5] = {at[0], at[1], at[2], at[3], 0};
+  return (unsigned)strtoul(digits, NULL, 16);
+}
+
+/* The text of a JSON string, whose escapes of numbers are below U+0800. */
+static struct text string(const char *at) {
+  static const char names[] = "btnfr", values[] = "\b\t\n\f\r";
+  struct text text = {memory(strlen(at)), 0};
+  for (at++; *at != '"' && *at != 0; at++) {
+    if (*at != '\\') {
+      text.bytes[text.size++] = (uint8_t)*at;
+      continue;
+    }
+    const char *name = strchr(names, *++at);
+    unsigned code = *at == 'u' ? hexadecimal(at + 1) : name ? (unsigned)values[name - names] : (unsigned)*at;
+    if (*at == 'u')
+      at += 4;
+    if (code >= 0x80) {
+      text.bytes[text.size++] = (uint8_t)(0xC0 | code >> 6);
+      code = 0x80 | (code & 0x3F);
+    }
+    text.bytes[text.size++] = (uint8_t)code;
+  }
+  return text;
+}
+
+int main(void) {
+  static char line[LONGEST];
+  texts = memory(4000 * sizeof *texts);
+  while (count < 652 && fgets(line, sizeof line, stdin) != NULL)
+    if (line[0] == '"')
+      texts[count++] = string(line);
+  if (count != 652)
+    wrong("652 texts are wanted on standard input", NULL);
+  errors();
+  refusals();
+  pthread_t threads[2];
+  uint64_t sums[2];
+  for (size_t i = 0; i < 2; i++)
+    if (pthread_create(&threads[i], NULL, run, &sums[i]) != 0)
+      wrong("no thread", NULL);
+  for (size_t i = 0; i < 2; i++)
+    pthread_join(threads[i], NULL);
+  if (sums[0] != sums[1])
+    wrong("two threads have other answers", NULL);
+  for (size_t i = 0; i < count; i++)
+    free(texts[i].bytes);
+  free(texts);
+  printf("%zu texts and %d mutated ones, by two threads: nothing is wrong\n", count, MUTATIONS);
+  return 0;
+}

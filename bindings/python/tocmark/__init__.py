@@ -1,0 +1,156 @@
+"""Markdown to its events, and such events to Markdown.
+
+An event is what `json.loads` makes of it in the form in which pulldown-cmark 0.13 writes its events: a string or a
+dictionary with one key. A document is a list of pairs of an event and its range in bytes of UTF-8, or `None`.
+
+>>> import tocmark
+>>> events = tocmark.read("# Hello")
+>>> events[1]
+({'Text': 'Hello'}, range(2, 7))
+>>> tocmark.write(events)
+'# Hello'
+
+A list is changed and written; texts that aren't changed stay as the source spells them:
+
+>>> source = "An &eacute; and a [link](/old)"
+>>> events = tocmark.read(source)
+>>> for event, _ in events:
+...     match event:
+...         case {"Start": {"Link": link}}:
+...             link["dest_url"] = "/new"
+>>> tocmark.write(events, source)
+'An &eacute; and a [link](/new)'
+
+Calls take no lock, so several threads read and write at once.
+"""
+import json
+from typing import Any, Dict, Iterable, List, Mapping, Optional, Tuple, Union
+
+from . import _library
+
+__version__ = "0.1.0"
+__all__ = ["EXTENSIONS", "SYNTAXES", "Error", "InvalidOptions", "InvalidSourceRange", "NotEvents", "UnexpectedEvent",
+           "Unrepresentable", "read", "write"]
+
+Event = Union[str, Dict[str, Any]]
+Placed = Tuple[Event, Optional[range]]
+
+#: The extensions that are read, by their names, with the flag of each.
+EXTENSIONS: Mapping[str, int] = {
+    "tables": 1 << 1, "footnotes": 1 << 2, "strikethrough": 1 << 3, "tasklists": 1 << 4, "yaml-metadata": 1 << 7,
+    "pluses-metadata": 1 << 8, "superscript": 1 << 13, "subscript": 1 << 14,
+}
+
+#: The syntaxes, by their names, with the flags of each.
+SYNTAXES: Mapping[str, int] = {
+    "commonmark": 0,
+    "gfm": EXTENSIONS["tables"] | EXTENSIONS["footnotes"] | EXTENSIONS["strikethrough"] | EXTENSIONS["tasklists"],
+    "all": sum(EXTENSIONS.values()),
+}
+
+
+class Error(Exception):
+    """What the library answers in place of a text: `code` is its number, as `tocmark.h` has it."""
+
+    def __init__(self, code: int):
+        super().__init__(_library.answer(_library.error_text, code, guess=100)[1].decode())
+        self.code = code
+
+
+class NotEvents(Error, ValueError):
+    """The list isn't one of events."""
+
+
+class InvalidOptions(Error, ValueError):
+    """An option is unknown, or can't have this value, or can't have it under this syntax."""
+
+
+class UnexpectedEvent(Error, ValueError):
+    """An End that isn't the innermost open container's, a container that is open at the end, or events that can't stand
+    where they do."""
+
+
+class Unrepresentable(Error, ValueError):
+    """No spelling of a block is read back as that block."""
+
+
+class InvalidSourceRange(Error, ValueError):
+    """A range is reversed, past the end of the source, or not between characters."""
+
+
+_ERRORS = {-6: NotEvents, -8: InvalidOptions, -9: InvalidOptions, -10: UnexpectedEvent, -11: Unrepresentable,
+           -12: InvalidSourceRange}
+
+
+def _text(code: int, text: bytes) -> str:
+    """Returns the text, or raises what the code stands for."""
+    if code == -1:
+        raise MemoryError("tocmark: out of memory")
+    if code < 0:
+        raise _ERRORS.get(code, Error)(code)
+    return text.decode()
+
+
+def _flags(syntax: str, extensions: Iterable[str]) -> int:
+    """Returns the flags of a syntax and of extensions, or raises `ValueError` where one has another name."""
+    for name in [syntax] if syntax not in SYNTAXES else [name for name in extensions if name not in EXTENSIONS]:
+        raise ValueError(f"{name!r} is none of {', '.join(SYNTAXES if name is syntax else EXTENSIONS)}")
+    flags = SYNTAXES[syntax]
+    for name in extensions:
+        flags |= EXTENSIONS[name]
+    return flags
+
+
+def read(text: str, *, syntax: str = "commonmark", extensions: Iterable[str] = ()) -> List[Placed]:
+    """Returns the events of a Markdown text, each with its range in bytes of the text's UTF-8.
+
+    `syntax` is "commonmark", "gfm" or "all", and `extensions` are names of `EXTENSIONS` that are read, too.
+
+    >>> import tocmark
+    >>> [event for event, _ in tocmark.read("~~a~~", extensions=["strikethrough"])][1:4]
+    [{'Start': 'Strikethrough'}, {'Text': 'a'}, {'End': 'Strikethrough'}]
+
+    A text that has no UTF-8, since a part of a surrogate pair stands in it, raises `UnicodeEncodeError`; memory that runs
+    out `MemoryError`.
+    """
+    data = text.encode()
+    flags = _flags(syntax, list(extensions))
+    found = _text(*_library.answer(_library.read_json, data, len(data), flags, guess=64 * len(data) + 256))
+    return [(event, range(place["start"], place["end"])) for event, place in json.loads(found)]
+
+
+def _plain(events: Iterable[Union[Event, Placed]]) -> List[Any]:
+    """Returns the events as JSON has them: where one has a range, each has one or `None`."""
+    items = list(events)
+    if not any(isinstance(item, (tuple, list)) for item in items):
+        return items
+    pairs = [tuple(item) if isinstance(item, (tuple, list)) else (item, None) for item in items]
+    return [[event, {"start": place.start, "end": place.stop} if isinstance(place, range) else place]
+            for event, place in pairs]
+
+
+def write(events: Iterable[Union[Event, Placed]], source: str = "", *, syntax: str = "commonmark",
+          extensions: Iterable[str] = (), **options: Union[str, int, bool]) -> str:
+    """Returns the Markdown of events, alone or with their ranges or `None`. No line feed stands at its end.
+
+    `source` is the text of which the ranges are; without it they are dropped. The text is to read back under `syntax` and
+    `extensions`. `options` are those of the writer, as `list_token="-"` or `newlines_after_headline=1`.
+
+    >>> import tocmark
+    >>> tocmark.write(["Rule"])
+    '---'
+    >>> tocmark.write(tocmark.read("* a\\n* b"), list_token="-")
+    '- a\\n- b'
+    >>> tocmark.write([{"End": "Paragraph"}])
+    Traceback (most recent call last):
+    tocmark.UnexpectedEvent: an event stands where it cannot
+
+    Raises `NotEvents`, `InvalidOptions`, `UnexpectedEvent`, `Unrepresentable`, `InvalidSourceRange`, and `Error` for any
+    other error of the library; `TypeError` where JSON has no such value; `MemoryError`.
+    """
+    data = json.dumps(_plain(events), ensure_ascii=False).encode()
+    over = source.encode()
+    chosen = json.dumps(options).encode() if options else b""
+    flags = _flags(syntax, list(extensions))
+    return _text(*_library.answer(_library.write_json, data, len(data), over, len(over), flags, chosen, len(chosen),
+                                  guess=len(data) + 256))

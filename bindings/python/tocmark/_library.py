@@ -1,0 +1,46 @@
+"""The shared library: where it is, and its functions with their types."""
+import ctypes
+import os
+
+_HERE = os.path.dirname(os.path.realpath(__file__))
+_PLACES = [os.path.join(_HERE, "libtocmark.so"), os.path.join(_HERE, "..", "..", "c", "build", "libtocmark.so"), "libtocmark.so.0"]
+_VERSION = 0x000100
+
+
+def _load() -> ctypes.CDLL:
+    """Returns the library that TOCMARK_LIBRARY names, or that of the package, of the checkout or of the system."""
+    named = os.environ.get("TOCMARK_LIBRARY")
+    places = [named] if named else [place for place in _PLACES if os.sep not in place or os.path.exists(place)]
+    library = ctypes.CDLL(places[0])
+    library.tocmark_version.restype = ctypes.c_uint32
+    library.tocmark_version.argtypes = []
+    if library.tocmark_version() != _VERSION:
+        raise ImportError(f"{places[0]} is of another version: {library.tocmark_version():#x}, and not {_VERSION:#x}")
+    return library
+
+
+_text = [ctypes.c_char_p, ctypes.c_size_t]
+_room = [ctypes.c_void_p, ctypes.c_size_t]
+_library = _load()
+
+
+def _function(name: str, *types):
+    function = getattr(_library, name)
+    function.restype = ctypes.c_ssize_t
+    function.argtypes = list(types)
+    return function
+
+
+error_text = _function("tocmark_error_text", ctypes.c_ssize_t, *_room)
+read_json = _function("tocmark_read_json", *_text, ctypes.c_uint32, *_room)
+write_json = _function("tocmark_write_json", *_text, *_text, ctypes.c_uint32, *_text, *_room)
+
+
+def answer(function, *arguments, guess: int) -> "tuple[int, bytes]":
+    """Calls a function with room for this many bytes, and again where that is too little: its answer, and the text."""
+    while True:
+        room = ctypes.create_string_buffer(max(guess, 1))
+        size = function(*arguments, room, guess)
+        if size <= guess:
+            return size, room.raw[:max(size, 0)]
+        guess = size

@@ -1,0 +1,114 @@
+//! Texts that are parsed by pulldown-cmark, written, and parsed again.
+
+use pulldown_cmark::{CodeBlockKind, Event, Options as ParserOptions, Parser, Tag, TagEnd};
+use tocmark::{
+    calculate_code_block_token_count, cmark, cmark_with_options, cmark_with_source_range, Error,
+    Options,
+};
+
+fn written(text: &str, flags: ParserOptions) -> String {
+    let mut output = String::new();
+    cmark(Parser::new_ext(text, flags), &mut output, flags).unwrap();
+    output
+}
+
+fn events(text: &str, flags: ParserOptions) -> Vec<Event<'_>> {
+    let found = Parser::new_ext(text, flags);
+    pulldown_cmark::TextMergeStream::new(found).collect()
+}
+
+#[test]
+fn every_container_and_leaf_is_written() {
+    let flags = ParserOptions::ENABLE_TABLES
+        | ParserOptions::ENABLE_FOOTNOTES
+        | ParserOptions::ENABLE_STRIKETHROUGH
+        | ParserOptions::ENABLE_TASKLISTS;
+    let text = "# A *b* **c** ~~d~~ `e`\n\n> f\\\n> g\n\n* h\n\n  1. [i](/j \"k\") ![l](m)\n\n- [x] n\n\n```rust\nlet o;\n```\n\n\
+                <p>\n\n| q | r |\n|---|:-:|\n| s | <t> |\n\nu[^v]\n\n[^v]: w\n\n---\n\n    x\n\n<http://y> \"\\z\" é\n";
+    let output = written(text, flags);
+    assert_eq!(events(&output, flags), events(text, flags));
+}
+
+#[test]
+fn options_are_taken() {
+    let options = Options {
+        list_token: '+',
+        strong_token: "__",
+        ..Options::default()
+    };
+    let mut output = String::new();
+    cmark_with_options(
+        Parser::new("* **a**"),
+        &mut output,
+        ParserOptions::empty(),
+        options,
+    )
+    .unwrap();
+    assert_eq!(output, "+ __a__");
+}
+
+#[test]
+fn texts_stand_as_in_the_source() {
+    let source = "a &eacute; <b";
+    let pairs = Parser::new(source)
+        .into_offset_iter()
+        .map(|(event, range)| (event, Some(range)));
+    let mut output = String::new();
+    cmark_with_source_range(pairs, source, &mut output, ParserOptions::empty()).unwrap();
+    assert_eq!(output, source);
+}
+
+#[test]
+fn errors_are_told_apart() {
+    let none = ParserOptions::empty();
+    let mut output = String::new();
+    let alone = [Event::End(TagEnd::Paragraph)];
+    assert!(matches!(
+        cmark(alone.iter(), &mut output, none),
+        Err(Error::UnexpectedEvent)
+    ));
+    let options = Options {
+        list_token: 'x',
+        ..Options::default()
+    };
+    assert!(matches!(
+        cmark_with_options(alone.iter(), &mut output, none, options),
+        Err(Error::InvalidOptions)
+    ));
+    let ranged = [(Event::Rule, Some(2..9))];
+    assert!(matches!(
+        cmark_with_source_range(ranged, "---", &mut output, none),
+        Err(Error::InvalidSourceRange)
+    ));
+    let struck = [
+        Event::Start(Tag::Paragraph),
+        Event::Start(Tag::Strikethrough),
+        Event::Text("a".into()),
+        Event::End(TagEnd::Strikethrough),
+        Event::End(TagEnd::Paragraph),
+    ];
+    assert!(matches!(
+        cmark(struck.iter(), &mut output, none),
+        Err(Error::Unrepresentable)
+    ));
+    assert_eq!(output, "");
+}
+
+#[test]
+fn fences_are_counted() {
+    let code = |text: &'static str| {
+        let block = Tag::CodeBlock(CodeBlockKind::Indented);
+        calculate_code_block_token_count([
+            Event::Start(block),
+            Event::Text(text.into()),
+            Event::End(TagEnd::CodeBlock),
+        ])
+    };
+    assert_eq!(code("``"), None);
+    assert_eq!(code("```"), Some(4));
+    assert_eq!(code("a ~~~~~ b"), Some(6));
+    assert_eq!(
+        calculate_code_block_token_count([Event::Text("````".into())]),
+        None
+    );
+}

@@ -1,0 +1,24 @@
+-- What a call answers, from what was said and what was laid.
+use Rattle.std.proofs.Common.{◌≡◌, ℕ, ℤ, pos, List, sym, subst, refl, length, string_bytes, String, Result, Ok, Err}
+use Rattle.std.specs.Global.{Global}
+use Rattle.std.specs.Prelude.{IfOk, IfErr, MatchResult}
+use Rattle.tocmark_c.specs.Answer.{IsAnswer, laid}
+use Rattle.tocmark_c.specs.Codes.{code_of}
+use Rattle.tocmark_c.specs.declared.cause.Cause.{Cause}
+
+-- a text that is laid is answered
+pub text_answered : (IsText : List ℕ → Type 0) (IsCause : Cause → Type 0) (text : List ℕ) (result : ℤ) (old new : List ℕ) → IsText text → result ≡ pos (length text) → new ≡ laid text old → IsAnswer IsText IsCause result old new
+text_answered IsText IsCause text result old new is size laid =
+    subst (λ (r : ℤ). IsAnswer IsText IsCause r old new) (sym size) (text, is, refl, laid)
+
+-- so is a cause's code
+pub cause_answered : (IsText : List ℕ → Type 0) (IsCause : Cause → Type 0) (cause : Cause) (result : ℤ) (old new : List ℕ) → IsCause cause → result ≡ code_of cause → new ≡ old → IsAnswer IsText IsCause result old new
+cause_answered IsText IsCause cause result old new is code same =
+    subst (λ (r : ℤ). IsAnswer IsText IsCause r old new) (sym code) (cause, refl, is, same)
+
+-- what was said is answered
+pub answered : (IsText : List ℕ → Type 0) (IsCause : Cause → Type 0) (said : Result (String Global) Cause) (result : ℤ) (old new : List ℕ) → IfOk said (λ s. IsText (string_bytes s)) → IfErr said IsCause → MatchResult said (λ text. (result ≡ pos (length (string_bytes text))) × (new ≡ laid (string_bytes text) old)) (λ cause. (result ≡ code_of cause) × (new ≡ old)) → IsAnswer IsText IsCause result old new
+answered IsText IsCause (Ok s) result old new is cause h =
+    text_answered IsText IsCause (string_bytes s) result old new is h.0 h.1
+answered IsText IsCause (Err c) result old new is cause h =
+    cause_answered IsText IsCause c result old new cause h.0 h.1

@@ -1,0 +1,58 @@
+-- What each call writes, and what causes each error.
+use Rattle.std.specs.Prelude.{◌≡◌, ◌==◌, ℕ, List, Bool, not, length, IsUtf8, Err, None, Some}
+use Rattle.serde_json.specs.Data.{Data}
+use Rattle.serde_json.specs.Read.{read}
+use Rattle.serde_json.specs.Written.{IsInOrder}
+use Rattle.tocmark_event.specs.Options.{OptionsView}
+use Rattle.tocmark_event.specs.Validation.{OptionsFault, validation}
+use Rattle.tocmark_event.specs.declared.event.flags.ParserOptions.{ParserOptions}
+use Rattle.tocmark_event.specs.declared.options.Error.{Error}
+use Rattle.tocmark_event.specs.declared.options.Error.TheVariants as error
+use Rattle.tocmark_json.specs.declared.fault.JsonError.{JsonError}
+use Rattle.tocmark_state.specs.Ranges.{Pair}
+use Rattle.tocmark_interchange.specs.Interchange.{AreOptions, IsNoList, IsTextOf, IsWrittenFrom, in_source, reading_json, writing}
+use Rattle.tocmark_c.specs.declared.cause.Cause.{Cause}
+use Rattle.tocmark_c.specs.declared.cause.Cause.TheVariants as cause
+
+-- the flags of these bits
+abbrev pub flags_of : ℕ → ParserOptions
+flags_of bits = record { 0 = bits }
+
+-- a text is the JSON of what is read in a text under these flags
+abbrev pub IsReadFrom : ℕ → List ℕ → List ℕ → Type 0
+IsReadFrom bits text output = IsInOrder output (reading_json (flags_of bits) text)
+
+-- why a text is not read
+abbrev pub IsReadCause : List ℕ → Cause → Type 0
+IsReadCause text cause.OutOfMemory = Unit {0}
+IsReadCause text cause.NotUtf8 = ¬ (IsUtf8 text)
+IsReadCause text c = ⊥
+
+-- a source is there
+abbrev pub has_source : List ℕ → Bool
+has_source source = not (length source == 0)
+
+-- a text is what the events of a JSON text are written as, under these options, over this source, if there is one
+abbrev pub IsMarkdownOf : ℕ → List ℕ → List ℕ → List ℕ → List ℕ → Type 0
+IsMarkdownOf bits source options json output = (o : OptionsView) × AreOptions options o × (validation o (flags_of bits) ≡ None) × IsWrittenFrom o (flags_of bits) (has_source source) source json output
+
+-- the events of a JSON text come to this error, under these options, over this source, if there is one
+abbrev pub IsRefusedAs : Error → ℕ → List ℕ → List ℕ → List ℕ → Type 0
+IsRefusedAs e bits source options json = (o : OptionsView) × AreOptions options o × (pairs : List Pair) × IsTextOf json pairs × ((writing o (flags_of bits) source (in_source (has_source source) pairs)).outcome ≡ Err e)
+
+-- why events are not written
+abbrev pub IsWriteCause : ℕ → List ℕ → List ℕ → List ℕ → Cause → Type 0
+IsWriteCause bits source options json cause.OutOfMemory = Unit {0}
+IsWriteCause bits source options json cause.NotUtf8 = ¬ (IsUtf8 json)
+IsWriteCause bits source options json cause.SourceNotUtf8 = ¬ (IsUtf8 source)
+IsWriteCause bits source options json cause.OptionsNotUtf8 = ¬ (IsUtf8 options)
+IsWriteCause bits source options json cause.NotJson = read json ≡ None
+IsWriteCause bits source options json cause.NotEvents = (value : Data) × (read json ≡ Some value) × (e : JsonError) × IsNoList value e
+IsWriteCause bits source options json cause.OptionsNotJson = read options ≡ None
+IsWriteCause bits source options json cause.NotOptions = (value : Data) × (read options ≡ Some value)
+IsWriteCause bits source options json cause.InvalidOptions = (o : OptionsView) × AreOptions options o × (fault : OptionsFault) × (validation o (flags_of bits) ≡ Some fault)
+IsWriteCause bits source options json cause.UnexpectedEvent = IsRefusedAs error.UnexpectedEvent bits source options json
+IsWriteCause bits source options json cause.Unrepresentable = IsRefusedAs error.Unrepresentable bits source options json
+IsWriteCause bits source options json cause.InvalidSourceRange = IsRefusedAs error.InvalidSourceRange bits source options json
+IsWriteCause bits source options json cause.Finished = IsRefusedAs error.Finished bits source options json
+IsWriteCause bits source options json cause.Failed = IsRefusedAs error.Failed bits source options json

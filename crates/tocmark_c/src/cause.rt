@@ -1,0 +1,132 @@
+//! What went wrong, and the codes of that.
+
+ghost use Rattle.std.specs.Prelude.{◌≡◌};
+ghost use Rattle.tocmark_c.specs.Codes.{code_of, error_text, number_of, options_cause, refusal_cause, write_cause};
+
+use tocmark::Error;
+use tocmark_interchange::{OptionsTextError, WriteError};
+
+/// Why a call is refused.
+#[derive(Clone, Copy, Debug, PartialEq, Eq)]
+pub enum Cause {
+    /// Memory ran out.
+    OutOfMemory,
+    /// The text, Markdown or JSON, isn't UTF-8.
+    NotUtf8,
+    /// The source isn't UTF-8.
+    SourceNotUtf8,
+    /// The options aren't UTF-8.
+    OptionsNotUtf8,
+    /// The text is no JSON.
+    NotJson,
+    /// The JSON isn't that of events.
+    NotEvents,
+    /// The options are no JSON.
+    OptionsNotJson,
+    /// The JSON of the options isn't that of options.
+    NotOptions,
+    /// The options or the flags aren't such that can be written under.
+    InvalidOptions,
+    /// An event stands where it can't.
+    UnexpectedEvent,
+    /// No spelling of a block reads back.
+    Unrepresentable,
+    /// A range is none of the source.
+    InvalidSourceRange,
+    /// Events after the end. No call of this library comes to that.
+    Finished,
+    /// A call after one that was refused. No call of this library comes to that.
+    Failed,
+}
+
+impl Cause {
+    /// The code, as C knows it.
+    pub fn code(self) -> isize
+        ensures { result ≡ code_of self }
+    {
+        match self {
+            Cause::OutOfMemory => -1,
+            Cause::NotUtf8 => -2,
+            Cause::SourceNotUtf8 => -3,
+            Cause::OptionsNotUtf8 => -4,
+            Cause::NotJson => -5,
+            Cause::NotEvents => -6,
+            Cause::OptionsNotJson => -7,
+            Cause::NotOptions => -8,
+            Cause::InvalidOptions => -9,
+            Cause::UnexpectedEvent => -10,
+            Cause::Unrepresentable => -11,
+            Cause::InvalidSourceRange => -12,
+            Cause::Finished => -13,
+            Cause::Failed => -14,
+        }
+    }
+
+    /// Why events aren't written.
+    pub fn of_write(error: &WriteError) -> Cause
+        ensures { result ≡ write_cause error.now }
+    {
+        match error {
+            WriteError::NotJson(_) => Cause::NotJson,
+            WriteError::NotEvents(_) => Cause::NotEvents,
+            WriteError::Refused(error) => Cause::of_refusal(error),
+            WriteError::OutOfMemory => Cause::OutOfMemory,
+        }
+    }
+
+    fn of_refusal(error: &Error) -> Cause
+        ensures { result ≡ refusal_cause error.now }
+    {
+        match error {
+            Error::FormatFailed(_) => Cause::OutOfMemory,
+            Error::UnexpectedEvent => Cause::UnexpectedEvent,
+            Error::Unrepresentable => Cause::Unrepresentable,
+            Error::InvalidSourceRange => Cause::InvalidSourceRange,
+            Error::Finished => Cause::Finished,
+            Error::Failed => Cause::Failed,
+            Error::OutOfMemory => Cause::OutOfMemory,
+        }
+    }
+
+    /// Why a text has no options.
+    pub fn of_options(error: &OptionsTextError) -> Cause
+        ensures { result ≡ options_cause error.now }
+    {
+        match error {
+            OptionsTextError::NotJson(_) => Cause::OptionsNotJson,
+            OptionsTextError::NotOptions(_) => Cause::NotOptions,
+            OptionsTextError::Invalid(_) => Cause::InvalidOptions,
+            OptionsTextError::OutOfMemory => Cause::OutOfMemory,
+        }
+    }
+}
+
+/// The number of an error's code, and 0 for what is none.
+fn number_of(code: isize) -> usize
+    ensures { result ≡ number_of code }
+{
+    if code < 0 { code.unsigned_abs() } else { 0 }
+}
+
+/// What an error's code means.
+pub fn error_text(code: isize) -> &'static str
+    ensures { result.now ≡ error_text (number_of code) }
+{
+    match number_of(code) {
+        1 => "out of memory",
+        2 => "the text is not UTF-8",
+        3 => "the source is not UTF-8",
+        4 => "the options are not UTF-8",
+        5 => "the text is no JSON",
+        6 => "the JSON is not that of events",
+        7 => "the options are no JSON",
+        8 => "the JSON of the options is not that of options",
+        9 => "these options and flags cannot be written under",
+        10 => "an event stands where it cannot",
+        11 => "no spelling of a block of events reads back",
+        12 => "a range is none of the source",
+        13 => "events after the end",
+        14 => "a call after one that was refused",
+        _ => "no error of tocmark",
+    }
+}

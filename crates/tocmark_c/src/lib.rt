@@ -1,0 +1,154 @@
+//! The library for C. `bindings/c/tocmark.h` says the same for those who call it, `docs/BINDINGS.md` how it is built.
+//!
+//! Each function answers a text into room that the caller lends (`room`): how many bytes it takes, or a negative number, the
+//! code of what went wrong (`cause`). Nothing is kept from call to call. Below it stands `tocmark_interchange`.
+#![tactic(auto)]
+
+mod cause;
+mod room;
+
+ghost use Rattle.std.specs.Prelude.{◌≡◌, IfErr, IfOk, is_some, string_bytes};
+ghost use Rattle.tocmark_c.specs.Answer.{IsAnswer, IsErrorText, IsNever};
+ghost use Rattle.tocmark_c.specs.Calls.{IsMarkdownOf, IsReadCause, IsReadFrom, IsWriteCause, has_source};
+ghost use Rattle.tocmark_event.specs.Options.{options_view};
+ghost use Rattle.tocmark_interchange.specs.Interchange.{IsCause, IsWrittenFrom, source_text};
+
+use cause::{Cause, error_text};
+use room::{answer, lay};
+use std::alloc::Global;
+use tocmark::Options;
+use tocmark::event::ParserOptions;
+use tocmark_interchange::{WriteError, options_from_text, read_json, write_json};
+
+/// The version: the third number, 256 times the second and 65,536 times the first.
+#[unsafe(no_mangle)]
+pub extern "C" fn tocmark_version() -> u32
+    ensures { result ≡ 256 }
+{
+    256
+}
+
+/// The text of an error's code, and one text for all other numbers, where there is room; answers how many bytes it takes.
+#[unsafe(no_mangle)]
+#[tactic(auto, using(crate::proofs::Answers::text_answered))]
+pub extern "C" fn tocmark_error_text(code: isize, out: &mut [u8]) -> isize
+    ensures { IsAnswer (IsErrorText code) IsNever result out.old out.new }
+{
+    lay(error_text(code), out)
+}
+
+/// The JSON of the events of a Markdown text, read under these flags, with their ranges, where there is room.
+#[unsafe(no_mangle)]
+#[tactic(auto, using(crate::proofs::Answers::answered))]
+pub extern "C" fn tocmark_read_json(alloc: Global, text: &[u8], flags: u32, out: &mut [u8]) -> isize
+    ensures { IsAnswer (IsReadFrom flags text.now) (IsReadCause text.now) result out.old out.new }
+{
+    answer(read(alloc, text, flags), out)
+}
+
+/// The Markdown of events that are given as JSON, over the source of their ranges, under these options, where there is room.
+/// An empty source is none: then the ranges are dropped. Empty options are the default ones.
+#[unsafe(no_mangle)]
+#[tactic(auto, using(crate::proofs::Answers::answered))]
+pub extern "C" fn tocmark_write_json(
+    alloc: Global,
+    json: &[u8],
+    source: &[u8],
+    flags: u32,
+    options: &[u8],
+    out: &mut [u8],
+) -> isize
+    ensures { IsAnswer (IsMarkdownOf flags source.now options.now json.now)
+        (IsWriteCause flags source.now options.now json.now) result out.old out.new }
+{
+    answer(write(alloc, json, source, flags, options), out)
+}
+
+fn read(alloc: Global, text: &[u8], flags: u32) -> Result<String, Cause>
+    ensures text { IfOk result (λ output. IsReadFrom flags text.now (string_bytes output)) }
+    ensures cause { IfErr result (IsReadCause text.now) }
+{
+    let text = match std::str::from_utf8(text) {
+        Ok(text) => text,
+        Err(_) => return Err(Cause::NotUtf8),
+    };
+    match read_json(alloc, text, ParserOptions(flags)) {
+        Ok(output) => Ok(output),
+        Err(_) => Err(Cause::OutOfMemory),
+    }
+}
+
+/// The source that a text stands for: none where it is empty.
+#[tactic(auto, using(tocmark_interchange::proofs::Empty::empty_text))]
+fn source_of(text: &str) -> Option<&str>
+    ensures there { is_some result ≡ has_source text.now }
+    ensures text { source_text result ≡ text.now }
+{
+    if text.is_empty() { None } else { Some(text) }
+}
+
+/// The Markdown of events under options that are read, over the source that a text stands for.
+fn write_under(
+    alloc: Global,
+    json: &str,
+    source: &str,
+    flags: ParserOptions,
+    options: Options<'static>,
+) -> Result<String, WriteError>
+    ensures text { IfOk result (λ output. IsWrittenFrom (options_view options.entry) flags
+        (has_source source.now) source.now json.now (string_bytes output)) }
+    ensures cause { IfErr result (IsCause (options_view options.entry) flags
+        (has_source source.now) source.now json.now) }
+{
+    write_json(alloc, json, source_of(source), flags, options)
+}
+
+/// The Markdown of events under the options that a text has.
+#[tactic(auto, using(crate::proofs::Causes::options_told, crate::proofs::Causes::write_told))]
+fn write_text(
+    alloc: Global,
+    json: &str,
+    source: &str,
+    flags: u32,
+    options: &str,
+) -> Result<String, Cause>
+    ensures text { IfOk result (λ output.
+        IsMarkdownOf flags source.now options.now json.now (string_bytes output)) }
+    ensures cause { IfErr result (IsWriteCause flags source.now options.now json.now) }
+{
+    let flags = ParserOptions(flags);
+    let options = match options_from_text(alloc, options, flags) {
+        Ok(options) => options,
+        Err(error) => return Err(Cause::of_options(&error)),
+    };
+    match write_under(alloc, json, source, flags, options) {
+        Ok(output) => Ok(output),
+        Err(error) => Err(Cause::of_write(&error)),
+    }
+}
+
+fn write(
+    alloc: Global,
+    json: &[u8],
+    source: &[u8],
+    flags: u32,
+    options: &[u8],
+) -> Result<String, Cause>
+    ensures text { IfOk result (λ output.
+        IsMarkdownOf flags source.now options.now json.now (string_bytes output)) }
+    ensures cause { IfErr result (IsWriteCause flags source.now options.now json.now) }
+{
+    let json = match std::str::from_utf8(json) {
+        Ok(json) => json,
+        Err(_) => return Err(Cause::NotUtf8),
+    };
+    let source = match std::str::from_utf8(source) {
+        Ok(source) => source,
+        Err(_) => return Err(Cause::SourceNotUtf8),
+    };
+    let options = match std::str::from_utf8(options) {
+        Ok(options) => options,
+        Err(_) => return Err(Cause::OptionsNotUtf8),
+    };
+    write_text(alloc, json, source, flags, options)
+}

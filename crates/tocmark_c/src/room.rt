@@ -1,0 +1,31 @@
+//! The room that a caller lends.
+
+ghost use Rattle.std.specs.Prelude.{◌≡◌, MatchResult, length, pos, string_bytes};
+ghost use Rattle.tocmark_c.specs.Answer.{laid};
+ghost use Rattle.tocmark_c.specs.Codes.{code_of};
+
+use crate::cause::Cause;
+
+/// Lays a text into the front of the room, where it is large enough; answers how many bytes the text takes.
+pub fn lay(text: &str, out: &mut [u8]) -> isize
+    ensures size { result ≡ pos (length text.now) }
+    ensures laid { out.new ≡ laid text.now out.old }
+{
+    let size = text.len();
+    if size <= out.len() {
+        out[..size].copy_from_slice(text.as_bytes());
+    }
+    size as isize
+}
+
+/// Answers a text as `lay` does, or the code of a cause.
+pub fn answer(said: Result<String, Cause>, out: &mut [u8]) -> isize
+    ensures { MatchResult said
+        (λ text. (result ≡ pos (length (string_bytes text))) × (out.new ≡ laid (string_bytes text) out.old))
+        (λ cause. (result ≡ code_of cause) × (out.new ≡ out.old)) }
+{
+    match said {
+        Ok(text) => lay(text.as_str(), out),
+        Err(cause) => cause.code(),
+    }
+}

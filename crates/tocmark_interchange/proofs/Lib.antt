@@ -1,0 +1,3 @@
+pub mod Empty
+mod Taken
+mod Refused

@@ -1,0 +1,77 @@
+//! Why a text is refused.
+
+ghost use Rattle.std.specs.Prelude.{◌≡◌};
+ghost use Rattle.tocmark_interchange.specs.declared.fault.WriteError.TheVariants.{OutOfMemory as out_of_memory};
+
+use std::alloc::{AllocError, AllocFailed};
+use std::fmt;
+use tocmark::{Error, OptionsError};
+use tocmark_json::fault::JsonError;
+
+/// Why the events that a text has as JSON aren't written.
+#[derive(Debug, Drop)]
+pub enum WriteError {
+    /// The text is no JSON, or nested deeper than the kit's JSON is read.
+    NotJson(serde_json::Error),
+    /// The JSON isn't that of events.
+    NotEvents(JsonError),
+    /// The writer refuses the events.
+    Refused(Error),
+    /// Memory ran out.
+    OutOfMemory,
+}
+
+impl From<AllocError> for WriteError {
+    ghost from_gives = { λ _ e. e ≡ out_of_memory };
+
+    fn from(_fault: AllocError) -> WriteError {
+        WriteError::OutOfMemory
+    }
+}
+
+impl<T: Drop> From<AllocFailed<T>> for WriteError {
+    ghost from_gives = { λ _ e. e ≡ out_of_memory };
+
+    fn from(_fault: AllocFailed<T>) -> WriteError {
+        WriteError::OutOfMemory
+    }
+}
+
+impl fmt::Display for WriteError {
+    fn fmt<W: fmt::Write>(&self, f: &mut fmt::Formatter<W>) -> fmt::Result {
+        match self {
+            WriteError::NotJson(error) => write!(f, "the text is no JSON: {error}"),
+            WriteError::NotEvents(error) => write!(f, "{error}"),
+            WriteError::Refused(error) => write!(f, "{error}"),
+            WriteError::OutOfMemory => write!(f, "out of memory"),
+        }
+    }
+}
+
+impl std::error::Error for WriteError {}
+
+/// Why a text has no options of the writer.
+#[derive(Debug, Drop)]
+pub enum OptionsTextError {
+    /// The text is no JSON, or nested deeper than the kit's JSON is read.
+    NotJson(serde_json::Error),
+    /// The JSON isn't that of options: what is wrong, in a line.
+    NotOptions(String),
+    /// The writer doesn't take these options under these flags.
+    Invalid(OptionsError),
+    /// Memory ran out.
+    OutOfMemory,
+}
+
+impl fmt::Display for OptionsTextError {
+    fn fmt<W: fmt::Write>(&self, f: &mut fmt::Formatter<W>) -> fmt::Result {
+        match self {
+            OptionsTextError::NotJson(error) => write!(f, "the options are no JSON: {error}"),
+            OptionsTextError::NotOptions(line) => write!(f, "the options: {line}"),
+            OptionsTextError::Invalid(error) => write!(f, "{error}"),
+            OptionsTextError::OutOfMemory => write!(f, "out of memory"),
+        }
+    }
+}
+
+impl std::error::Error for OptionsTextError {}

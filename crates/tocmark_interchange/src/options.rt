@@ -1,0 +1,65 @@
+//! The options of the writer, from their JSON text.
+
+ghost use Rattle.std.specs.Prelude.{◌≡◌, IfErr, IfOk, None};
+ghost use Rattle.tocmark_event.specs.Options.{options_view};
+ghost use Rattle.tocmark_event.specs.Validation.{validation};
+ghost use Rattle.serde_json.specs.View.{view};
+ghost use Rattle.tocmark_json.specs.Options.{IsOptionsJson};
+ghost use Rattle.tocmark_interchange.specs.Interchange.{AreOptions, IsNoOptions, IsNoOptionsText, IsOptionsCause};
+
+use crate::fault::OptionsTextError;
+use serde_json::Value;
+use std::alloc::Global;
+use tocmark::Options;
+use tocmark::event::ParserOptions;
+use tocmark_json::options::options_from_json;
+
+/// The options that a JSON text has, and the default ones of an empty text, which the writer takes under these flags.
+///
+/// An `Err` says that the text is no JSON (`NotJson`), that its value isn't that of options (`NotOptions`), that the writer
+/// doesn't take them under these flags (`Invalid`), or that memory ran out.
+pub fn options_from_text(
+    alloc: Global,
+    text: &str,
+    flags: ParserOptions,
+) -> Result<Options<'static>, OptionsTextError>
+    ensures options { IfOk result (λ options. AreOptions text.now (options_view options)) }
+    ensures valid { IfOk result (λ options. validation (options_view options) flags ≡ None) }
+    ensures cause { IfErr result (IsOptionsCause flags text.now) }
+{
+    let options = options_in(alloc, text)?;
+    match options.validate(flags) {
+        Ok(()) => Ok(options),
+        Err(error) => Err(OptionsTextError::Invalid(error)),
+    }
+}
+
+/// The options that a text has, whatever the writer takes.
+#[tactic(auto, using(crate::proofs::Empty::empty_text))]
+fn options_in(alloc: Global, text: &str) -> Result<Options<'static>, OptionsTextError>
+    ensures options { IfOk result (λ options. AreOptions text.now (options_view options)) }
+    ensures cause { IfErr result (IsNoOptionsText text.now) }
+{
+    if text.is_empty() {
+        return Ok(Options::default());
+    }
+    match Value::from_str(alloc, text) {
+        Ok(value) => options_of(alloc, &value),
+        Err(error) if error.is_memory() => Err(OptionsTextError::OutOfMemory),
+        Err(error) => Err(OptionsTextError::NotJson(error)),
+    }
+}
+
+/// The options of a value.
+fn options_of(alloc: Global, value: &Value) -> Result<Options<'static>, OptionsTextError>
+    ensures options { IfOk result (λ options. IsOptionsJson (view value.now) (options_view options)) }
+    ensures cause { IfErr result IsNoOptions }
+{
+    match options_from_json(value) {
+        Ok(options) => Ok(options),
+        Err(fault) => match format!(in alloc; "{fault}") {
+            Ok(line) => Err(OptionsTextError::NotOptions(line)),
+            Err(_) => Err(OptionsTextError::OutOfMemory),
+        },
+    }
+}

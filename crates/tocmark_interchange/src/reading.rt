@@ -1,0 +1,23 @@
+//! Markdown to the JSON text of its events.
+
+ghost use Rattle.std.specs.Prelude.{IfOk, string_bytes};
+ghost use Rattle.serde_json.specs.Written.{IsInOrder};
+ghost use Rattle.tocmark_interchange.specs.Interchange.{reading_json};
+
+use std::alloc::{AllocError, Global};
+use tocmark::event::ParserOptions;
+use tocmark::reader::Reader;
+use tocmark_extended_reader::{ExtendedReader, Names};
+use tocmark_json::writing::ranged_to_json;
+
+/// The JSON text of the events that the reader of extensions finds in a text under these flags: an array of events with
+/// their ranges in bytes. An `Err` says that memory ran out.
+pub fn read_json(alloc: Global, text: &str, flags: ParserOptions) -> Result<String, AllocError>
+    ensures { IfOk result (λ output. IsInOrder (string_bytes output) (reading_json flags text.now)) }
+{
+    let reader = ExtendedReader { names: Names::All };
+    let reading = reader.read(alloc, text, flags)?;
+    let value = ranged_to_json(alloc, &reading.events)?;
+    let output = value.to_string(alloc)?;
+    Ok(output)
+}

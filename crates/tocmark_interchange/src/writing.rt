@@ -1,0 +1,178 @@
+//! The JSON text of events to Markdown.
+
+ghost use Rattle.std.specs.Prelude.{◌≡◌, IfErr, IfOk, is_some, map, string_bytes};
+ghost use Rattle.serde_json.specs.View.{view};
+ghost use Rattle.tocmark_event.specs.Options.{options_view};
+ghost use Rattle.tocmark_event.specs.Text.{text_of};
+ghost use Rattle.tocmark_event.specs.View.{event_view};
+ghost use Rattle.tocmark_json.specs.Json.{pair_view};
+ghost use Rattle.tocmark_state.specs.Ranges.{unranged};
+ghost use Rattle.tocmark_interchange.specs.Interchange.{IsCause, IsJsonOf, IsNoEvents, IsNoList, IsRefusal, IsTextOf, IsWritten, IsWrittenFrom, places_left, source_text, writing};
+
+use crate::fault::WriteError;
+use crate::pairs::{EventPairs, Placed};
+use serde_json::Value;
+use std::alloc::{AllocError, Global};
+use tocmark::event::{Event, ParserOptions};
+use tocmark::{Error, Options, cmark_with_source_range_and_options};
+use tocmark_extended_reader::{ExtendedReader, Names};
+use tocmark_json::fault::JsonError;
+use tocmark_json::reading::{events_from_json, pairs_from_json};
+
+fn without_ranges(
+    alloc: Global,
+    events: Vec<Event<'static>>,
+) -> Result<Vec<Placed<'static>>, AllocError>
+    ensures { IfOk result (λ pairs. map (pair_view text_of) pairs.items
+        ≡ map unranged (map (event_view text_of) events.entry.items)) }
+{
+    let mut pairs = Vec::new(alloc);
+    for event in events {
+        pairs.push((event, None))?;
+    }
+    Ok(pairs)
+}
+
+fn has_ranges(value: &Value) -> bool {
+    match value {
+        Value::Array(items) => match items.first() {
+            Some(Value::Array(_)) => true,
+            _ => false,
+        },
+        _ => false,
+    }
+}
+
+fn plain_pairs(alloc: Global, value: &Value) -> Result<Vec<Placed<'static>>, JsonError>
+    ensures value { IfOk result (λ pairs.
+        IsJsonOf (view value.now) (map (pair_view text_of) pairs.items)) }
+    ensures place { IfErr result (IsNoList (view value.now)) }
+{
+    let events = events_from_json(alloc, value)?;
+    Ok(without_ranges(alloc, events)?)
+}
+
+fn ranged_pairs(alloc: Global, value: &Value) -> Result<Vec<Placed<'static>>, JsonError>
+    ensures value { IfOk result (λ pairs.
+        IsJsonOf (view value.now) (map (pair_view text_of) pairs.items)) }
+    ensures place { IfErr result (IsNoList (view value.now)) }
+{
+    pairs_from_json(alloc, value)
+}
+
+/// The events of a value: of a list of pairs, where its first element is an array, and else of events.
+fn pairs_of(alloc: Global, value: &Value) -> Result<Vec<Placed<'static>>, JsonError>
+    ensures value { IfOk result (λ pairs.
+        IsJsonOf (view value.now) (map (pair_view text_of) pairs.items)) }
+    ensures place { IfErr result (IsNoList (view value.now)) }
+{
+    if has_ranges(value) {
+        ranged_pairs(alloc, value)
+    } else {
+        plain_pairs(alloc, value)
+    }
+}
+
+/// The events that a text has as JSON, with the ranges that they have there.
+fn pairs_in(alloc: Global, json: &str) -> Result<Vec<Placed<'static>>, WriteError>
+    ensures pairs { IfOk result (λ pairs.
+        IsTextOf json.now (map (pair_view text_of) pairs.items)) }
+    ensures cause { IfErr result (IsNoEvents json.now) }
+{
+    let value = match Value::from_str(alloc, json) {
+        Ok(value) => value,
+        Err(error) if error.is_memory() => return Err(WriteError::OutOfMemory),
+        Err(error) => return Err(WriteError::NotJson(error)),
+    };
+    match pairs_of(alloc, &value) {
+        Ok(pairs) => Ok(pairs),
+        Err(JsonError::OutOfMemory) => Err(WriteError::OutOfMemory),
+        Err(error) => Err(WriteError::NotEvents(error)),
+    }
+}
+
+/// The events, lent.
+fn lent<'a>(pairs: &'a Vec<Placed<'static>>) -> &'a [(Event<'a>, Option<(usize, usize)>)]
+    ensures { result.now ≡ pairs.now.items }
+{
+    pairs
+}
+
+/// The Markdown of events over the source of their ranges.
+fn written<'a>(
+    alloc: Global,
+    pairs: EventPairs<'a>,
+    source: &str,
+    flags: ParserOptions,
+    options: Options<'static>,
+) -> Result<String, Error>
+    ensures written { IfOk result (λ output. IsWritten (options_view options.entry) flags source.now
+        (places_left pairs.entry) (string_bytes output)) }
+    ensures refusal { IfErr result (IsRefusal (writing (options_view options.entry) flags source.now
+        (places_left pairs.entry))) }
+{
+    let mut output = String::new(alloc);
+    let reader = ExtendedReader { names: Names::All };
+    match cmark_with_source_range_and_options(
+        alloc,
+        pairs,
+        source,
+        &mut output,
+        reader,
+        flags,
+        options,
+    ) {
+        Ok(state) => {
+            drop(state);
+            Ok(output)
+        }
+        Err(error) => Err(error),
+    }
+}
+
+/// The Markdown of the events that a text has as JSON, over this source or none.
+fn write_over(
+    alloc: Global,
+    json: &str,
+    source: &str,
+    has_source: bool,
+    flags: ParserOptions,
+    options: Options<'static>,
+) -> Result<String, WriteError>
+    ensures written { IfOk result (λ output. IsWrittenFrom (options_view options.entry) flags
+        has_source source.now json.now (string_bytes output)) }
+    ensures cause { IfErr result (IsCause (options_view options.entry) flags has_source source.now
+        json.now) }
+{
+    let pairs = pairs_in(alloc, json)?;
+    let placed = EventPairs::new(lent(&pairs), has_source);
+    match written(alloc, placed, source, flags, options) {
+        Ok(output) => Ok(output),
+        Err(Error::OutOfMemory) => Err(WriteError::OutOfMemory),
+        Err(Error::FormatFailed(_)) => Err(WriteError::OutOfMemory),
+        Err(error) => Err(WriteError::Refused(error)),
+    }
+}
+
+/// The Markdown of the events that a JSON text has: an array of events, or of pairs of an event and its range or `null`.
+/// The ranges are bytes of the source; without one they are dropped. Under these flags the text is to read back.
+///
+/// An `Err` says that the text is no JSON (`NotJson`) or not that of events (`NotEvents`, with the first one that is none),
+/// that the writer refuses the events (`Refused`), or that memory ran out.
+pub fn write_json(
+    alloc: Global,
+    json: &str,
+    source: Option<&str>,
+    flags: ParserOptions,
+    options: Options<'static>,
+) -> Result<String, WriteError>
+    ensures written { IfOk result (λ output. IsWrittenFrom (options_view options.entry) flags
+        (is_some source.entry) (source_text source.entry) json.now (string_bytes output)) }
+    ensures cause { IfErr result (IsCause (options_view options.entry) flags
+        (is_some source.entry) (source_text source.entry) json.now) }
+{
+    match source {
+        Some(text) => write_over(alloc, json, text, true, flags, options),
+        None => write_over(alloc, json, "", false, flags, options),
+    }
+}
