@@ -1,4 +1,5 @@
-/* Writes Markdown anew, with `-` for bullets: standard input to standard output. */
+/* Writes Markdown anew, with `-` for bullets: standard input to standard output. With the word `format` all blocks have one
+ * look, and the text says what it said. */
 #include "tocmark.h"
 
 #include <stdio.h>
@@ -31,14 +32,25 @@ static int refuse(ptrdiff_t code) {
   return 1;
 }
 
-int main(void) {
-  static uint8_t source[1 << 20], out[1 << 22];
-  size_t size = fread(source, 1, sizeof source, stdin);
+static ptrdiff_t write_anew(const uint8_t *source, size_t size, uint8_t *out, size_t out_len) {
   struct text json = events(source, size);
   if (json.size < 0 || json.bytes == NULL)
-    return refuse(json.size < 0 ? json.size : TOCMARK_OUT_OF_MEMORY);
-  ptrdiff_t length = write_back(json, source, size, out, sizeof out);
+    return json.size < 0 ? json.size : TOCMARK_OUT_OF_MEMORY;
+  ptrdiff_t length = write_back(json, source, size, out, out_len);
   free(json.bytes);
+  return length;
+}
+
+static ptrdiff_t format(const uint8_t *source, size_t size, uint8_t *out, size_t out_len) {
+  static const struct tocmark_style style = {.size = sizeof style, .bullet = '-'};
+  return tocmark_format(source, size, TOCMARK_GFM, &style, out, out_len);
+}
+
+int main(int argc, char **argv) {
+  static uint8_t source[1 << 20], out[1 << 22];
+  size_t size = fread(source, 1, sizeof source, stdin);
+  int formats = argc > 1 && strcmp(argv[1], "format") == 0;
+  ptrdiff_t length = (formats ? format : write_anew)(source, size, out, sizeof out);
   if (length < 0)
     return refuse(length);
   if ((size_t)length > sizeof out)

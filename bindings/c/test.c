@@ -42,16 +42,21 @@ static void *memory(size_t size) {
   return block;
 }
 
-/* --- one call, of one kind or the other --- */
+/* --- one call, of one of three kinds --- */
 
 struct call {
   const struct text *text;
-  const struct text *source; /* NULL: the text is Markdown, and is read */
+  const struct text *source; /* NULL: the text is Markdown, and is read or formatted */
   const char *options;
   uint32_t flags;
+  const struct tocmark_style *style; /* where there is one, the text is formatted */
 };
 
+static const struct tocmark_style hyphens = {.size = sizeof hyphens, .bullet = '-', .numbering = 1, .emphasis = '_'};
+
 static ptrdiff_t made(const struct call *call, uint8_t *out, size_t out_len) {
+  if (call->style != NULL)
+    return tocmark_format(call->text->bytes, call->text->size, call->flags, call->style, out, out_len);
   if (call->source == NULL)
     return tocmark_read_json(call->text->bytes, call->text->size, call->flags, out, out_len);
   return tocmark_write_json(call->text->bytes, call->text->size, call->source->bytes, call->source->size, call->flags,
@@ -102,17 +107,17 @@ static uint64_t noted(uint64_t sum, ptrdiff_t code, const struct text *text) {
   return sum;
 }
 
-/* A text is read and written over itself and over nothing. */
+/* A text is read and written over itself and over nothing, and formatted. */
 static uint64_t round_trip(uint64_t sum, const struct text *text, uint32_t flags, int is_mutated) {
   static const char *const options[] = {"", "{\"list_token\": \"-\", \"newlines_after_headline\": 1}"};
   static const struct text nothing = {(uint8_t *)"", 0};
   struct text json, markdown;
-  ptrdiff_t code = answer(&(struct call){text, NULL, "", flags}, &json);
+  ptrdiff_t code = answer(&(struct call){text, NULL, "", flags, NULL}, &json);
   sum = noted(sum, code, &json);
   if (code < 0 && !(is_mutated && code == TOCMARK_NOT_UTF8))
     wrong("it isn't read", text);
   for (size_t i = 0; code >= 0 && i < 2; i++) {
-    struct call call = {&json, i ? text : &nothing, options[i], flags};
+    struct call call = {&json, i ? text : &nothing, options[i], flags, NULL};
     ptrdiff_t ended = answer(&call, &markdown);
     sum = noted(sum, ended, &markdown);
     if (ended < 0 && !(is_mutated && ended == TOCMARK_UNREPRESENTABLE))
@@ -120,6 +125,11 @@ static uint64_t round_trip(uint64_t sum, const struct text *text, uint32_t flags
     free(markdown.bytes);
   }
   free(json.bytes);
+  ptrdiff_t formatted = answer(&(struct call){text, NULL, "", flags, &hyphens}, &markdown);
+  sum = noted(sum, formatted, &markdown);
+  if (formatted < 0 && formatted != code)
+    wrong("it isn't formatted", text);
+  free(markdown.bytes);
   return sum;
 }
 
@@ -148,11 +158,11 @@ static struct text mutated(const struct text *text, uint32_t *seed) {
 /* JSON of events with bytes changed: any error may come, and the answers stay the same. */
 static uint64_t broken_json(uint64_t sum, const struct text *text, uint32_t *seed) {
   struct text json, broken, markdown;
-  if (answer(&(struct call){text, NULL, "", TOCMARK_GFM}, &json) < 0)
+  if (answer(&(struct call){text, NULL, "", TOCMARK_GFM, NULL}, &json) < 0)
     return sum;
   broken = mutated(&json, seed);
   for (size_t i = 0; i < 2; i++) {
-    struct call call = {&broken, i ? text : &(struct text){(uint8_t *)"", 0}, "", TOCMARK_GFM};
+    struct call call = {&broken, i ? text : &(struct text){(uint8_t *)"", 0}, "", TOCMARK_GFM, NULL};
     ptrdiff_t code = answer(&call, &markdown);
     sum = noted(sum, code, &markdown);
     free(markdown.bytes);
@@ -193,6 +203,42 @@ static ptrdiff_t writes(const char *json, const char *source, uint32_t flags, co
                             (const uint8_t *)options, strlen(options), out, sizeof out);
 }
 
+static ptrdiff_t formats(const char *text, struct tocmark_style style, const char *wanted) {
+  uint8_t out[100];
+  ptrdiff_t size = tocmark_format((const uint8_t *)text, strlen(text), TOCMARK_GFM, &style, out, sizeof out);
+  if (size >= 0 && ((size_t)size != strlen(wanted) || memcmp(out, wanted, (size_t)size) != 0))
+    wrong("another text in a style", &(struct text){out, (size_t)size});
+  return size;
+}
+
+static void styles(void) {
+  static const uint32_t size = sizeof(struct tocmark_style);
+  struct tocmark_style style = {.size = size};
+  formats("", style, "");
+  expect(formats("*  a\n*  b", style, "* a\n* b\n"), 8, "the bullets of the source");
+  style.bullet = '-';
+  expect(formats("*  a\n*  b", style, "- a\n- b\n"), 8, "other bullets");
+  expect(formats("1. a\n2. b", (struct tocmark_style){.size = size, .delimiter = ')', .numbering = 1}, "1) a\n1) b\n"), 10,
+         "delimiters and numbers");
+  expect(formats("*a* **b**", (struct tocmark_style){.size = size, .emphasis = '_', .strong = '_'}, "_a_ __b__\n"), 10,
+         "markers");
+  expect(formats("~~~\na\n~~~", (struct tocmark_style){.size = size, .fence = '`', .fence_length = 4}, "````\na\n````\n"), 12,
+         "fences");
+  expect(formats("\xFF", style, ""), TOCMARK_NOT_UTF8, "text that is formatted");
+  struct tocmark_style wrongs[] = {{.size = 0},
+                                   {.size = size - 4},
+                                   {.size = size + 4},
+                                   {.size = size, .bullet = 'x'},
+                                   {.size = size, .delimiter = ':'},
+                                   {.size = size, .numbering = 3},
+                                   {.size = size, .emphasis = '-'},
+                                   {.size = size, .strong = 1},
+                                   {.size = size, .fence = '"'},
+                                   {.size = size, .escapes = 2}};
+  for (size_t i = 0; i < sizeof wrongs / sizeof *wrongs; i++)
+    expect(formats("a", wrongs[i], ""), TOCMARK_INVALID_STYLE, "a style");
+}
+
 static int is_no_error(ptrdiff_t code) {
   static const char none[] = "no error of tocmark";
   uint8_t out[100];
@@ -228,10 +274,10 @@ static void errors(void) {
   expect(tocmark_error_text(TOCMARK_OUT_OF_MEMORY, out, sizeof out), 13, "the text of an error");
   if (memcmp(out, "out of memory", 13) != 0)
     wrong("the text of an error", NULL);
-  for (ptrdiff_t code = -14; code < 0; code++)
+  for (ptrdiff_t code = -15; code < 0; code++)
     if (is_no_error(code))
       wrong("an error has no text", NULL);
-  if (!is_no_error(-15) || !is_no_error(0) || !is_no_error(1) || !is_no_error(PTRDIFF_MIN) || !is_no_error(PTRDIFF_MAX))
+  if (!is_no_error(-16) || !is_no_error(0) || !is_no_error(1) || !is_no_error(PTRDIFF_MIN) || !is_no_error(PTRDIFF_MAX))
     wrong("what is no error has a text", NULL);
 }
 
@@ -240,9 +286,11 @@ static void refusals(void) {
 #ifndef SHARED
   static const char markdown[] = "# A &copy; *b*\n\n* ~~c~~ [d](/e)\n  > f\n\n| g |\n|---|\n| h |\n";
   struct text text = {(uint8_t *)markdown, sizeof markdown - 1}, json;
-  answer(&(struct call){&text, NULL, "", TOCMARK_GFM}, &json);
-  struct call calls[] = {{&text, NULL, "", TOCMARK_GFM}, {&json, &text, "{\"list_token\": \"-\"}", TOCMARK_GFM}};
-  for (size_t i = 0; i < 2; i++) {
+  answer(&(struct call){&text, NULL, "", TOCMARK_GFM, NULL}, &json);
+  struct call calls[] = {{&text, NULL, "", TOCMARK_GFM, NULL},
+                         {&json, &text, "{\"list_token\": \"-\"}", TOCMARK_GFM, NULL},
+                         {&text, NULL, "", TOCMARK_GFM, &hyphens}};
+  for (size_t i = 0; i < 3; i++) {
     static uint8_t out[LONGEST];
     ptrdiff_t wanted = made(&calls[i], out, sizeof out), code = TOCMARK_OUT_OF_MEMORY;
     for (long at = 0; code == TOCMARK_OUT_OF_MEMORY; at++) {
@@ -300,6 +348,7 @@ int main(void) {
   if (count != 652)
     wrong("652 texts are wanted on standard input", NULL);
   errors();
+  styles();
   refusals();
   pthread_t threads[2];
   uint64_t sums[2];

@@ -1,4 +1,4 @@
-/* tocmark: Markdown to its events as JSON, and such events to Markdown.
+/* tocmark: Markdown to its events as JSON, such events to Markdown, and Markdown in one look.
  *
  * Who owns what. The caller owns all memory: each function reads from pointers that it is given, writes only into the room
  * that it is lent (`out`, `out_len` bytes), and keeps neither. What a call takes from the heap it has given back when it
@@ -29,7 +29,7 @@ extern "C" {
 /* The version of this header, as tocmark_version() answers it. */
 #define TOCMARK_VERSION 0x000100u
 
-/* Extensions of Markdown, as bits of `flags`; 0 is CommonMark 0.31.2. The first eight are read. All others change nothing of
+/* Extensions of Markdown, as bits of `flags`; 0 is CommonMark 0.31.2. The first eleven are read. All others change nothing of
  * what is read, and what is written under them is refused where the writer doesn't know them (TOCMARK_INVALID_OPTIONS). They
  * have the numbers that pulldown-cmark 0.13 gives its Options. */
 #define TOCMARK_TABLES (1u << 1)
@@ -47,7 +47,8 @@ extern "C" {
 #define TOCMARK_WIKILINKS (1u << 15)
 
 /* What GitHub reads beside CommonMark, of that which is read. */
-#define TOCMARK_GFM (TOCMARK_TABLES | TOCMARK_FOOTNOTES | TOCMARK_STRIKETHROUGH | TOCMARK_TASKLISTS)
+#define TOCMARK_GFM \
+  (TOCMARK_TABLES | TOCMARK_FOOTNOTES | TOCMARK_STRIKETHROUGH | TOCMARK_TASKLISTS | TOCMARK_GFM_QUOTES)
 
 enum tocmark_error {
   TOCMARK_OUT_OF_MEMORY = -1,         /* malloc or realloc answered NULL; no other error is caused by that */
@@ -64,7 +65,8 @@ enum tocmark_error {
   TOCMARK_UNREPRESENTABLE = -11,      /* no spelling of a block with delimiters is read back as that block */
   TOCMARK_INVALID_SOURCE_RANGE = -12, /* a range that is reversed, past the end of the source, or not between characters */
   TOCMARK_FINISHED = -13,             /* events after the end: nothing of these functions leads there */
-  TOCMARK_FAILED = -14                /* a call after one that was refused: nothing of these functions leads there */
+  TOCMARK_FAILED = -14,               /* a call after one that was refused: nothing of these functions leads there */
+  TOCMARK_INVALID_STYLE = -15         /* a style of another size, or with a number that means nothing */
 };
 
 /* The version: 65,536 times the first number, 256 times the second, and the third. */
@@ -84,10 +86,32 @@ ptrdiff_t tocmark_read_json(const uint8_t *text, size_t text_len, uint32_t flags
  * flags: the extensions under which the text is to read back.
  * options: a JSON object, as {"list_token": "-"}; where the text is empty, the default ones.
  *
- * Errors: all but TOCMARK_FINISHED and TOCMARK_FAILED. Where several are there, the answer is the first in the order
- * TOCMARK_NOT_UTF8, TOCMARK_SOURCE_NOT_UTF8, TOCMARK_OPTIONS_NOT_UTF8, those of options, those of JSON, those of the events. */
+ * Errors: all but TOCMARK_FINISHED, TOCMARK_FAILED and TOCMARK_INVALID_STYLE. Where several are there, the answer is the
+ * first in the order TOCMARK_NOT_UTF8, TOCMARK_SOURCE_NOT_UTF8, TOCMARK_OPTIONS_NOT_UTF8, those of options, those of JSON,
+ * those of the events. */
 ptrdiff_t tocmark_write_json(const uint8_t *json, size_t json_len, const uint8_t *source, size_t source_len, uint32_t flags,
                              const uint8_t *options, size_t options_len, uint8_t *out, size_t out_len);
+
+/* How a formatted document is to look. A character stands for itself; 0 stands for what the source has, and for '*' round
+ * emphasis: struct tocmark_style style = {.size = sizeof style, .bullet = '-'}; */
+struct tocmark_style {
+  uint32_t size;         /* sizeof(struct tocmark_style) */
+  uint32_t bullet;       /* '*', '-' or '+'; 0: each list as in the source */
+  uint32_t delimiter;    /* behind an item's number, '.' or ')'; 0: each list as in the source */
+  uint32_t numbering;    /* 0: as the source counts; 1: all numbers are the first; 2: they go up */
+  uint32_t emphasis;     /* '*' or '_'; 0: '*' */
+  uint32_t strong;       /* '*' or '_', which is written twice; 0: '*' */
+  uint32_t fence;        /* '`' or '~'; 0: each as in the source */
+  uint32_t fence_length; /* the least length of a fence; less than 3 is taken for 3, more than 1,000 for 1,000 */
+  uint32_t escapes;      /* 0: texts as in the source; 1: each special character has a backslash */
+};
+
+/* Writes a Markdown text in one look. It says just what it said: under these flags the same events are read in both texts,
+ * where texts side by side count as one. A block that can't be written anew stays as it is.
+ *
+ * Errors: TOCMARK_NOT_UTF8, TOCMARK_INVALID_STYLE, which is looked at behind that, and TOCMARK_OUT_OF_MEMORY. */
+ptrdiff_t tocmark_format(const uint8_t *text, size_t text_len, uint32_t flags, const struct tocmark_style *style, uint8_t *out,
+                         size_t out_len);
 
 #ifdef __cplusplus
 }

@@ -22,6 +22,17 @@ def examples():
         return [json.loads(line) for line in file if line.startswith('"')][:652]
 
 
+def merged(pairs):
+    """Returns the events without their ranges, each longest stretch of texts as one."""
+    events = []
+    for event, _ in pairs:
+        if "Text" in event and events and "Text" in events[-1]:
+            events[-1] = {"Text": events[-1]["Text"] + event["Text"]}
+        else:
+            events.append(event)
+    return events
+
+
 class Reading(unittest.TestCase):
     def test_ranges_count_bytes(self):
         self.assertEqual(tocmark.read("é *a*")[1:3], [({"Text": "é "}, range(0, 3)), ({"Start": "Emphasis"}, range(3, 6))])
@@ -44,6 +55,14 @@ class Reading(unittest.TestCase):
     def test_half_a_pair_is_no_text(self):
         with self.assertRaises(UnicodeEncodeError):
             tocmark.read("\ud800")
+
+
+class Extensions(unittest.TestCase):
+    def test_mathematics_kinds_of_quotes_and_attributes(self):
+        self.assertEqual(tocmark.read("$a$", extensions=["math"])[1], ({"InlineMath": "a"}, range(0, 3)))
+        self.assertEqual(tocmark.read("> [!NOTE]\n> a", syntax="gfm")[0][0], {"Start": {"BlockQuote": "Note"}})
+        heading = tocmark.read("# a {#b}", syntax="all")[0][0]["Start"]["Heading"]
+        self.assertEqual(heading["id"], "b")
 
 
 class Writing(unittest.TestCase):
@@ -81,6 +100,39 @@ class Writing(unittest.TestCase):
             written = tocmark.write(events, text)
             self.assertEqual([event for event, _ in tocmark.read(tocmark.write(tocmark.read(written), written))],
                              [event for event, _ in tocmark.read(written)], text)
+
+
+class Formatting(unittest.TestCase):
+    def refused(self, text, **style):
+        with self.assertRaises(tocmark.InvalidStyle) as caught:
+            tocmark.format(text, **style)
+        self.assertEqual(caught.exception.code, -15)
+
+    def test_styles(self):
+        self.assertEqual(tocmark.format("*  a\n*  b"), "* a\n* b\n")
+        self.assertEqual(tocmark.format("*  a\n*  b", bullet="+"), "+ a\n+ b\n")
+        self.assertEqual(tocmark.format("1. a\n2. b", delimiter=")", numbering="first"), "1) a\n1) b\n")
+        self.assertEqual(tocmark.format("1. a\n1. b", numbering="increment"), "1. a\n2. b\n")
+        self.assertEqual(tocmark.format("*a* **b**", emphasis="_", strong="_"), "_a_ __b__\n")
+        self.assertEqual(tocmark.format("~~~\na\n~~~", fence="`", fence_length=4), "````\na\n````\n")
+
+    def test_errors(self):
+        for part in ("bullet", "delimiter", "emphasis", "strong", "fence"):
+            self.refused("a", **{part: "x"})
+            self.refused("a", **{part: "--"})
+        with self.assertRaisesRegex(ValueError, "'x' is none of source, first, increment"):
+            tocmark.format("a", numbering="x")
+        with self.assertRaisesRegex(ValueError, "'x' is none of minimal, all"):
+            tocmark.format("a", escapes="x")
+        with self.assertRaisesRegex(ValueError, "and not 2"):
+            tocmark.format("a", fence_length=2)
+
+    def test_the_same_is_read(self):
+        styles = ({}, {"bullet": "-", "delimiter": ")", "numbering": "first", "emphasis": "_", "fence": "~", "escapes": "all"})
+        for text in examples():
+            for style in styles:
+                found = tocmark.format(text, syntax="all", **style)
+                self.assertEqual(merged(tocmark.read(found, syntax="all")), merged(tocmark.read(text, syntax="all")), text)
 
 
 class Threads(unittest.TestCase):

@@ -1,4 +1,8 @@
-"""Markdown to its events, and such events to Markdown.
+"""Formats Markdown, and takes it to its events and back.
+
+>>> import tocmark
+>>> tocmark.format("*  a\\n*  b", bullet="-")
+'- a\\n- b\\n'
 
 An event is what `json.loads` makes of it in the form in which pulldown-cmark 0.13 writes its events: a string or a
 dictionary with one key. A document is a list of pairs of an event and its range in bytes of UTF-8, or `None`.
@@ -29,8 +33,8 @@ from typing import Any, Dict, Iterable, List, Mapping, Optional, Tuple, Union
 from . import _library
 
 __version__ = "0.1.0"
-__all__ = ["EXTENSIONS", "SYNTAXES", "Error", "InvalidOptions", "InvalidSourceRange", "NotEvents", "UnexpectedEvent",
-           "Unrepresentable", "read", "write"]
+__all__ = ["EXTENSIONS", "SYNTAXES", "Error", "InvalidOptions", "InvalidSourceRange", "InvalidStyle", "NotEvents",
+           "UnexpectedEvent", "Unrepresentable", "format", "read", "write"]
 
 Event = Union[str, Dict[str, Any]]
 Placed = Tuple[Event, Optional[range]]
@@ -38,13 +42,14 @@ Placed = Tuple[Event, Optional[range]]
 #: The extensions that are read, by their names, with the flag of each.
 EXTENSIONS: Mapping[str, int] = {
     "tables": 1 << 1, "footnotes": 1 << 2, "strikethrough": 1 << 3, "tasklists": 1 << 4, "yaml-metadata": 1 << 7,
-    "pluses-metadata": 1 << 8, "superscript": 1 << 13, "subscript": 1 << 14,
+    "pluses-metadata": 1 << 8, "superscript": 1 << 13, "subscript": 1 << 14, "heading-attributes": 1 << 6,
+    "math": 1 << 10, "quote-kinds": 1 << 11,
 }
 
 #: The syntaxes, by their names, with the flags of each.
 SYNTAXES: Mapping[str, int] = {
     "commonmark": 0,
-    "gfm": EXTENSIONS["tables"] | EXTENSIONS["footnotes"] | EXTENSIONS["strikethrough"] | EXTENSIONS["tasklists"],
+    "gfm": sum(EXTENSIONS[name] for name in ("tables", "footnotes", "strikethrough", "tasklists", "quote-kinds")),
     "all": sum(EXTENSIONS.values()),
 }
 
@@ -78,8 +83,14 @@ class InvalidSourceRange(Error, ValueError):
     """A range is reversed, past the end of the source, or not between characters."""
 
 
+class InvalidStyle(Error, ValueError):
+    """A part of a style has no such value."""
+
+
+_NUMBERINGS = {"source": 0, "first": 1, "increment": 2}
+_ESCAPES = {"minimal": 0, "all": 1}
 _ERRORS = {-6: NotEvents, -8: InvalidOptions, -9: InvalidOptions, -10: UnexpectedEvent, -11: Unrepresentable,
-           -12: InvalidSourceRange}
+           -12: InvalidSourceRange, -15: InvalidStyle}
 
 
 def _text(code: int, text: bytes) -> str:
@@ -117,6 +128,46 @@ def read(text: str, *, syntax: str = "commonmark", extensions: Iterable[str] = (
     flags = _flags(syntax, list(extensions))
     found = _text(*_library.answer(_library.read_json, data, len(data), flags, guess=64 * len(data) + 256))
     return [(event, range(place["start"], place["end"])) for event, place in json.loads(found)]
+
+
+def format(text: str, *, syntax: str = "gfm", extensions: Iterable[str] = (), bullet: str = "", delimiter: str = "",
+           numbering: str = "source", emphasis: str = "*", strong: str = "*", fence: str = "", fence_length: int = 3,
+           escapes: str = "minimal") -> str:
+    """Returns a Markdown text in one look. It says just what it said: under `syntax` and `extensions` the same events are
+    read in both texts, where texts side by side count as one. A block that can't be written anew stays as it is.
+
+    `bullet` is "*", "-" or "+", `delimiter` "." or ")", and `fence` "`" or "~"; "" leaves each as in the source. `emphasis`
+    and `strong` are "*" or "_", `numbering` "source", "first" or "increment", `escapes` "minimal" or "all". A fence has at
+    least `fence_length` characters, from 3 to 1,000.
+
+    >>> import tocmark
+    >>> tocmark.format("Title\\n=====\\n*  a\\n*  b", bullet="-")
+    '# Title\\n\\n- a\\n- b\\n'
+    >>> tocmark.format("a", bullet="x")
+    Traceback (most recent call last):
+    tocmark.InvalidStyle: the style has another size, or a number that means nothing
+
+    Raises `InvalidStyle`; `ValueError` where a name or the length of a fence is another one; `UnicodeEncodeError` as `read`;
+    `MemoryError`.
+    """
+    data = text.encode()
+    style = _style(numbering, escapes, fence_length)
+    for name, mark in (("bullet", bullet), ("delimiter", delimiter), ("emphasis", emphasis), ("strong", strong), ("fence", fence)):
+        setattr(style, name, ord(mark) if len(mark) == 1 else min(len(mark), 1))
+    return _text(*_library.answer(_library.format_text, data, len(data), _flags(syntax, list(extensions)), style,
+                                  guess=2 * len(data) + 256))
+
+
+def _style(numbering: str, escapes: str, fence_length: int) -> _library.Style:
+    """Returns a style without marks, or raises `ValueError` where a name or the length is another one."""
+    for name, names in ((numbering, _NUMBERINGS), (escapes, _ESCAPES)):
+        if name not in names:
+            raise ValueError(f"{name!r} is none of {', '.join(names)}")
+    if not 3 <= fence_length <= 1000:
+        raise ValueError(f"a fence has from 3 to 1000 characters, and not {fence_length}")
+    style = _library.Style(numbering=_NUMBERINGS[numbering], escapes=_ESCAPES[escapes], fence_length=fence_length)
+    style.size = _library.ctypes.sizeof(style)
+    return style
 
 
 def _plain(events: Iterable[Union[Event, Placed]]) -> List[Any]:

@@ -31,7 +31,15 @@ def _function(name: str, *types):
     return function
 
 
+class Style(ctypes.Structure):
+    """`struct tocmark_style` of `tocmark.h`."""
+
+    _fields_ = [(name, ctypes.c_uint32) for name in (
+        "size", "bullet", "delimiter", "numbering", "emphasis", "strong", "fence", "fence_length", "escapes")]
+
+
 error_text = _function("tocmark_error_text", ctypes.c_ssize_t, *_room)
+format_text = _function("tocmark_format", *_text, ctypes.c_uint32, ctypes.POINTER(Style), *_room)
 read_json = _function("tocmark_read_json", *_text, ctypes.c_uint32, *_room)
 write_json = _function("tocmark_write_json", *_text, *_text, ctypes.c_uint32, *_text, *_room)
 

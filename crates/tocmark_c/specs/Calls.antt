@@ -1,5 +1,5 @@
 -- What each call writes, and what causes each error.
-use Rattle.std.specs.Prelude.{◌≡◌, ◌==◌, ℕ, List, Bool, not, length, IsUtf8, Err, None, Some}
+use Rattle.std.specs.Prelude.{◌≡◌, ◌==◌, ℕ, List, Bool, false, not, length, IsUtf8, Err, None, Some}
 use Rattle.serde_json.specs.Data.{Data}
 use Rattle.serde_json.specs.Read.{read}
 use Rattle.serde_json.specs.Written.{IsInOrder}
@@ -11,6 +11,13 @@ use Rattle.tocmark_event.specs.declared.options.Error.TheVariants as error
 use Rattle.tocmark_json.specs.declared.fault.JsonError.{JsonError}
 use Rattle.tocmark_state.specs.Ranges.{Pair}
 use Rattle.tocmark_interchange.specs.Interchange.{AreOptions, IsNoList, IsTextOf, IsWrittenFrom, in_source, reading_json, writing}
+use Rattle.tocmark_core_reader.specs.Reading.{reading_of}
+use Rattle.tocmark_extended_reader.specs.Flags.{syntax_of}
+use Rattle.tocmark_read_syntax.specs.declared.Names.TheVariants.{All}
+use Rattle.tocmark_event.specs.Merged.{merged}
+use Rattle.tocmark_rewrite.specs.Given.{found_events}
+use Rattle.tocmark_c.specs.Style.{has_style}
+use Rattle.tocmark_c.specs.declared.style.TocmarkStyle.{TocmarkStyle}
 use Rattle.tocmark_c.specs.declared.cause.Cause.{Cause}
 use Rattle.tocmark_c.specs.declared.cause.Cause.TheVariants as cause
 
@@ -27,6 +34,19 @@ abbrev pub IsReadCause : List ℕ → Cause → Type 0
 IsReadCause text cause.OutOfMemory = Unit {0}
 IsReadCause text cause.NotUtf8 = ¬ (IsUtf8 text)
 IsReadCause text c = ⊥
+
+-- the reader finds the same in both texts under these flags, with each longest stretch of texts as one
+abbrev pub IsSameDocument : ℕ → List ℕ → List ℕ → Type 0
+IsSameDocument bits text output =
+    merged (found_events (reading_of (syntax_of All (flags_of bits)) output))
+    ≡ merged (found_events (reading_of (syntax_of All (flags_of bits)) text))
+
+-- why a text is not formatted
+abbrev pub IsFormatCause : List ℕ → TocmarkStyle → Cause → Type 0
+IsFormatCause text style cause.OutOfMemory = Unit {0}
+IsFormatCause text style cause.NotUtf8 = ¬ (IsUtf8 text)
+IsFormatCause text style cause.InvalidStyle = has_style style ≡ false
+IsFormatCause text style c = ⊥
 
 -- a source is there
 abbrev pub has_source : List ℕ → Bool
@@ -56,3 +76,4 @@ IsWriteCause bits source options json cause.Unrepresentable = IsRefusedAs error.
 IsWriteCause bits source options json cause.InvalidSourceRange = IsRefusedAs error.InvalidSourceRange bits source options json
 IsWriteCause bits source options json cause.Finished = IsRefusedAs error.Finished bits source options json
 IsWriteCause bits source options json cause.Failed = IsRefusedAs error.Failed bits source options json
+IsWriteCause bits source options json cause.InvalidStyle = ⊥

@@ -25,6 +25,7 @@ order_of cause.Unrepresentable = 10
 order_of cause.InvalidSourceRange = 11
 order_of cause.Finished = 12
 order_of cause.Failed = 13
+order_of cause.InvalidStyle = 14
 
 -- the code of a cause: -1 and below
 abbrev pub code_of : Cause → ℤ
@@ -75,4 +76,5 @@ error_text n =
     else if n == 12 then codes "a range is none of the source"
     else if n == 13 then codes "events after the end"
     else if n == 14 then codes "a call after one that was refused"
+    else if n == 15 then codes "the style has another size, or a number that means nothing"
     else codes "no error of tocmark"

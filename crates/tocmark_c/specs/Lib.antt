@@ -1,3 +1,4 @@
 pub mod Codes
 pub mod Answer
+pub mod Style
 pub mod Calls

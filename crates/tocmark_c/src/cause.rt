@@ -37,6 +37,8 @@ pub enum Cause {
     Finished,
     /// A call after one that was refused. No call of this library comes to that.
     Failed,
+    /// The style has another size, or a number that means nothing.
+    InvalidStyle,
 }
 
 impl Cause {
@@ -59,6 +61,7 @@ impl Cause {
             Cause::InvalidSourceRange => -12,
             Cause::Finished => -13,
             Cause::Failed => -14,
+            Cause::InvalidStyle => -15,
         }
     }
 
@@ -127,6 +130,7 @@ pub fn error_text(code: isize) -> &'static str
         12 => "a range is none of the source",
         13 => "events after the end",
         14 => "a call after one that was refused",
+        15 => "the style has another size, or a number that means nothing",
         _ => "no error of tocmark",
     }
 }

@@ -1,23 +1,28 @@
 //! The library for C. `bindings/c/tocmark.h` says the same for those who call it, `docs/BINDINGS.md` how it is built.
 //!
 //! Each function answers a text into room that the caller lends (`room`): how many bytes it takes, or a negative number, the
-//! code of what went wrong (`cause`). Nothing is kept from call to call. Below it stands `tocmark_interchange`.
+//! code of what went wrong (`cause`). Nothing is kept from call to call. `style` is how C says how a text is to look. Below
+//! stand `tocmark_interchange` and `tocmark_format`.
 #![tactic(auto)]
 
 mod cause;
 mod room;
+mod style;
 
 ghost use Rattle.std.specs.Prelude.{◌≡◌, IfErr, IfOk, is_some, string_bytes};
 ghost use Rattle.tocmark_c.specs.Answer.{IsAnswer, IsErrorText, IsNever};
-ghost use Rattle.tocmark_c.specs.Calls.{IsMarkdownOf, IsReadCause, IsReadFrom, IsWriteCause, has_source};
+ghost use Rattle.tocmark_c.specs.Calls.{IsFormatCause, IsMarkdownOf, IsReadCause, IsReadFrom, IsSameDocument, IsWriteCause, has_source};
 ghost use Rattle.tocmark_event.specs.Options.{options_view};
 ghost use Rattle.tocmark_interchange.specs.Interchange.{IsCause, IsWrittenFrom, source_text};
 
 use cause::{Cause, error_text};
 use room::{answer, lay};
 use std::alloc::Global;
+use style::{TocmarkStyle, style_of};
 use tocmark::Options;
 use tocmark::event::ParserOptions;
+use tocmark_extended_reader::{ExtendedReader, Names};
+use tocmark_format::formatted;
 use tocmark_interchange::{WriteError, options_from_text, read_json, write_json};
 
 /// The version: the third number, 256 times the second and 65,536 times the first.
@@ -62,6 +67,42 @@ pub extern "C" fn tocmark_write_json(
         (IsWriteCause flags source.now options.now json.now) result out.old out.new }
 {
     answer(write(alloc, json, source, flags, options), out)
+}
+
+/// A Markdown text in one look, where there is room. The reader finds the same in it as in the text that is given.
+#[unsafe(no_mangle)]
+#[tactic(auto, using(crate::proofs::Answers::answered))]
+pub extern "C" fn tocmark_format(
+    alloc: Global,
+    text: &[u8],
+    flags: u32,
+    style: &TocmarkStyle,
+    out: &mut [u8],
+) -> isize
+    ensures { IsAnswer (IsSameDocument flags text.now) (IsFormatCause text.now style.now) result
+        out.old out.new }
+{
+    answer(format(alloc, text, flags, style), out)
+}
+
+fn format(alloc: Global, text: &[u8], flags: u32, style: &TocmarkStyle) -> Result<String, Cause>
+    ensures text { IfOk result (λ output.
+        IsSameDocument flags text.now (string_bytes output)) }
+    ensures cause { IfErr result (IsFormatCause text.now style.now) }
+{
+    let text = match std::str::from_utf8(text) {
+        Ok(text) => text,
+        Err(_) => return Err(Cause::NotUtf8),
+    };
+    let style = match style_of(style) {
+        Some(style) => style,
+        None => return Err(Cause::InvalidStyle),
+    };
+    let reader = ExtendedReader { names: Names::All };
+    match formatted(alloc, text, &reader, ParserOptions(flags), style) {
+        Ok(answer) => Ok(answer.text),
+        Err(_) => Err(Cause::OutOfMemory),
+    }
 }
 
 fn read(alloc: Global, text: &[u8], flags: u32) -> Result<String, Cause>

@@ -1,0 +1,73 @@
+-- The style that a struct of C stands for.
+use Rattle.std.specs.Prelude.{◌≡◌, ◌==◌, ◌&&◌, if◌then◌else◌, ℕ, Bool, Option, Some, None, is_some}
+use Rattle.tocmark_format.specs.declared.style.Bullet.{Bullet}
+use Rattle.tocmark_format.specs.declared.style.Bullet.TheVariants as bullet
+use Rattle.tocmark_format.specs.declared.style.Delimiter.{Delimiter}
+use Rattle.tocmark_format.specs.declared.style.Delimiter.TheVariants as delimiter
+use Rattle.tocmark_format.specs.declared.style.Escapes.{Escapes}
+use Rattle.tocmark_format.specs.declared.style.Escapes.TheVariants as escapes
+use Rattle.tocmark_format.specs.declared.style.Fence.{Fence}
+use Rattle.tocmark_format.specs.declared.style.Fence.TheVariants as fence
+use Rattle.tocmark_format.specs.declared.style.Marker.{Marker}
+use Rattle.tocmark_format.specs.declared.style.Marker.TheVariants as marker
+use Rattle.tocmark_format.specs.declared.style.Numbering.{Numbering}
+use Rattle.tocmark_format.specs.declared.style.Numbering.TheVariants as numbering
+use Rattle.tocmark_format.specs.declared.style.Style.{Style}
+use Rattle.tocmark_c.specs.declared.style.TocmarkStyle.{TocmarkStyle}
+
+-- each character stands for itself, and 0 for what the source has
+abbrev pub bullet_of : ℕ → Option (Option Bullet)
+bullet_of n =
+    if n == 0 then Some None
+    else if n == 42 then Some (Some bullet.Asterisk)
+    else if n == 43 then Some (Some bullet.Plus)
+    else if n == 45 then Some (Some bullet.Hyphen)
+    else None
+
+abbrev pub delimiter_of : ℕ → Option (Option Delimiter)
+delimiter_of n =
+    if n == 0 then Some None
+    else if n == 41 then Some (Some delimiter.Parenthesis)
+    else if n == 46 then Some (Some delimiter.Period)
+    else None
+
+abbrev pub fence_of : ℕ → Option (Option Fence)
+fence_of n =
+    if n == 0 then Some None
+    else if n == 96 then Some (Some fence.Backtick)
+    else if n == 126 then Some (Some fence.Tilde)
+    else None
+
+-- each character stands for itself, and 0 for an asterisk
+abbrev pub marker_of : ℕ → Option Marker
+marker_of n =
+    if n == 0 then Some marker.Asterisk
+    else if n == 42 then Some marker.Asterisk
+    else if n == 95 then Some marker.Underscore
+    else None
+
+-- numbers of numberings, and of escapes
+abbrev pub numbering_of : ℕ → Option Numbering
+numbering_of n =
+    if n == 0 then Some numbering.Source
+    else if n == 1 then Some numbering.First
+    else if n == 2 then Some numbering.Increment
+    else None
+
+abbrev pub escapes_of : ℕ → Option Escapes
+escapes_of n = if n == 0 then Some escapes.Minimal else if n == 1 then Some escapes.All else None
+
+-- the size of the struct is known, and each number means something
+abbrev pub has_style : TocmarkStyle → Bool
+has_style s =
+    s.size == 36 && is_some (bullet_of s.bullet) && is_some (delimiter_of s.delimiter)
+    && is_some (numbering_of s.numbering) && is_some (marker_of s.emphasis)
+    && is_some (marker_of s.strong) && is_some (fence_of s.fence) && is_some (escapes_of s.escapes)
+
+-- a style is what a struct says
+abbrev pub IsStyleOf : TocmarkStyle → Style → Type 0
+IsStyleOf s style =
+    (bullet_of s.bullet ≡ Some style.bullet) × (delimiter_of s.delimiter ≡ Some style.delimiter)
+    × (numbering_of s.numbering ≡ Some style.numbering) × (marker_of s.emphasis ≡ Some style.emphasis)
+    × (marker_of s.strong ≡ Some style.strong) × (fence_of s.fence ≡ Some style.fence)
+    × (style.fence_length ≡ s.fence_length) × (escapes_of s.escapes ≡ Some style.escapes)

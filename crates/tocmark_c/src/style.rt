@@ -1,0 +1,119 @@
+//! How a formatted document is to look, as C says it.
+
+ghost use Rattle.std.specs.Prelude.{◌≡◌, IfSome, is_some};
+ghost use Rattle.tocmark_c.specs.Style.{bullet_of, delimiter_of, escapes_of, fence_of, has_style, marker_of, numbering_of, IsStyleOf};
+
+use tocmark_format::{Bullet, Delimiter, Escapes, Fence, Marker, Numbering, Style};
+
+/// The size of `TocmarkStyle` in bytes.
+const SIZE: u32 = 36;
+
+/// How a document is to look. A character stands for itself, and 0 for what is usual.
+#[repr(C)]
+#[derive(Clone, Copy)]
+pub struct TocmarkStyle {
+    /// The size of this struct in bytes, as C knows it.
+    pub size: u32,
+    /// `*`, `-` or `+`; 0: each list as in the source.
+    pub bullet: u32,
+    /// `.` or `)`; 0: each list as in the source.
+    pub delimiter: u32,
+    /// 0: as the source counts; 1: all numbers are the first; 2: they go up.
+    pub numbering: u32,
+    /// `*` or `_`; 0: `*`.
+    pub emphasis: u32,
+    /// `*` or `_`, which is written twice; 0: `*`.
+    pub strong: u32,
+    /// A backtick or `~`; 0: each as in the source.
+    pub fence: u32,
+    /// The least length of a fence: less than 3 is taken for 3, more than 1,000 for 1,000.
+    pub fence_length: u32,
+    /// 0: texts as in the source; 1: each special character has a backslash.
+    pub escapes: u32,
+}
+
+fn bullet_of(code: u32) -> Option<Option<Bullet>>
+    ensures { result ≡ bullet_of code }
+{
+    match code {
+        0 => Some(None),
+        42 => Some(Some(Bullet::Asterisk)),
+        43 => Some(Some(Bullet::Plus)),
+        45 => Some(Some(Bullet::Hyphen)),
+        _ => None,
+    }
+}
+
+fn delimiter_of(code: u32) -> Option<Option<Delimiter>>
+    ensures { result ≡ delimiter_of code }
+{
+    match code {
+        0 => Some(None),
+        41 => Some(Some(Delimiter::Parenthesis)),
+        46 => Some(Some(Delimiter::Period)),
+        _ => None,
+    }
+}
+
+fn numbering_of(code: u32) -> Option<Numbering>
+    ensures { result ≡ numbering_of code }
+{
+    match code {
+        0 => Some(Numbering::Source),
+        1 => Some(Numbering::First),
+        2 => Some(Numbering::Increment),
+        _ => None,
+    }
+}
+
+fn marker_of(code: u32) -> Option<Marker>
+    ensures { result ≡ marker_of code }
+{
+    match code {
+        0 => Some(Marker::Asterisk),
+        42 => Some(Marker::Asterisk),
+        95 => Some(Marker::Underscore),
+        _ => None,
+    }
+}
+
+fn fence_of(code: u32) -> Option<Option<Fence>>
+    ensures { result ≡ fence_of code }
+{
+    match code {
+        0 => Some(None),
+        96 => Some(Some(Fence::Backtick)),
+        126 => Some(Some(Fence::Tilde)),
+        _ => None,
+    }
+}
+
+fn escapes_of(code: u32) -> Option<Escapes>
+    ensures { result ≡ escapes_of code }
+{
+    match code {
+        0 => Some(Escapes::Minimal),
+        1 => Some(Escapes::All),
+        _ => None,
+    }
+}
+
+/// The style, if the struct has the size that it has here, and each number means something.
+pub fn style_of(style: &TocmarkStyle) -> Option<Style>
+    ensures there { is_some result ≡ has_style style.now }
+    ensures style { IfSome result (λ found. IsStyleOf style.now found) }
+{
+    if style.size != SIZE {
+        return None;
+    }
+    Some(Style {
+        bullet: bullet_of(style.bullet)?,
+        delimiter: delimiter_of(style.delimiter)?,
+        numbering: numbering_of(style.numbering)?,
+        emphasis: marker_of(style.emphasis)?,
+        strong: marker_of(style.strong)?,
+        fence: fence_of(style.fence)?,
+        fence_length: style.fence_length as usize,
+        escapes: escapes_of(style.escapes)?,
+    })
+}
