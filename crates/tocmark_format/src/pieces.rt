@@ -144,6 +144,14 @@ fn write_tree<'a, R: Reader>(
     write_with(&document.tools, options, document.source, events)
 }
 
+/// A tree without the definitions that are written before it.
+fn behind_definitions(text: &str) -> &str {
+    match text.split_once("\n\n") {
+        Some((definitions, tree)) if definitions.starts_with('[') => tree,
+        _ => text,
+    }
+}
+
 /// A tree with these lines in the source, under these options.
 fn written<'a, R: Reader>(
     document: &Document<'_, '_, R>,
@@ -157,11 +165,13 @@ fn written<'a, R: Reader>(
         Err(Error::OutOfMemory) => return Err(AllocError),
         Err(error) => return Ok(unwritten(alloc, false, Some(Reason::Refused(error)))),
     };
-    // definitions that don't stand apart stand within the tree
-    if piece.definitions.is_empty() && has_references(events) {
-        return Ok(unwritten(alloc, false, Some(Reason::ReadOtherwise)));
-    }
-    let plain = piece.body.as_str().trim_end_matches('\n');
+    let body = piece.body.as_str().trim_end_matches('\n');
+    // definitions that don't stand apart stand before the tree
+    let plain = if piece.definitions.is_empty() && has_references(events) {
+        behind_definitions(body)
+    } else {
+        body
+    };
     let tidy = tidy_text(document, lines, plain, events)?;
     Ok(Piece {
         tidy: with_ends(alloc, tidy.as_str(), document.line_end)?,
