@@ -1,4 +1,6 @@
-//! Texts that are parsed by pulldown-cmark, written, and parsed again.
+//! Texts that are parsed by pulldown-cmark, written, and parsed again. They aren't compiled over the stand-in, which has no parser.
+
+#![cfg(not(stand_in))]
 
 use pulldown_cmark::{CodeBlockKind, Event, Options as ParserOptions, Parser, Tag, TagEnd};
 use tocmark::{

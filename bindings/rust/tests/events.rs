@@ -1,0 +1,488 @@
+//! Events that are written by hand: no parser is needed, so these tests run over a stand-in of pulldown-cmark's types, too.
+
+use pulldown_cmark::{
+    Alignment, BlockQuoteKind, CodeBlockKind, Event, HeadingLevel, LinkType, MetadataBlockKind,
+    Options as ParserOptions, Tag, TagEnd,
+};
+use std::fmt;
+use tocmark::{
+    calculate_code_block_token_count, cmark, cmark_with_options, cmark_with_source_range,
+    cmark_with_source_range_and_options, Error, Options, State, DEFAULT_CODE_BLOCK_TOKEN_COUNT,
+};
+
+type Events = Vec<Event<'static>>;
+
+const NONE: ParserOptions = ParserOptions::empty();
+
+/// A container with what is in it.
+fn around<const N: usize>(tag: Tag<'static>, inner: [Events; N]) -> Events {
+    let end = Event::End(tag.to_end());
+    let mut events = vec![Event::Start(tag)];
+    events.extend(inner.into_iter().flatten());
+    events.push(end);
+    events
+}
+
+fn one(event: Event<'static>) -> Events {
+    vec![event]
+}
+
+fn text(text: &'static str) -> Events {
+    one(Event::Text(text.into()))
+}
+
+fn paragraph<const N: usize>(inner: [Events; N]) -> Events {
+    around(Tag::Paragraph, inner)
+}
+
+fn fenced(info: &'static str) -> Tag<'static> {
+    Tag::CodeBlock(CodeBlockKind::Fenced(info.into()))
+}
+
+fn heading(level: HeadingLevel) -> Tag<'static> {
+    Tag::Heading {
+        level,
+        id: None,
+        classes: Vec::new(),
+        attrs: Vec::new(),
+    }
+}
+
+fn link(
+    link_type: LinkType,
+    dest_url: &'static str,
+    title: &'static str,
+    id: &'static str,
+) -> Tag<'static> {
+    Tag::Link {
+        link_type,
+        dest_url: dest_url.into(),
+        title: title.into(),
+        id: id.into(),
+    }
+}
+
+fn written(events: &[Event<'static>], flags: ParserOptions) -> String {
+    let mut output = String::new();
+    cmark(events.iter(), &mut output, flags).unwrap();
+    output
+}
+
+fn written_with(events: &[Event<'static>], flags: ParserOptions, options: Options<'_>) -> String {
+    let mut output = String::new();
+    cmark_with_options(events.iter(), &mut output, flags, options).unwrap();
+    output
+}
+
+#[test]
+fn nothing_is_written_of_no_events() {
+    assert_eq!(written(&[], NONE), "");
+}
+
+#[test]
+fn each_leaf_is_written() {
+    let leaves = [
+        (Event::Text("x".into()), NONE, "axb"),
+        (Event::Code("x".into()), NONE, "a`x`b"),
+        (
+            Event::InlineMath("x".into()),
+            ParserOptions::ENABLE_MATH,
+            "a$x$b",
+        ),
+        (
+            Event::DisplayMath("x".into()),
+            ParserOptions::ENABLE_MATH,
+            "a$$x$$b",
+        ),
+        (Event::InlineHtml("<i>".into()), NONE, "a<i>b"),
+        (
+            Event::FootnoteReference("n".into()),
+            ParserOptions::ENABLE_FOOTNOTES,
+            "a[^n]b",
+        ),
+        (Event::SoftBreak, NONE, "a\nb"),
+        (Event::HardBreak, NONE, "a  \nb"),
+    ];
+    for (leaf, flags, wanted) in leaves {
+        let events = paragraph([text("a"), one(leaf), text("b")]);
+        assert_eq!(written(&events, flags), wanted);
+    }
+    let ruled = [
+        paragraph([text("a")]),
+        one(Event::Rule),
+        paragraph([text("b")]),
+    ];
+    assert_eq!(written(&ruled.concat(), NONE), "a\n\n---\n\nb");
+}
+
+#[test]
+fn texts_are_escaped() {
+    let texts = [
+        ("*a* \"q\" \u{e9}", "\\*a\\* \"q\" \u{e9}"),
+        ("a\\b", "a\\b"),
+        ("a\\", "a\\\\"),
+    ];
+    for (inner, wanted) in texts {
+        assert_eq!(written(&paragraph([text(inner)]), NONE), wanted);
+    }
+}
+
+#[test]
+fn each_level_of_a_heading_is_written() {
+    let levels = [
+        (HeadingLevel::H1, "# a"),
+        (HeadingLevel::H2, "## a"),
+        (HeadingLevel::H3, "### a"),
+        (HeadingLevel::H4, "#### a"),
+        (HeadingLevel::H5, "##### a"),
+        (HeadingLevel::H6, "###### a"),
+    ];
+    for (level, wanted) in levels {
+        assert_eq!(written(&around(heading(level), [text("a")]), NONE), wanted);
+    }
+    let attributes = Tag::Heading {
+        level: HeadingLevel::H1,
+        id: Some("x".into()),
+        classes: vec!["c".into(), "d".into()],
+        attrs: vec![("k".into(), Some("v".into())), ("l".into(), None)],
+    };
+    assert_eq!(
+        written(
+            &around(attributes, [text("T")]),
+            ParserOptions::ENABLE_HEADING_ATTRIBUTES
+        ),
+        "# T { #x .c .d k=v l }"
+    );
+}
+
+#[test]
+fn each_kind_of_quote_is_written() {
+    let kinds = [
+        (None, "\n > \n > a"),
+        (Some(BlockQuoteKind::Note), "\n > [!NOTE]\n > a"),
+        (Some(BlockQuoteKind::Tip), "\n > [!TIP]\n > a"),
+        (Some(BlockQuoteKind::Important), "\n > [!IMPORTANT]\n > a"),
+        (Some(BlockQuoteKind::Warning), "\n > [!WARNING]\n > a"),
+        (Some(BlockQuoteKind::Caution), "\n > [!CAUTION]\n > a"),
+    ];
+    for (kind, wanted) in kinds {
+        let events = around(Tag::BlockQuote(kind), [paragraph([text("a")])]);
+        assert_eq!(written(&events, ParserOptions::ENABLE_GFM), wanted);
+    }
+}
+
+#[test]
+fn code_and_html_blocks_are_written() {
+    let blocks = [
+        (fenced(""), "\n````\nx\n````"),
+        (fenced("rust"), "\n````rust\nx\n````"),
+        (fenced("a`b"), "\n~~~~a`b\nx\n~~~~"),
+        (Tag::CodeBlock(CodeBlockKind::Indented), "\n    x\n"),
+    ];
+    for (tag, wanted) in blocks {
+        assert_eq!(written(&around(tag, [text("x\n")]), NONE), wanted);
+    }
+    let html = around(Tag::HtmlBlock, [one(Event::Html("<b>\n".into()))]);
+    assert_eq!(
+        written(&[html, paragraph([text("a")])].concat(), NONE),
+        "<b>\n\na"
+    );
+}
+
+#[test]
+fn lists_are_written() {
+    let list = |start| {
+        around(
+            Tag::List(start),
+            [
+                around(Tag::Item, [text("a")]),
+                around(Tag::Item, [text("b")]),
+            ],
+        )
+    };
+    assert_eq!(written(&list(None), NONE), "* a\n* b");
+    assert_eq!(written(&list(Some(7)), NONE), "7. a\n7. b");
+    let tasks = around(
+        Tag::List(None),
+        [
+            around(Tag::Item, [one(Event::TaskListMarker(true)), text("a")]),
+            around(Tag::Item, [one(Event::TaskListMarker(false)), text("b")]),
+        ],
+    );
+    assert_eq!(
+        written(&tasks, ParserOptions::ENABLE_TASKLISTS),
+        "* [x] a\n* [ ] b"
+    );
+}
+
+#[test]
+fn tables_are_written() {
+    let row = |tag, first, second| {
+        around(
+            tag,
+            [
+                around(Tag::TableCell, [text(first)]),
+                around(Tag::TableCell, [text(second)]),
+            ],
+        )
+    };
+    let table = |alignments| {
+        around(
+            Tag::Table(alignments),
+            [row(Tag::TableHead, "ab", "c"), row(Tag::TableRow, "1", "2")],
+        )
+    };
+    let flags = ParserOptions::ENABLE_TABLES;
+    assert_eq!(
+        written(&table(vec![Alignment::Left, Alignment::None]), flags),
+        "|ab|c|\n|:-|-|\n|1|2|"
+    );
+    assert_eq!(
+        written(&table(vec![Alignment::Center, Alignment::Right]), flags),
+        "|ab|c|\n|:-:|-:|\n|1|2|"
+    );
+}
+
+#[test]
+fn footnotes_and_definitions_are_written() {
+    let footnote = around(
+        Tag::FootnoteDefinition("n".into()),
+        [paragraph([text("a")])],
+    );
+    assert_eq!(
+        written(&footnote, ParserOptions::ENABLE_FOOTNOTES),
+        "[^n]: a"
+    );
+    let definitions = around(
+        Tag::DefinitionList,
+        [
+            around(Tag::DefinitionListTitle, [text("t")]),
+            around(Tag::DefinitionListDefinition, [text("d")]),
+        ],
+    );
+    assert_eq!(written(&definitions, NONE), "t\n: d\n");
+}
+
+#[test]
+fn each_kind_of_metadata_is_written() {
+    let kinds = [
+        (MetadataBlockKind::YamlStyle, "---\na: 1\n---\n\nb"),
+        (MetadataBlockKind::PlusesStyle, "+++\na: 1\n+++\n\nb"),
+    ];
+    for (kind, wanted) in kinds {
+        let block = around(Tag::MetadataBlock(kind), [text("a: 1\n")]);
+        let events = [block, paragraph([text("b")])].concat();
+        assert_eq!(written(&events, NONE), wanted);
+    }
+}
+
+#[test]
+fn each_span_is_written() {
+    let spans = [
+        (Tag::Emphasis, NONE, "*a*"),
+        (Tag::Strong, NONE, "**a**"),
+        (
+            Tag::Strikethrough,
+            ParserOptions::ENABLE_STRIKETHROUGH,
+            "~~a~~",
+        ),
+        (Tag::Superscript, ParserOptions::ENABLE_SUPERSCRIPT, "^a^"),
+        (Tag::Subscript, ParserOptions::ENABLE_SUBSCRIPT, "~a~"),
+    ];
+    for (tag, flags, wanted) in spans {
+        let events = paragraph([around(tag, [text("a")])]);
+        assert_eq!(written(&events, flags), wanted);
+    }
+}
+
+#[test]
+fn links_and_images_are_written() {
+    let links = [
+        (link(LinkType::Inline, "/u", "", ""), "[t](/u)"),
+        (link(LinkType::Inline, "/u", "v", ""), "[t](/u \"v\")"),
+        (
+            link(LinkType::Reference, "/u", "", "a"),
+            "[t][a]\n\n[a]: /u",
+        ),
+        (link(LinkType::Collapsed, "/u", "", "t"), "[t][]\n\n[t]: /u"),
+        (link(LinkType::Shortcut, "/u", "", "t"), "[t]\n\n[t]: /u"),
+    ];
+    for (tag, wanted) in links {
+        assert_eq!(
+            written(&paragraph([around(tag, [text("t")])]), NONE),
+            wanted
+        );
+    }
+    let written_inline = [
+        LinkType::ReferenceUnknown,
+        LinkType::CollapsedUnknown,
+        LinkType::ShortcutUnknown,
+        LinkType::WikiLink { has_pothole: false },
+        LinkType::WikiLink { has_pothole: true },
+    ];
+    for link_type in written_inline {
+        let events = paragraph([around(link(link_type, "/u", "", "a"), [text("t")])]);
+        assert_eq!(written(&events, NONE), "[t](/u)");
+    }
+    let automatic = around(
+        link(LinkType::Autolink, "http://y", "", ""),
+        [text("http://y")],
+    );
+    assert_eq!(written(&paragraph([automatic]), NONE), "<http://y>");
+    let mail = around(link(LinkType::Email, "a@b.c", "", ""), [text("a@b.c")]);
+    assert_eq!(written(&paragraph([mail]), NONE), "<a@b.c>");
+    let image = Tag::Image {
+        link_type: LinkType::Inline,
+        dest_url: "/i".into(),
+        title: "".into(),
+        id: "".into(),
+    };
+    assert_eq!(
+        written(&paragraph([around(image, [text("t")])]), NONE),
+        "![t](/i)"
+    );
+}
+
+#[test]
+fn options_are_taken() {
+    let item = around(Tag::Item, [around(Tag::Strong, [text("a")])]);
+    let events = around(Tag::List(None), [item]);
+    let options = Options {
+        list_token: '+',
+        strong_token: "__",
+        ..Options::default()
+    };
+    assert_eq!(written_with(&events, NONE, options), "+ __a__");
+
+    let item = || around(Tag::Item, [text("a")]);
+    let numbered = around(Tag::List(Some(1)), [item(), item()]);
+    let options = Options {
+        ordered_list_token: ')',
+        increment_ordered_list_bullets: true,
+        ..Options::default()
+    };
+    assert_eq!(written_with(&numbered, NONE, options), "1) a\n2) a");
+
+    let title = around(heading(HeadingLevel::H1), [text("a")]);
+    let code = around(fenced(""), [text("x\n")]);
+    let emphasis = paragraph([around(Tag::Emphasis, [text("b")])]);
+    let options = Options {
+        newlines_after_headline: 1,
+        code_block_token: '~',
+        code_block_token_count: 3,
+        emphasis_token: '_',
+        ..Options::default()
+    };
+    assert_eq!(
+        written_with(&[title, emphasis].concat(), NONE, options),
+        "# a\n_b_"
+    );
+    assert_eq!(written_with(&code, NONE, options), "\n~~~\nx\n~~~");
+}
+
+#[test]
+fn texts_stand_as_in_the_source() {
+    let source = "a &eacute; b";
+    let pairs = || {
+        [
+            (Event::Start(Tag::Paragraph), Some(0..12)),
+            (Event::Text("a ".into()), Some(0..2)),
+            (Event::Text("\u{e9}".into()), Some(2..10)),
+            (Event::Text(" b".into()), Some(10..12)),
+            (Event::End(TagEnd::Paragraph), Some(0..12)),
+        ]
+    };
+    let mut output = String::new();
+    let state = cmark_with_source_range(pairs(), source, &mut output, NONE).unwrap();
+    assert_eq!(output, source);
+    assert_eq!(state, State::default());
+    let mut output = String::new();
+    cmark_with_source_range_and_options(pairs(), "", &mut output, NONE, Options::default())
+        .unwrap();
+    assert_eq!(output, "a \u{e9} b");
+}
+
+#[test]
+fn errors_are_told_apart() {
+    let mut output = String::new();
+    let alone = [Event::End(TagEnd::Paragraph)];
+    assert!(matches!(
+        cmark(alone.iter(), &mut output, NONE),
+        Err(Error::UnexpectedEvent)
+    ));
+    let cell = around(Tag::TableCell, []);
+    assert!(matches!(
+        cmark(cell.iter(), &mut output, NONE),
+        Err(Error::UnexpectedEvent)
+    ));
+    let options = Options {
+        list_token: 'x',
+        ..Options::default()
+    };
+    assert!(matches!(
+        cmark_with_options(alone.iter(), &mut output, NONE, options),
+        Err(Error::InvalidOptions)
+    ));
+    let raised = paragraph([around(Tag::Superscript, [text("a")])]);
+    let options = Options {
+        use_html_for_super_sub_script: true,
+        ..Options::default()
+    };
+    let superscript = ParserOptions::ENABLE_SUPERSCRIPT;
+    assert!(matches!(
+        cmark_with_options(raised.iter(), &mut output, superscript, options),
+        Err(Error::InvalidOptions)
+    ));
+    assert!(matches!(
+        cmark_with_options(raised.iter(), &mut output, NONE, options),
+        Err(Error::Unrepresentable)
+    ));
+    for range in [2..9, 1..4] {
+        let ranged = [(Event::Rule, Some(range))];
+        assert!(matches!(
+            cmark_with_source_range(ranged, "---", &mut output, NONE),
+            Err(Error::InvalidSourceRange)
+        ));
+    }
+    let struck = paragraph([around(Tag::Strikethrough, [text("a")])]);
+    assert!(matches!(
+        cmark(struck.iter(), &mut output, NONE),
+        Err(Error::Unrepresentable)
+    ));
+    assert_eq!(output, "");
+}
+
+/// A writer that takes nothing.
+struct Refusing;
+
+impl fmt::Write for Refusing {
+    fn write_str(&mut self, _: &str) -> fmt::Result {
+        Err(fmt::Error)
+    }
+}
+
+#[test]
+fn a_writer_that_refuses_is_told() {
+    assert!(matches!(
+        cmark(paragraph([text("a")]), Refusing, NONE),
+        Err(Error::FormatFailed(fmt::Error))
+    ));
+}
+
+#[test]
+fn fences_are_counted() {
+    let code = |inner: Events| {
+        let block = Tag::CodeBlock(CodeBlockKind::Indented);
+        calculate_code_block_token_count(around(block, [inner]))
+    };
+    assert_eq!(code(text("``")), None);
+    assert_eq!(code(text("```")), Some(4));
+    assert_eq!(code(text("a ~~~~~ b")), Some(6));
+    assert_eq!(code([text("``"), text("``")].concat()), Some(5));
+    assert_eq!(
+        code([text("``"), one(Event::SoftBreak), text("``")].concat()),
+        None
+    );
+    assert_eq!(calculate_code_block_token_count(text("````")), None);
+    assert_eq!(DEFAULT_CODE_BLOCK_TOKEN_COUNT, 3);
+}
