@@ -1,3 +1,4 @@
+mod FirstBytes
 pub mod Repeats
 pub mod Whole
 pub mod PlainContent

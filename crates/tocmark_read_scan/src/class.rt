@@ -1,9 +1,12 @@
 //! Sets of bytes, and the runs of their members.
 
-ghost use Rattle.std.specs.Prelude.{◌≡◌};
+ghost use Rattle.std.specs.Prelude.{◌≡◌, ◌==◌};
+ghost use Rattle.std.specs.List.{list_any};
 ghost use Rattle.tocmark_read_scan.specs.Class.{is_in, is_unquoted, is_bracket, is_separator, is_mailbox, run_length, run_end};
+ghost use Rattle.tocmark_read_scan.specs.declared.class.Class.TheVariants.{Except};
 
 use crate::basic::rest;
+use memchr::memchr;
 
 /// A set of bytes.
 #[derive(Clone, Copy)]
@@ -107,10 +110,21 @@ pub fn is_in(class: Class, byte: u8) -> bool
     }
 }
 
+/// How many bytes at the front aren't this one.
+#[tactic(auto, using(crate::proofs::FirstBytes::bytes_before))]
+fn length_before(bytes: &[u8], one: u8) -> usize
+    ensures { result ≡ run_length (Except one) bytes.now }
+{
+    memchr(one, bytes).unwrap_or(bytes.len())
+}
+
 fn run_length(bytes: &[u8], class: Class) -> usize
     ensures { result ≡ run_length class bytes.now }
 {
-    bytes.iter().take_while(|byte| is_in(class, **byte)).count()
+    match class {
+        Class::Except(one) => length_before(bytes, one),
+        _ => bytes.iter().take_while(|byte| is_in(class, **byte)).count(),
+    }
 }
 
 /// The place behind the members of a set that stand at a place, one after the other.
@@ -119,4 +133,12 @@ pub fn run_end(bytes: &[u8], place: usize, class: Class) -> usize
     ensures { result ≡ run_end bytes.now place class }
 {
     place.saturating_add(run_length(rest(bytes, place), class))
+}
+
+/// Whether a byte stands in a text.
+#[tactic(auto, using(crate::proofs::FirstBytes::is_there))]
+pub fn has_byte(bytes: &[u8], byte: u8) -> bool
+    ensures { result ≡ list_any (λ b. b == byte) bytes.now }
+{
+    memchr(byte, bytes).is_some()
 }

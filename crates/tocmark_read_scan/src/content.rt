@@ -5,7 +5,7 @@ ghost use Rattle.tocmark_read_scan.specs.Repeat.{iterated};
 ghost use Rattle.tocmark_read_scan.specs.Content.{pasted_view, content_view, ranges_of, put, put_byte, put_bytes, put_line, before_white, inked, room_of, joined, is_behind, end_within, end_behind, content_of};
 
 use crate::basic::{byte_at, bytes_between};
-use crate::class::{Class, is_in};
+use crate::class::{Class, has_byte, is_in};
 use std::alloc::{AllocError, Global};
 
 /// A line of a paragraph or a heading: where its text begins and ends in the source, and the place
@@ -241,7 +241,7 @@ fn whole<'a>(source: &'a [u8], lines: &[ContentLine]) -> Option<Content<'a>>
     let first = lines.first().copied()?;
     let end = end_behind(source, first, others(lines))?;
     let text = bytes_between(source, first.start, end);
-    if text.contains(&0) {
+    if has_byte(text, 0) {
         None
     } else {
         Some(Content::Whole(inked(text), first.start))
