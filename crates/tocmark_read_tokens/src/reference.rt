@@ -220,10 +220,9 @@ impl Unescaping {
     }
 }
 
-/// The text with its escapes and references resolved, by the names that are known. An `Err` says that
-/// memory ran out.
+/// The text with its escapes and references resolved, byte by byte. An `Err` says that memory ran out.
 #[tactic(auto, unfolding(crate::specs::Reference::unescaped_in))]
-pub fn unescaped(alloc: Global, names: Names, bytes: &[u8]) -> Result<Vec<u8>, AllocError>
+fn unescaped_by_bytes(alloc: Global, names: Names, bytes: &[u8]) -> Result<Vec<u8>, AllocError>
     ensures { IfOk result (λ v. v.items ≡ unescaped_in names bytes.now) }
 {
     let mut machine = Unescaping {
@@ -235,4 +234,17 @@ pub fn unescaped(alloc: Global, names: Names, bytes: &[u8]) -> Result<Vec<u8>, A
         machine.step(alloc, names, bytes, *byte)?;
     }
     Ok(machine.out)
+}
+
+/// The text with its escapes and references resolved, by the names that are known. Where neither a
+/// backslash nor an ampersand stands it is copied. An `Err` says that memory ran out.
+#[tactic(auto, using(crate::proofs::Unmarked::left_alone))]
+pub fn unescaped(alloc: Global, names: Names, bytes: &[u8]) -> Result<Vec<u8>, AllocError>
+    ensures { IfOk result (λ v. v.items ≡ unescaped_in names bytes.now) }
+{
+    if bytes.contains(&b'\\') || bytes.contains(&b'&') {
+        unescaped_by_bytes(alloc, names, bytes)
+    } else {
+        Vec::from_slice(alloc, bytes)
+    }
 }
