@@ -1,6 +1,5 @@
--- How words stand in a line, and which bytes end one.
-use Rattle.std.proofs.Common.{◌≡◌, ℕ, ◌+◌, ◌<◌, ◌==◌, false, List, length, drop, map, ap, refl, arith}
-use Rattle.std.proofs.lemmas.Bool.Decides.{nat_tests}
+-- How words stand in a line.
+use Rattle.std.proofs.Common.{◌≡◌, ℕ, ◌+◌, ◌<◌, List, length, drop, map, ap}
 use Rattle.std.proofs.lemmas.List.{drop_more}
 use Rattle.std.proofs.lemmas.Slice.Eq.{bytes_eq-Decides}
 use Rattle.std.specs.Bool.{IsTrue, one_answer}
@@ -8,15 +7,6 @@ use Rattle.std.specs.Char.{to_ascii_lowercase}
 use Rattle.std.specs.Prelude.{Bool, if◌then◌else◌, true}
 use Rattle.tocmark_read_scan.specs.Basic.{plus, bytes_between}
 use Rattle.tocmark_read_lines.specs.Html.{same_word, holds_from}
-use Rattle.tocmark_read_lines.specs.Lines.{ends_here}
-
--- no line ends with a byte above a carriage return
-pub above_ends : (text : List ℕ) (b at : ℕ) → 13 < b → ends_here text b at ≡ false
-unfolding ends_here
-above_ends text b at h =
-    let feed : (b == 10) ≡ false = grind (arith, nat_tests) in
-    let return : (b == 13) ≡ false = grind (arith, nat_tests) in
-    rw (feed, return) refl
 
 pub holds_more : (line word : List ℕ) (place : ℕ) → place < length line → holds_from line word place (drop place line) ≡ (if same_word (bytes_between line place (plus place (length word))) word then true else holds_from line word (place + 1) (drop (place + 1) line))
 holds_more line word place h = ap (holds_from line word place) (drop_more line place 0 h)

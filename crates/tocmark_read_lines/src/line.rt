@@ -3,6 +3,7 @@
 ghost use Rattle.std.specs.Prelude.{◌≡◌, ◌++◌, length, IfOk, OnOk};
 ghost use Rattle.tocmark_read_lines.specs.Lines.{ends_here, line_stop, lines_of, last_line};
 
+use memchr::memchr2_iter;
 use std::alloc::{AllocError, Global};
 use tocmark_read_scan::basic::byte_at;
 
@@ -19,25 +20,13 @@ pub struct Line {
     pub next: usize,
 }
 
+/// Whether a line ends with the byte at a place: a line feed, or a carriage return with none behind it.
 #[tactic(auto, unfolding(crate::specs::Lines::ends_here))]
-fn ends_with(text: &[u8], byte: u8, at: usize) -> bool
+fn ends_here(text: &[u8], byte: u8, at: usize) -> bool
     ensures { result ≡ ends_here text.now byte at }
 {
     let alone = byte == b'\r' && byte_at(text, at.saturating_add(1)) != b'\n';
     byte == b'\n' || alone || byte == b'\r' && at.saturating_add(1) >= text.len()
-}
-
-/// Whether a line ends with the byte at a place: a line feed, or a carriage return with none behind it.
-/// Nearly all bytes are above both.
-#[tactic(auto, using(crate::proofs::Steps::above_ends))]
-fn ends_here(text: &[u8], byte: u8, at: usize) -> bool
-    ensures { result ≡ ends_here text.now byte at }
-{
-    if byte > b'\r' {
-        false
-    } else {
-        ends_with(text, byte, at)
-    }
 }
 
 /// Where the line ending begins that ends with the byte at a place, in a line that began at `start`.
@@ -52,21 +41,23 @@ fn line_stop(text: &[u8], start: usize, byte: u8, at: usize) -> usize
 /// The lines of a text in order, with their places in bytes. They end with a line feed, a carriage
 /// return or both; behind the last line ending stands a line only if it isn't empty. An `Err` says that
 /// memory ran out.
+#[tactic(auto, using(crate::proofs::LineEnds::lines_by_places))]
 pub fn lines(alloc: Global, text: &[u8]) -> Result<Vec<Line>, AllocError>
     ensures { IfOk result (λ v. v.items ≡ lines_of text.now) }
 {
     let mut lines = Vec::new(alloc);
     let mut start = 0;
-    for (at, byte) in text.iter().enumerate() {
-        if ends_here(text, *byte, at) {
-            let end = line_stop(text, start, *byte, at);
+    for at in memchr2_iter(b'\n', b'\r', text) {
+        let byte = byte_at(text, at);
+        if ends_here(text, byte, at) {
+            let end = line_stop(text, start, byte, at);
             lines.push(Line {
                 number: lines.len().saturating_add(1),
                 start,
                 end,
-                next: at + 1,
+                next: at.saturating_add(1),
             })?;
-            start = at + 1;
+            start = at.saturating_add(1);
         }
     }
     push_last(&mut lines, start, text.len())?;
