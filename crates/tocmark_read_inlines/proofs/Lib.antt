@@ -6,3 +6,4 @@ pub mod PlainLeaf
 pub mod PlainNeighbours
 pub mod Sparse
 pub mod CoreRuns
+mod Quiet

@@ -488,6 +488,14 @@ is_caret_in syntax b = syntax.superscript && (b == 94)
 unfoldable pub is_dollar_in : Syntax → ℕ → Bool
 is_dollar_in syntax b = syntax.math && (b == 36)
 
+-- a byte that can be more than one of a text in some reading
+unfoldable pub is_any_mark : ℕ → Bool
+is_any_mark b = is_mark b || (b == 126) || (b == 94) || (b == 36)
+
+-- a byte that is one of a text in each reading
+abbrev pub is_quiet : ℕ → Bool
+is_quiet b = not (is_any_mark b)
+
 -- a byte that can be more than one of a text, in an extension or in CommonMark
 unfoldable pub is_mark_in : Syntax → ℕ → Bool
 is_mark_in syntax b = is_tilde_in syntax b || is_caret_in syntax b || is_dollar_in syntax b || is_mark b

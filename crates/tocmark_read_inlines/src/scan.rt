@@ -1,14 +1,16 @@
 //! The first pass over a leaf's text: what each byte is.
 
 ghost use Rattle.std.specs.Prelude.{◌≡◌, IfOk, OnOk, length, drop};
+ghost use Rattle.std.specs.List.{prefix_len};
+ghost use Rattle.tocmark_read_scan.specs.Basic.{plus};
 ghost use Rattle.tocmark_read_scan.specs.Repeat.{iterated};
 ghost use Rattle.tocmark_read_spans.specs.Definitions.{entry_of};
-ghost use Rattle.tocmark_read_inlines.specs.Scan.{before_space, scan, ahead_view, ends_of, ticks_of, partners_in, stretch, kept, kept_code, targeted, put_leaf, escaped, referred, code_put, coded, run_taken, run_kept, tildes_taken, math_put, math_taken, marked, opened, imaged, addressed, html_put, tagged, mailed, angled, line_ended, spanned, settled, linked, missing, looked_up, closed_by_label, popped, looked_mark, looked, is_mark, is_tilde_in, is_caret_in, is_dollar_in, is_mark_in, looked_in, knows_all, extends_inlines, with_place, scan_step, scan_step_in, ran, ran_in, scanned_in, kept_resolved_in, name_put, named_taken, closed_inline_in, closed_active_in, closed_in, looked_all, looked_by, is_note_end_in, address_end, barred_end, address_shown, angled_in};
+ghost use Rattle.tocmark_read_inlines.specs.Scan.{before_space, scan, ahead_view, ends_of, ticks_of, partners_in, stretch, kept, kept_code, targeted, put_leaf, escaped, referred, code_put, coded, run_taken, run_kept, tildes_taken, math_put, math_taken, marked, opened, imaged, addressed, html_put, tagged, mailed, angled, line_ended, spanned, settled, linked, missing, looked_up, closed_by_label, popped, looked_mark, looked, is_mark, is_any_mark, is_quiet, is_tilde_in, is_caret_in, is_dollar_in, is_mark_in, looked_in, knows_all, extends_inlines, with_place, scan_step, scan_step_in, ran, ran_in, scanned_in, kept_resolved_in, name_put, named_taken, closed_inline_in, closed_active_in, closed_in, looked_all, looked_by, is_note_end_in, address_end, barred_end, address_shown, angled_in};
 
 use std::alloc::{AllocError, Global};
 use tocmark_event::event::LinkType;
-use tocmark_read_scan::basic::{byte_at, bytes_between, set, starts_at};
-use tocmark_read_scan::class::{Class, run_end};
+use tocmark_read_scan::basic::{byte_at, bytes_between, rest, set, starts_at};
+use tocmark_read_scan::class::{Class, has_byte, run_end};
 use tocmark_read_spans::definitions::Definitions;
 use tocmark_read_spans::emphasis::emphasize;
 use tocmark_read_spans::link::{Asked, Bracket, InlineTarget, inline_target, label_asked};
@@ -103,7 +105,7 @@ fn runs_from(runs: &[Run], count: usize) -> &[Run]
 fn ends_of(bytes: &[u8]) -> LastEnds
     ensures { result ≡ ends_of bytes.now }
 {
-    if bytes.contains(&b'<') {
+    if has_byte(bytes, b'<') {
         last_ends(bytes)
     } else {
         LastEnds {
@@ -121,7 +123,7 @@ fn ends_of(bytes: &[u8]) -> LastEnds
 fn ticks_of(alloc: Global, bytes: &[u8]) -> Result<Vec<usize>, AllocError>
     ensures { IfOk result (λ v. v.items ≡ ticks_of bytes.now) }
 {
-    if bytes.contains(&b'`') {
+    if has_byte(bytes, b'`') {
         last_ticks(alloc, bytes)
     } else {
         Ok(Vec::new(alloc))
@@ -138,7 +140,7 @@ fn partners_in(
 ) -> Result<Vec<Option<usize>>, AllocError>
     ensures { IfOk result (λ v. v.items ≡ partners_in syntax bytes.now) }
 {
-    if syntax.math && bytes.contains(&b'$') {
+    if syntax.math && has_byte(bytes, b'$') {
         partners(alloc, bytes)
     } else {
         Ok(Vec::new(alloc))
@@ -153,6 +155,40 @@ fn is_mark(byte: u8) -> bool
     let bracket = byte == b'[' || byte == b'!' || byte == b']' || byte == b'<';
     let delimiter = byte == b'`' || byte == b'*' || byte == b'_';
     bracket || delimiter || byte == b'\\' || byte == b'&' || byte == b'\n'
+}
+
+// Each mark of some reading stands at its own place, and a comma at every other place.
+static MARKS: [u8; 256] = *b"\
+    ,,,,,,,,,,\n,,,,,,,,,,,,,,,,,,,,,\
+    ,!,,$,&,,,*,,,,,,,,,,,,,,,,,<,,,\
+    ,,,,,,,,,,,,,,,,,,,,,,,,,,,[\\]^_\
+    `,,,,,,,,,,,,,,,,,,,,,,,,,,,,,~,\
+    ,,,,,,,,,,,,,,,,,,,,,,,,,,,,,,,,\
+    ,,,,,,,,,,,,,,,,,,,,,,,,,,,,,,,,\
+    ,,,,,,,,,,,,,,,,,,,,,,,,,,,,,,,,\
+    ,,,,,,,,,,,,,,,,,,,,,,,,,,,,,,,,";
+
+/// Whether a byte can be more than one of a text in some reading.
+fn is_any_mark(byte: u8) -> bool
+    ensures { result ≡ is_any_mark byte }
+{
+    MARKS[byte as usize] != b','
+}
+
+/// How many bytes at the front are one of a text in each reading.
+fn quiet_length(bytes: &[u8]) -> usize
+    ensures { result ≡ prefix_len is_quiet bytes.now }
+{
+    bytes.iter().take_while(|byte| !is_any_mark(**byte)).count()
+}
+
+/// The place behind such bytes, the first of which stands at a place, and the bytes from there on.
+fn skip_quiet(bytes: &[u8], place: usize) -> (usize, &[u8])
+    ensures place { result.0 ≡ plus place (prefix_len is_quiet bytes.now) }
+    ensures bytes { result.1.now ≡ drop (prefix_len is_quiet bytes.now) bytes.now }
+{
+    let length = quiet_length(bytes);
+    (place.saturating_add(length), rest(bytes, length))
 }
 
 /// Whether a byte is a tilde, where strikethrough or subscripts are read.
@@ -984,9 +1020,12 @@ impl Scanner {
             ≡ ran_in text.now.syntax text.now.bytes.now (ahead_view text.now.ahead.now)
             (entry_of text.now.definitions.now) (scan self.old)) }
     {
-        let mut place = self.place;
-        for byte in text.bytes {
-            place = self.step(alloc, text, place, *byte)?;
+        let (mut place, mut left) = skip_quiet(text.bytes, self.place);
+        while let Some((byte, behind)) = left.split_first() {
+            let next = self.step(alloc, text, place, *byte)?;
+            let (further, later) = skip_quiet(behind, next);
+            place = further;
+            left = later;
         }
         self.place = place;
         Ok(())
@@ -998,9 +1037,12 @@ impl Scanner {
             ≡ ran text.now.bytes.now (ahead_view text.now.ahead.now)
             (entry_of text.now.definitions.now) (scan self.old)) }
     {
-        let mut place = self.place;
-        for byte in text.bytes {
-            place = self.core_step(alloc, text, place, *byte)?;
+        let (mut place, mut left) = skip_quiet(text.bytes, self.place);
+        while let Some((byte, behind)) = left.split_first() {
+            let next = self.core_step(alloc, text, place, *byte)?;
+            let (further, later) = skip_quiet(behind, next);
+            place = further;
+            left = later;
         }
         self.place = place;
         Ok(())
