@@ -12,6 +12,7 @@ ghost use Rattle.tocmark_core_reader.specs.Words.{feed_if, cleaned, info_text_in
 use std::alloc::{AllocError, Global};
 use tocmark_event::event::CowStr;
 use tocmark_read_scan::basic::bytes_between;
+use tocmark_read_scan::class::has_byte;
 use tocmark_read_spans::role::Stretch;
 use tocmark_read_syntax::Names;
 use tocmark_read_tokens::label::collapsed;
@@ -46,7 +47,7 @@ pub fn replaced_bytes(alloc: Global, bytes: &[u8]) -> Result<Vec<u8>, AllocError
     ensures { IfOk result (λ v. v.items ≡ flat_map replaced bytes.now) }
 {
     let mut out = Vec::with_capacity(alloc, bytes.len().saturating_add(1))?;
-    if bytes.contains(&0) {
+    if has_byte(bytes, 0) {
         push_replaced(&mut out, bytes)?;
     } else {
         out.extend_from_slice(bytes)?;
@@ -85,7 +86,7 @@ fn with_feed(alloc: Global, text: &str) -> Result<String, AllocError>
 fn cleaned_text(alloc: Global, text: &str, feed: bool) -> Result<String, AllocError>
     ensures { IfOk result (λ t. string_bytes t ≡ cleaned text.now feed) }
 {
-    if text.as_bytes().contains(&0) {
+    if has_byte(text.as_bytes(), 0) {
         cleaned(alloc, text.as_bytes(), feed)
     } else if feed {
         with_feed(alloc, text)
