@@ -62,20 +62,10 @@ pub fn write_spelled(
 }
 
 /// How many characters a text has.
-pub fn character_count(text: &str) -> usize
+fn character_count(text: &str) -> usize
     ensures { result ≡ length (chars text.now) }
 {
     text.chars().count()
-}
-
-/// Makes the nearest cell, if one is open, wider by so many characters. An `Err` says that memory ran
-/// out, or that the width would be too large.
-pub fn widen_cell(renderer: &mut Renderer<'_>, characters: usize) -> Result<(), AllocError>
-    ensures stands { OnOk result
-        (Stands renderer.new (widened characters (levels_of renderer.old)) (page_of renderer.old)) }
-    ensures mark { renderer.new.at_mark ≡ renderer.old.at_mark }
-{
-    renderer.widen(characters)
 }
 
 /// How many characters code has with a backtick before and after it. An `Err` says that they are too
@@ -84,6 +74,31 @@ fn code_width(text: &str) -> Result<usize, AllocError>
     ensures { IfOk result (λ width. width ≡ length (chars text.now) + 2) }
 {
     character_count(text).checked_add(2).ok_or(AllocError)
+}
+
+/// Makes the nearest cell, if one is open, wider by a text's characters, which are counted only then. An
+/// `Err` says that memory ran out, or that the width would be too large.
+pub fn widen_by_text(renderer: &mut Renderer<'_>, text: &str) -> Result<(), AllocError>
+    ensures stands { OnOk result (Stands renderer.new
+        (widened (length (chars text.now)) (levels_of renderer.old)) (page_of renderer.old)) }
+    ensures mark { renderer.new.at_mark ≡ renderer.old.at_mark }
+{
+    match renderer.outside().cell {
+        Some(_) => renderer.widen(character_count(text)),
+        None => Ok(()),
+    }
+}
+
+/// The same with two backticks beside the text.
+fn widen_by_code(renderer: &mut Renderer<'_>, text: &str) -> Result<(), AllocError>
+    ensures stands { OnOk result (Stands renderer.new
+        (widened (length (chars text.now) + 2) (levels_of renderer.old)) (page_of renderer.old)) }
+    ensures mark { renderer.new.at_mark ≡ renderer.old.at_mark }
+{
+    match renderer.outside().cell {
+        Some(_) => renderer.widen(code_width(text)?),
+        None => Ok(()),
+    }
 }
 
 /// Writes a code span behind its gap. An `Err` says that memory ran out.
@@ -116,9 +131,8 @@ pub fn write_code(
         text.now (levels_of renderer.old) (page_of renderer.old))) }
     ensures mark { renderer.new.at_mark ≡ renderer.old.at_mark }
 {
-    let width = code_width(text)?;
     write_span(renderer, alloc, event, text)?;
-    widen_cell(renderer, width)
+    widen_by_code(renderer, text)
 }
 
 /// Writes mathematics within a line, behind its gap. An `Err` says that memory ran out.

@@ -16,7 +16,7 @@ ghost use Rattle.tocmark_write_renderer.specs.JobOf.{options_in, text_in};
 ghost use Rattle.tocmark_write_renderer.specs.WriterOf.{levels_of, page_of, held_view, longer, begun, held_after, unheld, Stands};
 ghost use Rattle.tocmark_write_inlines.specs.Led.{held_or_shown, StandsAt};
 
-use crate::inline_leaf::{character_count, widen_cell, write_escaped_inline, write_inline};
+use crate::inline_leaf::{widen_by_text, write_escaped_inline, write_inline};
 use crate::leaf::Beside;
 use std::alloc::{AllocError, Global};
 use tocmark_event::event::{EventOf, OwnedEvent, TagEnd, TagOf};
@@ -145,7 +145,7 @@ fn show(
     ensures mark { renderer.new.at_mark ≡ renderer.old.at_mark }
 {
     write_whole(renderer, job, manner, event, held, next)?;
-    widen_cell(renderer, character_count(held.text.as_str()))
+    widen_by_text(renderer, held.text.as_str())
 }
 
 /// Adds a text to the stretch that is held; where no further text follows, writes the stretch behind
