@@ -3,11 +3,11 @@ use Rattle.std.proofs.Common.{◌≡◌, ℕ, suc, ◌<◌, ◌≤◌, Bool, tru
 use Rattle.std.specs.Prelude.{◌==◌, ◌||◌}
 use Rattle.std.specs.Str.{IsAscii}
 use Rattle.std.proofs.lemmas.Bool.Decides.{nat_tests}
-use Rattle.std.specs.List.{flat_map}
-use Rattle.std.proofs.lemmas.Bool.{cases_lt}
+use Rattle.std.specs.List.{flat_map, list_any}
+use Rattle.std.proofs.lemmas.Bool.{cases_lt, or_parts}
 use Rattle.std.proofs.lemmas.Str.{encode_ascii, encodes-IsAscii, inside_one}
 use Rattle.std.proofs.lemmas.List.Concat.{flat_map-append}
-use Rattle.tocmark_write_texts.specs.Destination.{destination_character, title_character}
+use Rattle.tocmark_write_texts.specs.Destination.{destination_character, destination_text, is_escaped_in_destination, is_escaped_in_title, title_character, title_text}
 use Rattle.tocmark_write_texts.specs.Leaves.{cell_character}
 
 -- the rule keeps characters past ASCII, and gives ASCII for ASCII
@@ -89,3 +89,16 @@ written_more f h bs rest old new whole c e w s = rw (w, append_assoc) (rw (flat_
 pub nothing_left : (f : ℕ → List ℕ) (bs done whole : List ℕ) → length bs ≡ 0 → done ++ flat_map f bs ≡ whole → done ≡ whole
 nothing_left f [] done whole e h = sym (append-nil done) ∙ h
 nothing_left f (b ∷ bs) done whole e h = absurd (omega arith)
+
+-- where each of a text's characters is one that the rule keeps, the text stays
+stays_by : (f : ℕ → List ℕ) (test : ℕ → Bool) → ((c : ℕ) → test c ≡ false → f c ≡ c ∷ []) → (bs : List ℕ) → list_any test bs ≡ false → flat_map f bs ≡ bs
+stays_by f test keeps [] e = refl
+stays_by f test keeps (b ∷ bs) e =
+    let parts = or_parts (test b) (list_any test bs) e in
+    rw (keeps b parts.0, stays_by f test keeps bs parts.1) refl
+
+pub destination-stays : (bs : List ℕ) → list_any is_escaped_in_destination bs ≡ false → destination_text bs ≡ bs
+destination-stays = stays_by destination_character is_escaped_in_destination (λ c e. grind (arith, nat_tests))
+
+pub title-stays : (bs : List ℕ) → list_any is_escaped_in_title bs ≡ false → title_text bs ≡ bs
+title-stays = stays_by title_character is_escaped_in_title (λ c e. grind (arith, nat_tests))

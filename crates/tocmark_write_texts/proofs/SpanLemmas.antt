@@ -1,18 +1,18 @@
 -- Runs of characters, and code spans.
-use Rattle.std.proofs.Common.{◌≡◌, ℕ, zero, suc, ◌+◌, ◌-◌, ◌<◌, ◌≤◌, false, max, Some, List, [], ◌∷◌, ◌++◌, length, get_or, replicate, IsUtf8, chars, encode_utf8, encode_utf8_all, refl, sym, ap, ◌∙◌, length-append, eq-eqb, ne_eqb, lit<, arith, inl, inr, append-nil, append_assoc, add-one}
+use Rattle.std.proofs.Common.{◌≡◌, ℕ, zero, suc, ◌+◌, ◌-◌, ◌<◌, ◌≤◌, false, max, Some, List, [], ◌∷◌, ◌++◌, length, get_or, IsUtf8, chars, encode_utf8, encode_utf8_all, refl, sym, ap, ◌∙◌, length-append, eq-eqb, ne_eqb, lit<, arith, inl, inr}
 use Rattle.std.specs.Ordering.{ord_max, nat_cmp}
 use Rattle.std.proofs.lemmas.Bool.Decides.{nat_tests}
 use Rattle.std.proofs.lemmas.Str.{chars_past_char}
 use Rattle.tocmark_write_texts.proofs.EscapeLemmas.{chars_of_empty}
 use native.Mathlib.Numerals.{unary_clauses}
-use Rattle.std.specs.List.{repeat}
+use Rattle.std.specs.List.{list_any}
 use Rattle.std.proofs.lemmas.List.Sums.{prefix_len-le-length}
-use Rattle.std.proofs.lemmas.Bool.{cases_lt}
+use Rattle.std.proofs.lemmas.Bool.{cases_lt, or_parts}
 use Rattle.std.proofs.lemmas.Str.{encode_ascii, encodes-chars, length-le-encodes}
 use Rattle.tocmark_write_texts.proofs.CharacterLemmas.{bytes_past_ascii}
 use Rattle.std.proofs.lemmas.Str.{length-encode, len_utf8_bounds}
 use Rattle.std.specs.Prelude.{slice_get, ◌==◌}
-use Rattle.tocmark_write_texts.specs.Leaves.{last_is, run_length, longest_run, is_blank, padding, span}
+use Rattle.tocmark_write_texts.specs.Leaves.{last_is, run_length, longest_run}
 
 pub last_is_at : (c : ℕ) (text : List ℕ) (d : ℕ) → slice_get text (length text - 1) ≡ Some d → last_is c text ≡ (d == c)
 last_is_at c [] d e = cc
@@ -40,7 +40,7 @@ length-character bs rest c e =
     let some = (len_utf8_bounds c).0 in
     omega (arith, ap length e, length-append (encode_utf8 c) rest, length-encode c)
 
-longest_run-le : (s : ℕ) (cs : List ℕ) → longest_run s cs ≤ length cs
+pub longest_run-le : (s : ℕ) (cs : List ℕ) → longest_run s cs ≤ length cs
 longest_run-le s [] = omega arith
 longest_run-le s (c ∷ cs) =
     let tail = longest_run-le s cs in
@@ -90,17 +90,6 @@ longest_run-encodes s low (c ∷ cs) =
 pub longest_run-chars : (s : ℕ) (bs : List ℕ) → s < 128 → IsUtf8 bs → longest_run s (chars bs) ≡ longest_run s bs
 longest_run-chars s bs low u = sym (longest_run-encodes s low (chars bs)) ∙ ap (longest_run s) (encodes-chars bs u)
 
-pub repeat-ascii : (n c : ℕ) → c < 128 → repeat n (encode_utf8 c) ≡ replicate n c
-repeat-ascii zero c low = refl
-repeat-ascii (suc n) c low = rw (repeat-ascii n c low, encode_ascii c low) refl
-
-repeat-suc : (n : ℕ) (bs : List ℕ) → repeat (suc n) bs ≡ repeat n bs ++ bs
-repeat-suc zero bs = append-nil bs
-repeat-suc (suc n) bs = ap (λ x. bs ++ x) (repeat-suc n bs) ∙ sym (append_assoc bs (repeat n bs) bs)
-
-pub repeat-more : (n : ℕ) (bs : List ℕ) → repeat (n + 1) bs ≡ repeat n bs ++ bs
-repeat-more n bs = ap (λ k. repeat k bs) (add-one n) ∙ repeat-suc n bs
-
 ord_max-is : (a b : ℕ) → ord_max nat_cmp a b ≡ max a b
 ord_max-is a b = grind (arith, nat_tests)
 
@@ -138,10 +127,10 @@ all_to_read s bs text e =
     let whole : max 0 (max (0 + run_length s (chars bs)) (longest_run s (chars bs))) ≡ longest_run s (chars bs) = omega arith in
     whole ∙ ap (λ x. longest_run s (chars x)) e
 
--- a span that isn't blank, piece by piece
-pub span_pieces : (text space : List ℕ) (longest : ℕ) → IsUtf8 text → is_blank text ≡ false → longest ≡ longest_run 96 (chars text) → space ≡ padding text
-    → repeat (longest + 1) (encode_utf8 96) ++ (space ++ (text ++ (space ++ repeat (longest + 1) (encode_utf8 96)))) ≡ span text
-unfolding span padding
-span_pieces text space longest u b l p =
-    let same : longest ≡ longest_run 96 text = l ∙ longest_run-chars 96 text (lit< tt) u in
-    rw (b, p, repeat-ascii (longest + 1) 96 (lit< tt), same) refl
+-- where no character is a backtick, no run of them stands
+pub no_run : (bs : List ℕ) → list_any (λ b. b == 96) bs ≡ false → 0 ≡ longest_run 96 bs
+no_run [] e = refl
+no_run (b ∷ bs) e =
+    let parts = or_parts (b == 96) (list_any (λ x. x == 96) bs) e in
+    let tail = no_run bs parts.1 in
+    rw parts.0 (omega (arith, tail))

@@ -14,6 +14,11 @@ destination_character c =
     else if c == backslash || c == less_than || c == greater_than then backslash ∷ c ∷ []
     else c ∷ []
 
+-- whether such a character isn't written as it is
+abbrev pub is_escaped_in_destination : ℕ → Bool
+is_escaped_in_destination c =
+    c == ampersand || c == line_feed || c == carriage_return || c == backslash || c == less_than || c == greater_than
+
 -- a destination without brackets, so that it is read back
 abbrev pub destination_text : List ℕ → List ℕ
 destination_text text = flat_map destination_character text
@@ -46,6 +51,10 @@ title_character c =
     if c == ampersand then codes "&amp;"
     else if c == quotation_mark || c == backslash then backslash ∷ c ∷ []
     else c ∷ []
+
+-- whether such a character isn't written as it is
+abbrev pub is_escaped_in_title : ℕ → Bool
+is_escaped_in_title c = c == ampersand || c == quotation_mark || c == backslash
 
 -- what stands between the quotes of a title
 abbrev pub title_text : List ℕ → List ℕ

@@ -48,11 +48,15 @@ padding text = if needs_spaces text then codes " " else []
 abbrev pub ticks : List ℕ → List ℕ
 ticks text = replicate (longest_run backtick text + 1) backtick
 
+-- a text between two runs of backticks, with a space or nothing inside of each
+abbrev pub enclosed : List ℕ → List ℕ → List ℕ → List ℕ
+enclosed run space_of text = run ++ (space_of ++ (text ++ (space_of ++ run)))
+
 -- spaces alone stand between single backticks, anything else between runs one longer than the longest inside
 unfoldable pub span : List ℕ → List ℕ
 span text =
     if is_blank text then codes "`" ++ (text ++ codes "`")
-    else ticks text ++ (padding text ++ (text ++ (padding text ++ ticks text)))
+    else enclosed (ticks text) (padding text) text
 
 -- a code span, in a table or not (CommonMark, section 6.1)
 unfoldable pub code_span : Bool → List ℕ → List ℕ

@@ -1,11 +1,11 @@
 //! Destinations, titles, code spans and runs of characters, as they are written.
 
-ghost use Rattle.std.specs.Prelude.{◌≡◌, ◌++◌, chars, encode_utf8_all, string_bytes, IfOk, OnOk, Some};
-ghost use Rattle.std.specs.Option.{option_map};
-ghost use Rattle.std.specs.List.{repeat, list_any};
+ghost use Rattle.std.specs.Prelude.{◌≡◌, ◌==◌, ◌++◌, chars, encode_utf8_all, replicate, string_bytes, IfOk, OnOk, Some};
+ghost use Rattle.std.specs.List.{list_any};
 ghost use Rattle.std.specs.Fmt.{WritesOnOk, WritesInCalls};
-ghost use Rattle.tocmark_write_texts.specs.Destination.{destination, destination_text, destination_character, needs_brackets, ends_destination, is_unbalanced, title, title_text, title_character, link_closing};
-ghost use Rattle.tocmark_write_texts.specs.Leaves.{longest_run, in_cell, cell_character, is_blank, first_is, last_is, needs_spaces, padding, span, code_span, math_text};
+ghost use Rattle.tocmark_write_texts.specs.Destination.{destination, destination_text, destination_character, is_escaped_in_destination, is_escaped_in_title, needs_brackets, ends_destination, is_unbalanced, title, title_text, title_character, link_closing};
+ghost use Rattle.tocmark_write_texts.specs.Characters.{backtick};
+ghost use Rattle.tocmark_write_texts.specs.Leaves.{longest_run, in_cell, cell_character, is_blank, first_is, last_is, needs_spaces, padding, enclosed, span, code_span, math_text};
 
 use std::alloc::{AllocError, Global};
 use std::fmt;
@@ -20,11 +20,29 @@ impl fmt::Display for EscapeDestination<'_> {
     ghost output = { λ d. Some (destination_text d.0.now) };
 
     fn fmt<W: fmt::Write>(&self, f: &mut fmt::Formatter<W>) -> fmt::Result {
+        if !holds_escaped_in_destination(self.0) {
+            return f.write_str(self.0);
+        }
         for c in self.0.chars() {
             write_destination_character(f, c)?;
         }
         Ok(())
     }
+}
+
+/// Whether a byte isn't written as it is in a destination.
+fn is_escaped_in_destination(byte: u8) -> bool
+    ensures { result ≡ is_escaped_in_destination byte }
+{
+    matches!(byte, b'&' | b'\n' | b'\r' | b'\\' | b'<' | b'>')
+}
+
+fn holds_escaped_in_destination(text: &str) -> bool
+    ensures { result ≡ list_any is_escaped_in_destination text.now }
+{
+    text.as_bytes()
+        .iter()
+        .any(|byte| is_escaped_in_destination(*byte))
 }
 
 fn write_destination_character<W: fmt::Write>(f: &mut fmt::Formatter<W>, c: char) -> fmt::Result
@@ -48,11 +66,29 @@ impl fmt::Display for EscapeLinkTitle<'_> {
     ghost output = { λ t. Some (title_text t.0.now) };
 
     fn fmt<W: fmt::Write>(&self, f: &mut fmt::Formatter<W>) -> fmt::Result {
+        if !holds_escaped_in_title(self.0) {
+            return f.write_str(self.0);
+        }
         for c in self.0.chars() {
             write_title_character(f, c)?;
         }
         Ok(())
     }
+}
+
+/// Whether a byte isn't written as it is in a title.
+fn is_escaped_in_title(byte: u8) -> bool
+    ensures { result ≡ is_escaped_in_title byte }
+{
+    matches!(byte, b'&' | b'"' | b'\\')
+}
+
+fn holds_escaped_in_title(text: &str) -> bool
+    ensures { result ≡ list_any is_escaped_in_title text.now }
+{
+    text.as_bytes()
+        .iter()
+        .any(|byte| is_escaped_in_title(*byte))
 }
 
 fn write_title_character<W: fmt::Write>(f: &mut fmt::Formatter<W>, c: char) -> fmt::Result
@@ -193,22 +229,6 @@ pub fn max_consecutive_chars(text: &str, search: char) -> usize
     longest
 }
 
-/// A value, which `{}` writes so many times.
-#[derive(Clone, Copy)]
-pub struct Repeated<T>(pub T, pub usize);
-
-impl<T: fmt::Display> fmt::Display for Repeated<T> {
-    ghost output = { λ r. option_map (λ bytes. repeat r.1 bytes) (T.output r.0) };
-
-    fn fmt<W: fmt::Write>(&self, f: &mut fmt::Formatter<W>) -> fmt::Result {
-        let Repeated(content, count) = self;
-        for _i in 0..*count {
-            write!(f, "{content}")?;
-        }
-        Ok(())
-    }
-}
-
 /// The text of a cell's leaf: in a table with a backslash before each vertical bar.
 pub fn in_cell(alloc: Global, text: &str, in_table: bool) -> Result<String, AllocError>
     ensures { IfOk result (λ s. string_bytes s ≡ in_cell in_table text.now) }
@@ -275,17 +295,58 @@ fn padding(text: &str) -> &'static str
     if needs_spaces(text) { " " } else { "" }
 }
 
+fn holds_backtick(text: &str) -> bool
+    ensures { result ≡ list_any (λ b. b == backtick) text.now }
+{
+    text.as_bytes().contains(&b'`')
+}
+
+/// The length of the longest run of backticks.
+fn longest_ticks(text: &str) -> usize
+    ensures { result ≡ longest_run backtick text.now }
+{
+    if !holds_backtick(text) {
+        return 0;
+    }
+    max_consecutive_chars(text, '`')
+}
+
+/// How many bytes most spans have round their texts, at most.
+const ROOM_FOR_ENDS: usize = 4;
+
+fn push_ticks(span: &mut String, count: usize) -> Result<(), AllocError>
+    ensures { OnOk result
+        (string_bytes span.new ≡ string_bytes span.old ++ replicate count backtick) }
+{
+    for _i in 0..count {
+        span.push_str("`")?;
+    }
+    Ok(())
+}
+
+/// A text between two runs of so many backticks, with this text inside of each.
+fn enclosed(alloc: Global, ticks: usize, padding: &str, text: &str) -> Result<String, AllocError>
+    ensures { IfOk result (λ s.
+        string_bytes s ≡ enclosed (replicate ticks backtick) padding.now text.now) }
+{
+    let mut span = String::with_capacity(alloc, text.len() + ROOM_FOR_ENDS)?;
+    push_ticks(&mut span, ticks)?;
+    span.push_str(padding)?;
+    span.push_str(text)?;
+    span.push_str(padding)?;
+    push_ticks(&mut span, ticks)?;
+    Ok(span)
+}
+
 #[tactic(auto, unfolding(crate::specs::Leaves::span))]
 fn span(alloc: Global, text: &str) -> Result<String, AllocError>
     ensures { IfOk result (λ s. string_bytes s ≡ span text.now) }
 {
     if is_blank(text) {
-        return format!(in alloc; "`{text}`");
+        return enclosed(alloc, 1, "", text);
     }
-    let longest = max_consecutive_chars(text, '`');
-    let ticks = Repeated('`', longest + 1);
-    let padding = padding(text);
-    format!(in alloc; "{ticks}{padding}{text}{padding}{ticks}")
+    let ticks = longest_ticks(text) + 1;
+    enclosed(alloc, ticks, padding(text), text)
 }
 
 #[tactic(auto, unfolding(crate::specs::Leaves::code_span))]
@@ -295,6 +356,9 @@ fn span(alloc: Global, text: &str) -> Result<String, AllocError>
 pub fn code_span(alloc: Global, text: &str, in_table: bool) -> Result<String, AllocError>
     ensures { IfOk result (λ s. string_bytes s ≡ code_span in_table text.now) }
 {
+    if !in_table {
+        return span(alloc, text);
+    }
     let inside = in_cell(alloc, text, in_table)?;
     span(alloc, inside.as_str())
 }

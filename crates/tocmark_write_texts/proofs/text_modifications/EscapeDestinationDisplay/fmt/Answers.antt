@@ -1,9 +1,14 @@
-use Rattle.std.proofs.Common.{[], ◌++◌, refl, rules, encode_utf8_all}
+use Rattle.std.proofs.Common.{[], ◌++◌, ◌∙◌, refl, rules, sym, encode_utf8_all}
 use Rattle.std.proofs.Output.{has_written_append, has_written_of_eq}
 use Rattle.std.specs.Str.Iter.{chars_rest}
 use Rattle.tocmark_write_texts.specs.Destination.{destination_character}
-use Rattle.tocmark_write_texts.proofs.CharacterLemmas.{destination_rule, written_more, nothing_left}
+use Rattle.tocmark_write_texts.proofs.CharacterLemmas.{destination-stays, destination_rule, written_more, nothing_left}
 use Rattle.tocmark_write_texts.proofs.text_modifications.EscapeDestinationDisplay.fmt.Goals as goal
+
+pub returns-then-not-holds_escaped_in_destination-clause-writes : goal.returns-then-not-holds_escaped_in_destination-clause-writes
+returns-then-not-holds_escaped_in_destination-clause-writes g c = λ plain ok.
+    let same = destination-stays c.args.self.now.0.now (sym c.holds_escaped_in_destination.ensures ∙ c.if-not-holds_escaped_in_destination.true) in
+    has_written_of_eq _ _ _ _ _ (sym same) (c.write_str.ensures.writes plain ok)
 
 pub loop-c-init : goal.loop-c-init
 loop-c-init g c = λ plain. ([], search rules, search rules)

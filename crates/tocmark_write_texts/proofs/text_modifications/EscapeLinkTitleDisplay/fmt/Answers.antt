@@ -1,9 +1,14 @@
-use Rattle.std.proofs.Common.{[], ◌++◌, refl, rules, encode_utf8_all}
+use Rattle.std.proofs.Common.{[], ◌++◌, ◌∙◌, refl, rules, sym, encode_utf8_all}
 use Rattle.std.proofs.Output.{has_written_append, has_written_of_eq}
 use Rattle.std.specs.Str.Iter.{chars_rest}
 use Rattle.tocmark_write_texts.specs.Destination.{title_character}
-use Rattle.tocmark_write_texts.proofs.CharacterLemmas.{title_rule, written_more, nothing_left}
+use Rattle.tocmark_write_texts.proofs.CharacterLemmas.{title-stays, title_rule, written_more, nothing_left}
 use Rattle.tocmark_write_texts.proofs.text_modifications.EscapeLinkTitleDisplay.fmt.Goals as goal
+
+pub returns-then-not-holds_escaped_in_title-clause-writes : goal.returns-then-not-holds_escaped_in_title-clause-writes
+returns-then-not-holds_escaped_in_title-clause-writes g c = λ plain ok.
+    let same = title-stays c.args.self.now.0.now (sym c.holds_escaped_in_title.ensures ∙ c.if-not-holds_escaped_in_title.true) in
+    has_written_of_eq _ _ _ _ _ (sym same) (c.write_str.ensures.writes plain ok)
 
 pub loop-c-init : goal.loop-c-init
 loop-c-init g c = λ plain. ([], search rules, search rules)
