@@ -4,3 +4,4 @@ pub mod Between
 pub mod BesideOf
 pub mod Led
 pub mod Named
+pub mod StretchOf

@@ -1,4 +1,4 @@
-//! A stretch of texts: held until it ends, and then written as a whole.
+//! A stretch of texts: held while a further text follows, and written as a whole where it ends.
 
 ghost use Rattle.std.specs.Prelude.{◌≡◌, string_bytes, chars, length, not, ◌==◌, IfOk, OnOk};
 ghost use Rattle.std.specs.Option.{option_map};
@@ -8,6 +8,7 @@ ghost use Rattle.tocmark_spelling.specs.Buffered.{following_view};
 ghost use Rattle.tocmark_spelling.specs.Gap.{gap};
 ghost use Rattle.tocmark_spelling.specs.Kinds.{starts, is_emphasis_or_strong, and_is};
 ghost use Rattle.tocmark_spelling.specs.Marker.{ends_delimiter};
+ghost use Rattle.tocmark_spelling.specs.Page.{Page};
 ghost use Rattle.tocmark_spelling.specs.PlanOf.{stretch_place, shown};
 ghost use Rattle.tocmark_spelling.specs.Places.{widened};
 ghost use Rattle.tocmark_spelling.specs.Runs.{end_width};
@@ -15,6 +16,7 @@ ghost use Rattle.tocmark_spelling.specs.Stretch.{both};
 ghost use Rattle.tocmark_write_renderer.specs.JobOf.{options_in, text_in};
 ghost use Rattle.tocmark_write_renderer.specs.WriterOf.{levels_of, page_of, held_view, longer, begun, held_after, unheld, Stands};
 ghost use Rattle.tocmark_write_inlines.specs.Led.{held_or_shown, StandsAt};
+ghost use Rattle.tocmark_write_inlines.specs.StretchOf.{stretch_view};
 
 use crate::inline_leaf::{widen_by_text, write_escaped_inline, write_inline};
 use crate::leaf::Beside;
@@ -54,23 +56,47 @@ fn place<'b>(
     }
 }
 
-/// Takes the stretch that is held, longer by a text.
-fn take_longer(
-    renderer: &mut Renderer<'_>,
-    alloc: Global,
-    text: &str,
-    source: &Option<String>,
-    previous: Option<&OwnedEvent>,
-) -> Result<Held, AllocError>
-    ensures held { IfOk result (λ h. held_view h ≡ held_after (page_of renderer.old).held text.now
-        (option_map string_bytes source.now) (following_view previous.entry)) }
-    ensures rest { OnOk result
-        (Stands renderer.new (levels_of renderer.old) (unheld (page_of renderer.old))) }
-    ensures mark { renderer.new.at_mark ≡ renderer.old.at_mark }
+/// A whole stretch: one text, or what was held.
+#[derive(Clone, Copy)]
+struct Stretch<'t> {
+    text: &'t str,
+    source: Option<&'t str>,
+    after_close: bool,
+}
+
+fn lent_source(source: &Option<String>) -> Option<&str>
+    ensures { option_map (λ text. text.now) result ≡ option_map string_bytes source.now }
 {
-    match renderer.take_held()? {
-        None => begun(alloc, text, source, previous),
-        Some(held) => longer(held, text, source),
+    match source {
+        Some(text) => Some(text.as_str()),
+        None => None,
+    }
+}
+
+/// A text that is a stretch by itself, without a copy.
+fn alone<'t>(
+    text: &'t str,
+    source: &'t Option<String>,
+    previous: Option<&OwnedEvent>,
+) -> Stretch<'t>
+    ensures { stretch_view result
+        ≡ begun text.now (option_map string_bytes source.now) (following_view previous.entry) }
+{
+    Stretch {
+        text,
+        source: lent_source(source),
+        after_close: ends_delimiter(previous),
+    }
+}
+
+/// The stretch that was held.
+fn lent(held: &Held) -> Stretch<'_>
+    ensures { stretch_view result ≡ held_view held.now }
+{
+    Stretch {
+        text: held.text.as_str(),
+        source: lent_source(&held.source),
+        after_close: held.after_close,
     }
 }
 
@@ -80,29 +106,29 @@ fn write_stretch(
     renderer: &mut Renderer<'_>,
     job: Job<'_, '_>,
     manner: Manner<'_>,
-    held: &Held,
+    stretch: Stretch<'_>,
     next: Option<&OwnedEvent>,
 ) -> Result<(), AllocError>
     ensures stands { OnOk result (Stands renderer.new (levels_of renderer.old)
         (shown (options_in job.entry) job.entry.flags (text_in manner.entry) manner.entry.source
-        (held_view held.now) (following_view next.entry) (levels_of renderer.old)
+        (stretch_view stretch.entry) (following_view next.entry) (levels_of renderer.old)
         (page_of renderer.old))) }
     ensures mark { renderer.new.at_mark ≡ renderer.old.at_mark }
 {
     if renderer.outside().raw {
-        return write_inline(renderer, held.text.as_str());
+        return write_inline(renderer, stretch.text);
     }
-    match &held.source {
-        Some(source) if manner.source => write_inline(renderer, source.as_str()),
+    match stretch.source {
+        Some(source) if manner.source => write_inline(renderer, source),
         _ => {
             let place = place(
                 renderer,
                 job,
                 manner.delimiters.text,
-                held.after_close,
+                stretch.after_close,
                 next,
             );
-            write_escaped_inline(renderer, held.text.as_str(), &place)
+            write_escaped_inline(renderer, stretch.text, &place)
         }
     }
 }
@@ -113,18 +139,18 @@ fn write_whole(
     job: Job<'_, '_>,
     manner: Manner<'_>,
     event: &OwnedEvent,
-    held: &Held,
+    stretch: Stretch<'_>,
     next: Option<&OwnedEvent>,
 ) -> Result<(), AllocError>
     ensures stands { OnOk result (Stands renderer.new (levels_of renderer.old)
         (shown (options_in job.entry) job.entry.flags (text_in manner.entry) manner.entry.source
-        (held_view held.now) (following_view next.entry) (levels_of renderer.old)
+        (stretch_view stretch.entry) (following_view next.entry) (levels_of renderer.old)
         (gap (event_view string_bytes event.now) (levels_of renderer.old)
         (page_of renderer.old)))) }
     ensures mark { renderer.new.at_mark ≡ renderer.old.at_mark }
 {
     renderer.write_gap(event)?;
-    write_stretch(renderer, job, manner, held, next)
+    write_stretch(renderer, job, manner, stretch, next)
 }
 
 /// Writes a whole stretch behind its gap, and makes the nearest cell wider by its characters.
@@ -133,19 +159,81 @@ fn show(
     job: Job<'_, '_>,
     manner: Manner<'_>,
     event: &OwnedEvent,
-    held: &Held,
+    stretch: Stretch<'_>,
     next: Option<&OwnedEvent>,
 ) -> Result<(), AllocError>
     ensures stands { OnOk result (Stands renderer.new
-        (widened (length (chars (held_view held.now).text)) (levels_of renderer.old))
+        (widened (length (chars (stretch_view stretch.entry).text)) (levels_of renderer.old))
         (shown (options_in job.entry) job.entry.flags (text_in manner.entry) manner.entry.source
-        (held_view held.now) (following_view next.entry) (levels_of renderer.old)
+        (stretch_view stretch.entry) (following_view next.entry) (levels_of renderer.old)
         (gap (event_view string_bytes event.now) (levels_of renderer.old)
         (page_of renderer.old)))) }
     ensures mark { renderer.new.at_mark ≡ renderer.old.at_mark }
 {
-    write_whole(renderer, job, manner, event, held, next)?;
-    widen_by_text(renderer, held.text.as_str())
+    write_whole(renderer, job, manner, event, stretch, next)?;
+    widen_by_text(renderer, stretch.text)
+}
+
+/// Begins a stretch with a text, where none is held: it is held while a further text follows, else
+/// written behind its gap.
+fn begin(
+    renderer: &mut Renderer<'_>,
+    job: Job<'_, '_>,
+    manner: Manner<'_>,
+    event: &BufferedEvent,
+    text: &str,
+    beside: Beside<'_>,
+) -> Result<(), AllocError>
+    ensures stands { (p : Page) → page_of renderer.old ≡ unheld p
+        → OnOk result (StandsAt renderer.new (held_or_shown beside.entry.text_follows
+        (options_in job.entry) job.entry.flags (text_in manner.entry) manner.entry.source
+        (begun text.now (option_map string_bytes event.now.source)
+        (following_view beside.entry.previous))
+        (event_view string_bytes event.now.event) (following_view beside.entry.next)
+        (levels_of renderer.old) p)) }
+    ensures mark { renderer.new.at_mark ≡ renderer.old.at_mark }
+{
+    if !beside.text_follows {
+        let stretch = alone(text, &event.source, beside.previous);
+        return show(renderer, job, manner, &event.event, stretch, beside.next);
+    }
+    let held = begun(job.alloc, text, &event.source, beside.previous)?;
+    renderer.hold(held);
+    Ok(())
+}
+
+/// Goes on with a stretch that was held, by a text: it is held while a further text follows, else
+/// written behind its gap.
+fn go_on(
+    renderer: &mut Renderer<'_>,
+    job: Job<'_, '_>,
+    manner: Manner<'_>,
+    held: Held,
+    event: &BufferedEvent,
+    text: &str,
+    beside: Beside<'_>,
+) -> Result<(), AllocError>
+    ensures stands { (p : Page) → page_of renderer.old ≡ unheld p
+        → OnOk result (StandsAt renderer.new (held_or_shown beside.entry.text_follows
+        (options_in job.entry) job.entry.flags (text_in manner.entry) manner.entry.source
+        (longer (held_view held) text.now (option_map string_bytes event.now.source))
+        (event_view string_bytes event.now.event) (following_view beside.entry.next)
+        (levels_of renderer.old) p)) }
+    ensures mark { renderer.new.at_mark ≡ renderer.old.at_mark }
+{
+    let whole = longer(held, text, &event.source)?;
+    if beside.text_follows {
+        renderer.hold(whole);
+        return Ok(());
+    }
+    show(
+        renderer,
+        job,
+        manner,
+        &event.event,
+        lent(&whole),
+        beside.next,
+    )
 }
 
 /// Adds a text to the stretch that is held; where no further text follows, writes the stretch behind
@@ -166,12 +254,10 @@ pub fn add_text(
         (levels_of renderer.old) (page_of renderer.old))) }
     ensures mark { renderer.new.at_mark ≡ renderer.old.at_mark }
 {
-    let held = take_longer(renderer, job.alloc, text, &event.source, beside.previous)?;
-    if beside.text_follows {
-        renderer.hold(held);
-        return Ok(());
+    match renderer.take_held()? {
+        None => begin(renderer, job, manner, event, text, beside),
+        Some(held) => go_on(renderer, job, manner, held, event, text, beside),
     }
-    show(renderer, job, manner, &event.event, &held, beside.next)
 }
 
 /// A source that goes on, if all of its parts are known.
