@@ -9,8 +9,8 @@ use crate::widths::opening_widths;
 use std::alloc::{AllocError, Global};
 use tocmark_event::reader::Reader;
 use tocmark_spelling::buffered::BufferedEvent;
-use tocmark_write_lookahead::preferred::preferences;
-use tocmark_write_lookahead::sides::{Counted, Side, sides_ahead, sides_before};
+use tocmark_write_lookahead::preferred::{preferences, sides_round};
+use tocmark_write_lookahead::sides::{Counted, Side, sides_before};
 
 /// For each event of a unit what emphasis and strong emphasis ask of it.
 #[derive(Drop)]
@@ -57,13 +57,18 @@ pub fn columns_of<R: Reader>(
     ensures { IfOk result (λ columns.
         AreColumns (R.reading reader.now) (map buffered_view events.now) columns) }
 {
+    let ends_before = sides_before(alloc, events, Counted::Ends)?;
+    let widths = opening_widths(alloc, events, ends)?;
+    let by_neighbours = preferences(alloc, reader, None, events, ends)?;
+    let round = sides_round(alloc, events)?;
+    let by_runs = preferences(alloc, reader, Some(&round), events, ends)?;
     Ok(Columns {
-        starts_before: sides_before(alloc, events, Counted::Starts)?,
-        ends_before: sides_before(alloc, events, Counted::Ends)?,
-        starts_ahead: sides_ahead(alloc, events, Counted::Starts)?,
-        ends_ahead: sides_ahead(alloc, events, Counted::Ends)?,
-        widths: opening_widths(alloc, events, ends)?,
-        by_runs: preferences(alloc, reader, true, events, ends)?,
-        by_neighbours: preferences(alloc, reader, false, events, ends)?,
+        starts_before: round.before,
+        ends_before,
+        starts_ahead: round.starts,
+        ends_ahead: round.ends,
+        widths,
+        by_runs,
+        by_neighbours,
     })
 }

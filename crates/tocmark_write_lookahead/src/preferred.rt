@@ -11,7 +11,7 @@ ghost use Rattle.tocmark_spelling.specs.Edges.{edge_before, edge_after};
 ghost use Rattle.tocmark_spelling.specs.Page.{front};
 ghost use Rattle.tocmark_spelling.specs.PlanOf.{setting_of};
 ghost use Rattle.tocmark_spelling.specs.Runs.{close_width, counts, disturbs_at, start_width};
-ghost use Rattle.tocmark_write_lookahead.specs.Sides.{closes_at, mark_of, no_side, AreRound, AreRoundIf};
+ghost use Rattle.tocmark_write_lookahead.specs.Sides.{closes_at, mark_of, no_side, AreAhead, AreBefore, AreRound, AreRoundIf};
 ghost use Rattle.tocmark_spelling.specs.Plan.{Setting};
 ghost use Rattle.tocmark_spelling.specs.Scans.{AreEnds};
 
@@ -93,18 +93,24 @@ fn character_behind(sides: &[Side], place: usize) -> Option<char>
 
 /// What stands round the events of a unit, by the runs there.
 #[derive(Drop)]
-struct Round {
+pub struct Round {
     /// The sides before each event.
-    before: Vec<Side>,
+    pub before: Vec<Side>,
     /// Those of the starts from each event on.
-    starts: Vec<Side>,
+    pub starts: Vec<Side>,
     /// Those of the ends from each event on.
-    ends: Vec<Side>,
+    pub ends: Vec<Side>,
 }
 
-/// What stands round events. An `Err` says that memory ran out.
-fn sides_round(alloc: Global, events: &[BufferedEvent]) -> Result<Round, AllocError>
-    ensures { IfOk result (λ round. AreRound (map buffered_view events.now)
+/// What stands round events, by the runs there. An `Err` says that memory ran out.
+pub fn sides_round(alloc: Global, events: &[BufferedEvent]) -> Result<Round, AllocError>
+    ensures before { IfOk result (λ round.
+        AreBefore start_width (map buffered_view events.now) round.before.items) }
+    ensures starts { IfOk result (λ round.
+        AreAhead start_width (map buffered_view events.now) round.starts.items) }
+    ensures ends { IfOk result (λ round.
+        AreAhead close_width (map buffered_view events.now) round.ends.items) }
+    ensures round { IfOk result (λ round. AreRound (map buffered_view events.now)
         round.before.items round.starts.items round.ends.items) }
 {
     Ok(Round {
@@ -112,23 +118,6 @@ fn sides_round(alloc: Global, events: &[BufferedEvent]) -> Result<Round, AllocEr
         starts: sides_ahead(alloc, events, Counted::Starts)?,
         ends: sides_ahead(alloc, events, Counted::Ends)?,
     })
-}
-
-/// What stands round events where runs count, and nothing where they don't. An `Err` says that memory
-/// ran out.
-fn round_if(
-    alloc: Global,
-    runs: bool,
-    events: &[BufferedEvent],
-) -> Result<Option<Round>, AllocError>
-    ensures runs { IfOk result (λ round. is_some round ≡ runs) }
-    ensures round { IfOk result (λ round. AreRoundIf (map buffered_view events.now) round) }
-{
-    if runs {
-        Ok(Some(sides_round(alloc, events)?))
-    } else {
-        Ok(None)
-    }
 }
 
 /// The characters beyond the runs round the node that starts at a place and ends at another one.
@@ -333,23 +322,24 @@ pub fn marks_within(
 }
 
 /// For each start whether its body holds a node whose markers would be asterisks that could close the
-/// emphasis round them, so that a container there prefers the underscore; by runs, or by neighbours alone.
+/// emphasis round them, so that a container there prefers the underscore; by neighbours alone where no
+/// runs are given.
 ///
 /// An `Err` says that memory ran out.
 pub fn preferences<R: Reader>(
     alloc: Global,
     reader: &R,
-    runs: bool,
+    round: Option<&Round>,
     events: &[BufferedEvent],
     ends: &[Option<usize>],
 ) -> Result<Vec<bool>, AllocError>
-    requires { AreEnds (map buffered_view events.now) ends.now }
+    requires ends { AreEnds (map buffered_view events.now) ends.now }
+    requires round { AreRoundIf (map buffered_view events.now) (option_copied round) }
     ensures { (o : OptionsView) (flags : ParserOptions) (label : Option (List ℕ))
         → IfOk result (λ found.
-        AreDisturbed (setting_of o flags (R.reading reader.now) label) runs
+        AreDisturbed (setting_of o flags (R.reading reader.now) label) (is_some round.entry)
         (map buffered_view events.now) found.items) }
 {
-    let round = round_if(alloc, runs, events)?;
-    let marks = disturbers(alloc, reader, events, ends, round.as_ref())?;
+    let marks = disturbers(alloc, reader, events, ends, round)?;
     marks_within(alloc, &marks, ends)
 }
