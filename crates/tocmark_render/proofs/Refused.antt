@@ -1,5 +1,5 @@
 -- A text that came before is refused again, since a reading is a function of its text.
-use Rattle.std.proofs.Common.{◌≡◌, ◌∙◌, ap, ℕ, Bool, true, false, if◌then◌else◌, List, [], ◌∷◌, ◌++◌, bytes_eq, string_bytes, String, ⊎_elim}
+use Rattle.std.proofs.Common.{◌≡◌, ◌∙◌, ap, refl, arith, ℕ, Bool, true, false, if◌then◌else◌, length, List, [], ◌∷◌, ◌++◌, bytes_eq, string_bytes, String, ⊎_elim}
 use Rattle.std.specs.Global.{Global}
 use Rattle.std.specs.List.{AllByRecursion, list_any}
 use Rattle.std.specs.Prelude.{string_eq}
@@ -9,6 +9,11 @@ use Rattle.indexmap.specs.IndexSet.{insert_key}
 use Rattle.tocmark_write_labels.specs.Document.{DocumentView}
 use Rattle.tocmark_render.specs.TrialOf.{reads_back_in}
 use Rattle.tocmark_render.specs.Tries.{Asked}
+
+-- no text is one of none
+pub none-among : (test : String Global → Bool) (ts : List (String Global)) → length ts ≡ 0 → false ≡ list_any test ts
+none-among test [] e = refl
+none-among test (t ∷ ts) e = absurd (omega (arith, e))
 
 module _ (q : Asked) (d : DocumentView) where
   abbrev IsRefused : String Global → Type 0

@@ -1,6 +1,7 @@
 //! What earlier units leave to the reading of a unit, and whether a unit is read back behind them.
 
-ghost use Rattle.std.specs.Prelude.{◌≡◌, ◌∷◌, [], string_bytes, IfOk, IfSome, OnOk, map, is_some};
+ghost use Rattle.std.specs.Prelude.{◌≡◌, ◌∷◌, [], bytes_eq, string_bytes, IfOk, IfSome, OnOk, map, is_some};
+ghost use Rattle.std.specs.List.{list_any};
 ghost use Rattle.tocmark_spelling.specs.Plan.{Setting};
 ghost use Rattle.tocmark_write_renderer.specs.JobOf.{manner_view};
 ghost use Rattle.tocmark_write_renderer.specs.WriterOf.{page_of, site_of};
@@ -48,6 +49,16 @@ pub fn reading_flags(flags: ParserOptions, flushed: bool) -> ParserOptions
     }
 }
 
+/// Whether a text was refused. Where none was, none is hashed.
+fn was_refused(refused: &Refused, text: &str) -> bool
+    ensures { result ≡ list_any (λ t. bytes_eq text.now (string_bytes t)) refused.now.keys }
+{
+    if refused.is_empty() {
+        return false;
+    }
+    refused.contains(text)
+}
+
 impl Earlier<'_> {
     /// The labels that the reader looks up in vain in a text that begins with the definitions of a
     /// trial's unit, if it finds the unit there. One that was refused isn't read again, and one that
@@ -69,7 +80,7 @@ impl Earlier<'_> {
         ensures refused { let q = asked_of R.reading trial.now in
             OnOk result (AreRefused q (earlier_view self.now) refused.new) }
     {
-        if refused.contains(text) {
+        if was_refused(refused, text) {
             return Ok(None);
         }
         let taken = Taken {

@@ -7,9 +7,9 @@ use Rattle.tocmark_render.proofs.Trials.{none-left}
 use Rattle.tocmark_render.proofs.TrialUnits.{trial-read}
 use Rattle.tocmark_render.proofs.earlier.Earlier.find_in.Goals as goal
 
-pub returns-then-contains-clause-read : goal.returns-then-contains-clause-read
-returns-then-contains-clause-read g c =
-    sym (refused-again (asked_of g.R.Reader.reading c.args.trial.now) (earlier_view c.args.self.now) c.args.text.now c.args.refused.now.keys c.requires.refused (sym c.contains.ensures ∙ c.if-contains.true))
+pub returns-then-was_refused-clause-read : goal.returns-then-was_refused-clause-read
+returns-then-was_refused-clause-read g c =
+    sym (refused-again (asked_of g.R.Reader.reading c.args.trial.now) (earlier_view c.args.self.now) c.args.text.now c.args.refused.now.keys c.requires.refused (sym c.was_refused.ensures ∙ c.if-was_refused.true))
 
 pub returns-in-Some-clause-read : goal.returns-in-Some-clause-read
 returns-in-Some-clause-read g c =
