@@ -32,7 +32,6 @@ use tocmark_spelling::trail::Trail;
 use tocmark_write_labels::definitions::{copied_references, definitions_text};
 use tocmark_write_labels::labels::Labels;
 use tocmark_write_labels::pending::Pending;
-use tocmark_write_labels::placeholder::needs_list_placeholder;
 use tocmark_write_labels::reserved_label::reserve_list_label;
 use tocmark_write_renderer::parts::{Parts, Reference};
 use tocmark_write_renderer::renderer::Renderer;
@@ -414,7 +413,7 @@ impl Document {
         ensures { IfOk result (λ label. option_map string_bytes label ≡
             label_for (document_view self.now) unit.now.events None) }
     {
-        if needs_list_placeholder(alloc, unit)? {
+        if unit.needs_placeholder() {
             let events = unit.events();
             let label = reserve_list_label(alloc, &self.known, &self.literal, events)?;
             Ok(Some(label))

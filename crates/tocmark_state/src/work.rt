@@ -22,7 +22,6 @@ use tocmark_event::reader::Reader;
 use tocmark_render::document::Document;
 use tocmark_write_labels::ending::holds_raw_block;
 use tocmark_write_labels::pending::Pending;
-use tocmark_write_labels::placeholder::needs_list_placeholder;
 
 /// How much a call did. Both counts stop at the greatest `usize`.
 #[derive(Clone, Copy, Debug, PartialEq, Eq, Default)]
@@ -152,7 +151,7 @@ fn flush_before<R: Reader, W: Taker>(
     if !is_due_now(work) {
         return Ok(0);
     }
-    let waits = needs_list_placeholder(tools.alloc, &work.pending)?;
+    let waits = work.pending.needs_placeholder();
     if waits {
         work.is_deferred = true;
         return Ok(0);

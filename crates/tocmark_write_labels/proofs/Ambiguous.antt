@@ -1,23 +1,18 @@
 -- The lists that need a placeholder are found among the events in a row.
-use Rattle.std.proofs.Common.{◌≡◌, ℕ, zero, suc, ◌+◌, ◌<◌, ◌≤◌, Bool, true, false, ◌||◌, ◌&&◌, Option, Some, None, List, [], ◌∷◌, ◌++◌, refl, sym, ap, ◌∙◌, map, drop, length, get_or, arith}
+use Rattle.std.proofs.Common.{◌≡◌, ℕ, zero, suc, Bool, true, false, ◌||◌, ◌&&◌, Option, Some, None, List, [], ◌∷◌, ◌++◌, refl, sym, ap, ◌∙◌, drop}
 use Rattle.std.specs.Prelude.{is_some}
-use Rattle.std.proofs.lemmas.Bool.{false≢true, true≢false, or_parts}
-use Rattle.std.proofs.lemmas.List.{drop-drop, length-drop}
+use Rattle.std.proofs.lemmas.Bool.{false≢true, true≢false}
 use Rattle.tocmark_event.specs.Forest.{empty, leaf, node, flat, flat_onto}
-use Rattle.tocmark_event.specs.View.{TagView, SourcedEvent, Start, End, Leaf, unsourced, end_of}
+use Rattle.tocmark_event.specs.View.{TagView, SourcedEvent, Start, End, Leaf, end_of}
 use Rattle.tocmark_event.specs.declared.event.TagEnd.{TagEnd}
 use Rattle.tocmark_spelling.specs.Body.{Trees, back_onto, is_empty}
-use Rattle.tocmark_spelling.specs.Kinds.{is_item, is_list, is_paragraph, and_is, starts}
+use Rattle.tocmark_spelling.specs.Kinds.{is_item, is_list, is_paragraph, and_is}
 use Rattle.tocmark_spelling.specs.Page.{Around, front}
 use Rattle.tocmark_spelling.specs.Runs.{inside, beyond, past, ahead_of}
-use Rattle.tocmark_spelling.specs.Buffered.{buffered_view}
 use Rattle.tocmark_spelling.specs.Scans.{span}
-use Rattle.tocmark_spelling.specs.declared.buffered.BufferedEvent.{BufferedEvent}
-use Rattle.tocmark_spelling.proofs.Turns.{events-drop, drop-event}
 use Rattle.tocmark_write_labels.specs.Placeholder.{is_inline_end_or_leaf, begins_with_empty_item, is_only_item, is_ambiguous_list, needs_placeholder_at, needs_placeholder, whole}
 use Rattle.tocmark_write_labels.specs.Units.{placeholder_in, trees_of, waits}
-use Rattle.tocmark_write_labels.specs.Waiting.{begins_empty_item, begins_three_ends, begins_only_item, from_end, starts_ambiguous_list, has_ambiguous_list, has_list}
-use Rattle.tocmark_write_lookahead.proofs.Ahead.{place-rest}
+use Rattle.tocmark_write_labels.specs.Waiting.{begins_empty_item, begins_three_ends, begins_only_item, from_end, starts_ambiguous_list, has_ambiguous_list}
 use Rattle.tocmark_write_labels.proofs.Balanced.{flat-of-trees}
 
 -- ---- the End of the container in which a forest stands
@@ -176,76 +171,3 @@ waiting-at es more (Some f) e h =
 pub waits-more : (unit more : List SourcedEvent) → waits unit ≡ true → is_some (trees_of (unit ++ more)) ≡ true → waits (unit ++ more) ≡ true
 unfolding waits
 waits-more unit more h some = sym (waits-balanced (unit ++ more) some) ∙ waiting-at unit more (trees_of unit) refl h
-
--- ---- the events from an End on, by its place
-
--- no container starts past the last event
-pub none-past : (es rest : List SourcedEvent) (i n : ℕ) (t : TagView) → length es ≤ i → drop i es ≡ Start t ∷ rest → n ≡ i + 1 + span 0 rest
-none-past es rest i n t le at = let count = sym (length-drop i es) ∙ ap length at in absurd (omega (arith, le, count))
-
--- the events from the End on of the container that starts at a place
-pub end-events : (es found : List BufferedEvent) (rest : List SourcedEvent) (i place : ℕ) (t : TagView) → drop i (map buffered_view es) ≡ Start t ∷ rest → place ≡ i + 1 + span 0 rest → found ≡ drop place es
-    → map buffered_view found ≡ from_end rest
-end-events es found rest i place t at p e =
-    ap (map buffered_view) e
-    ∙ events-drop es place
-    ∙ ap (λ n. drop n (map buffered_view es)) p
-    ∙ sym (drop-drop (span 0 rest) (i + 1) (map buffered_view es))
-    ∙ ap (drop (span 0 rest)) (place-rest (map buffered_view es) rest i (Start t) at)
-
--- the events from its End on matter where the second event starts a container
-only-behind : (es behind : List SourcedEvent) → ((t : TagView) (rest : List SourcedEvent) → drop 1 es ≡ Start t ∷ rest → behind ≡ from_end rest) → begins_only_item es behind ≡ begins_only_item es (from_end (drop 2 es))
-only-behind [] behind h = refl
-only-behind (e ∷ []) behind h = refl
-only-behind (e ∷ Start t ∷ es) behind h = ap (begins_only_item (e ∷ Start t ∷ es)) (h t es refl)
-only-behind (e ∷ End k ∷ es) behind h = no-paragraph (starts is_item (unsourced e)) (begins_three_ends behind) (begins_three_ends (from_end es))
-only-behind (e ∷ Leaf l ∷ es) behind h = no-paragraph (starts is_item (unsourced e)) (begins_three_ends behind) (begins_three_ends (from_end es))
-
--- ---- one event after the other
-
-rest-event : (es rest : List BufferedEvent) (i : ℕ) → rest ≡ drop (i + 1) es → map buffered_view rest ≡ drop (i + 1) (map buffered_view es)
-rest-event es rest i e = ap (map buffered_view) e ∙ events-drop es (i + 1)
-
-module _ (es rest behind : List BufferedEvent) (i : ℕ) (b : BufferedEvent) (inline found whole : Bool) (lt : i < length es) (e : b ≡ get_or es i b) (r : rest ≡ drop (i + 1) es)
-    (d : (t : TagView) (from : List SourcedEvent) → drop (i + 2) (map buffered_view es) ≡ Start t ∷ from → map buffered_view behind ≡ from_end from)
-    (f : found ≡ starts_ambiguous_list inline (buffered_view b) (map buffered_view rest) (map buffered_view behind))
-    (h : has_ambiguous_list inline (drop i (map buffered_view es)) ≡ whole) where
-  abbrev ahead : List SourcedEvent
-  ahead = drop (i + 1) (map buffered_view es)
-
-  abbrev later : Bool
-  later = has_ambiguous_list (is_inline_end_or_leaf (unsourced (buffered_view b))) ahead
-
-  second-behind : drop (i + 2) (map buffered_view es) ≡ drop 1 ahead
-  second-behind = let q : i + 2 ≡ i + 1 + 1 = omega arith in ap (λ n. drop n (map buffered_view es)) q ∙ sym (drop-drop 1 (i + 1) (map buffered_view es))
-
-  -- a list that starts with this event, or one behind it
-  list-more : (found || later) ≡ whole
-  list-more =
-      let item : Bool → Bool = λ x. starts is_list (unsourced (buffered_view b)) && ((begins_empty_item ahead && inline) || x) in
-      ap (λ x. x || later) f
-      ∙ ap (λ x. starts_ambiguous_list inline (buffered_view b) x (map buffered_view behind) || later) (rest-event es rest i r)
-      ∙ ap (λ x. item x || later) (only-behind ahead (map buffered_view behind) (λ t from at. d t from (second-behind ∙ at)))
-      ∙ ap (has_ambiguous_list inline) (sym (drop-event es i b lt e))
-      ∙ h
-
-  -- the list that was found
-  pub list-found : found ≡ true → true ≡ whole
-  list-found t = sym (ap (λ x. x || later) t) ∙ list-more
-
-  -- none was found, and the search goes on behind this event
-  pub list-later : (after : Bool) → after ≡ is_inline_end_or_leaf (unsourced (buffered_view b)) → found ≡ false → has_ambiguous_list after ahead ≡ whole
-  list-later after a t = ap (λ x. has_ambiguous_list x ahead) a ∙ sym (ap (λ x. x || later) t) ∙ list-more
-
--- where no list starts none needs a placeholder
-either : (x y : Bool) → x ≡ false → y ≡ false → (x || y) ≡ false
-either x y e f = ap (λ b. b || y) e ∙ f
-
-pub none-ambiguous : (inline : Bool) (es : List SourcedEvent) → has_list es ≡ false → has_ambiguous_list inline es ≡ false
-none-ambiguous inline [] h = refl
-none-ambiguous inline (e ∷ es) h =
-    let parts = or_parts (starts is_list (unsourced e)) (has_list es) h in
-    let other = (begins_empty_item es && inline) || begins_only_item es (from_end (drop 2 es)) in
-    either (starts_ambiguous_list inline e es (from_end (drop 2 es))) (has_ambiguous_list (is_inline_end_or_leaf (unsourced e)) es)
-    (ap (λ b. b && other) parts.0)
-    (none-ambiguous (is_inline_end_or_leaf (unsourced e)) es parts.1)

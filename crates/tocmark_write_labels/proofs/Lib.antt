@@ -3,6 +3,9 @@ pub mod LabelLemmas
 pub mod ReservedLabels
 pub mod Forests
 pub mod Balanced
+pub mod OpenContainers
+pub mod EndColumn
+pub mod EndedLists
 pub mod Joined
 pub mod Ambiguous
 pub mod DefinitionTexts

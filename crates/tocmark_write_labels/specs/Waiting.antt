@@ -1,14 +1,9 @@
 -- Lists that need a placeholder, among events in a row.
 use Rattle.std.specs.Prelude.{Bool, true, false, ◌&&◌, ◌||◌, List, [], ◌∷◌, drop}
-use Rattle.std.specs.List.{list_any}
 use Rattle.tocmark_event.specs.View.{SourcedEvent, Start, End, Leaf, unsourced}
 use Rattle.tocmark_spelling.specs.Kinds.{is_item, is_list, is_paragraph, starts}
 use Rattle.tocmark_spelling.specs.Scans.{span}
 use Rattle.tocmark_write_labels.specs.Placeholder.{is_inline_end_or_leaf}
-
--- whether a list starts among these events
-abbrev pub has_list : List SourcedEvent → Bool
-has_list es = list_any (λ e. starts is_list (unsourced e)) es
 
 -- an event that ends a container
 abbrev pub is_end : SourcedEvent → Bool

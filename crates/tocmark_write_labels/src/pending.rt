@@ -1,27 +1,34 @@
-//! The events that wait for their unit.
+//! The events that wait for their unit, with what is found out of them as they come.
 
-ghost use Rattle.std.specs.Prelude.{◌≡◌, ◌==◌, ◌<◌, length, map, option_map, reverse, string_bytes, true, vec_capacity, IfOk, is_ok, is_some, Ok};
+ghost use Rattle.std.specs.Prelude.{◌≡◌, ◌==◌, length, map, option_map, string_bytes, IfOk, is_some};
 ghost use Rattle.tocmark_event.specs.Text.{text_of};
 ghost use Rattle.tocmark_event.specs.View.{event_view};
 ghost use Rattle.tocmark_spelling.specs.Buffered.{buffered_view, sourced};
-ghost use Rattle.tocmark_write_labels.specs.Pending.{Joins, closed, nested, nothing_pending, text_now};
-ghost use Rattle.tocmark_write_labels.specs.Units.{trees_of};
+ghost use Rattle.tocmark_write_labels.specs.Pending.{Joins, nothing_pending, text_now};
+ghost use Rattle.tocmark_write_labels.specs.Units.{trees_of, waits};
 
+use crate::nesting::{OpenContainer, can_come, ended_by, nest, note_end};
+use crate::placeholder::is_ambiguous_behind;
 use std::alloc::{AllocError, Global};
 use std::marker::Model;
-use tocmark_event::event::{Event, EventOf, TagEnd};
+use tocmark_event::event::Event;
 use tocmark_event::options::Error;
 use tocmark_spelling::buffered::BufferedEvent;
-use tocmark_write_read_back::number::end_number;
 
 /// Events that wait for their unit. Each End among them is the innermost open container's.
 ///
 /// Where no container is open the events are those of whole trees: that needn't be found out again.
+/// Nor need what is kept beside them, to which each event adds in a constant number of steps.
 #[derive(Drop)]
 pub struct Pending {
     events: Vec<BufferedEvent>,
-    /// The Ends of the open containers, outermost first.
-    open_tags: Vec<TagEnd>,
+    /// The open containers, outermost first.
+    containers: Vec<OpenContainer>,
+    /// For each event that starts a container the place where that ends, if it has ended; `None` for
+    /// others.
+    ends: Vec<Option<usize>>,
+    /// Whether a list among the events needs a placeholder. That only goes from false to true.
+    is_ambiguous: bool,
 }
 
 impl Model for Pending {
@@ -29,50 +36,11 @@ impl Model for Pending {
 
     ghost Value = { PendingView };
 
-    ghost use Rattle.tocmark_write_labels.specs.PendingOf.{IsNested, pending_of};
+    ghost use Rattle.tocmark_write_labels.specs.PendingOf.{IsIndexed, pending_of};
 
     ghost view = { pending_of };
 
-    ghost invariant = { IsNested };
-}
-
-/// Whether an End is that of the innermost open container.
-fn ends_innermost(open_tags: &[TagEnd], end: TagEnd) -> bool
-    ensures { result ≡ is_ok (closed (reverse open_tags.now) end) }
-{
-    match open_tags.last() {
-        Some(innermost) => end_number(end) == end_number(*innermost),
-        None => false,
-    }
-}
-
-/// Whether an event can come where these containers are open.
-fn can_come(open_tags: &[TagEnd], event: &Event<'_>) -> bool
-    ensures { result ≡ is_ok (nested (reverse open_tags.now) (event_view text_of event.now)) }
-{
-    match event {
-        EventOf::End(end) => ends_innermost(open_tags, *end),
-        _ => true,
-    }
-}
-
-/// Opens or ends a container, with an event that can come. There is room for one more.
-fn nest(open_tags: &mut Vec<TagEnd>, event: &Event<'_>)
-    requires room { length open_tags.old.items < vec_capacity open_tags.old }
-    requires fits { let ends = reverse open_tags.old.items in
-        is_ok (nested ends (event_view text_of event.now)) ≡ true }
-    ensures { nested (reverse open_tags.old.items) (event_view text_of event.now)
-        ≡ Ok (reverse open_tags.new.items) }
-{
-    match event {
-        EventOf::Start(tag) => {
-            let _room = open_tags.push(tag.to_end());
-        }
-        EventOf::End(_) => {
-            open_tags.pop();
-        }
-        _ => {}
-    }
+    ghost invariant = { IsIndexed };
 }
 
 fn copied_source(alloc: Global, source: Option<&str>) -> Result<Option<String>, AllocError>
@@ -127,7 +95,9 @@ impl Pending {
     {
         Pending {
             events: Vec::new(alloc),
-            open_tags: Vec::new(alloc),
+            containers: Vec::new(alloc),
+            ends: Vec::new(alloc),
+            is_ambiguous: false,
         }
     }
 
@@ -150,7 +120,19 @@ impl Pending {
         ensures closed { result ≡ (length self.now.open_tags == 0) }
         ensures whole { result ≡ is_some (trees_of self.now.events) }
     {
-        self.open_tags.is_empty()
+        self.containers.is_empty()
+    }
+
+    /// Whether the unit waits for a label that only the end of the events can give: a list in it needs
+    /// a placeholder, since it would be read otherwise without one.
+    ///
+    /// A list does whose first item is empty and which stands just behind inline content, and one with
+    /// a single item that holds a single paragraph and nothing else. A unit in which a container is
+    /// open waits for nothing.
+    pub fn needs_placeholder(&self) -> bool
+        ensures { result ≡ waits self.now.events }
+    {
+        self.is_whole() && self.is_ambiguous
     }
 
     /// Adds a copy of an event, with what stands for it in the source where that is known.
@@ -166,22 +148,30 @@ impl Pending {
         ensures { Joins self.old
             (sourced (event_view text_of event.now) (text_now source.entry)) result self.new }
     {
-        if !can_come(&self.open_tags, event) {
+        if !can_come(&self.containers, event) {
             return Err(Error::UnexpectedEvent);
         }
+        let place = self.events.len();
+        let ended = ended_by(&self.containers, event);
+        let is_ambiguous = is_ambiguous_behind(self.is_ambiguous, &self.events, &self.ends, ended);
+        self.containers.reserve(1)?;
+        self.ends.reserve(1)?;
         let copy = buffered(alloc, event, source)?;
-        self.open_tags.reserve(1)?;
         self.events.push(copy)?;
-        nest(&mut self.open_tags, event);
+        self.is_ambiguous = is_ambiguous;
+        note_end(&mut self.ends, ended);
+        nest(&mut self.containers, event, place);
         Ok(())
     }
 
-    /// Lets go of the events. No container is open then.
+    /// Lets go of the events, and of what was found out of them. No container is open then.
     pub fn clear(&mut self)
         ensures { self.new ≡ nothing_pending }
     {
         self.events.clear();
-        self.open_tags.clear();
+        self.containers.clear();
+        self.ends.clear();
+        self.is_ambiguous = false;
     }
 
     /// The same events, copied. An `Err` says that memory ran out.
@@ -190,7 +180,9 @@ impl Pending {
     {
         Ok(Pending {
             events: copied_events(alloc, &self.events)?,
-            open_tags: Vec::from_slice(alloc, &self.open_tags)?,
+            containers: Vec::from_slice(alloc, &self.containers)?,
+            ends: Vec::from_slice(alloc, &self.ends)?,
+            is_ambiguous: self.is_ambiguous,
         })
     }
 }

@@ -1,21 +1,20 @@
-//! Whether a list in a unit needs a placeholder.
+//! Whether a list needs a placeholder, found when its first item ends, or it itself.
 
-ghost use Rattle.std.specs.Prelude.{◌≡◌, ◌∷◌, ◌+◌, drop, false, map, IfOk, List};
-ghost use Rattle.tocmark_event.specs.View.{unsourced, SourcedEvent, Start, TagView};
+ghost use Rattle.std.specs.Prelude.{◌≡◌, ◌∷◌, ◌++◌, ◌||◌, [], drop, false, map, reverse};
+ghost use Rattle.tocmark_event.specs.View.{unsourced, SourcedEvent};
 ghost use Rattle.tocmark_spelling.specs.Buffered.{buffered_view};
 ghost use Rattle.tocmark_spelling.specs.Kinds.{is_item, is_list, is_paragraph, starts};
-ghost use Rattle.tocmark_spelling.specs.Scans.{span, AreEnds};
+ghost use Rattle.tocmark_spelling.specs.Scans.{AreEnds};
+ghost use Rattle.tocmark_write_labels.specs.EndedLists.{begins_end, begins_first_item, begins_list, ends_in_first_item, ends_only_item_from, is_last_but_one};
+ghost use Rattle.tocmark_write_labels.specs.OpenContainers.{EndsAt};
 ghost use Rattle.tocmark_write_labels.specs.Placeholder.{is_inline_end_or_leaf};
-ghost use Rattle.tocmark_write_labels.specs.Units.{waits};
-ghost use Rattle.tocmark_write_labels.specs.Waiting.{is_end, begins_empty_item, begins_three_ends, begins_only_item, from_end, starts_ambiguous_list, has_ambiguous_list, has_list};
+ghost use Rattle.tocmark_write_labels.specs.Waiting.{has_ambiguous_list, is_end};
 
-use crate::pending::Pending;
-use std::alloc::{AllocError, Global};
 use tocmark_event::event::{EventOf, TagOf};
 use tocmark_spelling::buffered::BufferedEvent;
 use tocmark_spelling::kinds::is_inline_end;
 use tocmark_write_inlines::named::rest_of;
-use tocmark_write_lookahead::ends::{body_end, matching_ends};
+use tocmark_write_lookahead::ends::end_at;
 
 /// Whether inline content stands before what follows the event.
 fn is_inline_end_or_leaf(event: &BufferedEvent) -> bool
@@ -42,17 +41,6 @@ fn starts_list(event: &BufferedEvent) -> bool
     matches!(&event.event, EventOf::Start(TagOf::List(_)))
 }
 
-fn has_list(events: &[BufferedEvent]) -> bool
-    ensures { result ≡ has_list (map buffered_view events.now) }
-{
-    for event in events {
-        if starts_list(event) {
-            return true;
-        }
-    }
-    false
-}
-
 fn starts_item(event: &BufferedEvent) -> bool
     ensures { result ≡ starts is_item (unsourced (buffered_view event.now)) }
 {
@@ -65,117 +53,95 @@ fn starts_paragraph(event: &BufferedEvent) -> bool
     matches!(&event.event, EventOf::Start(TagOf::Paragraph))
 }
 
-/// Whether an item that ends at once comes first.
-fn begins_empty_item(events: &[BufferedEvent]) -> bool
-    ensures { result ≡ begins_empty_item (map buffered_view events.now) }
+/// Whether the starts of a list and of its first item come behind inline content.
+fn begins_first_item(events: &[BufferedEvent]) -> bool
+    ensures { result ≡ begins_first_item (map buffered_view events.now) }
 {
     match events {
-        [item, end, ..] => starts_item(item) && is_end(end),
-        _ => false,
-    }
-}
-
-/// Whether three Ends come first.
-fn begins_three_ends(events: &[BufferedEvent]) -> bool
-    ensures { result ≡ begins_three_ends (map buffered_view events.now) }
-{
-    match events {
-        [first, second, third, ..] => is_end(first) && is_end(second) && is_end(third),
-        _ => false,
-    }
-}
-
-/// Whether an item comes that holds a paragraph alone and is the only one in its list; `behind` are
-/// the events from the end of the paragraph.
-fn begins_only_item(events: &[BufferedEvent], behind: &[BufferedEvent]) -> bool
-    ensures { result
-        ≡ begins_only_item (map buffered_view events.now) (map buffered_view behind.now) }
-{
-    match events {
-        [item, paragraph, ..] => {
-            starts_item(item) && starts_paragraph(paragraph) && begins_three_ends(behind)
+        [before, list, item, ..] => {
+            starts_list(list) && starts_item(item) && is_inline_end_or_leaf(before)
         }
         _ => false,
     }
 }
 
-/// Whether a list starts that would be read otherwise without a placeholder.
-fn starts_ambiguous_list(
-    behind_inline: bool,
-    event: &BufferedEvent,
-    rest: &[BufferedEvent],
-    behind: &[BufferedEvent],
-) -> bool
-    ensures { result
-        ≡ starts_ambiguous_list behind_inline (buffered_view event.now)
-        (map buffered_view rest.now) (map buffered_view behind.now) }
+/// Whether events end with the starts of a list and of its first item, behind inline content.
+fn ends_in_first_item(events: &[BufferedEvent]) -> bool
+    ensures { result ≡ ends_in_first_item false (map buffered_view events.now) }
 {
-    starts_list(event)
-        && ((begins_empty_item(rest) && behind_inline) || begins_only_item(rest, behind))
+    begins_first_item(rest_of(events, events.len().saturating_sub(3)))
 }
 
-/// The place behind the body of the container that the second event after a place starts.
-fn end_after(ends: &[Option<usize>], i: usize) -> usize
-    ensures { (es : List SourcedEvent) (t : TagView) (rest : List SourcedEvent)
-        → AreEnds es ends.now → drop (i + 2) es ≡ Start t ∷ rest
-        → result ≡ i + 2 + 1 + span 0 rest }
+/// Whether the starts of a list, of its first item and of a paragraph come.
+fn begins_list(events: &[BufferedEvent]) -> bool
+    ensures { result ≡ begins_list (map buffered_view events.now) }
 {
-    let count = ends.len();
-    if count > 2 && i < count - 2 {
-        body_end(ends, i + 2)
-    } else {
-        count
+    match events {
+        [list, item, paragraph, ..] => {
+            starts_list(list) && starts_item(item) && starts_paragraph(paragraph)
+        }
+        _ => false,
     }
 }
 
-/// The events from the end on of the container that the second event after a place starts.
-fn from_end_after<'a>(
-    events: &'a [BufferedEvent],
+/// Whether the last event is an End.
+fn ends_in_end(events: &[BufferedEvent]) -> bool
+    ensures { result ≡ begins_end (reverse (map buffered_view events.now)) }
+{
+    match events.last() {
+        Some(event) => is_end(event),
+        None => false,
+    }
+}
+
+/// Whether a container ended with the last event but one of so many.
+fn is_last_but_one(end: Option<usize>, count: usize) -> bool
+    ensures { result ≡ is_last_but_one end count }
+{
+    match end {
+        Some(end) => end < count && count - end == 2,
+        None => false,
+    }
+}
+
+/// Whether the list whose start is at a place, and that an End ends now, has one item alone, in which a
+/// paragraph stands alone.
+fn ends_only_item(events: &[BufferedEvent], ends: &[Option<usize>], start: usize) -> bool
+    requires ends { AreEnds (map buffered_view events.now) ends.now }
+    ensures { result ≡ ends_only_item_from (drop start (map buffered_view events.now)) }
+{
+    if begins_list(rest_of(events, start)) {
+        is_last_but_one(end_at(ends, start + 2), events.len()) && ends_in_end(events)
+    } else {
+        false
+    }
+}
+
+/// Whether a list needs a placeholder that didn't before, now that an End ends the container whose start
+/// is at a place.
+fn ends_ambiguous_list(events: &[BufferedEvent], ends: &[Option<usize>], start: usize) -> bool
+    requires ends { AreEnds (map buffered_view events.now) ends.now }
+    ensures { let es = map buffered_view events.now in
+        result ≡ (ends_in_first_item false es || ends_only_item_from (drop start es)) }
+{
+    ends_in_first_item(events) || ends_only_item(events, ends, start)
+}
+
+/// Whether a list among events needs a placeholder once another event joined them, which ends the
+/// container whose start is at a place, if it ends one; given whether one did before.
+pub(crate) fn is_ambiguous_behind(
+    was: bool,
+    events: &[BufferedEvent],
     ends: &[Option<usize>],
-    i: usize,
-) -> &'a [BufferedEvent]
+    ended: Option<usize>,
+) -> bool
+    requires was { was ≡ has_ambiguous_list false (map buffered_view events.now) }
     requires ends { AreEnds (map buffered_view events.now) ends.now }
-    ensures { (t : TagView) (rest : List SourcedEvent)
-        → drop (i + 2) (map buffered_view events.now) ≡ Start t ∷ rest
-        → map buffered_view result.now ≡ from_end rest }
+    ensures { let es = map buffered_view events.now in
+        (e : SourcedEvent) → EndsAt es e ended → result ≡ has_ambiguous_list false (es ++ e ∷ []) }
 {
-    rest_of(events, end_after(ends, i))
-}
-
-/// Whether some list would be read otherwise without a placeholder, given where the containers end.
-fn has_ambiguous_list(events: &[BufferedEvent], ends: &[Option<usize>]) -> bool
-    requires ends { AreEnds (map buffered_view events.now) ends.now }
-    ensures { result ≡ has_ambiguous_list false (map buffered_view events.now) }
-{
-    let mut behind_inline = false;
-    for (i, event) in events.iter().enumerate() {
-        let rest = rest_of(events, i + 1);
-        let behind = from_end_after(events, ends, i);
-        if starts_ambiguous_list(behind_inline, event, rest, behind) {
-            return true;
-        }
-        behind_inline = is_inline_end_or_leaf(event);
-    }
-    false
-}
-
-/// Whether a unit waits for a label that only the end of the events can give: a list in it needs a
-/// placeholder, since it would be read otherwise without one. An `Err` says that memory ran out.
-///
-/// A list does whose first item is empty and which stands just behind inline content, and one with a
-/// single item that holds a single paragraph and nothing else. A unit in which a container is open
-/// waits for nothing.
-pub fn needs_list_placeholder(alloc: Global, unit: &Pending) -> Result<bool, AllocError>
-    ensures { IfOk result (λ needs. needs ≡ waits unit.now.events) }
-{
-    if !unit.is_whole() {
-        return Ok(false);
-    }
-    let events = unit.events();
-    if has_list(events) {
-        let ends = matching_ends(alloc, events)?;
-        Ok(has_ambiguous_list(events, &ends))
-    } else {
-        Ok(false)
+    match ended {
+        Some(start) => was || ends_ambiguous_list(events, ends, start),
+        None => was,
     }
 }

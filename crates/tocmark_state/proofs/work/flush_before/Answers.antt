@@ -15,16 +15,16 @@ returns-then-not-is_due_now-clause-count g c =
 
 pub returns-then-waits-clause-made : goal.returns-then-waits-clause-made
 returns-then-waits-clause-made g c =
-    rw (before_waiting (rendering_with g.R.Reader.reading c.args.tools.now) (event_view text_of c.args.next.now) (standing_of c.args.work.now) (sym c.if-not-is_due_now.ensures) (sym c.in_ok-waits.ensures ∙ c.if-waits.true)) (refl, refl)
+    rw (before_waiting (rendering_with g.R.Reader.reading c.args.tools.now) (event_view text_of c.args.next.now) (standing_of c.args.work.now) (sym c.if-not-is_due_now.ensures) (sym c.needs_placeholder-waits.ensures ∙ c.if-waits.true)) (refl, refl)
 
 pub returns-then-waits-clause-count : goal.returns-then-waits-clause-count
 returns-then-waits-clause-count g c =
-    rw (before_waiting (rendering_with g.R.Reader.reading c.args.tools.now) (event_view text_of c.args.next.now) (standing_of c.args.work.now) (sym c.if-not-is_due_now.ensures) (sym c.in_ok-waits.ensures ∙ c.if-waits.true)) refl
+    rw (before_waiting (rendering_with g.R.Reader.reading c.args.tools.now) (event_view text_of c.args.next.now) (standing_of c.args.work.now) (sym c.if-not-is_due_now.ensures) (sym c.needs_placeholder-waits.ensures ∙ c.if-waits.true)) refl
 
 pub returns-clause-made : goal.returns-clause-made
 returns-clause-made g c =
-    rw (before_due (rendering_with g.R.Reader.reading c.args.tools.now) (event_view text_of c.args.next.now) (standing_of c.args.work.now) (sym c.if-not-is_due_now.ensures) (sym c.in_ok-waits.ensures ∙ c.if-waits.false)) c.flush.ensures.made
+    rw (before_due (rendering_with g.R.Reader.reading c.args.tools.now) (event_view text_of c.args.next.now) (standing_of c.args.work.now) (sym c.if-not-is_due_now.ensures) (sym c.needs_placeholder-waits.ensures ∙ c.if-waits.false)) c.flush.ensures.made
 
 pub returns-clause-count : goal.returns-clause-count
 returns-clause-count g c =
-    rw (before_due (rendering_with g.R.Reader.reading c.args.tools.now) (event_view text_of c.args.next.now) (standing_of c.args.work.now) (sym c.if-not-is_due_now.ensures) (sym c.in_ok-waits.ensures ∙ c.if-waits.false)) c.flush.ensures.count
+    rw (before_due (rendering_with g.R.Reader.reading c.args.tools.now) (event_view text_of c.args.next.now) (standing_of c.args.work.now) (sym c.if-not-is_due_now.ensures) (sym c.needs_placeholder-waits.ensures ∙ c.if-waits.false)) c.flush.ensures.count
