@@ -8,6 +8,7 @@ import shutil
 TOP = os.path.dirname(os.path.dirname(os.path.abspath(__file__)))
 SIZE = 100_000
 DEPTH = 10_000
+COMPARED_SIZE = 1_000_000
 LARGE_SIZE = 3_000_000
 
 
@@ -277,11 +278,46 @@ def standard_examples():
     return "".join(f"{text}\n" for text in examples) * 200
 
 
+def repeated(part):
+    """1 MB of a part, again and again."""
+    return part * (COMPARED_SIZE // len(part.encode()))
+
+
+def lists():
+    """Lists of three items with a list in the last one, a paragraph between each two."""
+    return repeated("- a first item of some words\n- a second one\n- a third one\n  1. one\n  2. two\n\nA paragraph stands between.\n\n")
+
+
+def one_list():
+    """One list of 100,000 items."""
+    return "".join(f"- item {number} of one list\n" for number in range(100_000))
+
+
+def links():
+    """Paragraphs of links of each kind, with the definitions that they use."""
+    paragraph = "See [the guide](https://example.com/a/b.html \"Guide\"), [a page][page], <https://example.com> and ![a picture](p.png).\n\n"
+    return repeated(paragraph) + "[page]: https://example.com/page\n"
+
+
+def code():
+    """Fenced blocks of five lines, a paragraph with two code spans between each two."""
+    return repeated("Call `run()` with `--help`:\n\n```rust\nfn main() {\n    let n = 1;\n    println!(\"{n}\");\n    run(n);\n}\n```\n\n")
+
+
 # large texts, as people write them: a name and what makes the text
 LARGE = [("guides", guides), ("plain paragraphs", plain_paragraphs)]
 
 # large texts for which programs are compared
-COMPARED = [("guides", guides), ("marked paragraphs", marked_paragraphs), ("standard", standard_examples)]
+COMPARED = [
+    ("guides", guides),
+    ("plain paragraphs", plain_paragraphs),
+    ("marked paragraphs", marked_paragraphs),
+    ("standard", standard_examples),
+    ("lists", lists),
+    ("one list", one_list),
+    ("links", links),
+    ("code", code),
+]
 
 
 
