@@ -1,4 +1,5 @@
 pub mod Walks
 pub mod Steps
+pub mod Unranged
 pub mod Runs
 pub mod Statuses

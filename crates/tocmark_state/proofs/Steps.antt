@@ -1,41 +1,21 @@
 -- One more event of a loop.
-use Rattle.std.proofs.Common.{◌≡◌, ℕ, ◌+◌, ◌-◌, ◌^◌, min, List, [], ◌∷◌, ◌++◌, length, sum_by, Result, Ok, Option, None, ap, ◌∙◌, arith, false, true}
+use Rattle.std.proofs.Common.{◌≡◌, ℕ, ◌+◌, ◌-◌, ◌^◌, min, List, [], ◌∷◌, ◌++◌, length, sum_by, Result, Ok, Option, ap, ◌∙◌, arith, false, true}
 use Rattle.std.proofs.lemmas.List.{map-append}
 use Rattle.std.proofs.lemmas.List.Sums.{sum_by-append}
 use Rattle.std.specs.Borrow.{Bor}
 use Rattle.std.specs.List.{FoldsTo}
-use Rattle.tocmark_event.specs.Text.{ParserEvent, text_of}
-use Rattle.tocmark_event.specs.View.{EventView, event_view}
+use Rattle.tocmark_event.specs.Text.{ParserEvent}
 use Rattle.tocmark_event.specs.declared.options.Error.{Error}
-use Rattle.tocmark_spelling.specs.Buffered.{sourced}
 use Rattle.tocmark_state.specs.declared.work.Progress.{Progress}
-use Rattle.tocmark_state.specs.Ranges.{Range, unranged}
-use Rattle.tocmark_state.specs.Walk.{Rendering, Standing, Walk, walk, step, advance}
+use Rattle.tocmark_state.specs.Ranges.{Range}
+use Rattle.tocmark_state.specs.Walk.{Rendering, Standing, Walk, walk, step}
 use Rattle.tocmark_state.specs.Writes.{Makes}
 use Rattle.tocmark_event.specs.declared.options.Error.TheVariants as error
-use Rattle.tocmark_state.specs.WorkView.{pairs, ranged_pair, ranged_pairs, Counts}
-use Rattle.tocmark_state.proofs.Walks.{walk_more, Makes-more, step_unranged}
+use Rattle.tocmark_state.specs.WorkView.{ranged_pair, ranged_pairs, Counts}
+use Rattle.tocmark_state.proofs.Walks.{walk_more, Makes-more}
 
 pub no_ok : {A : Type 0} → false ≡ true → A
 no_ok h = absurd (cc)
-
-abbrev pub event_at : Bor ParserEvent → EventView
-event_at x = event_view text_of x.now
-
-pub pairs_more : (ys : List (Bor ParserEvent)) (y : Bor ParserEvent) → pairs (ys ++ y ∷ []) ≡ pairs ys ++ unranged (event_at y) ∷ []
-pairs_more ys y = map-append (λ x. unranged (event_at x)) ys (y ∷ [])
-
--- one more event of a loop
-pub Makes-pairs : {W X : Type 0} (gives refuses : W → List ℕ → W → Type 0) (w v u : W) (r : Result X Error) (t' : Standing) (how : Rendering) (source : List ℕ) (s t : Standing) (ys : List (Bor ParserEvent)) (y : Bor ParserEvent) → (walk how source s (pairs ys)).outcome ≡ Ok t → FoldsTo gives w (walk how source s (pairs ys)).texts v → Makes gives refuses v u r t' (advance how (sourced (event_at y) None) t) → Makes gives refuses w u r t' (walk how source s (pairs (ys ++ y ∷ [])))
-Makes-pairs gives refuses w v u r t' how source s t ys y h folds m =
-    rw (pairs_more ys y) (Makes-more gives refuses w v u r t' how source s t (pairs ys) (unranged (event_at y)) h folds (rw (step_unranged how source (event_at y) t) m))
-
-pub bytes_more : (how : Rendering) (source : List ℕ) (s t : Standing) (ys : List (Bor ParserEvent)) (y : Bor ParserEvent) → (walk how source s (pairs ys)).outcome ≡ Ok t → sum_by length (walk how source s (pairs (ys ++ y ∷ []))).texts ≡ sum_by length (walk how source s (pairs ys)).texts + sum_by length (advance how (sourced (event_at y) None) t).texts
-bytes_more how source s t ys y h =
-    ap (λ es. sum_by length (walk how source s es).texts) (pairs_more ys y)
-    ∙ (ap (λ (w : Walk Standing). sum_by length w.texts) (walk_more how source s t (pairs ys) (unranged (event_at y)) h)
-    ∙ (sum_by-append length (walk how source s (pairs ys)).texts (step how source (unranged (event_at y)) t).texts
-    ∙ ap (λ (w : Walk Standing). sum_by length (walk how source s (pairs ys)).texts + sum_by length w.texts) (step_unranged how source (event_at y) t)))
 
 pub ranged_more : (ys : List (Bor ParserEvent × Option Range)) (y : Bor ParserEvent × Option Range) → ranged_pairs (ys ++ y ∷ []) ≡ ranged_pairs ys ++ ranged_pair y ∷ []
 ranged_more ys y = map-append ranged_pair ys (y ∷ [])

@@ -1,9 +1,10 @@
 -- Events with ranges in a source.
-use Rattle.std.specs.Prelude.{ℕ, ◌-◌, List, Bool, ◌==◌, ◌&&◌, ◌||◌, nat_lt, nat_le, if◌then◌else◌, Option, Some, None, Result, Ok, Err, slice_index, slice_range, length}
+use Rattle.std.specs.Prelude.{ℕ, ◌-◌, List, Bool, ◌==◌, ◌&&◌, ◌||◌, nat_lt, nat_le, if◌then◌else◌, Option, Some, None, Result, Ok, Err, slice_index, slice_range, length, ◌≡◌, MatchOption}
 use Rattle.tocmark_event.specs.View.{EventView, Start, Leaf, Text, SourcedEvent}
 use Rattle.tocmark_event.specs.declared.options.Error.{Error}
 use Rattle.tocmark_event.specs.declared.options.Error.TheVariants as error
 use Rattle.tocmark_spelling.specs.Buffered.{sourced}
+use Rattle.tocmark_state.specs.declared.ranges.Unranged.{Unranged}
 
 -- a byte range: the first byte, and the one after the last
 abbrev pub Range : Type 0
@@ -16,6 +17,11 @@ Pair = EventView × Option Range
 -- an event without a range
 abbrev pub unranged : EventView → Pair
 unranged e = (e, None)
+
+-- a step over items that come without ranges is one over these items
+abbrev pub unranged_steps : {S A : Type 0} → (S → Option A → S → Type 0) → Unranged S → Option (A × Option Range) → Unranged S → Type 0
+unranged_steps steps s r t =
+    MatchOption r (steps s.events None t.events) (λ x. steps s.events (Some x.0) t.events × (x.1 ≡ None))
 
 -- the place is the end of the text, or that of a byte that begins a character
 abbrev pub is_character_boundary : List ℕ → ℕ → Bool

@@ -3,11 +3,32 @@
 ghost use Rattle.std.specs.Prelude.{◌==◌, ◌&&◌, Option, ◌≤◌, true, slice_range, ◌≡◌, length, Some, None};
 ghost use Rattle.tocmark_event.specs.Text.{text_of};
 ghost use Rattle.tocmark_event.specs.View.{event_view};
-ghost use Rattle.tocmark_state.specs.Ranges.{is_character_boundary, is_good_range, resolved_at, spelling_start};
+ghost use Rattle.tocmark_state.specs.Ranges.{is_character_boundary, is_good_range, resolved_at, spelling_start, unranged_steps};
 ghost use Rattle.tocmark_state.specs.WorkView.{ResolvedAs};
 
 use tocmark_event::event::{Event, EventOf};
 use tocmark_event::options::Error;
+
+/// Items as pairs without ranges.
+#[derive(Drop)]
+pub struct Unranged<I> {
+    pub events: I,
+}
+
+impl<I: Iterator> Iterator for Unranged<I> {
+    type Item = (I::Item, Option<(usize, usize)>);
+
+    ghost can_next = { λ s. I.can_next s.events };
+
+    ghost next_gives = { unranged_steps I.next_gives };
+
+    ghost remaining = { λ s. I.remaining s.events };
+
+    fn next(&mut self) -> Option<(I::Item, Option<(usize, usize)>)> {
+        let event = self.events.next()?;
+        Some((event, None))
+    }
+}
 
 fn is_boundary(source: &str, at: usize) -> bool
     ensures { result ≡ is_character_boundary source.now at }

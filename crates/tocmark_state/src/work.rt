@@ -13,7 +13,7 @@ ghost use Rattle.tocmark_state.specs.WorkView.{Answers, Chooses, Counts, at_most
 ghost use Rattle.tocmark_write_labels.specs.Pending.{text_now};
 
 use crate::hand::{hand, hand_last};
-use crate::ranges::resolve;
+use crate::ranges::{Unranged, resolve};
 use crate::taker::Taker;
 use std::alloc::{AllocError, Global};
 use tocmark_event::event::{Event, ParserOptions};
@@ -219,12 +219,7 @@ where
         (pairs xs)).texts))) }
     ensures flags { flags_of work.new ≡ flags_of work.old }
 {
-    let mut taken = Progress::default();
-    for event in events {
-        let written = take(tools, work, event, None, writer)?;
-        taken = counted(taken, written);
-    }
-    Ok(taken)
+    take_all_ranged(tools, work, Unranged { events }, "", writer)
 }
 
 /// Takes one event with its range, if it has one. Returns how many bytes it handed.
