@@ -275,15 +275,6 @@ impl<'a> Containers<'a> {
         self.kept = Some(self.frames.len());
     }
 
-    /// Forgets the mark.
-    pub fn keep(&mut self)
-        ensures path { self.new.path ≡ self.old.path }
-        ensures mark { self.new.at_mark ≡ None }
-    {
-        self.closed.clear();
-        self.kept = None;
-    }
-
     /// Makes them again what they were at the mark, which is forgotten.
     pub fn back(&mut self)
         requires { IsSome self.old.at_mark }

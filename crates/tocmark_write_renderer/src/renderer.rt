@@ -490,17 +490,6 @@ impl<'a> Renderer<'a> {
         });
     }
 
-    /// Forgets the mark.
-    pub fn keep(&mut self)
-        ensures site { site_of self.new ≡ site_of self.old }
-        ensures mark { self.new.at_mark ≡ None }
-    {
-        self.containers.keep();
-        self.old_quote_line = None;
-        self.old_held = None;
-        self.mark = None;
-    }
-
     /// Makes it again what it was at the mark, which is forgotten. It takes no memory.
     pub fn back(&mut self)
         requires { IsSome self.old.at_mark }
