@@ -29,7 +29,7 @@ extern "C" {
 /* The version of this header, as tocmark_version() answers it. */
 #define TOCMARK_VERSION 0x000100u
 
-/* Extensions of Markdown, as bits of `flags`; 0 is CommonMark 0.31.2. The first eleven are read. All others change nothing of
+/* Extensions of Markdown, as bits of `flags`; 0 is CommonMark 0.31.2. All but the last are read. Any other changes nothing of
  * what is read, and what is written under them is refused where the writer doesn't know them (TOCMARK_INVALID_OPTIONS). They
  * have the numbers that pulldown-cmark 0.13 gives its Options. */
 #define TOCMARK_TABLES (1u << 1)

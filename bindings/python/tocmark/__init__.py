@@ -43,7 +43,7 @@ Placed = Tuple[Event, Optional[range]]
 EXTENSIONS: Mapping[str, int] = {
     "tables": 1 << 1, "footnotes": 1 << 2, "strikethrough": 1 << 3, "tasklists": 1 << 4, "yaml-metadata": 1 << 7,
     "pluses-metadata": 1 << 8, "superscript": 1 << 13, "subscript": 1 << 14, "heading-attributes": 1 << 6,
-    "math": 1 << 10, "quote-kinds": 1 << 11,
+    "math": 1 << 10, "quote-kinds": 1 << 11, "definition-lists": 1 << 12,
 }
 
 #: The syntaxes, by their names, with the flags of each.

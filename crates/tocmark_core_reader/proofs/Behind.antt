@@ -140,6 +140,9 @@ adds_kind syntax (kind.Table from to) text find pieces unwrapped b = adds_block 
 adds_kind syntax kind.TableHead text find pieces unwrapped b = adds_block text b
 adds_kind syntax kind.TableRow text find pieces unwrapped b = adds_block text b
 adds_kind syntax kind.TableCell text find pieces unwrapped b = adds_cell syntax text find b
+adds_kind syntax kind.DefinitionList text find pieces unwrapped b = adds_block text b
+adds_kind syntax kind.DefinitionListTitle text find pieces unwrapped b = adds_wrapped syntax text find pieces b
+adds_kind syntax kind.DefinitionListDefinition text find pieces unwrapped b = adds_block text b
 
 -- one more block, written behind the others
 pub block_behind : (syntax : Syntax) (text : List ℕ) (find : Find) (all : List Piece) (unwrapped : Bool) (b : Block) (s : State) → written_alone text (block_taken_in syntax text find all unwrapped b s) ≡ written_by text (block_taken_in syntax text find all unwrapped b) (written_alone text s)

@@ -73,6 +73,9 @@ block_tag text (kind.Table from to) = view.Table (alignments_of (bytes_between t
 block_tag text kind.TableHead = view.TableHead
 block_tag text kind.TableRow = view.TableRow
 block_tag text kind.TableCell = view.TableCell
+block_tag text kind.DefinitionList = view.DefinitionList
+block_tag text kind.DefinitionListTitle = view.DefinitionListTitle
+block_tag text kind.DefinitionListDefinition = view.DefinitionListDefinition
 
 -- a block directly in an item of a tight list
 unfoldable pub is_unwrapped : List Block → Block → Bool
@@ -156,7 +159,7 @@ with_fence_in names text from to b lines s =
 unfoldable pub with_rule : Block → State → State
 with_rule b s = record s { nodes = s.nodes ++ node b.depth (Given view.Rule) b.start b.end ∷ [] }
 
--- a paragraph or a heading with its inlines
+-- a paragraph, a heading or a title with its inlines
 unfoldable pub wrapped_in : Syntax → List ℕ → (List ℕ → Option Entry) → List Piece → Block → State → State
 wrapped_in syntax text find pieces b s = leaf_inlines_in syntax text find pieces (plus b.depth 1) (with_block text b s)
 
@@ -192,6 +195,9 @@ taken_as_in syntax (kind.Table from to) text find pieces unwrapped b s = with_bl
 taken_as_in syntax kind.TableHead text find pieces unwrapped b s = with_block text b s
 taken_as_in syntax kind.TableRow text find pieces unwrapped b s = with_block text b s
 taken_as_in syntax kind.TableCell text find pieces unwrapped b s = cell_taken_in syntax text find b s
+taken_as_in syntax kind.DefinitionList text find pieces unwrapped b s = with_block text b s
+taken_as_in syntax kind.DefinitionListTitle text find pieces unwrapped b s = wrapped_in syntax text find pieces b s
+taken_as_in syntax kind.DefinitionListDefinition text find pieces unwrapped b s = with_block text b s
 
 -- one more block
 unfoldable pub block_taken_in : Syntax → List ℕ → (List ℕ → Option Entry) → List Piece → Bool → Block → State → State

@@ -42,6 +42,9 @@ noted_as text s (kind.Table from to) = s
 noted_as text s kind.TableHead = s
 noted_as text s kind.TableRow = s
 noted_as text s kind.TableCell = s
+noted_as text s kind.DefinitionList = s
+noted_as text s kind.DefinitionListTitle = s
+noted_as text s kind.DefinitionListDefinition = s
 
 -- the footnotes that blocks are the definitions of
 abbrev pub noted : List ℕ → List Block → defs.State → defs.State

@@ -170,6 +170,9 @@ fn block_tag(alloc: Global, text: &str, kind: BlockKind) -> Result<Tag<'static>,
         BlockKind::TableHead => Ok(Tag::TableHead),
         BlockKind::TableRow => Ok(Tag::TableRow),
         BlockKind::TableCell => Ok(Tag::TableCell),
+        BlockKind::DefinitionList => Ok(Tag::DefinitionList),
+        BlockKind::DefinitionListTitle => Ok(Tag::DefinitionListTitle),
+        BlockKind::DefinitionListDefinition => Ok(Tag::DefinitionListDefinition),
     }
 }
 
@@ -450,7 +453,7 @@ impl Assembly {
         self.emission.write(alloc, text, node)
     }
 
-    /// A paragraph or a heading with its inlines.
+    /// A paragraph, a heading or a title with its inlines.
     fn read_wrapped(
         &mut self,
         alloc: Global,
@@ -559,6 +562,9 @@ impl Assembly {
             BlockKind::TableHead => self.open(alloc, document.text, block),
             BlockKind::TableRow => self.open(alloc, document.text, block),
             BlockKind::TableCell => self.take_cell(alloc, document, block),
+            BlockKind::DefinitionList => self.open(alloc, document.text, block),
+            BlockKind::DefinitionListTitle => { self.read_wrapped(alloc, document, pieces, block) }
+            BlockKind::DefinitionListDefinition => self.open(alloc, document.text, block),
         }
     }
 }

@@ -11,7 +11,7 @@ use tocmark_json::fault::OptionFault;
 use tocmark_json::options::set_option;
 
 /// The extensions by their names.
-const NAMED: [(&str, ParserOptions); 11] = [
+const NAMED: [(&str, ParserOptions); 12] = [
     ("tables", ParserOptions::ENABLE_TABLES),
     ("footnotes", ParserOptions::ENABLE_FOOTNOTES),
     ("strikethrough", ParserOptions::ENABLE_STRIKETHROUGH),
@@ -32,6 +32,7 @@ const NAMED: [(&str, ParserOptions); 11] = [
         "heading-attributes",
         ParserOptions::ENABLE_HEADING_ATTRIBUTES,
     ),
+    ("definition-lists", ParserOptions::ENABLE_DEFINITION_LIST),
 ];
 
 /// Of what GitHub reads beside CommonMark, that which the reader reads.

@@ -3,7 +3,7 @@ use Rattle.std.specs.Prelude.{◌==◌, Bool, bit_and}
 use Rattle.tocmark_read_syntax.specs.declared.Syntax.{Syntax}
 use Rattle.tocmark_read_syntax.specs.declared.Names.{Names}
 use Rattle.tocmark_event.specs.declared.event.flags.ParserOptions.{ParserOptions}
-use Rattle.tocmark_event.specs.declared.event.flags.TheConstants.ParserOptions.{ENABLE_TABLES, ENABLE_FOOTNOTES, ENABLE_STRIKETHROUGH, ENABLE_SUBSCRIPT, ENABLE_SUPERSCRIPT, ENABLE_MATH, ENABLE_TASKLISTS, ENABLE_YAML_STYLE_METADATA_BLOCKS, ENABLE_PLUSES_DELIMITED_METADATA_BLOCKS, ENABLE_GFM, ENABLE_HEADING_ATTRIBUTES}
+use Rattle.tocmark_event.specs.declared.event.flags.TheConstants.ParserOptions.{ENABLE_TABLES, ENABLE_FOOTNOTES, ENABLE_STRIKETHROUGH, ENABLE_SUBSCRIPT, ENABLE_SUPERSCRIPT, ENABLE_MATH, ENABLE_TASKLISTS, ENABLE_YAML_STYLE_METADATA_BLOCKS, ENABLE_PLUSES_DELIMITED_METADATA_BLOCKS, ENABLE_GFM, ENABLE_HEADING_ATTRIBUTES, ENABLE_DEFINITION_LIST}
 
 -- a flag is among these
 abbrev pub has : ParserOptions → ParserOptions → Bool
@@ -23,5 +23,6 @@ syntax_of names flags = record {
   pluses_metadata = has flags ENABLE_PLUSES_DELIMITED_METADATA_BLOCKS;
   quote_kinds = has flags ENABLE_GFM;
   heading_attributes = has flags ENABLE_HEADING_ATTRIBUTES;
+  definition_lists = has flags ENABLE_DEFINITION_LIST;
   names = names;
 }

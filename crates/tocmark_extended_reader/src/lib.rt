@@ -17,8 +17,8 @@ pub use tocmark_read_syntax::Names;
 use tocmark_read_syntax::Syntax;
 
 /// The flags of the extensions that `ExtendedReader` reads: strikethrough, subscripts, superscripts,
-/// mathematics, task lists, both kinds of metadata, footnotes, tables, kinds of block quotes, and attributes
-/// of headings.
+/// mathematics, task lists, both kinds of metadata, footnotes, tables, kinds of block quotes, attributes of
+/// headings, and definition lists.
 pub const EXTENSIONS: ParserOptions = ParserOptions(
     ParserOptions::ENABLE_STRIKETHROUGH.0
         | ParserOptions::ENABLE_SUBSCRIPT.0
@@ -30,7 +30,8 @@ pub const EXTENSIONS: ParserOptions = ParserOptions(
         | ParserOptions::ENABLE_PLUSES_DELIMITED_METADATA_BLOCKS.0
         | ParserOptions::ENABLE_FOOTNOTES.0
         | ParserOptions::ENABLE_GFM.0
-        | ParserOptions::ENABLE_HEADING_ATTRIBUTES.0,
+        | ParserOptions::ENABLE_HEADING_ATTRIBUTES.0
+        | ParserOptions::ENABLE_DEFINITION_LIST.0,
 );
 
 /// The extensions that flags name, with the names of character references that are known.
@@ -50,6 +51,7 @@ fn syntax_of(names: Names, flags: ParserOptions) -> Syntax
         pluses_metadata: flags.contains(ParserOptions::ENABLE_PLUSES_DELIMITED_METADATA_BLOCKS),
         quote_kinds: flags.contains(ParserOptions::ENABLE_GFM),
         heading_attributes: flags.contains(ParserOptions::ENABLE_HEADING_ATTRIBUTES),
+        definition_lists: flags.contains(ParserOptions::ENABLE_DEFINITION_LIST),
         names,
     }
 }
@@ -96,6 +98,14 @@ fn syntax_of(names: Names, flags: ParserOptions) -> Syntax
 /// underline, before a closing sequence of `#` is looked for: words between spaces, tabs and form feeds,
 /// without braces, angle brackets and backslashes. Of `#id` the last counts, `.class` is a class, and any
 /// other word an attribute, whose value stands behind its first `=`; a word of one byte says nothing.
+///
+/// A definition begins with a line whose first mark is a colon, behind at most three spaces, if a paragraph
+/// with text stands just before it in the same container: the open one, or the last block, also behind blank
+/// lines and behind definitions of links. That paragraph is a title, and begins a list if it isn't in one. A
+/// colon behind a definition of the same list begins a further one, also where its line would go on lazily.
+/// Lines of a definition are indented as its text is, past the colon and at most four spaces. Behind a
+/// definition a paragraph is the next title if a colon follows, and stands behind the list if none does. A list
+/// is loose if a blank line stands right before a definition, or between two blocks of one.
 ///
 /// The label of a footnote is a caret and a name between brackets, on one line. A colon just behind it, at
 /// the front of a container's line, begins a definition: a container whose further lines are indented by

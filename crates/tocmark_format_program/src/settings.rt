@@ -48,7 +48,7 @@ pub const KEYS: [(&str, Key, &str); 10] = [
 ];
 
 /// The extensions by their names.
-const EXTENSION_NAMES: [(&str, ParserOptions); 11] = [
+const EXTENSION_NAMES: [(&str, ParserOptions); 12] = [
     ("tables", ParserOptions::ENABLE_TABLES),
     ("footnotes", ParserOptions::ENABLE_FOOTNOTES),
     ("strikethrough", ParserOptions::ENABLE_STRIKETHROUGH),
@@ -69,6 +69,7 @@ const EXTENSION_NAMES: [(&str, ParserOptions); 11] = [
         "heading-attributes",
         ParserOptions::ENABLE_HEADING_ATTRIBUTES,
     ),
+    ("definition-lists", ParserOptions::ENABLE_DEFINITION_LIST),
 ];
 
 /// What documents on GitHub have beside CommonMark, front matter among it, so far as the reader reads it.

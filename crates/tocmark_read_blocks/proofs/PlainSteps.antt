@@ -7,6 +7,7 @@ use Rattle.tocmark_read_lines.specs.Cells.{cells_of, cell_byte, cell_place, firs
 use Rattle.tocmark_read_blocks.specs.Blocks.{leaf_started_in, started_in, metadata_in, metadata_or, task_in, task_or, quote_kind_in, quote_kind_or, tag_in, tag_or, cells_taken_in, line_taken_in, container_once_in, container_once, containers_opened, leaf_started, started_at, text_taken, text_started, goes_directly, passed_in, turn_in, turn_of, touched, cells_taken, line_taken, begun_at, started}
 use Rattle.tocmark_read_blocks.specs.Codes.{piece_of, text_piece}
 use Rattle.tocmark_read_lines.specs.Containers.{container_at, container_in, item_at, raised_at}
+use Rattle.tocmark_read_lines.specs.DefinitionLists.{definition_start}
 use Rattle.tocmark_read_lines.specs.Notes.{note_start}
 use Rattle.std.proofs.lemmas.Bool.Decides.{nat_tests}
 use Rattle.tocmark_read_blocks.specs.Definitions.{begins_definition, definitions_from}
@@ -71,6 +72,7 @@ paragraph pieces start end number = record {
   kept = length pieces;
   header = Never;
   tried = 0;
+  left = None;
 }
 
 -- the columns of a line, and that nothing begins with them
@@ -84,7 +86,7 @@ abbrev here : LineStart
 here = record { cursor = front; depth = 0 }
 
 opens_none : (text : List ℕ) (cells : List Cell) (l : Line) (s : State) → BeginsNothing (bytes_between text l.start l.end) cells → containers_opened text cells l (tail_of cells) here s ≡ (s, here)
-unfolding container_once_in container_in note_start
+unfolding container_once_in container_in definition_start note_start
 opens_none text cells l s h =
     let some : 0 < length cells = grind (arith, h.some) in
     repeated_stop (container_once text cells l (tail_of cells)) (length cells) here s s some

@@ -5,6 +5,7 @@ use Rattle.std.specs.Prelude.{Bool, true, false, ◌&&◌}
 use Rattle.tocmark_read_scan.specs.Repeat.{repeated}
 use Rattle.tocmark_read_lines.specs.Cells.{is_blank_at}
 use Rattle.tocmark_read_lines.specs.Containers.{container_at, container_in}
+use Rattle.tocmark_read_lines.specs.DefinitionLists.{begins_definition, definition_start}
 use Rattle.tocmark_read_lines.specs.Notes.{note_start}
 use Rattle.tocmark_read_syntax.specs.declared.Syntax.{Syntax}
 use Rattle.tocmark_read_blocks.specs.Leaves.{leaf_at}
@@ -34,9 +35,9 @@ never false = refl
 
 -- a blank line begins nothing
 blank_opens : (syntax : Syntax) (text : List ℕ) (cells : List Cell) (line : Line) (tail : Tail) (place : LineStart) (s : State) (n : ℕ) → is_blank_at cells place.cursor ≡ true → repeated (container_once_in syntax text cells line tail) n place s ≡ (s, place)
-unfolding repeated container_once_in container_in container_at note_start
+unfolding repeated container_once_in container_in container_at begins_definition definition_start note_start
 blank_opens syntax text cells line tail place s zero h = refl
-blank_opens syntax text cells line tail place s (suc n) h = rw (h, never syntax.footnotes) refl
+blank_opens syntax text cells line tail place s (suc n) h = rw (h, never syntax.definition_lists, never syntax.footnotes) refl
 
 pub blank_started : (known : Known) (text : List ℕ) (cells : List Cell) (line : Line) (place : LineStart) (s : State) → is_blank_at cells place.cursor ≡ true → leaf_started_in known text cells line place s ≡ closed_to text place.depth s
 unfolding leaf_started_in leaf_at started_in is_front metadata_in metadata_or task_in task_or quote_kind_in quote_kind_or is_first_line tag_in tag_or

@@ -25,7 +25,8 @@ use Rattle.tocmark_read_lines.specs.declared.attributes.Braces.{Braces}
 use Rattle.tocmark_read_lines.specs.declared.metadata.Known.{Known}
 use Rattle.tocmark_read_blocks.specs.Leaves.{is_paragraph, is_table, leaf_at, leaf_turn, rule_at}
 use Rattle.tocmark_read_lines.specs.Marks.{tail_of}
-use Rattle.tocmark_read_blocks.specs.Pages.{State, first_page, innermost, is_list, is_quote, leaf_finished, settled, closed_to, list_left, note_left, opened_with, leaf_opened, piece_taken}
+use Rattle.tocmark_read_blocks.specs.DefinitionLists.{definitions_entered}
+use Rattle.tocmark_read_blocks.specs.Pages.{State, first_page, innermost, is_list, is_quote, leaf_finished, settled, closed_to, list_left, note_left, opened_with, leaf_opened, piece_taken, has_text}
 use Rattle.tocmark_read_lines.specs.declared.line.Line.{Line}
 use Rattle.tocmark_read_lines.specs.declared.cell.Cell.{Cell}
 use Rattle.tocmark_read_lines.specs.declared.cell.Cursor.{Cursor}
@@ -38,6 +39,7 @@ use Rattle.tocmark_read_lines.specs.declared.container.Container.{Container}
 use Rattle.tocmark_read_lines.specs.declared.container.Container.TheVariants as container
 use Rattle.tocmark_read_lines.specs.declared.container.Opened.{Opened}
 use Rattle.tocmark_read_lines.specs.declared.container.ItemStart.{ItemStart}
+use Rattle.tocmark_read_lines.specs.declared.definition_list.DefinitionStart.{DefinitionStart}
 use Rattle.tocmark_read_lines.specs.declared.note.NoteStart.{NoteStart}
 use Rattle.tocmark_read_lines.specs.declared.container.ContainerStart.{ContainerStart}
 use Rattle.tocmark_read_lines.specs.declared.container.ContainerStart.TheVariants as begins
@@ -87,6 +89,8 @@ is_list_of sort container.Quote = false
 is_list_of sort (container.List same) = same == sort
 is_list_of sort (container.Item width) = false
 is_list_of sort container.Note = false
+is_list_of sort container.Definitions = false
+is_list_of sort (container.Definition width) = false
 
 -- the innermost container is a list whose markers end with this byte
 unfoldable pub is_in_list : ℕ → State → Bool
@@ -120,12 +124,24 @@ note_opened text cells line place note s =
 abbrev pub some_place : State × LineStart → State × Option LineStart
 some_place p = (p.0, Some (p.1))
 
+-- a definition begins in its list, if it has one
+abbrev pub definition_begun : List Cell → Line → LineStart → DefinitionStart → State × Bool → State × Option LineStart
+definition_begun cells line place d (s, false) = (s, None)
+definition_begun cells line place d (s, true) =
+    some_place (with_place (moved cells place.cursor d.next)
+    (opened_with (container.Definition d.width) kind.DefinitionListDefinition (start_of cells place line) line s))
+
+-- a definition begins, if a title or a definition of its list stands before it
+unfoldable pub definition_opened : List ℕ → List Cell → Line → LineStart → DefinitionStart → State → State × Option LineStart
+definition_opened text cells line place d s = definition_begun cells line place d (definitions_entered text place.depth s)
+
 -- the container that was found begins
 abbrev pub begun_at : List ℕ → List Cell → Line → LineStart → State → Option ContainerStart → State × Option LineStart
 begun_at text cells line place s None = (s, None)
 begun_at text cells line place s (Some begins.Quote) = some_place (quote_opened text cells line place s)
 begun_at text cells line place s (Some (begins.Item item)) = some_place (item_opened text cells line place item s)
 begun_at text cells line place s (Some (begins.Note note)) = some_place (note_opened text cells line place note s)
+begun_at text cells line place s (Some (begins.Definition d)) = definition_opened text cells line place d s
 
 -- the container that begins at a place opens
 unfoldable pub container_once_in : Syntax → List ℕ → List Cell → Line → Tail → LineStart → State → State × Option LineStart
@@ -216,10 +232,6 @@ html_started text cells line place k s =
 unfoldable pub rule_started : List ℕ → List Cell → Line → LineStart → State → State
 rule_started text cells line place s =
     leaf_finished (leaf_opened leaf.Nothing kind.Rule (start_of cells place line) line (closed_to text place.depth s))
-
--- the open paragraph has a line behind its definitions
-unfoldable pub has_text : State → Bool
-has_text s = option_map_or (λ (b : Block). nat_lt b.first (length s.pieces)) (slice_get s.blocks (length s.blocks - 1)) false
 
 -- the last block is of this kind
 abbrev pub of_kind : BlockKind → List Block → List Block

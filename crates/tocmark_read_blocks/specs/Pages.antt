@@ -17,6 +17,7 @@ use Rattle.tocmark_read_blocks.specs.declared.table.Table.{Table}
 use Rattle.tocmark_read_blocks.specs.declared.page.BlockKind.{BlockKind}
 use Rattle.tocmark_read_blocks.specs.declared.page.Block.{Block}
 use Rattle.tocmark_read_blocks.specs.declared.page.BlocksSoFar.{BlocksSoFar}
+use Rattle.tocmark_read_blocks.specs.declared.page.LeftList.{LeftList}
 
 pub record State : Type 0 where
   pub blocks : List Block
@@ -30,6 +31,7 @@ pub record State : Type 0 where
   pub kept : ℕ
   pub header : HeaderLine
   pub tried : ℕ
+  pub left : Option LeftList
 
 -- a page as plain values
 abbrev pub page : BlocksSoFar → State
@@ -45,11 +47,12 @@ page p = record {
   kept = p.kept;
   header = p.header;
   tried = p.tried;
+  left = p.left;
 }
 
 -- nothing is open and nothing was read
 abbrev pub first_page : State
-first_page = record { blocks = []; pieces = []; definitions = []; opened = []; quotes = []; leaf = leaf.Nothing; end = 0; line = 0; kept = 0; header = Never; tried = 0 }
+first_page = record { blocks = []; pieces = []; definitions = []; opened = []; quotes = []; leaf = leaf.Nothing; end = 0; line = 0; kept = 0; header = Never; tried = 0; left = None }
 
 -- the last of a list
 abbrev pub innermost : List Opened → Option Opened
@@ -118,6 +121,8 @@ is_quote container.Quote = true
 is_quote (container.List sort) = false
 is_quote (container.Item width) = false
 is_quote container.Note = false
+is_quote container.Definitions = false
+is_quote (container.Definition width) = false
 
 -- a container that is a list
 unfoldable pub is_list : Container → Bool
@@ -125,6 +130,8 @@ is_list container.Quote = false
 is_list (container.List sort) = true
 is_list (container.Item width) = false
 is_list container.Note = false
+is_list container.Definitions = true
+is_list (container.Definition width) = false
 
 -- a container that is the definition of a footnote
 unfoldable pub is_note : Container → Bool
@@ -132,6 +139,17 @@ is_note container.Quote = false
 is_note (container.List sort) = false
 is_note (container.Item width) = false
 is_note container.Note = true
+is_note container.Definitions = false
+is_note (container.Definition width) = false
+
+-- a container that is a list of definitions
+unfoldable pub is_definitions : Container → Bool
+is_definitions container.Quote = false
+is_definitions (container.List sort) = false
+is_definitions (container.Item width) = false
+is_definitions container.Note = false
+is_definitions container.Definitions = true
+is_definitions (container.Definition width) = false
 
 -- a quote that ended is no longer among the open ones
 abbrev pub quote_left : Container → State → State
@@ -156,24 +174,37 @@ closed_to text depth s =
     let t = leaf_closed text s in
     times one_closed (length t.opened - depth) t
 
--- nothing but items stands in a list
-unfoldable pub list_left : State → State
-list_left s = option_map_or (λ (o : Opened). if is_list o.container then one_closed s else s) (innermost s.opened) s
-
 -- a definition of a footnote doesn't stand directly in another one
 unfoldable pub note_left : State → State
 note_left s = option_map_or (λ (o : Opened). if is_note o.container then one_closed s else s) (innermost s.opened) s
 
--- the list that a container is, or whose item it is
+-- the list that a container is, or whose item or definition it is
 abbrev pub list_at : Container → Opened → List Opened → Option ℕ
 list_at container.Quote o opened = None
 list_at (container.List sort) o opened = Some o.block
 list_at (container.Item width) o opened = option_map (λ (l : Opened). l.block) (slice_get opened (length opened - 2))
 list_at container.Note o opened = None
+list_at container.Definitions o opened = Some o.block
+list_at (container.Definition width) o opened = option_map (λ (l : Opened). l.block) (slice_get opened (length opened - 2))
 
--- the list that is innermost, or whose item is
+-- the list that is innermost, or whose item or definition is
 unfoldable pub list_of : List Opened → Option ℕ
 list_of opened = option_and_then (λ (o : Opened). list_at o.container o opened) (innermost opened)
+
+-- the list at a place is loose
+abbrev pub is_loose : List Block → Option ℕ → Bool
+is_loose blocks list = option_map_or (λ place. option_map_or (λ (b : Block). b.loose) (slice_get blocks place) false) list false
+
+-- a list of definitions that was left may go on with the next block
+unfoldable pub left_noted : Opened → State → State
+left_noted o s =
+    if is_definitions o.container
+    then record s { left = Some (record { list = o.block; behind = length s.blocks; loose = is_loose s.blocks (list_of s.opened) }) }
+    else s
+
+-- nothing but items stands in a list, and nothing but titles and definitions in one of definitions
+unfoldable pub list_left : State → State
+list_left s = option_map_or (λ (o : Opened). if is_list o.container then left_noted o (one_closed s) else s) (innermost s.opened) s
 
 -- a block that begins in this line comes more than one line behind its neighbour (CommonMark 5.3)
 unfoldable pub is_apart : List Opened → ℕ → Bool
@@ -229,6 +260,10 @@ leaf_opened l kind start line s =
 -- a line that has no byte and no space is no piece
 abbrev pub piece_pushed : Piece → State → State
 piece_pushed p s = if nat_lt 0 p.spaces || nat_lt p.start p.next then record s { pieces = s.pieces ++ p ∷ [] } else s
+
+-- the open paragraph has a line behind its definitions
+unfoldable pub has_text : State → Bool
+has_text s = option_map_or (λ (b : Block). nat_lt b.first (length s.pieces)) (slice_get s.blocks (length s.blocks - 1)) false
 
 -- a line comes into the open leaf
 unfoldable pub piece_taken : Piece → Line → Bool → State → State

@@ -2,8 +2,8 @@
 
 ghost use Rattle.std.specs.Prelude.{◌≡◌, IfOk, OnOk};
 ghost use Rattle.std.specs.List.{fold};
-ghost use Rattle.tocmark_read_blocks.specs.Pages.{page};
-ghost use Rattle.tocmark_read_blocks.specs.Blocks.{info_of, goes_directly, quote_opened, is_in_list, list_started, item_opened, code_taken, html_ended, text_taken, text_started, indented_started, fence_started, html_started, rule_started, metadata_started, is_outside, is_front, metadata_in, metadata_or, is_new_item, task_in, task_or, extends_starts, start_or, with_task, boxed_taken, task_started, has_text, underline_taken_in, started_in, leaf_started_in, turn_of, is_ended_by_note, turn_in, leaf_ended, touched, cells_taken_in, line_taken_in, page_in, blocks_view, blocks_in, note_opened, container_once_in, containers_opened_in, passed_in, tabled_in};
+ghost use Rattle.tocmark_read_blocks.specs.Pages.{page, has_text};
+ghost use Rattle.tocmark_read_blocks.specs.Blocks.{info_of, goes_directly, quote_opened, is_in_list, list_started, item_opened, code_taken, html_ended, text_taken, text_started, indented_started, fence_started, html_started, rule_started, metadata_started, is_outside, is_front, metadata_in, metadata_or, is_new_item, task_in, task_or, extends_starts, start_or, with_task, boxed_taken, task_started, underline_taken_in, started_in, leaf_started_in, turn_of, is_ended_by_note, turn_in, leaf_ended, touched, cells_taken_in, line_taken_in, page_in, blocks_view, blocks_in, note_opened, container_once_in, containers_opened_in, passed_in, tabled_in};
 
 use crate::code::{code_piece, keeps_line, text_piece};
 use crate::definition::{LinkDefinition, Piece};
@@ -110,6 +110,8 @@ impl BlocksSoFar {
                 Container::List(same) => same == sort,
                 Container::Item(_) => false,
                 Container::Note => false,
+                Container::Definitions => false,
+                Container::Definition(_) => false,
             },
         }
     }
@@ -213,6 +215,9 @@ impl BlocksSoFar {
             Some(ContainerStart::Note(note)) => {
                 let next = self.open_note(alloc, row, place, note)?;
                 Ok(Some(next))
+            }
+            Some(ContainerStart::Definition(start)) => {
+                self.open_definition(alloc, row, place, start)
             }
         }
     }
@@ -547,7 +552,7 @@ impl BlocksSoFar {
     }
 
     /// Whether the open paragraph has a line behind its definitions.
-    #[tactic(auto, unfolding(crate::specs::Blocks::has_text))]
+    #[tactic(auto, unfolding(crate::specs::Pages::has_text))]
     pub fn has_text(&self) -> bool
         ensures { result ≡ has_text (page self.now) }
     {

@@ -9,6 +9,7 @@
 mod block;
 pub mod code;
 pub mod definition;
+mod definition_list;
 mod heading;
 pub mod leaf;
 mod page;

@@ -1,7 +1,7 @@
 //! The blocks of a page as its lines come in.
 
 ghost use Rattle.std.specs.Prelude.{◌≡◌, drop, OnOk};
-ghost use Rattle.tocmark_read_blocks.specs.Pages.{page, first_page, raised_last, shortened, is_list, is_quote, is_note, quote_left, quote_entered, piece_pushed, ended, finished, leaf_finished, settled, leaf_closed, one_closed, times, closed_to, list_left, note_left, list_of, is_apart, loosened, had_marked, begun, opened_with, leaf_opened, piece_taken, table_finished};
+ghost use Rattle.tocmark_read_blocks.specs.Pages.{page, first_page, raised_last, shortened, is_list, is_quote, is_note, quote_left, quote_entered, piece_pushed, ended, finished, leaf_finished, settled, leaf_closed, one_closed, times, closed_to, list_left, left_noted, is_definitions, is_loose, note_left, list_of, is_apart, loosened, had_marked, begun, opened_with, leaf_opened, piece_taken, table_finished};
 
 use crate::definition::{LinkDefinition, Piece, take_definitions};
 use crate::leaf::Leaf;
@@ -37,6 +37,10 @@ pub enum BlockKind {
     TableHead,
     TableRow,
     TableCell,
+    /// A list of definitions with their titles.
+    DefinitionList,
+    DefinitionListTitle,
+    DefinitionListDefinition,
 }
 
 /// The box of a task, with the place of its first byte.
@@ -63,6 +67,17 @@ pub struct Block {
     pub task: Option<Task>,
 }
 
+/// A list of definitions that a block behind it ended. It goes on if that block is a title.
+#[derive(Clone, Copy)]
+pub struct LeftList {
+    /// The number of the list's block.
+    pub list: usize,
+    /// The number of the block behind it.
+    pub behind: usize,
+    /// Whether the list round both was loose before that block.
+    pub loose: bool,
+}
+
 /// The blocks so far. The open leaf, if there is one, is the last block: its last line ends at `end` and
 /// has the number `line`, and of the pieces the first `kept` ones stay if it is closed now.
 #[derive(Drop)]
@@ -80,6 +95,8 @@ pub struct BlocksSoFar {
     pub header: HeaderLine,
     /// The number of blocks when definitions were last looked for in front of a header row.
     pub tried: usize,
+    /// The list of definitions that was left last, where definition lists are read.
+    pub left: Option<LeftList>,
 }
 
 #[tactic(auto, unfolding(crate::specs::Pages::ended))]
@@ -101,7 +118,7 @@ fn finish_block(blocks: &mut Vec<Block>, index: usize, end: usize, last: usize)
 }
 
 #[tactic(auto, unfolding(crate::specs::Pages::list_of))]
-fn list_of(opened: &[Opened]) -> Option<usize>
+pub fn list_of(opened: &[Opened]) -> Option<usize>
     ensures { result ≡ list_of opened.now }
 {
     let one = opened.get(opened.len().saturating_sub(1)).copied()?;
@@ -113,6 +130,11 @@ fn list_of(opened: &[Opened]) -> Option<usize>
             Some(list.block)
         }
         Container::Note => None,
+        Container::Definitions => Some(one.block),
+        Container::Definition(_) => {
+            let list = opened.get(opened.len().saturating_sub(2)).copied()?;
+            Some(list.block)
+        }
     }
 }
 
@@ -169,6 +191,8 @@ pub fn is_list(container: Container) -> bool
         Container::List(_) => true,
         Container::Item(_) => false,
         Container::Note => false,
+        Container::Definitions => true,
+        Container::Definition(_) => false,
     }
 }
 
@@ -181,6 +205,8 @@ pub fn is_quote(container: Container) -> bool
         Container::List(_) => false,
         Container::Item(_) => false,
         Container::Note => false,
+        Container::Definitions => false,
+        Container::Definition(_) => false,
     }
 }
 
@@ -193,6 +219,33 @@ fn is_note(container: Container) -> bool
         Container::List(_) => false,
         Container::Item(_) => false,
         Container::Note => true,
+        Container::Definitions => false,
+        Container::Definition(_) => false,
+    }
+}
+
+/// Whether a container is a list of definitions.
+#[tactic(auto, unfolding(crate::specs::Pages::is_definitions))]
+pub fn is_definitions(container: Container) -> bool
+    ensures { result ≡ is_definitions container }
+{
+    match container {
+        Container::Quote => false,
+        Container::List(_) => false,
+        Container::Item(_) => false,
+        Container::Note => false,
+        Container::Definitions => true,
+        Container::Definition(_) => false,
+    }
+}
+
+/// Whether the list at an index is loose.
+fn is_loose(blocks: &[Block], list: Option<usize>) -> bool
+    ensures { result ≡ is_loose blocks.now list }
+{
+    match list {
+        None => false,
+        Some(index) => blocks.get(index).map_or(false, |block| block.loose),
     }
 }
 
@@ -237,6 +290,7 @@ impl BlocksSoFar {
             kept: 0,
             header: HeaderLine::Never,
             tried: 0,
+            left: None,
         }
     }
 
@@ -351,6 +405,20 @@ impl BlocksSoFar {
         Ok(())
     }
 
+    /// Notes that a list of definitions, which is closed now, was left for the next block.
+    #[tactic(auto, unfolding(crate::specs::Pages::left_noted))]
+    fn remember_left(&mut self, one: Opened)
+        ensures { page self.new ≡ left_noted one (page self.old) }
+    {
+        if is_definitions(one.container) {
+            self.left = Some(LeftList {
+                list: one.block,
+                behind: self.blocks.len(),
+                loose: is_loose(&self.blocks, list_of(&self.opened)),
+            });
+        }
+    }
+
     /// Closes the innermost container if it is a list.
     #[tactic(auto, unfolding(crate::specs::Pages::list_left))]
     pub fn leave_list(&mut self)
@@ -360,6 +428,7 @@ impl BlocksSoFar {
         if let Some(one) = self.opened.get(last).copied() {
             if is_list(one.container) {
                 self.close_one();
+                self.remember_left(one);
             }
         }
     }

@@ -5,6 +5,7 @@ use Rattle.std.specs.Option.{option_map, option_map_or, option_and_then}
 use Rattle.tocmark_read_scan.specs.Basic.{plus}
 use Rattle.tocmark_read_lines.specs.Cells.{cell_byte, first_cursor, indent_of, ink_from, is_blank_at, moved}
 use Rattle.tocmark_read_lines.specs.Marks.{is_rule, marker_at}
+use Rattle.tocmark_read_lines.specs.DefinitionLists.{definition_start}
 use Rattle.tocmark_read_lines.specs.Notes.{note_start}
 use Rattle.tocmark_read_syntax.specs.declared.Syntax.{Syntax}
 use Rattle.tocmark_read_lines.specs.declared.cell.Cell.{Cell}
@@ -15,6 +16,7 @@ use Rattle.tocmark_read_lines.specs.declared.container.Container.{Container}
 use Rattle.tocmark_read_lines.specs.declared.container.Container.TheVariants as container
 use Rattle.tocmark_read_lines.specs.declared.container.Opened.{Opened}
 use Rattle.tocmark_read_lines.specs.declared.container.ItemStart.{ItemStart}
+use Rattle.tocmark_read_lines.specs.declared.definition_list.DefinitionStart.{DefinitionStart}
 use Rattle.tocmark_read_lines.specs.declared.note.NoteStart.{NoteStart}
 use Rattle.tocmark_read_lines.specs.declared.container.ContainerStart.{ContainerStart}
 use Rattle.tocmark_read_lines.specs.declared.container.ContainerStart.TheVariants as start
@@ -47,27 +49,44 @@ going_on_as container.Quote cells cursor had =
 going_on_as (container.List sort) cells cursor had = Some cursor
 going_on_as (container.Item width) cells cursor had = item_goes_on cells cursor width had
 going_on_as container.Note cells cursor had = item_goes_on cells cursor 4 true
+going_on_as container.Definitions cells cursor had = Some cursor
+going_on_as (container.Definition width) cells cursor had = item_goes_on cells cursor width had
 
 -- where a line goes on behind what it has of a container
 unfoldable pub going_on : List Cell → Cursor → Opened → Option Cursor
 going_on cells cursor o = going_on_as o.container cells cursor o.had
 
 -- an item in which no block stands
+abbrev pub is_empty_item_as : Container → Bool → Bool
+is_empty_item_as container.Quote had = false
+is_empty_item_as (container.List sort) had = false
+is_empty_item_as (container.Item width) had = not had
+is_empty_item_as container.Note had = false
+is_empty_item_as container.Definitions had = false
+is_empty_item_as (container.Definition width) had = false
+
+-- a container that is an item in which no block stands
+unfoldable pub is_empty_item : Opened → Bool
+is_empty_item o = is_empty_item_as o.container o.had
+
+-- an item or a definition in which no block stands
 abbrev pub is_empty_as : Container → Bool → Bool
 is_empty_as container.Quote had = false
 is_empty_as (container.List sort) had = false
 is_empty_as (container.Item width) had = not had
 is_empty_as container.Note had = false
+is_empty_as container.Definitions had = false
+is_empty_as (container.Definition width) had = not had
 
--- a container that is an item in which no block stands
-unfoldable pub is_empty_item : Opened → Bool
-is_empty_item o = is_empty_as o.container o.had
+-- a container that is an item or a definition in which no block stands
+unfoldable pub is_empty : Opened → Bool
+is_empty o = is_empty_as o.container o.had
 
--- all but an innermost item that is empty
+-- all but an innermost item or definition that is empty
 unfoldable pub blank_depth : List Opened → ℕ
 blank_depth opened =
     let last = length opened - 1 in
-    if option_map_or is_empty_item (slice_get opened last) false then last else length opened
+    if option_map_or is_empty (slice_get opened last) false then last else length opened
 
 -- the first quote from a container on
 abbrev pub quote_from : List ℕ → ℕ → Option ℕ
@@ -144,7 +163,13 @@ abbrev pub note_or : Option NoteStart → Option ContainerStart → Option Conta
 note_or None other = other
 note_or (Some n) other = Some (start.Note n)
 
+-- a definition, or what else begins there
+abbrev pub definition_or : Option DefinitionStart → Option ContainerStart → Option ContainerStart
+definition_or None other = other
+definition_or (Some d) other = Some (start.Definition d)
+
 -- the container that begins at a cursor, in an extension or in CommonMark
 unfoldable pub container_in : Syntax → List Cell → Tail → Cursor → Bool → Option ContainerStart
 container_in syntax cells tail cursor in_paragraph =
-    note_or (note_start syntax cells cursor) (container_at cells tail cursor in_paragraph)
+    definition_or (definition_start syntax cells cursor)
+    (note_or (note_start syntax cells cursor) (container_at cells tail cursor in_paragraph))

@@ -3,6 +3,7 @@ pub mod Cells
 pub mod Marks
 pub mod Html
 pub mod Containers
+pub mod DefinitionLists
 pub mod Metadata
 pub mod Tasks
 pub mod Notes

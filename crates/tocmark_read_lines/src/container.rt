@@ -1,12 +1,13 @@
 //! Block quotes, lists and their items: which of them go on in a line, and which a line begins.
 
 ghost use Rattle.std.specs.Prelude.{◌≡◌};
-ghost use Rattle.tocmark_read_lines.specs.Containers.{raised, raised_at, after_quote, item_goes_on, going_on, is_empty_item, blank_depth, quote_from, stopped, passed, matched_from, matched, touched_from, item_gap, may_interrupt, item_at, container_at, container_in};
+ghost use Rattle.tocmark_read_lines.specs.Containers.{raised, raised_at, after_quote, item_goes_on, going_on, is_empty_item, is_empty, blank_depth, quote_from, stopped, passed, matched_from, matched, touched_from, item_gap, may_interrupt, item_at, container_at, container_in};
 
 use crate::beginnings::{Marker, Tail, is_rule, marker_at};
 use crate::cell::{
     Cells, Cursor, cell_byte, first_cursor, indent_of, ink_from, is_blank_at, moved,
 };
+use crate::definition_list::{DefinitionStart, definition_start};
 use crate::note::{NoteStart, note_start};
 use tocmark_read_scan::basic::set;
 use tocmark_read_syntax::Syntax;
@@ -22,6 +23,10 @@ pub enum Container {
     Item(usize),
     /// The definition of a footnote, whose lines are indented by four columns.
     Note,
+    /// A list of definitions with their titles.
+    Definitions,
+    /// A definition with the number of columns that its lines are indented by.
+    Definition(usize),
 }
 
 /// A container that is open.
@@ -61,6 +66,8 @@ pub enum ContainerStart {
     Item(ItemStart),
     /// The definition of a footnote.
     Note(NoteStart),
+    /// A definition, if a title or a definition stands before it.
+    Definition(DefinitionStart),
 }
 
 /// A container that reaches at least to a line.
@@ -134,6 +141,8 @@ fn going_on(cells: &Cells, cursor: Cursor, one: Opened) -> Option<Cursor>
         Container::List(_) => Some(cursor),
         Container::Item(width) => item_goes_on(cells, cursor, width, one.had),
         Container::Note => item_goes_on(cells, cursor, 4, true),
+        Container::Definitions => Some(cursor),
+        Container::Definition(width) => item_goes_on(cells, cursor, width, one.had),
     }
 }
 
@@ -147,16 +156,34 @@ pub fn is_empty_item(one: Opened) -> bool
         Container::List(_) => false,
         Container::Item(_) => !one.had,
         Container::Note => false,
+        Container::Definitions => false,
+        Container::Definition(_) => false,
     }
 }
 
-/// How many containers without a quote go on in a blank line: all but an innermost item that is empty.
+/// Whether a container is an item or a definition in which no block stands.
+#[tactic(auto, unfolding(crate::specs::Containers::is_empty))]
+fn is_empty(one: Opened) -> bool
+    ensures { result ≡ is_empty one }
+{
+    match one.container {
+        Container::Quote => false,
+        Container::List(_) => false,
+        Container::Item(_) => !one.had,
+        Container::Note => false,
+        Container::Definitions => false,
+        Container::Definition(_) => !one.had,
+    }
+}
+
+/// How many containers without a quote go on in a blank line: all but an innermost item or definition that
+/// is empty.
 #[tactic(auto, unfolding(crate::specs::Containers::blank_depth))]
 fn blank_depth(opened: &[Opened]) -> usize
     ensures { result ≡ blank_depth opened.now }
 {
     let last = opened.len().saturating_sub(1);
-    let empty = opened.get(last).map_or(false, |one| is_empty_item(*one));
+    let empty = opened.get(last).map_or(false, |one| is_empty(*one));
     if empty { last } else { opened.len() }
 }
 
@@ -308,6 +335,9 @@ pub fn container_in(
 ) -> Option<ContainerStart>
     ensures { result ≡ container_in syntax cells.now tail cursor in_paragraph }
 {
+    if let Some(definition) = definition_start(syntax, cells, cursor) {
+        return Some(ContainerStart::Definition(definition));
+    }
     match note_start(syntax, cells, cursor) {
         Some(note) => Some(ContainerStart::Note(note)),
         None => container_at(cells, tail, cursor, in_paragraph),

@@ -10,6 +10,7 @@ pub mod attributes;
 pub mod beginnings;
 pub mod cell;
 pub mod container;
+pub mod definition_list;
 pub mod html;
 pub mod line;
 pub mod metadata;

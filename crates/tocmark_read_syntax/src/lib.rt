@@ -37,6 +37,8 @@ pub struct Syntax {
     pub quote_kinds: bool,
     /// Attributes of headings: words between braces behind a heading's text.
     pub heading_attributes: bool,
+    /// Definition lists: lines that begin with a colon, below a title.
+    pub definition_lists: bool,
     /// The names of character references.
     pub names: Names,
 }
@@ -54,5 +56,6 @@ pub const CORE: Syntax = Syntax {
     pluses_metadata: false,
     quote_kinds: false,
     heading_attributes: false,
+    definition_lists: false,
     names: Names::Four,
 };
