@@ -1,5 +1,5 @@
 -- Runs of characters, and code spans.
-use Rattle.std.proofs.Common.{◌≡◌, ℕ, zero, suc, ◌+◌, ◌-◌, ◌<◌, ◌≤◌, false, max, Some, List, [], ◌∷◌, ◌++◌, length, get_or, IsUtf8, chars, encode_utf8, encode_utf8_all, refl, sym, ap, ◌∙◌, length-append, eq-eqb, ne_eqb, lit<, arith, inl, inr}
+use Rattle.std.proofs.Common.{◌≡◌, ℕ, suc, ◌+◌, ◌-◌, ◌<◌, ◌≤◌, false, max, Some, List, [], ◌∷◌, ◌++◌, length, get_or, IsUtf8, chars, encode_utf8, encode_utf8_all, refl, sym, ap, ◌∙◌, length-append, eq-eqb, ne_eqb, arith, inl, inr}
 use Rattle.std.specs.Ordering.{ord_max, nat_cmp}
 use Rattle.std.proofs.lemmas.Bool.Decides.{nat_tests}
 use Rattle.std.proofs.lemmas.Str.{chars_past_char}
