@@ -1,3 +1,4 @@
+pub mod Adding
 pub mod Lists
 pub mod Numbers
 pub mod Inverse

@@ -1,3 +1,4 @@
 pub mod Json
 pub mod Options
 pub mod Place
+pub mod Printed

@@ -58,7 +58,7 @@ fn both(alloc: Global, first: Value, second: Value) -> Result<Value, AllocError>
     Ok(Value::Array(items))
 }
 
-fn level_name(level: HeadingLevel) -> &'static str
+pub(crate) fn level_name(level: HeadingLevel) -> &'static str
     ensures { string result.now ≡ level_json level }
 {
     match level {
@@ -71,7 +71,7 @@ fn level_name(level: HeadingLevel) -> &'static str
     }
 }
 
-fn quote_name(kind: BlockQuoteKind) -> &'static str
+pub(crate) fn quote_name(kind: BlockQuoteKind) -> &'static str
     ensures { string result.now ≡ quote_json kind }
 {
     match kind {
@@ -83,7 +83,7 @@ fn quote_name(kind: BlockQuoteKind) -> &'static str
     }
 }
 
-fn alignment_name(alignment: Alignment) -> &'static str
+pub(crate) fn alignment_name(alignment: Alignment) -> &'static str
     ensures { string result.now ≡ alignment_json alignment }
 {
     match alignment {
@@ -94,7 +94,7 @@ fn alignment_name(alignment: Alignment) -> &'static str
     }
 }
 
-fn metadata_name(kind: MetadataBlockKind) -> &'static str
+pub(crate) fn metadata_name(kind: MetadataBlockKind) -> &'static str
     ensures { string result.now ≡ metadata_json kind }
 {
     match kind {
