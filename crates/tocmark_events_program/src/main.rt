@@ -37,8 +37,8 @@ use tocmark::reader::Reader;
 use tocmark::{Error, Options, cmark_with_source_range_and_options};
 use tocmark_extended_reader::{ExtendedReader, Names};
 use tocmark_json::options::options_from_json;
+use tocmark_json::printing::{events_to_text, pairs_to_text, ranged_to_text};
 use tocmark_json::reading::{events_from_json, pairs_from_json};
-use tocmark_json::writing::{events_to_json, pairs_to_json, ranged_to_json};
 
 /// An event with its range, if it has one.
 type Placed = (Event<'static>, Option<(usize, usize)>);
@@ -50,8 +50,7 @@ fn read_events(alloc: Global, text: &str, flags: ParserOptions) -> Result<String
 {
     let reader = ExtendedReader { names: Names::All };
     let reading = reader.read(alloc, text, flags)?;
-    let value = ranged_to_json(alloc, &reading.events)?;
-    Ok(value.to_string(alloc)?)
+    Ok(ranged_to_text(alloc, &reading.events)?)
 }
 
 fn without_ranges(alloc: Global, events: Vec<Event<'static>>) -> Result<Vec<Placed>, Fault>
@@ -82,14 +81,13 @@ fn checked_events(alloc: Global, text: &str) -> Result<String, Fault>
     ensures again { IfOk result (λ output. IsWrittenAgain text.now (string_bytes output)) }
 {
     let value = value_of(alloc, text)?;
-    let again = written_again(alloc, &value)?;
-    Ok(again.to_string(alloc)?)
+    written_again(alloc, &value)
 }
 
-/// The value of the events of a value.
-fn written_again(alloc: Global, value: &Value) -> Result<Value, Fault>
+/// The text of the events of a value.
+fn written_again(alloc: Global, value: &Value) -> Result<String, Fault>
     ensures fault { IfErr result (λ fault. ¬ (IsWriteFault fault)) }
-    ensures same { IfOk result (λ again. view again ≡ view value.now) }
+    ensures again { IfOk result (λ output. IsInOrder (string_bytes output) (view value.now)) }
     ensures events { OnOk result ((pairs : List Pair) × IsJsonOf (view value.now) pairs) }
 {
     if has_ranges(value) {
@@ -99,22 +97,22 @@ fn written_again(alloc: Global, value: &Value) -> Result<Value, Fault>
     }
 }
 
-fn ranged_again(alloc: Global, value: &Value) -> Result<Value, Fault>
+fn ranged_again(alloc: Global, value: &Value) -> Result<String, Fault>
     ensures fault { IfErr result (λ fault. ¬ (IsWriteFault fault)) }
-    ensures same { IfOk result (λ again. view again ≡ view value.now) }
+    ensures again { IfOk result (λ output. IsInOrder (string_bytes output) (view value.now)) }
     ensures events { OnOk result ((pairs : List Pair) × IsJsonOf (view value.now) pairs) }
 {
     let pairs = ranged_events(alloc, value)?;
-    Ok(pairs_to_json(alloc, &pairs)?)
+    Ok(pairs_to_text(alloc, &pairs)?)
 }
 
-fn plain_again(alloc: Global, value: &Value) -> Result<Value, Fault>
+fn plain_again(alloc: Global, value: &Value) -> Result<String, Fault>
     ensures fault { IfErr result (λ fault. ¬ (IsWriteFault fault)) }
-    ensures same { IfOk result (λ again. view again ≡ view value.now) }
+    ensures again { IfOk result (λ output. IsInOrder (string_bytes output) (view value.now)) }
     ensures events { OnOk result ((pairs : List Pair) × IsJsonOf (view value.now) pairs) }
 {
     let events = plain_events(alloc, value)?;
-    Ok(events_to_json(alloc, &events)?)
+    Ok(events_to_text(alloc, &events)?)
 }
 
 fn value_of(alloc: Global, text: &str) -> Result<Value, Fault>

@@ -8,7 +8,7 @@ use std::alloc::{AllocError, Global};
 use tocmark::event::ParserOptions;
 use tocmark::reader::Reader;
 use tocmark_extended_reader::{ExtendedReader, Names};
-use tocmark_json::writing::ranged_to_json;
+use tocmark_json::printing::ranged_to_text;
 
 /// The JSON text of the events that the reader of extensions finds in a text under these flags: an array of events with
 /// their ranges in bytes. An `Err` says that memory ran out.
@@ -17,7 +17,6 @@ pub fn read_json(alloc: Global, text: &str, flags: ParserOptions) -> Result<Stri
 {
     let reader = ExtendedReader { names: Names::All };
     let reading = reader.read(alloc, text, flags)?;
-    let value = ranged_to_json(alloc, &reading.events)?;
-    let output = value.to_string(alloc)?;
+    let output = ranged_to_text(alloc, &reading.events)?;
     Ok(output)
 }
