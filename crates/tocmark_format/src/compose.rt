@@ -1,6 +1,6 @@
 //! The document, made of its trees.
 
-use crate::pieces::{Document, Form, Piece};
+use crate::pieces::{Document, Form, Piece, Texts, text_of};
 use std::alloc::AllocError;
 use tocmark_rewrite::trees::{Block, has_text, trimmed};
 
@@ -66,21 +66,30 @@ impl Page<'_> {
         self.end_line()
     }
 
-    /// A tree.
-    fn tree(&mut self, block: Block, piece: &Piece) -> Result<(), AllocError> {
+    /// A tree. One that is tidy stands here from now on.
+    fn tree(&mut self, block: Block, piece: &mut Piece, texts: &Texts) -> Result<(), AllocError> {
         match piece.form {
-            Form::Tidy => self.text.push_str(piece.tidy.as_str()),
-            Form::Plain => self.text.push_str(piece.plain.as_str()),
+            Form::Tidy => {
+                let from = self.text.len();
+                self.text
+                    .push_str(text_of(texts.tidy.as_str(), piece.tidy))?;
+                piece.tidy = (from, self.text.len());
+                Ok(())
+            }
+            Form::Plain => self
+                .text
+                .push_str(text_of(texts.plain.as_str(), piece.plain)),
             Form::Left | Form::Raw => self.copy(block.from, block.to),
         }
     }
 }
 
-/// The document.
+/// The document. From now on trees that are tidy are to be found in it, and no longer in `texts`.
 pub(crate) fn composed<R>(
     document: &Document<'_, '_, R>,
     blocks: &[Block],
-    pieces: &[Piece],
+    pieces: &mut [Piece],
+    texts: &Texts,
 ) -> Result<String, AllocError> {
     let mut page = Page {
         text: String::new(document.tools.alloc),
@@ -89,10 +98,10 @@ pub(crate) fn composed<R>(
     };
     let mut done = 0usize;
     let mut was_raw = false;
-    for (piece, block) in pieces.iter().zip(blocks) {
+    for (piece, block) in pieces.iter_mut().zip(blocks) {
         let is_raw = piece.form == Form::Raw;
         page.before(done, block.from, is_raw || was_raw)?;
-        page.tree(*block, piece)?;
+        page.tree(*block, piece, texts)?;
         done = block.to;
         was_raw = is_raw;
     }

@@ -1,43 +1,35 @@
 //! Formats a document: all trees are written, put together and read; what is read otherwise is left as it stands.
 
-ghost use Rattle.std.specs.Prelude.{◌≡◌, IfOk, IfSome, IsNone, string_bytes};
+ghost use Rattle.std.specs.Prelude.{◌≡◌, IfOk, IfSome, IsNone, IsTrue, string_bytes};
 ghost use Rattle.tocmark_event.specs.Merged.{merged};
+ghost use Rattle.tocmark_rewrite.specs.Digest.{says};
 ghost use Rattle.tocmark_rewrite.specs.Given.{found_events, given_events};
 
-use crate::answer::Formatted;
+use crate::answer::{Formatted, Left, Reason};
 use crate::compose::composed;
-use crate::pieces::{Document, Piece, all_left, make_pieces};
+use crate::pieces::{Document, Piece, Texts, all_left, make_pieces};
 use crate::style::{Escapes, Style};
 use std::alloc::{AllocError, Global};
 use tocmark_event::event::{Event, ParserOptions};
 use tocmark_event::options::Options;
 use tocmark_event::reader::Reader;
+use tocmark_rewrite::digest::Digest;
 use tocmark_rewrite::pieces::Tools;
-use tocmark_rewrite::same::are_same;
-use tocmark_rewrite::trees::{Block, blocks, trees};
+use tocmark_rewrite::trees::{Block, blocks};
+
+/// The byte order mark, which others take for no character, and readers of Markdown for one of the first line.
+const MARK: &str = "\u{feff}";
 
 /// How often a document is put together before all of it is left as it stands.
 const ROUNDS: usize = 16;
 
 /// The trees at the top that were read otherwise: all, if there are as many as before, else the first one.
-fn differing(
-    alloc: Global,
-    read: &[(Event<'_>, (usize, usize))],
-    found: &[(Event<'_>, (usize, usize))],
-) -> Result<Vec<usize>, AllocError> {
-    let new = trees(alloc, read)?;
-    let old = trees(alloc, found)?;
+fn differing(alloc: Global, read: &Digest, found: &Digest) -> Result<Vec<usize>, AllocError> {
+    let new = read.tree_ends(alloc)?;
+    let old = found.tree_ends(alloc)?;
     let mut list = Vec::new(alloc);
-    for (at, tree) in old.iter().enumerate() {
-        let there = found.get(tree.first..tree.past).unwrap_or(&[]);
-        let is_same = match new.get(at) {
-            Some(other) => {
-                let here = read.get(other.first..other.past).unwrap_or(&[]);
-                are_same(alloc, here, there)?
-            }
-            None => false,
-        };
-        if !is_same {
+    for at in 0..old.len() {
+        if at >= new.len() || !found.has_same_tree(&old, read, &new, at) {
             list.push(at)?;
             if new.len() != old.len() {
                 break;
@@ -47,24 +39,62 @@ fn differing(
     Ok(list)
 }
 
-/// Nothing if a text is read as these events, else the trees that were read otherwise.
+/// What a reader finds in a text. The events themselves are gone when the answer is there.
+fn digest_of<R: Reader>(
+    alloc: Global,
+    reader: &R,
+    flags: ParserOptions,
+    text: &str,
+) -> Result<Digest, AllocError>
+    ensures { IfOk result (λ digest. says digest
+        ≡ merged (found_events (R.reading reader.now text.now flags))) }
+{
+    let reading = reader.read(alloc, text, flags)?;
+    let digest = Digest::of(alloc, &reading.events)?;
+    Ok(digest)
+}
+
+/// Nothing if a text is read so, else the trees that are read otherwise.
 fn differences<R: Reader>(
     alloc: Global,
     reader: &R,
     flags: ParserOptions,
     text: &str,
-    found: &[(Event<'_>, (usize, usize))],
+    found: &Digest,
 ) -> Result<Option<Vec<usize>>, AllocError>
     ensures { IfOk result (λ answer. IsNone answer
-        → (merged (found_events (R.reading reader.now text.now flags))
-        ≡ merged (given_events found.now))) }
+        → (merged (found_events (R.reading reader.now text.now flags)) ≡ says found.now)) }
 {
-    let reading = reader.read(alloc, text, flags)?;
-    if are_same(alloc, &reading.events, found)? {
+    let read = digest_of(alloc, reader, flags, text)?;
+    if read.is_same(found) {
         return Ok(None);
     }
-    let list = differing(alloc, &reading.events, found)?;
+    let list = differing(alloc, &read, found)?;
     Ok(Some(list))
+}
+
+/// Whether a text has a mark in front that isn't in front of what is written.
+fn loses_mark(source: &str, text: &str) -> bool {
+    source.starts_with(MARK) && !text.starts_with(MARK)
+}
+
+/// Nothing if a text is read as these events, and has the source's mark in front, else the trees to be left.
+fn faults<R: Reader>(
+    document: &Document<'_, '_, R>,
+    text: &str,
+    found: &Digest,
+) -> Result<Option<Vec<usize>>, AllocError>
+    ensures { IfOk result (λ answer. IsNone answer
+        → (merged (found_events (R.reading document.now.tools.reader.now text.now document.now.tools.flags))
+        ≡ says found.now)) }
+{
+    let tools = &document.tools;
+    if loses_mark(document.source, text) {
+        let mut list = Vec::new(tools.alloc);
+        list.push(0usize)?;
+        return Ok(Some(list));
+    }
+    differences(tools.alloc, tools.reader, tools.flags, text, found)
 }
 
 /// Brings a tree nearer to the source, or else the one before it, or the one behind; false if none is left to do so.
@@ -98,19 +128,21 @@ fn step_all_back(pieces: &mut [Piece], list: &[usize]) -> bool {
 fn rounds<R: Reader>(
     document: &Document<'_, '_, R>,
     blocks: &[Block],
-    found: &[(Event<'_>, (usize, usize))],
+    found: &Digest,
     pieces: &mut Vec<Piece>,
+    texts: &mut Texts,
 ) -> Result<Option<String>, AllocError>
     ensures { IfOk result (λ answer. IfSome answer (λ text.
         merged (found_events (R.reading document.now.tools.reader.now (string_bytes text) document.now.tools.flags))
-        ≡ merged (given_events found.now))) }
+        ≡ says found.now)) }
 {
-    let tools = &document.tools;
     for _ in 0..ROUNDS {
-        let text = composed(document, blocks, pieces)?;
-        match differences(tools.alloc, tools.reader, tools.flags, text.as_str(), found)? {
+        let text = composed(document, blocks, pieces, texts)?;
+        texts.tidy = String::new(document.tools.alloc);
+        match faults(document, text.as_str(), found)? {
             None => return Ok(Some(text)),
             Some(list) => {
+                texts.tidy = text;
                 if !step_all_back(pieces, &list) {
                     return Ok(None);
                 }
@@ -131,16 +163,17 @@ fn leave_all(pieces: &mut [Piece]) {
 fn new_text<R: Reader>(
     document: &Document<'_, '_, R>,
     blocks: &[Block],
-    found: &[(Event<'_>, (usize, usize))],
+    found: &Digest,
     pieces: &mut Vec<Piece>,
+    texts: &mut Texts,
 ) -> Result<String, AllocError>
-    requires { given_events found.now
-        ≡ found_events (R.reading document.now.tools.reader.now document.now.source.now document.now.tools.flags) }
+    requires { says found.now
+        ≡ merged (found_events (R.reading document.now.tools.reader.now document.now.source.now document.now.tools.flags)) }
     ensures { IfOk result (λ text.
         merged (found_events (R.reading document.now.tools.reader.now (string_bytes text) document.now.tools.flags))
-        ≡ merged (given_events found.now)) }
+        ≡ says found.now) }
 {
-    if let Some(text) = rounds(document, blocks, found, pieces)? {
+    if let Some(text) = rounds(document, blocks, found, pieces, texts)? {
         return Ok(text);
     }
     leave_all(pieces);
@@ -148,23 +181,67 @@ fn new_text<R: Reader>(
     Ok(text)
 }
 
-/// The document in this style, of which these events were read.
-fn formatted_as<'a, R: Reader>(
+/// What is kept of the source's events, which are gone before the new text is read: both readings together would take
+/// twice the memory.
+#[derive(Drop)]
+struct Kept {
+    blocks: Vec<Block>,
+    pieces: Vec<Piece>,
+    texts: Texts,
+    /// What they say.
+    found: Digest,
+}
+
+/// What is kept of these events.
+fn kept_of<'a, R: Reader>(
     document: &Document<'_, '_, R>,
-    found: &'a [(Event<'a>, (usize, usize))],
-) -> Result<Formatted, AllocError>
-    requires { given_events found.now
-        ≡ found_events (R.reading document.now.tools.reader.now document.now.source.now document.now.tools.flags) }
-    ensures { IfOk result (λ answer.
-        merged (found_events (R.reading document.now.tools.reader.now (string_bytes answer.text) document.now.tools.flags))
-        ≡ merged (given_events found.now)) }
+    events: &'a [(Event<'a>, (usize, usize))],
+) -> Result<Kept, AllocError>
+    ensures { IfOk result (λ kept. says kept.found ≡ merged (given_events events.now)) }
 {
     let alloc = document.tools.alloc;
-    let source = document.source;
-    let blocks = blocks(alloc, source, found)?;
-    let mut pieces = make_pieces(document, &blocks, found)?;
-    let text = new_text(document, &blocks, found, &mut pieces)?;
-    let left = all_left(alloc, source, &blocks, pieces)?;
+    let blocks = blocks(alloc, document.source, events)?;
+    let mut texts = Texts {
+        tidy: String::new(alloc),
+        plain: String::new(alloc),
+    };
+    let pieces = make_pieces(document, &blocks, events, &mut texts)?;
+    let found = Digest::of(alloc, events)?;
+    Ok(Kept {
+        blocks,
+        pieces,
+        texts,
+        found,
+    })
+}
+
+/// What is kept of the source.
+fn kept_of_source<R: Reader>(document: &Document<'_, '_, R>) -> Result<Kept, AllocError>
+    ensures { IfOk result (λ kept. says kept.found
+        ≡ merged (found_events (R.reading document.now.tools.reader.now document.now.source.now document.now.tools.flags))) }
+{
+    let tools = &document.tools;
+    let reading = tools
+        .reader
+        .read(tools.alloc, document.source, tools.flags)?;
+    let kept = kept_of(document, &reading.events)?;
+    Ok(kept)
+}
+
+/// The document in this style.
+fn formatted_as<R: Reader>(document: &Document<'_, '_, R>) -> Result<Formatted, AllocError>
+    ensures { IfOk result (λ answer.
+        merged (found_events (R.reading document.now.tools.reader.now (string_bytes answer.text) document.now.tools.flags))
+        ≡ merged (found_events (R.reading document.now.tools.reader.now document.now.source.now document.now.tools.flags))) }
+{
+    let Kept {
+        blocks,
+        mut pieces,
+        mut texts,
+        found,
+    } = kept_of_source(document)?;
+    let text = new_text(document, &blocks, &found, &mut pieces, &mut texts)?;
+    let left = all_left(document.tools.alloc, &blocks, pieces)?;
     Ok(Formatted { text, left })
 }
 
@@ -176,12 +253,122 @@ fn line_end_of(text: &str) -> &'static str {
     }
 }
 
+/// A document in this style, of which a byte order mark is a character as others are.
+fn formatted_text<R: Reader>(
+    alloc: Global,
+    text: &str,
+    reader: &R,
+    flags: ParserOptions,
+    style: Style,
+) -> Result<Formatted, AllocError>
+    ensures { IfOk result (λ answer.
+        merged (found_events (R.reading reader.now (string_bytes answer.text) flags))
+        ≡ merged (found_events (R.reading reader.now text.now flags))) }
+{
+    let document = Document {
+        tools: Tools {
+            alloc,
+            reader,
+            flags,
+            options: Options::default(),
+            has_returns: false,
+            has_ranges: style.escapes == Escapes::Minimal,
+        },
+        source: text,
+        style,
+        line_end: line_end_of(text),
+    };
+    formatted_as(&document)
+}
+
+/// Whether two texts are read alike.
+fn are_read_alike<R: Reader>(
+    alloc: Global,
+    reader: &R,
+    flags: ParserOptions,
+    text: &str,
+    other: &str,
+) -> Result<bool, AllocError>
+    ensures { IfOk result (λ same. IsTrue same
+        → (merged (found_events (R.reading reader.now text.now flags))
+        ≡ merged (found_events (R.reading reader.now other.now flags)))) }
+{
+    let one = digest_of(alloc, reader, flags, text)?;
+    let two = digest_of(alloc, reader, flags, other)?;
+    Ok(one.is_same(&two))
+}
+
+/// What stands behind the mark of a text.
+fn behind_mark(text: &str) -> &str {
+    text.get(MARK.len()..).unwrap_or("")
+}
+
+/// A document with a mark, of which what stands behind that is formatted by itself; none if it is read otherwise so.
+fn formatted_behind_mark<R: Reader>(
+    alloc: Global,
+    text: &str,
+    reader: &R,
+    flags: ParserOptions,
+    style: Style,
+) -> Result<Option<Formatted>, AllocError>
+    ensures { IfOk result (λ answer. IfSome answer (λ answer.
+        merged (found_events (R.reading reader.now (string_bytes answer.text) flags))
+        ≡ merged (found_events (R.reading reader.now text.now flags)))) }
+{
+    let rest = formatted_text(alloc, behind_mark(text), reader, flags, style)?;
+    let mut whole = String::from_str(alloc, MARK)?;
+    whole.push_str(rest.text.as_str())?;
+    if !are_read_alike(alloc, reader, flags, whole.as_str(), text)? {
+        return Ok(None);
+    }
+    let Formatted { left, .. } = rest;
+    Ok(Some(Formatted { text: whole, left }))
+}
+
+/// A document that stays as it is, from its first line on.
+fn unchanged(alloc: Global, text: &str) -> Result<Formatted, AllocError>
+    ensures { IfOk result (λ answer. string_bytes answer.text ≡ text.now) }
+{
+    let mut left = Vec::new(alloc);
+    left.push(Left {
+        lines: (1, 1),
+        reason: Reason::ReadOtherwise,
+    })?;
+    let text = String::from_str(alloc, text)?;
+    Ok(Formatted { text, left })
+}
+
+/// A document with a mark, in this style.
+fn formatted_with_mark<R: Reader>(
+    alloc: Global,
+    text: &str,
+    reader: &R,
+    flags: ParserOptions,
+    style: Style,
+) -> Result<Formatted, AllocError>
+    ensures { IfOk result (λ answer.
+        merged (found_events (R.reading reader.now (string_bytes answer.text) flags))
+        ≡ merged (found_events (R.reading reader.now text.now flags))) }
+{
+    if let Some(answer) = formatted_behind_mark(alloc, text, reader, flags, style)? {
+        return Ok(answer);
+    }
+    let answer = formatted_text(alloc, text, reader, flags, style)?;
+    let behind = behind_mark(answer.text.as_str());
+    if are_read_alike(alloc, reader, flags, behind, behind_mark(text))? {
+        Ok(answer)
+    } else {
+        unchanged(alloc, text)
+    }
+}
+
 /// The document in this style: one blank line between blocks, and one line feed at its end. HTML, metadata and definitions
 /// of links are copied, and lines end as the first one does. A block that can't be written is left as it stands in the
 /// text; the answer names its lines, and why.
 ///
 /// The reader finds the same in the new text as in the old one under these flags, on either side with each longest stretch
-/// of texts as one (the clause `same`).
+/// of texts as one (the clause `same`). A byte order mark stays in front of the text, and what stands behind it is read as
+/// before also without it.
 ///
 /// An `Err` says that memory ran out.
 ///
@@ -200,20 +387,9 @@ pub fn formatted<R: Reader>(
         merged (found_events (R.reading reader.now (string_bytes answer.text) flags))
         ≡ merged (found_events (R.reading reader.now text.now flags))) }
 {
-    let reading = reader.read(alloc, text, flags)?;
-    let document = Document {
-        tools: Tools {
-            alloc,
-            reader,
-            flags,
-            options: Options::default(),
-            has_returns: false,
-            has_ranges: style.escapes == Escapes::Minimal,
-        },
-        source: text,
-        style,
-        line_end: line_end_of(text),
-    };
-    let answer = formatted_as(&document, &reading.events)?;
-    Ok(answer)
+    if text.starts_with(MARK) {
+        formatted_with_mark(alloc, text, reader, flags, style)
+    } else {
+        formatted_text(alloc, text, reader, flags, style)
+    }
 }

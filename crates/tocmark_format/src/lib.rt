@@ -6,6 +6,7 @@
 //! compared, so all that stands between can be changed freely.
 #![tactic(auto)]
 
+mod alone;
 mod answer;
 mod compose;
 mod format;

@@ -2,7 +2,7 @@
 
 use crate::style::{Bullet, Delimiter, Fence, Marker, Numbering, Style};
 use std::alloc::{AllocError, Global};
-use tocmark_event::event::{CodeBlockKind, CowStr, Event, LinkType, Tag};
+use tocmark_event::event::{CodeBlockKind, Event, LinkType, Tag};
 use tocmark_event::options::Options;
 
 /// What of an event matters for the options.
@@ -58,7 +58,7 @@ fn start_sign(tag: &Tag<'_>) -> Sign {
 }
 
 /// What of an event matters.
-fn sign_of(event: &Event<'_>) -> Sign {
+pub(crate) fn sign_of(event: &Event<'_>) -> Sign {
     match event {
         Event::Start(tag) => start_sign(tag),
         Event::End(_) => Sign::End,
@@ -84,39 +84,6 @@ fn has_sign(events: &[(Event<'_>, (usize, usize))], sign: Sign) -> bool {
         }
     }
     false
-}
-
-/// Whether a tree has references to footnotes.
-pub(crate) fn has_notes(events: &[(Event<'_>, (usize, usize))]) -> bool {
-    has_sign(events, Sign::Note)
-}
-
-/// An event, or in place of a reference to a footnote its bytes of the source as a text.
-fn as_text(
-    alloc: Global,
-    source: &str,
-    pair: &(Event<'_>, (usize, usize)),
-) -> Result<Event<'static>, AllocError> {
-    if sign_of(&pair.0) != Sign::Note {
-        return pair.0.to_static(alloc);
-    }
-    let label = source.get(pair.1.0..pair.1.1).unwrap_or("");
-    let text = String::from_str(alloc, label)?;
-    Ok(Event::Text(CowStr::Owned(text)))
-}
-
-/// The events with texts in place of references to footnotes: as which these are read where a tree is read alone.
-pub(crate) fn without_notes(
-    alloc: Global,
-    source: &str,
-    events: &[(Event<'_>, (usize, usize))],
-) -> Result<Vec<(Event<'static>, (usize, usize))>, AllocError> {
-    let mut all = Vec::new(alloc);
-    for pair in events {
-        let event = as_text(alloc, source, pair)?;
-        all.push((event, pair.1))?;
-    }
-    Ok(all)
 }
 
 /// Whether a tree has links or images by labels.
@@ -277,12 +244,48 @@ fn increments(style: Style, bytes: &[u8], events: &[(Event<'_>, (usize, usize))]
     }
 }
 
-/// Whether the first hard break of a tree is a backslash in the source.
-pub(crate) fn breaks_by_backslash(source: &str, events: &[(Event<'_>, (usize, usize))]) -> bool {
-    match source_at(source.as_bytes(), events, Sign::HardBreak).first() {
-        Some(b'\\') => true,
-        _ => false,
+/// How many blanks stand before the backslash that a hard break is in the source; none where it is no backslash.
+pub(crate) fn blanks_before(source: &str, pair: &(Event<'_>, (usize, usize))) -> Option<usize> {
+    let at = pair.1.0;
+    if sign_of(&pair.0) != Sign::HardBreak || source.as_bytes().get(at) != Some(&b'\\') {
+        return None;
     }
+    let before = source.get(..at).unwrap_or("");
+    let bare = before.trim_end_matches(' ');
+    Some(before.len().saturating_sub(bare.len()))
+}
+
+/// How hard breaks are written.
+#[derive(Drop)]
+pub(crate) struct Breaks {
+    /// Whether they are backslashes: where the first one is in the source, or where blanks stand before one.
+    pub(crate) are_backslashes: bool,
+    /// For each hard break how many blanks stand before its backslash.
+    pub(crate) blanks: Vec<usize>,
+}
+
+/// How the hard breaks of a tree are written.
+pub(crate) fn breaks_of(
+    alloc: Global,
+    source: &str,
+    events: &[(Event<'_>, (usize, usize))],
+) -> Result<Breaks, AllocError> {
+    let mut breaks = Breaks {
+        are_backslashes: false,
+        blanks: Vec::new(alloc),
+    };
+    for pair in events {
+        if sign_of(&pair.0) == Sign::HardBreak {
+            let blanks = blanks_before(source, pair);
+            let is_first = breaks.blanks.is_empty();
+            let blanks_there = blanks.unwrap_or(0);
+            if (is_first && blanks.is_some()) || blanks_there > 0 {
+                breaks.are_backslashes = true;
+            }
+            breaks.blanks.push(blanks_there)?;
+        }
+    }
+    Ok(breaks)
 }
 
 /// The options for a tree of the source.

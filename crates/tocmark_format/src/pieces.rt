@@ -1,9 +1,9 @@
 //! The trees at the top of a document: how each is written, and whether it is to be left.
 
+use crate::alone::{adapted, is_adapted};
 use crate::answer::{Left, Reason};
 use crate::options::{
-    Sign, breaks_by_backslash, first_sign, has_notes, has_references, item_markers, options_for,
-    with_other_markers, without_notes,
+    Sign, breaks_of, first_sign, has_references, item_markers, options_for, with_other_markers,
 };
 use crate::style::{Escapes, Style};
 use crate::table::aligned;
@@ -28,16 +28,32 @@ pub(crate) enum Form {
     Raw,
 }
 
+/// Where a text stands in a longer one: its first byte, and the one behind its last.
+pub(crate) type Span = (usize, usize);
+
 /// A tree at the top.
 #[derive(Drop)]
 pub(crate) struct Piece {
-    pub(crate) tidy: String,
-    pub(crate) plain: String,
+    /// Where it stands in `Texts::tidy`.
+    pub(crate) tidy: Span,
+    /// Where it stands in `Texts::plain`; an empty span if it is written just so in both forms.
+    pub(crate) plain: Span,
     pub(crate) form: Form,
+    /// Whether it is tidy in the source.
+    is_tidy: bool,
     /// Whether it stays as it is: HTML or metadata.
     is_kept: bool,
     /// Why it isn't written.
     reason: Option<Reason>,
+}
+
+/// The texts of all trees.
+#[derive(Drop)]
+pub(crate) struct Texts {
+    /// As people write them: one behind the other, or the document in which they stand.
+    pub(crate) tidy: String,
+    /// As the writer writes those that it writes otherwise.
+    pub(crate) plain: String,
 }
 
 /// What is the same for all trees of a document.
@@ -59,11 +75,12 @@ struct ListBefore {
 }
 
 /// A tree that isn't written.
-fn unwritten(alloc: Global, is_kept: bool, reason: Option<Reason>) -> Piece {
+fn unwritten(is_kept: bool, reason: Option<Reason>) -> Piece {
     Piece {
-        tidy: String::new(alloc),
-        plain: String::new(alloc),
+        tidy: (0, 0),
+        plain: (0, 0),
         form: Form::Left,
+        is_tidy: false,
         is_kept,
         reason,
     }
@@ -88,9 +105,26 @@ fn holds_definitions<R: Reader>(
     Ok(!reading.defined.is_empty())
 }
 
-/// A text with the line ends of the document.
-fn with_ends(alloc: Global, text: &str, line_end: &str) -> Result<String, AllocError> {
-    text.replace(alloc, "\n", line_end)
+/// Puts a text with the line ends of the document behind a longer one; where it stands there.
+fn put_text(
+    alloc: Global,
+    target: &mut String,
+    text: &str,
+    line_end: &str,
+) -> Result<Span, AllocError> {
+    let from = target.len();
+    if line_end == "\n" {
+        target.push_str(text)?;
+    } else {
+        let ended = text.replace(alloc, "\n", line_end)?;
+        target.push_str(ended.as_str())?;
+    }
+    Ok((from, target.len()))
+}
+
+/// The text of a span; empty where there is none.
+pub(crate) fn text_of(text: &str, span: Span) -> &str {
+    text.get(span.0..span.1).unwrap_or("")
 }
 
 /// A tree as it is written, in the form in which people write it.
@@ -104,9 +138,9 @@ fn tidy_text<R>(
     let tidy = if first_sign(events) == Sign::Table {
         aligned(alloc, text)?
     } else {
-        let backslash = breaks_by_backslash(document.source, events);
+        let breaks = breaks_of(alloc, document.source, events)?;
         let markers = item_markers(alloc, document.style, document.source, events)?;
-        tidied(alloc, text, backslash, &markers)?
+        tidied(alloc, text, &breaks, &markers)?
     };
     if document.style.escapes == Escapes::All || lines.contains("&amp;") {
         return Ok(tidy);
@@ -115,15 +149,15 @@ fn tidy_text<R>(
     tidy.replace(alloc, "&amp;", "&")
 }
 
-/// A tree with its references to footnotes as texts of the source, as the writer writes it.
-fn write_notes<R: Reader>(
+/// A tree whose events are first made so that the writer can write them.
+fn write_adapted<R: Reader>(
     document: &Document<'_, '_, R>,
     options: Options<'_>,
     events: &[(Event<'_>, (usize, usize))],
 ) -> Result<Written, Error> {
     let alloc = document.tools.alloc;
     let reading = Reading {
-        events: without_notes(alloc, document.source, events)?,
+        events: adapted(alloc, document.source, events)?,
         defined: Vec::new(alloc),
         unresolved: Vec::new(alloc),
     };
@@ -138,8 +172,8 @@ fn write_tree<'a, R: Reader>(
     options: Options<'_>,
     events: &'a [(Event<'a>, (usize, usize))],
 ) -> Result<Written, Error> {
-    if has_notes(events) {
-        return write_notes(document, options, events);
+    if is_adapted(document.source, events) {
+        return write_adapted(document, options, events);
     }
     write_with(&document.tools, options, document.source, events)
 }
@@ -158,12 +192,13 @@ fn written<'a, R: Reader>(
     lines: &str,
     options: Options<'_>,
     events: &'a [(Event<'a>, (usize, usize))],
+    texts: &mut Texts,
 ) -> Result<Piece, AllocError> {
     let alloc = document.tools.alloc;
     let piece = match write_tree(document, options, events) {
         Ok(piece) => piece,
         Err(Error::OutOfMemory) => return Err(AllocError),
-        Err(error) => return Ok(unwritten(alloc, false, Some(Reason::Refused(error)))),
+        Err(error) => return Ok(unwritten(false, Some(Reason::Refused(error)))),
     };
     let body = piece.body.as_str().trim_end_matches('\n');
     // definitions that don't stand apart stand before the tree
@@ -173,10 +208,17 @@ fn written<'a, R: Reader>(
         body
     };
     let tidy = tidy_text(document, lines, plain, events)?;
+    let span = put_text(alloc, &mut texts.tidy, tidy.as_str(), document.line_end)?;
+    let other = if tidy.as_str() == plain {
+        (0, 0)
+    } else {
+        put_text(alloc, &mut texts.plain, plain, document.line_end)?
+    };
     Ok(Piece {
-        tidy: with_ends(alloc, tidy.as_str(), document.line_end)?,
-        plain: with_ends(alloc, plain, document.line_end)?,
+        tidy: span,
+        plain: other,
         form: Form::Tidy,
+        is_tidy: text_of(texts.tidy.as_str(), span) == lines,
         is_kept: false,
         reason: None,
     })
@@ -204,9 +246,9 @@ pub(crate) fn make_pieces<'a, R: Reader>(
     document: &Document<'_, '_, R>,
     blocks: &[Block],
     found: &'a [(Event<'a>, (usize, usize))],
+    texts: &mut Texts,
 ) -> Result<Vec<Piece>, AllocError> {
-    let alloc = document.tools.alloc;
-    let mut all = Vec::new(alloc);
+    let mut all = Vec::with_capacity(document.tools.alloc, blocks.len())?;
     let mut before: Option<ListBefore> = None;
     for block in blocks {
         let events = found.get(block.first..block.past).unwrap_or(&[]);
@@ -214,12 +256,12 @@ pub(crate) fn make_pieces<'a, R: Reader>(
         let is_list = sign == Sign::Bullets || sign == Sign::Numbers;
         let options = options_of(document, *block, is_list, before, events);
         let piece = if sign == Sign::Raw {
-            unwritten(alloc, true, None)
+            unwritten(true, None)
         } else if holds_definitions(document, *block, sign)? {
-            unwritten(alloc, false, Some(Reason::HoldsDefinitions))
+            unwritten(false, Some(Reason::HoldsDefinitions))
         } else {
             let lines = document.source.get(block.from..block.to).unwrap_or("");
-            written(document, lines, options, events)?
+            written(document, lines, options, events, texts)?
         };
         all.push(piece)?;
         before = if is_list {
@@ -238,7 +280,7 @@ impl Piece {
     /// Takes the next form that is nearer to the source; false if there is none.
     pub(crate) fn step_back(&mut self) -> bool {
         match self.form {
-            Form::Tidy if self.tidy.as_str() != self.plain.as_str() => self.form = Form::Plain,
+            Form::Tidy if self.plain.0 < self.plain.1 => self.form = Form::Plain,
             Form::Tidy | Form::Plain => self.form = Form::Left,
             Form::Left => self.form = Form::Raw,
             Form::Raw => return false,
@@ -252,13 +294,13 @@ impl Piece {
     }
 
     /// Why the tree was left, if it was and isn't just what would be written.
-    fn reason_left(self, lines: &str) -> Option<Reason> {
+    fn reason_left(self) -> Option<Reason> {
         if self.is_kept || self.form == Form::Tidy || self.form == Form::Plain {
             return None;
         }
         match self.reason {
             Some(reason) => Some(reason),
-            None if self.tidy.as_str() == lines => None,
+            None if self.is_tidy => None,
             None => Some(Reason::ReadOtherwise),
         }
     }
@@ -267,14 +309,12 @@ impl Piece {
 /// The trees that were left.
 pub(crate) fn all_left(
     alloc: Global,
-    source: &str,
     blocks: &[Block],
     pieces: Vec<Piece>,
 ) -> Result<Vec<Left>, AllocError> {
     let mut left = Vec::new(alloc);
     for (piece, block) in pieces.into_iter().zip(blocks) {
-        let lines = source.get(block.from..block.to).unwrap_or("");
-        if let Some(reason) = piece.reason_left(lines) {
+        if let Some(reason) = piece.reason_left() {
             left.push(Left {
                 lines: block.lines,
                 reason,

@@ -1,6 +1,7 @@
 //! A written tree as people write it: no blank before the `>` of a quote, no empty line at a quote's front, no blanks at
 //! the end of lines that have nothing but prefixes. What stands in fences stays as it is.
 
+use crate::options::Breaks;
 use std::alloc::{AllocError, Global};
 
 /// What a line begins with: blanks, signs of quotes, markers of items and labels of footnotes.
@@ -191,6 +192,9 @@ struct Page<'m> {
     held_quotes: usize,
     fence: Option<OpenFence>,
     markers: Markers<'m>,
+    breaks: &'m Breaks,
+    /// How many hard breaks are put.
+    broken: usize,
 }
 
 /// The markers of items, as far as they are put.
@@ -301,8 +305,20 @@ impl Page<'_> {
         Ok(true)
     }
 
+    /// A line that ends with a hard break, which is a backslash.
+    fn broken_line(&mut self, alloc: Global, line: &str, end: usize) -> Result<(), AllocError> {
+        let bare = line.trim_end_matches(' ');
+        put_line(alloc, &mut self.text, bare, end, &mut self.markers)?;
+        let blanks = self.breaks.blanks.get(self.broken).copied().unwrap_or(0);
+        self.broken = self.broken.saturating_add(1);
+        for _ in 0..blanks {
+            self.text.push_str(" ")?;
+        }
+        self.text.push_str("\\\n")
+    }
+
     /// A line outside of fences.
-    fn plain_line(&mut self, alloc: Global, line: &str, backslash: bool) -> Result<(), AllocError> {
+    fn plain_line(&mut self, alloc: Global, line: &str) -> Result<(), AllocError> {
         let prefix = prefix_of(line.as_bytes());
         self.release(prefix.quotes)?;
         let is_empty = prefix.end >= line.len();
@@ -313,10 +329,8 @@ impl Page<'_> {
         }
         self.quotes = prefix.quotes;
         self.fence = opened(line.as_bytes(), prefix);
-        if backslash && !is_empty && line.ends_with("  ") {
-            let bare = line.trim_end_matches(' ');
-            put_line(alloc, &mut self.text, bare, prefix.end, &mut self.markers)?;
-            return self.text.push_str("\\\n");
+        if self.breaks.are_backslashes && !is_empty && line.ends_with("  ") {
+            return self.broken_line(alloc, line, prefix.end);
         }
         let line = if is_empty_heading(line, prefix.end) {
             line.trim_end_matches(' ')
@@ -328,22 +342,21 @@ impl Page<'_> {
     }
 
     /// The next line.
-    fn line(&mut self, alloc: Global, line: &str, backslash: bool) -> Result<(), AllocError> {
+    fn line(&mut self, alloc: Global, line: &str) -> Result<(), AllocError> {
         if let Some(fence) = self.fence
             && self.code_line(alloc, line, fence)?
         {
             return Ok(());
         }
-        self.plain_line(alloc, line, backslash)
+        self.plain_line(alloc, line)
     }
 }
 
-/// A written tree as people write it: with these markers of its items, and with backslashes for hard breaks if it is to
-/// have them.
+/// A written tree as people write it: with these markers of its items, and such hard breaks.
 pub(crate) fn tidied(
     alloc: Global,
     text: &str,
-    backslash: bool,
+    breaks: &Breaks,
     markers: &[u8],
 ) -> Result<String, AllocError> {
     let mut page = Page {
@@ -356,9 +369,11 @@ pub(crate) fn tidied(
             all: markers,
             done: 0,
         },
+        breaks,
+        broken: 0,
     };
     for line in text.split('\n') {
-        page.line(alloc, line, backslash)?;
+        page.line(alloc, line)?;
     }
     page.release(0)?;
     String::from_str(alloc, page.text.as_str().trim_end_matches('\n'))

@@ -25,7 +25,7 @@ use decide::{Decision, decided};
 use diff::{Look, unified_diff};
 use fault::Fault;
 use lookup::{Refused, settings_of_files};
-use replace::replace_text;
+use replace::{Change, replace_text};
 use report::Report;
 use settings::{Settings, extension_help, syntax_help};
 use std::alloc::Global;
@@ -108,7 +108,13 @@ fn format_file(
             left,
         });
     };
-    replace_text(rt, path, text, written.as_str())?;
+    let change = Change {
+        reader: &READER,
+        flags: settings.flags,
+        old: text,
+        new: written.as_str(),
+    };
+    replace_text(rt, path, &change)?;
     Ok(Passed {
         is_changed: true,
         left,

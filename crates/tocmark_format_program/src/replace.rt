@@ -3,15 +3,28 @@
 //! The new text is written to a new file in the same folder, which gets the owner and the permissions of the old one, is
 //! synced, and is renamed over it. Until then the old file stands as it is; at a fault the new one is removed.
 
+ghost use Rattle.tocmark_format_program.specs.Formats.{SaysTheSame};
+
 use crate::fault::Fault;
 use std::fs::{File, Metadata, OpenOptions};
 use std::io::Write;
 use std::os::unix::fs::{MetadataExt, OpenOptionsExt, chown};
 use std::path::Path;
 use std::{fs, io};
+use tocmark_event::event::ParserOptions;
+use tocmark_event::reader::Reader;
 
 /// How many names are tried for the new file.
 const TRIES: usize = 1000;
+
+/// A text in place of another one, and by whom and how both are read: only one that says the same is written.
+#[derive(Drop)]
+pub struct Change<'c, R> {
+    pub reader: &'c R,
+    pub flags: ParserOptions,
+    pub old: &'c str,
+    pub new: &'c str,
+}
 
 /// The name of the new file that is tried in the given turn.
 fn name_beside(rt: &HostRuntime, path: &str, turn: usize) -> io::Result<String> {
@@ -51,8 +64,12 @@ fn keep_attributes(rt: &HostRuntime, name: &str, file: &File, old: &Metadata) ->
     file.set_permissions(old.permissions())
 }
 
-fn write_whole(file: &mut File, text: &str) -> io::Result<()> {
-    file.write_all(text.as_bytes())?;
+/// Writes the new text.
+fn write_whole<R: Reader>(file: &mut File, change: &Change<'_, R>) -> io::Result<()>
+    requires { SaysTheSame (λ t. R.reading change.now.reader.now t change.now.flags)
+        change.now.old.now change.now.new.now }
+{
+    file.write_all(change.new.as_bytes())?;
     file.sync_all()
 }
 
@@ -63,18 +80,20 @@ fn still_has(rt: &HostRuntime, path: &str, text: &str) -> io::Result<bool> {
 }
 
 /// Fills the new file, and puts it into the place of the old one, if that still has its old text.
-fn fill_and_rename(
+fn fill_and_rename<R: Reader>(
     rt: &HostRuntime,
     path: &str,
     name: &str,
     file: &mut File,
-    old: &str,
-    new: &str,
-) -> Result<(), Fault> {
+    change: &Change<'_, R>,
+) -> Result<(), Fault>
+    requires { SaysTheSame (λ t. R.reading change.now.reader.now t change.now.flags)
+        change.now.old.now change.now.new.now }
+{
     let metadata = fs::metadata(rt, path).map_err(Fault::Read)?;
     keep_attributes(rt, name, file, &metadata).map_err(Fault::Attributes)?;
-    write_whole(file, new).map_err(Fault::Write)?;
-    if !still_has(rt, path, old).map_err(Fault::Read)? {
+    write_whole(file, change).map_err(Fault::Write)?;
+    if !still_has(rt, path, change.old).map_err(Fault::Read)? {
         return Err(Fault::Changed);
     }
     fs::rename(rt, name, path).map_err(Fault::Write)
@@ -90,12 +109,20 @@ fn sync_folder(rt: &HostRuntime, path: &str) {
     }
 }
 
-/// Puts the new text in the place of a file's old one. A link is followed. After an `Err` the file stands as it was.
-pub fn replace_text(rt: &HostRuntime, path: &str, old: &str, new: &str) -> Result<(), Fault> {
+/// Puts the new text, which says the same, in the place of a file's old one. A link is followed. After an `Err` the file
+/// stands as it was.
+pub fn replace_text<R: Reader>(
+    rt: &HostRuntime,
+    path: &str,
+    change: &Change<'_, R>,
+) -> Result<(), Fault>
+    requires { SaysTheSame (λ t. R.reading change.now.reader.now t change.now.flags)
+        change.now.old.now change.now.new.now }
+{
     let target = Path::new(path).canonicalize(rt).map_err(Fault::Read)?;
     let target = target.as_path().as_str();
     let (name, mut file) = create_beside(rt, target).map_err(Fault::Write)?;
-    let done = fill_and_rename(rt, target, name.as_str(), &mut file, old, new);
+    let done = fill_and_rename(rt, target, name.as_str(), &mut file, change);
     drop(file);
     match done {
         Ok(()) => {

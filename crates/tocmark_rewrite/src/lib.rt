@@ -16,6 +16,7 @@
 #![tactic(auto)]
 
 pub mod answer;
+pub mod digest;
 pub mod edits;
 pub mod fault;
 pub mod given;

@@ -105,9 +105,17 @@ fn hand<'a, R: Reader + Drop>(
     Ok(())
 }
 
+/// Why a tree isn't written: the texts that a state hands are refused for want of memory alone.
+fn fault_of(error: Error) -> Error {
+    match error {
+        Error::FormatFailed(_fault) => Error::OutOfMemory,
+        other => other,
+    }
+}
+
 /// A tree, and the definitions that it asks for, written under these options by a state of its own.
 ///
-/// An `Err` is one of those of `State::process_with_source_range`.
+/// An `Err` is one of those of `State::process_with_source_range` but `FormatFailed`.
 pub fn write_with<'a, R: Reader>(
     tools: &Tools<'_, '_, R>,
     options: Options<'_>,
@@ -120,7 +128,9 @@ pub fn write_with<'a, R: Reader>(
     let mut state = State::new(alloc, tools.reader, tools.flags, options)?;
     let handed = hand(&mut state, spelled, events, &mut texts);
     drop(state);
-    handed?;
+    if let Err(error) = handed {
+        return Err(fault_of(error));
+    }
     let body = in_manner_of(alloc, tools.has_returns, texts.text_at(0))?;
     let ends = in_manner_of(alloc, tools.has_returns, texts.text_at(1))?;
     Ok(Piece {

@@ -2,13 +2,7 @@ use Rattle.std.proofs.Common.{◌≡◌, ◌∙◌, ap, sym}
 use Rattle.tocmark_event.specs.Merged.{merged}
 use Rattle.tocmark_rewrite.specs.Given.{found_events, given_events}
 use Rattle.tocmark_rewrite.proofs.Readings.{found-given}
-use Rattle.tocmark_format.proofs.format.formatted.Goals as goal
-
-pub formatted_as-requires : goal.formatted_as-requires
-formatted_as-requires g c =
-    ap given_events c.deref.ensures.value
-    ∙ sym (found-given c.in_ok-reading.reading)
-    ∙ ap found_events c.in_ok-reading.ensures
+use Rattle.tocmark_format.proofs.format.digest_of.Goals as goal
 
 pub returns : goal.returns
 returns g c =
@@ -16,4 +10,4 @@ returns g c =
     ap given_events c.deref.ensures.value
     ∙ sym (found-given c.in_ok-reading.reading)
     ∙ ap found_events c.in_ok-reading.ensures in
-    record { same = c.in_ok-answer.ensures ∙ ap merged read }
+    c.in_ok-digest.ensures ∙ ap merged read

@@ -2,12 +2,12 @@ use Rattle.std.proofs.Common.{◌≡◌, ◌∙◌, ap, sym}
 use Rattle.tocmark_event.specs.Merged.{merged}
 use Rattle.tocmark_rewrite.specs.Given.{found_events, given_events}
 use Rattle.tocmark_rewrite.proofs.Readings.{found-given}
-use Rattle.tocmark_format.proofs.format.differences.Goals as goal
+use Rattle.tocmark_format.proofs.format.kept_of_source.Goals as goal
 
-pub returns-then-branch : goal.returns-then-branch
-returns-then-branch g c =
-    let read : given_events c.deref.result.now ≡ found_events (g.R.Reader.reading c.args.reader.now c.args.text.now c.args.flags) =
+pub returns : goal.returns
+returns g c =
+    let read : given_events c.deref.result.now ≡ found_events (g.R.Reader.reading c.args.document.now.tools.reader.now c.args.document.now.source.now c.args.document.now.tools.flags) =
     ap given_events c.deref.ensures.value
     ∙ sym (found-given c.in_ok-reading.reading)
     ∙ ap found_events c.in_ok-reading.ensures in
-    λ none. sym (ap merged read) ∙ c.in_ok-are_same.ensures.0 c.if-branch.true
+    c.in_ok-kept.ensures ∙ ap merged read
