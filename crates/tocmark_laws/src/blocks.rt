@@ -72,10 +72,12 @@ pub fn a_link_is_appended<W: Taker>()
 /// in a Table, or a TableCell in no Table. It stands in no body in whose place an id is written. A unit with such an
 /// event is refused so (`exact`).
 pub fn unexpected_units_are_misplaced()
-    ensures causes { (s : Setting) (d : DocumentView) (unit : List SourcedEvent) (next : Option EventView)
-        → IsBalanced unit → chosen s d unit next ≡ Err UnexpectedEvent → IsMisplacedUnit s unit }
-    ensures exact { (s : Setting) (d : DocumentView) (unit : List SourcedEvent) (next : Option EventView)
-        → IsMisplacedUnit s unit → chosen s d unit next ≡ Err UnexpectedEvent }
+    ensures causes { (s : Setting) (d : DocumentView) (unit : List SourcedEvent)
+        → (next : Option EventView) → IsBalanced unit
+        → chosen s d unit next ≡ Err UnexpectedEvent → IsMisplacedUnit s unit }
+    ensures exact { (s : Setting) (d : DocumentView) (unit : List SourcedEvent)
+        → (next : Option EventView) → IsMisplacedUnit s unit
+        → chosen s d unit next ≡ Err UnexpectedEvent }
 {}
 
 /// A list of events that is refused as `UnexpectedEvent` has a cause, at the first pair at which it is or at its
