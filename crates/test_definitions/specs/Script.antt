@@ -14,7 +14,7 @@ use Rattle.tocmark_render.specs.Choice.{Chosen, choice}
 use Rattle.tocmark_write_labels.specs.Definitions.{definitions_text}
 use Rattle.tocmark_write_labels.specs.Ending.{is_raw_block, last_texts}
 use Rattle.tocmark_write_labels.specs.Document.{DocumentView, first_document}
-use Rattle.tocmark_write_labels.specs.Placeholder.{needs_placeholder}
+use Rattle.tocmark_write_pending.specs.Placeholder.{needs_placeholder}
 use Rattle.tocmark_write_labels.specs.Reserved.{reserved_label}
 
 -- the texts that are written, and the error that ends them, if one does

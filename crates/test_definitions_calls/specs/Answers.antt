@@ -6,7 +6,7 @@ use Rattle.tocmark_spelling.specs.Plan.{Setting}
 use Rattle.tocmark_write_labels.specs.Definitions.{definitions_text}
 use Rattle.tocmark_write_labels.specs.Document.{DocumentView}
 use Rattle.tocmark_write_labels.specs.Ending.{holds_raw_block}
-use Rattle.tocmark_write_labels.specs.Units.{waits}
+use Rattle.tocmark_write_pending.specs.Units.{waits}
 use Rattle.tocmark_render.specs.Chosen.{chosen}
 use Rattle.tocmark_state.specs.Ranges.{Pair}
 use Rattle.tocmark_state.specs.Walk.{Done, done, Kept, Rendering, Standing, walk, ended, script, nothing_yet}

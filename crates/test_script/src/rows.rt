@@ -4,13 +4,14 @@ use crate::report::Report;
 use crate::trials::{Front, try_all};
 use crate::unit::Unit;
 use std::alloc::{AllocError, Global};
+use std::mem;
 use test_script_events::fault::{LineFault, NumberedFault};
 use test_script_lines::lines::ScriptLines;
 use test_script_lines::script::Script;
-use tocmark_event::event::{Event, ParserOptions};
+use tocmark_event::event::{Event, OwnedEvent, ParserOptions};
 use tocmark_event::options::{Error, Options};
-use tocmark_spelling::buffered::BufferedEvent;
-use tocmark_write_labels::pending::Pending;
+use tocmark_write_pending::pending::Pending;
+use tocmark_write_unit::block::Rest;
 
 /// What stands in the source for an event with a range.
 fn spelling<'s>(source: &'s Option<String>, range: Option<(usize, usize)>) -> Option<&'s str> {
@@ -20,30 +21,38 @@ fn spelling<'s>(source: &'s Option<String>, range: Option<(usize, usize)>) -> Op
     }
 }
 
-/// The events of a row, up to an End that isn't the innermost open container's.
+fn first_of(unit: &Pending) -> Option<&OwnedEvent> {
+    match unit.events() {
+        [first, ..] => Some(&first.event),
+        [] => None,
+    }
+}
+
+/// The units of a row, up to an End that isn't the innermost open container's.
 #[derive(Drop)]
 struct Row<'r> {
     alloc: Global,
     options: Options<'r>,
     flags: ParserOptions,
-    events: Pending,
-    /// Behind how many events the units end, in order.
-    ends: Vec<usize>,
+    units: Vec<Pending>,
+    /// The events behind the last of them, of which some container is open, if there are any.
+    pending: Pending,
 }
 
 impl Row<'_> {
-    /// Notes that a unit ends here, if no container is open.
-    fn note_end(&mut self) -> Result<bool, AllocError> {
-        if self.events.is_whole() {
-            self.ends.push(self.events.events().len())?;
+    /// Ends a unit here, if no container is open.
+    fn end_unit(&mut self) -> Result<bool, AllocError> {
+        if self.pending.is_whole() {
+            let unit = mem::replace(&mut self.pending, Pending::new(self.alloc));
+            self.units.push(unit)?;
         }
         Ok(true)
     }
 
     /// Takes the next event. False for an End that isn't the innermost open container's.
     fn take(&mut self, event: &Event<'_>, source: Option<&str>) -> Result<bool, AllocError> {
-        match self.events.join(self.alloc, event, source) {
-            Ok(()) => self.note_end(),
+        match self.pending.join(self.alloc, event, source) {
+            Ok(()) => self.end_unit(),
             Err(Error::OutOfMemory) => Err(AllocError),
             Err(_error) => Ok(false),
         }
@@ -58,11 +67,28 @@ impl Row<'_> {
         Ok(())
     }
 
+    /// The event behind the unit at this place.
+    fn behind(&self, place: usize) -> Option<&OwnedEvent> {
+        match self.units.get(place + 1) {
+            Some(unit) => first_of(unit),
+            None => first_of(&self.pending),
+        }
+    }
+
     /// Tries its units.
     fn try_units(&self, report: &mut Report) -> Result<(), AllocError> {
-        let row = row_of(self.alloc, &self.options, self.flags, self.events.events());
         let mut front = Front::new();
-        try_units(&row, &self.ends, &mut front, report)
+        for (place, unit) in self.units.iter().enumerate() {
+            let unit = Unit {
+                alloc: self.alloc,
+                options: &self.options,
+                flags: self.flags,
+                rest: Rest { unit, place: 0 },
+                next: self.behind(place),
+            };
+            try_all(&unit, &mut front, report)?;
+        }
+        Ok(())
     }
 
     /// Takes the events of a script, and tries its units.
@@ -72,45 +98,14 @@ impl Row<'_> {
     }
 }
 
-/// The events of a row, as one unit.
-fn row_of<'u, 'o>(
-    alloc: Global,
-    options: &'u Options<'o>,
-    flags: ParserOptions,
-    events: &'u [BufferedEvent],
-) -> Unit<'u, 'o> {
-    Unit {
-        alloc,
-        options,
-        flags,
-        events,
-        next: None,
-    }
-}
-
-/// Tries the units of a row, which end behind so many events.
-fn try_units(
-    row: &Unit<'_, '_>,
-    ends: &[usize],
-    front: &mut Front,
-    report: &mut Report,
-) -> Result<(), AllocError> {
-    let mut start = 0usize;
-    for end in ends {
-        try_all(&row.front(*end).rest(start), front, report)?;
-        start = *end;
-    }
-    Ok(())
-}
-
 /// Tries the units of a script.
 fn try_script(alloc: Global, script: &Script<'_>, report: &mut Report) -> Result<(), AllocError> {
     let mut row = Row {
         alloc,
         options: script.options(),
         flags: script.flags,
-        events: Pending::new(alloc),
-        ends: Vec::new(alloc),
+        units: Vec::new(alloc),
+        pending: Pending::new(alloc),
     };
     row.run(script, report)
 }

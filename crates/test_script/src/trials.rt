@@ -114,7 +114,7 @@ fn try_one<'u>(
 ) -> Result<(), AllocError> {
     let mut alone = begun(trial)?;
     let first = usize::from(trial.entered.is_some());
-    let rest = trial.unit.rest(first);
+    let rest = trial.unit.from(first);
     let place = TrialName {
         first,
         manner: number,
@@ -171,7 +171,7 @@ fn try_in(
 ) -> Result<(), AllocError> {
     report.begin_unit();
     try_behind(unit, front, None, manners, report)?;
-    match unit.events {
+    match unit.rest.unit.events() {
         [first, _, ..] => try_behind(unit, front, Some(&first.event), manners, report),
         _ => Ok(()),
     }

@@ -1,4 +1,4 @@
-//! A unit of a row or a part of one, and how it is written in one manner.
+//! A unit of a row from a place on, and how it is written in one manner.
 
 ghost use Rattle.std.specs.Prelude.{◌≡◌, true};
 ghost use Rattle.tocmark_write_emphasis.specs.Low.{AsksLow};
@@ -7,44 +7,31 @@ use std::alloc::Global;
 use tocmark_core_reader::CoreReader;
 use tocmark_event::event::{OwnedEvent, ParserOptions};
 use tocmark_event::options::{Error, Options};
-use tocmark_spelling::buffered::BufferedEvent;
 use tocmark_spelling::plan::Delimiters;
 use tocmark_write_renderer::job::{Job, Manner};
 use tocmark_write_renderer::renderer::Renderer;
-use tocmark_write_unit::block::write_unit;
+use tocmark_write_unit::block::{Rest, write_rest};
 use tocmark_write_unit::findings::findings_of;
 
 /// The label that is reserved for lists.
 const LABEL: &str = "cmark-loose-0";
 
-/// A unit of a row or a part of one, and what it is written with.
+/// A unit of a row from a place on, and what it is written with.
 #[derive(Clone, Copy)]
 pub struct Unit<'u, 'o> {
     pub alloc: Global,
     pub options: &'u Options<'o>,
     pub flags: ParserOptions,
-    pub events: &'u [BufferedEvent],
+    pub rest: Rest<'u>,
     /// The event after it, if there is one.
     pub next: Option<&'u OwnedEvent>,
 }
 
 impl<'u, 'o> Unit<'u, 'o> {
-    /// So many events at its front, or all where it hasn't so many.
-    pub fn front(&self, count: usize) -> Unit<'u, 'o> {
-        match self.events.get(count) {
-            Some(next) => Unit {
-                events: &self.events[..count],
-                next: Some(&next.event),
-                ..*self
-            },
-            None => *self,
-        }
-    }
-
-    /// The events behind these.
-    pub fn rest(&self, count: usize) -> Unit<'u, 'o> {
-        let events = self.events.get(count..).unwrap_or(&[]);
-        Unit { events, ..*self }
+    /// The same unit from its event at this place on.
+    pub fn from(&self, place: usize) -> Unit<'u, 'o> {
+        let rest = Rest { place, ..self.rest };
+        Unit { rest, ..*self }
     }
 }
 
@@ -87,15 +74,15 @@ fn write_low<'u>(
     ensures mark { renderer.new.at_mark ≡ renderer.old.at_mark }
 {
     let (alloc, options, flags) = (unit.alloc, unit.options, unit.flags);
-    let (events, next) = (unit.events, unit.next);
-    let found = findings_of(alloc, &CoreReader, options, flags, events)?;
+    let (rest, next) = (unit.rest, unit.next);
+    let found = findings_of(alloc, &CoreReader, options, flags, rest.unit)?;
     let job = Job {
         alloc,
         options,
         flags,
         label: Some(LABEL),
     };
-    write_unit(renderer, job, &CoreReader, events, &found, next, *manner)
+    write_rest(renderer, job, &CoreReader, rest, &found, next, *manner)
 }
 
 /// Writes the unit in one manner. Where that is refused some of it may be written.

@@ -22,7 +22,7 @@ use Rattle.tocmark_render.specs.Candidates.{preferred_manner, has_source, is_del
 use Rattle.tocmark_render.specs.Choice as choice
 use Rattle.tocmark_render.specs.Choice.{page_in, spelled, accepted_if, document_after, has_standard_markers}
 use Rattle.tocmark_write_labels.specs.Document.{DocumentView}
-use Rattle.tocmark_write_labels.specs.Placeholder.{whole, needs_placeholder, needs_placeholder_at, is_ambiguous_list}
+use Rattle.tocmark_write_pending.specs.Placeholder.{whole, needs_placeholder, needs_placeholder_at, is_ambiguous_list}
 use Rattle.tocmark_render.specs.Chosen.{chosen}
 use Rattle.tocmark_render.proofs.Chosen.{chosen-unlabelled}
 use Rattle.tocmark_render.proofs.PlainUnits.{choice-unasked}

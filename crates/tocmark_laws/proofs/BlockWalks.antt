@@ -15,8 +15,8 @@ use Rattle.tocmark_spelling.specs.PlanOf.{setting_of}
 use Rattle.tocmark_write_labels.specs.Definitions.{definitions_text}
 use Rattle.tocmark_write_labels.specs.Document.{DocumentView, first_document}
 use Rattle.tocmark_write_labels.specs.Ending.{last_texts, holds_raw_block, unless_empty}
-use Rattle.tocmark_write_labels.specs.Units.{waits}
-use Rattle.tocmark_write_labels.proofs.Forests.{waits-flat}
+use Rattle.tocmark_write_pending.specs.Units.{waits}
+use Rattle.tocmark_write_pending.proofs.Forests.{waits-flat}
 use Rattle.tocmark_state.specs.Ranges.{Pair, unranged}
 use Rattle.tocmark_state.specs.WorkView.{keeping, rendering}
 use Rattle.tocmark_laws.specs.TextBlocks.{Kind, Block, HasText, MakesBlocks, blocks_walk, tag_of, mark_of, block_text, block_events, document_of, feeds_behind, place_in, texts_behind}

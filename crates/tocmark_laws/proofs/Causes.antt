@@ -10,8 +10,8 @@ use Rattle.tocmark_laws.specs.Causes.{HasBadRange, Cause, BadRange, RefusedUnit,
 use Rattle.tocmark_state.specs.Ranges.{Pair, Range, is_good_range, source_text, range_end_after, resolved_at}
 use Rattle.tocmark_laws.specs.Trees.{ends_innermost}
 use Rattle.tocmark_state.specs.Walk.{Kept, Rendering, Standing, Walk, go_on, stay, with_event, joins, flush_of, flushed, flushed_or_deferred, is_due, flushed_before, advance, advance_with, step, walk, finished, finished_of, ended, ended_at, script}
-use Rattle.tocmark_write_labels.specs.Pending.{nested}
-use Rattle.tocmark_write_labels.proofs.Joined.{unsourced-sourced}
+use Rattle.tocmark_write_pending.specs.Pending.{nested}
+use Rattle.tocmark_write_pending.proofs.Joined.{unsourced-sourced}
 
 same_error : {A : Type 0} (x y : Error) (r : Result A Error) → r ≡ Err x → r ≡ Err y → x ≡ y
 same_error x y r h k = cc

@@ -31,7 +31,7 @@ use Rattle.tocmark_render.specs.Choice.{preferred, spelled, accepted_if, documen
 use Rattle.tocmark_write_labels.specs.Definitions.{definitions_text}
 use Rattle.tocmark_write_labels.specs.Document.{DocumentView, first_document}
 use Rattle.tocmark_write_labels.specs.Ending.{last_texts, holds_raw_block}
-use Rattle.tocmark_write_labels.specs.Placeholder.{whole, needs_placeholder, needs_placeholder_at}
+use Rattle.tocmark_write_pending.specs.Placeholder.{whole, needs_placeholder, needs_placeholder_at}
 use Rattle.tocmark_laws.proofs.BlockSpelling.{text_leaf, text_trees, page_of, blank}
 use Rattle.tocmark_laws.proofs.Paragraphs.{laid-plain}
 use Rattle.tocmark_state.specs.Ranges.{Pair, unranged}

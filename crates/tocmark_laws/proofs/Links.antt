@@ -22,7 +22,7 @@ use Rattle.tocmark_render.specs.Choice.{preferred, spelled, document_after}
 use Rattle.tocmark_write_labels.specs.Definitions.{definitions_text}
 use Rattle.tocmark_write_labels.specs.Document.{DocumentView, first_document}
 use Rattle.tocmark_write_labels.specs.Ending.{last_texts, holds_raw_block}
-use Rattle.tocmark_write_labels.specs.Placeholder.{needs_placeholder}
+use Rattle.tocmark_write_pending.specs.Placeholder.{needs_placeholder}
 use Rattle.tocmark_laws.proofs.Paragraphs.{laid-plain}
 use Rattle.tocmark_state.specs.WorkView.{keeping, rendering}
 use Rattle.tocmark_state.specs.Walk.{Walk, Done, done, finished_of, nothing_yet, script, joins, flushed, flushed_before, advance, step, ended}

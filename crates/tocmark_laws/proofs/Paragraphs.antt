@@ -27,7 +27,7 @@ use Rattle.tocmark_render.specs.Choice.{preferred, spelled, document_after}
 use Rattle.tocmark_write_labels.specs.Definitions.{definitions_text}
 use Rattle.tocmark_write_labels.specs.Document.{DocumentView, first_document}
 use Rattle.tocmark_write_labels.specs.Ending.{last_texts, holds_raw_block}
-use Rattle.tocmark_write_labels.specs.Placeholder.{needs_placeholder}
+use Rattle.tocmark_write_pending.specs.Placeholder.{needs_placeholder}
 use Rattle.tocmark_render.specs.Chosen.{chosen}
 use Rattle.tocmark_render.proofs.Chosen.{chosen-unlabelled}
 use Rattle.tocmark_render.proofs.PlainUnits.{choice-unasked}

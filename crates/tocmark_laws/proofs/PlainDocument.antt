@@ -25,7 +25,7 @@ use Rattle.tocmark_render.specs.Choice.{has_standard_markers, spelled, document_
 use Rattle.tocmark_write_labels.specs.Definitions.{definitions_text}
 use Rattle.tocmark_write_labels.specs.Document.{DocumentView, first_document}
 use Rattle.tocmark_write_labels.specs.Ending.{last_texts, holds_raw_block, unless_empty}
-use Rattle.tocmark_write_labels.specs.Placeholder.{needs_placeholder, needs_placeholder_at}
+use Rattle.tocmark_write_pending.specs.Placeholder.{needs_placeholder, needs_placeholder_at}
 use Rattle.tocmark_render.specs.Chosen.{chosen}
 use Rattle.tocmark_render.proofs.Chosen.{chosen-unlabelled}
 use Rattle.tocmark_render.proofs.PlainUnits.{choice-unasked}

@@ -4,8 +4,8 @@ use Rattle.tocmark_event.specs.Forest.{IsReading}
 use Rattle.tocmark_event.specs.View.{EventView, SourcedEvent, unsourced}
 use Rattle.tocmark_event.specs.declared.event.TagEnd.{TagEnd}
 use Rattle.tocmark_event.specs.declared.options.Error.{Error}
-use Rattle.tocmark_write_labels.specs.Pending.{nested}
-use Rattle.tocmark_write_labels.proofs.Balanced.{reading-more, reading-nothing}
+use Rattle.tocmark_write_pending.specs.Pending.{nested}
+use Rattle.tocmark_write_pending.proofs.Balanced.{reading-more, reading-nothing}
 use Rattle.tocmark_state.specs.Ranges.{Pair, resolved}
 use Rattle.tocmark_state.specs.Walk.{Kept, Rendering, Standing, Walk, advance, advance_with, beginning, flush_of, flushed, flushed_before, flushed_or_deferred, go_on, is_due, joins, stay, step, walk, with_event}
 use Rattle.tocmark_state.proofs.Walks.{due_closed}

@@ -7,8 +7,8 @@ use Rattle.tocmark_event.specs.View.{EventView, Start, End, Leaf, SourcedEvent, 
 use Rattle.tocmark_event.specs.declared.event.TagEnd.{TagEnd}
 use Rattle.tocmark_event.specs.declared.options.Error.{Error}
 use Rattle.tocmark_event.specs.declared.options.Error.TheVariants as error
-use Rattle.tocmark_write_labels.specs.Pending.{closed, nested}
-use Rattle.tocmark_write_labels.proofs.Balanced.{flat_onto-joined, same-is, same-self}
+use Rattle.tocmark_write_pending.specs.Pending.{closed, nested}
+use Rattle.tocmark_write_pending.proofs.Balanced.{flat_onto-joined, same-is, same-self}
 use Rattle.tocmark_state.specs.Ranges.{Pair, Range, is_good_range, range_end_after, resolved, resolved_at, source_text}
 use Rattle.tocmark_spelling.specs.Buffered.{sourced}
 use Rattle.tocmark_laws.specs.Trees.{Part, Trees, IsRefused, ends_innermost, deferred_unit, followed_unit, stop_at, unit_walk, walk_trees, ranged, with_first, part_onto, part_ends, end_ranged, then_ranged}

@@ -18,7 +18,7 @@ use Rattle.tocmark_laws.proofs.Misplaced.{labelled-start, start-labelled}
 use Rattle.tocmark_render.specs.Candidates.{candidates, is_checked, preferred_manner}
 use Rattle.tocmark_render.specs.Choice.{Chosen, accepted_if, by_markers, choice, first_or, first_that_reads_back, has_standard_markers, page_in, page_of, preferred, spelled, unless_misplaced}
 use Rattle.tocmark_write_labels.specs.Document.{DocumentView}
-use Rattle.tocmark_write_labels.specs.Placeholder.{whole}
+use Rattle.tocmark_write_pending.specs.Placeholder.{whole}
 use Rattle.tocmark_write_labels.specs.Units.{label_for, labelled}
 use Rattle.tocmark_render.specs.Chosen.{chosen}
 use Rattle.tocmark_render.specs.Unrepresentable.{IsUnrepresentable}

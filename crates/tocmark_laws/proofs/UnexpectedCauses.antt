@@ -17,7 +17,7 @@ use Rattle.tocmark_state.specs.Ranges.{Pair}
 use Rattle.tocmark_state.specs.Walk.{Done, Kept, Rendering, Standing, beginning, ended, ended_at, go_on, is_due, is_whole, script, walk}
 use Rattle.tocmark_state.specs.WorkView.{rendering}
 use Rattle.tocmark_laws.proofs.Causes.{script_cause}
-use Rattle.tocmark_write_labels.proofs.Balanced.{reading-balanced}
+use Rattle.tocmark_write_pending.proofs.Balanced.{reading-balanced}
 use Rattle.tocmark_laws.proofs.Reading.{nothing_nested}
 use Rattle.tocmark_laws.proofs.Unexpected.{rendering-misplaced, rendering-unrepresentable}
 use Rattle.tocmark_laws.specs.UnrepresentableLists.{HasUnrepresentableEnd, HasUnrepresentableUnit, IsUnrepresentableIn}

@@ -28,7 +28,7 @@ use Rattle.tocmark_laws.specs.Written.{AreWritten, IsWrittenAsRead, ReadsBackIfD
 use Rattle.tocmark_laws.proofs.Trees.{trees_of, walk_is}
 use Rattle.tocmark_laws.proofs.Unexpected.{flat-choice, misplaced-choice}
 use Rattle.tocmark_state.specs.Ranges.{Pair, resolved}
-use Rattle.tocmark_write_labels.specs.Pending.{nested}
+use Rattle.tocmark_write_pending.specs.Pending.{nested}
 use Rattle.tocmark_state.specs.Walk.{Done, Kept, Rendering, Standing, Walk, advance, advance_with, beginning, ended, ended_at, finished, finished_of, flush_of, flushed, flushed_before, flushed_or_deferred, go_on, handed_text, is_due, joins, script, stay, step, walk, with_event}
 use Rattle.tocmark_state.specs.WorkView.{keeping, rendering}
 

@@ -7,7 +7,8 @@ use Rattle.tocmark_event.specs.Options.{OptionsView}
 use Rattle.tocmark_event.specs.Reading.{ReadingView}
 use Rattle.tocmark_spelling.specs.Body.{Trees}
 use Rattle.tocmark_spelling.specs.Plan.{Setting}
-use Rattle.tocmark_write_labels.specs.Units.{labelled, waits}
+use Rattle.tocmark_write_labels.specs.Units.{labelled}
+use Rattle.tocmark_write_pending.specs.Units.{waits}
 use Rattle.tocmark_render.specs.Unrepresentable.{IsUnrepresentable}
 use Rattle.tocmark_laws.specs.Unexpected.{setting_at}
 use Rattle.tocmark_state.specs.Ranges.{Pair}

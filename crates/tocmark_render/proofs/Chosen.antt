@@ -5,9 +5,10 @@ use Rattle.tocmark_event.specs.View.{EventView}
 use Rattle.tocmark_spelling.specs.Body.{Trees}
 use Rattle.tocmark_spelling.specs.Plan.{Setting}
 use Rattle.tocmark_write_labels.specs.Document.{DocumentView}
-use Rattle.tocmark_write_labels.specs.Placeholder.{needs_placeholder}
+use Rattle.tocmark_write_pending.specs.Placeholder.{needs_placeholder}
 use Rattle.tocmark_write_labels.specs.Units.{labelled}
-use Rattle.tocmark_write_labels.proofs.Forests.{no-label, trees-flat}
+use Rattle.tocmark_write_labels.proofs.Unlabelled.{no-label}
+use Rattle.tocmark_write_pending.proofs.Forests.{trees-flat}
 use Rattle.tocmark_render.specs.Choice.{choice}
 use Rattle.tocmark_render.specs.Chosen.{choice_of, chosen}
 

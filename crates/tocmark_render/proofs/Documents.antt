@@ -11,7 +11,8 @@ use Rattle.tocmark_render.specs.Choice.{choice, document_after}
 use Rattle.tocmark_write_labels.specs.Document.{DocumentView}
 use Rattle.tocmark_render.specs.Chosen.{choice_of, chosen}
 use Rattle.tocmark_render.specs.TrialOf.{or_no_trees}
-use Rattle.tocmark_write_labels.specs.Units.{labelled, trees_of}
+use Rattle.tocmark_write_labels.specs.Units.{labelled}
+use Rattle.tocmark_write_pending.specs.Units.{trees_of}
 use Rattle.tocmark_render.specs.DocumentOf.{noted, passed}
 
 -- ---- what a unit leaves

@@ -25,13 +25,13 @@ use Rattle.tocmark_write_read_back.specs.InParagraph.{in_paragraph}
 use Rattle.tocmark_render.specs.Candidates.{has_source, is_checked, is_delimiter_block, preferred_manner}
 use Rattle.tocmark_render.specs.Choice.{Chosen, accepted_if, first_that_reads_back, if_read_back, page_in, page_of, page_read_back, preferred, spelled}
 use Rattle.tocmark_write_labels.specs.Document.{DocumentView}
-use Rattle.tocmark_write_labels.specs.Placeholder.{whole}
+use Rattle.tocmark_write_pending.specs.Placeholder.{whole}
 use Rattle.tocmark_render.specs.ReadsBack.{flags_at, found_in, is_taken, reads_back, whole_text}
 use Rattle.tocmark_render.specs.TrialOf.{Came, ComesOrBack, IsLow, IsReady, Refuses, WentBack, Writes, asked_of, events_in, options_in, or_no_trees, read_of, reads_back_in, spelled_at}
 use Rattle.tocmark_render.specs.Tries.{Asked, Found, Lost, Stopped, StopsTrial, first, is_delimiter_event, is_sourced_event, misplaced}
-use Rattle.tocmark_write_labels.specs.Units.{trees_of}
+use Rattle.tocmark_write_pending.specs.Units.{trees_of}
 use Rattle.tocmark_render.specs.declared.trial.Trial.{Trial}
-use Rattle.tocmark_write_labels.proofs.Balanced.{flat-of-trees}
+use Rattle.tocmark_write_pending.proofs.Balanced.{flat-of-trees}
 use Rattle.tocmark_render.proofs.UnitEvents.{delimiters-flat, event-flat, source-flat}
 use Rattle.tocmark_render.proofs.Trials.{none-test}
 
@@ -48,29 +48,34 @@ module _ {R : Type 0} (reading : R → List ℕ → ParserOptions → ReadingVie
   trial-flat : flat trees ≡ events_in t
   trial-flat = flat-or-none (events_in t) (trees_of (events_in t)) refl ready.balanced
 
-  pub trial-source : (b : Bool) → b ≡ list_any is_sourced_event (events_in t) → b ≡ has_source trees
-  trial-source b e = e ∙ sym (source-flat (events_in t) trees trial-flat)
-
-  pub trial-delimiters : (b : Bool) → b ≡ list_any is_delimiter_event (events_in t) → b ≡ is_delimiter_block trees
-  trial-delimiters b e = e ∙ sym (delimiters-flat (events_in t) trees trial-flat)
-
-  pub trial-checked : (del b : Bool) → del ≡ list_any is_delimiter_event (events_in t) → b ≡ (del || ((options_in t).check_plain_blocks && not (length (events_in t) == 0))) → b ≡ is_checked (options_in t) trees
-  trial-checked del b d e =
-      e ∙ (λ j. trial-delimiters del d j || ((options_in t).check_plain_blocks && sym (event-flat (events_in t) trees trial-flat) j))
-
   -- what the renderer says of every forest with these events, it says of the unit's
   pub trial-written : (P : Trees → Type 0) → ((f : Trees) → flat f ≡ events_in t → P f) → P trees
   trial-written P h = h trees trial-flat
 
-  module _ (d : DocumentView) where
-    abbrev q : Asked
-    q = asked_of reading t
+  -- what is found of a list of just these events is found of the unit
+  module _ (es : List SourcedEvent) (same : es ≡ events_in t) where
+    these-flat : flat trees ≡ es
+    these-flat = trial-flat ∙ sym same
 
-    -- a reader that finds the unit, and leaves no label open that is taken, reads it back
-    pub trial-read : (text : List ℕ) (x : ParserOptions) → x ≡ flags_at q.setting d → found_in (is_taken q.setting d) (in_paragraph (merged (map unsourced (events_in t)))) (q.setting.reading text x) ≡ reads_back_in q d text
-    trial-read text x ex =
-        ap (λ v. found_in (is_taken q.setting d) (in_paragraph (merged (map unsourced (events_in t)))) (q.setting.reading text v)) ex
-        ∙ ap (λ es. found_in (is_taken q.setting d) (in_paragraph (merged (map unsourced es))) (q.setting.reading text (flags_at q.setting d))) (sym trial-flat)
+    pub trial-source : (b : Bool) → b ≡ list_any is_sourced_event es → b ≡ has_source trees
+    trial-source b e = e ∙ sym (source-flat es trees these-flat)
+
+    pub trial-delimiters : (b : Bool) → b ≡ list_any is_delimiter_event es → b ≡ is_delimiter_block trees
+    trial-delimiters b e = e ∙ sym (delimiters-flat es trees these-flat)
+
+    pub trial-checked : (del b : Bool) → del ≡ list_any is_delimiter_event es → b ≡ (del || ((options_in t).check_plain_blocks && not (length es == 0))) → b ≡ is_checked (options_in t) trees
+    trial-checked del b d e =
+        e ∙ (λ j. trial-delimiters del d j || ((options_in t).check_plain_blocks && sym (event-flat es trees these-flat) j))
+
+    module _ (d : DocumentView) where
+      abbrev q : Asked
+      q = asked_of reading t
+
+      -- a reader that finds the unit, and leaves no label open that is taken, reads it back
+      pub trial-read : (text : List ℕ) (x : ParserOptions) → x ≡ flags_at q.setting d → found_in (is_taken q.setting d) (in_paragraph (merged (map unsourced es))) (q.setting.reading text x) ≡ reads_back_in q d text
+      trial-read text x ex =
+          ap (λ v. found_in (is_taken q.setting d) (in_paragraph (merged (map unsourced es))) (q.setting.reading text v)) ex
+          ∙ ap (λ xs. found_in (is_taken q.setting d) (in_paragraph (merged (map unsourced xs))) (q.setting.reading text (flags_at q.setting d))) (sym these-flat)
 
 -- where a manner asks for ASCII as plain values, its delimiters do
 pub low-asked : (m : declared.Manner) → IsLow (manner_view m) → AsksLow m.delimiters

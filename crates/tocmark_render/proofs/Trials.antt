@@ -18,7 +18,7 @@ use Rattle.tocmark_render.specs.Candidates.{candidates, escaped_manners, fallbac
 use Rattle.tocmark_write_renderer.specs.WriterOf as renderer
 use Rattle.tocmark_write_renderer.specs.WriterOf.{Rendering, site_of}
 use Rattle.tocmark_render.specs.Choice.{Chosen, choice, preferred, accepted, accepted_if, page_of, page_in, by_markers, unless_misplaced, first_or, has_standard_markers, first_that_reads_back, page_read_back, spelled}
-use Rattle.tocmark_write_labels.specs.Placeholder.{whole}
+use Rattle.tocmark_write_pending.specs.Placeholder.{whole}
 use Rattle.tocmark_render.specs.ReadsBack.{reads_back}
 use Rattle.tocmark_render.specs.Validates.{validates}
 use Rattle.tocmark_write_labels.specs.Document.{DocumentView, first_document}

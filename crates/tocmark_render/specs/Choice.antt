@@ -12,7 +12,7 @@ use Rattle.tocmark_write_labels.specs.Definitions.{definitions_text}
 use Rattle.tocmark_write_labels.specs.Document.{DocumentView, known_in, literal_in}
 use Rattle.tocmark_render.specs.Candidates.{candidates, is_checked, preferred_manner}
 use Rattle.tocmark_render.specs.ReadsBack.{reads_back}
-use Rattle.tocmark_write_labels.specs.Placeholder.{whole}
+use Rattle.tocmark_write_pending.specs.Placeholder.{whole}
 use Rattle.tocmark_render.specs.Validates.{validates}
 
 -- an empty page in a document

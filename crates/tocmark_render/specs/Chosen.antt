@@ -5,7 +5,8 @@ use Rattle.tocmark_event.specs.declared.options.Error.TheVariants.{UnexpectedEve
 use Rattle.tocmark_spelling.specs.Plan.{Setting}
 use Rattle.tocmark_spelling.specs.Body.{Trees}
 use Rattle.tocmark_write_labels.specs.Document.{DocumentView}
-use Rattle.tocmark_write_labels.specs.Units.{labelled, trees_of}
+use Rattle.tocmark_write_labels.specs.Units.{labelled}
+use Rattle.tocmark_write_pending.specs.Units.{trees_of}
 use Rattle.tocmark_render.specs.Choice.{Chosen, choice}
 
 -- the choice for a unit's trees; a refusal where its events aren't balanced

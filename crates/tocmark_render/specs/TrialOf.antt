@@ -12,7 +12,7 @@ use Rattle.tocmark_event.specs.declared.event.flags.ParserOptions.{ParserOptions
 use Rattle.tocmark_event.specs.declared.options.Error.{Error}
 use Rattle.tocmark_event.specs.declared.options.Error.TheVariants as error
 use Rattle.tocmark_spelling.specs.Body.{Trees}
-use Rattle.tocmark_spelling.specs.Buffered.{buffered_view, following_view}
+use Rattle.tocmark_spelling.specs.Buffered.{following_view}
 use Rattle.tocmark_spelling.specs.Page.{Page, Site}
 use Rattle.tocmark_spelling.specs.Plan.{Manner, Setting}
 use Rattle.tocmark_spelling.specs.PlanOf.{setting_of}
@@ -22,10 +22,10 @@ use Rattle.tocmark_write_renderer.specs.WriterOf.{Arrives, IsRefusal, Rendering,
 use Rattle.tocmark_render.specs.Choice.{Chosen, accepted, choice, definitions_of}
 use Rattle.tocmark_write_labels.specs.Document.{DocumentView, first_document}
 use Rattle.tocmark_write_labels.specs.LabelsOf.{label_now, labels_of}
-use Rattle.tocmark_write_labels.specs.Placeholder.{whole}
+use Rattle.tocmark_write_pending.specs.Placeholder.{whole}
 use Rattle.tocmark_render.specs.ReadsBack.{flags_at, is_read_back, whole_text}
 use Rattle.tocmark_render.specs.Tries.{Asked, Tries}
-use Rattle.tocmark_write_labels.specs.Units.{trees_of}
+use Rattle.tocmark_write_pending.specs.Units.{trees_of}
 use Rattle.tocmark_render.specs.declared.earlier.Earlier.{Earlier}
 use Rattle.tocmark_render.specs.declared.read_back.ReadBack.{ReadBack}
 use Rattle.tocmark_render.specs.declared.trial.Trial.{Trial}
@@ -37,7 +37,7 @@ or_no_trees (Some f) = f
 
 -- the events of the unit
 abbrev pub events_in : {R : Type 0} → Trial R → List SourcedEvent
-events_in t = map buffered_view t.unit.now
+events_in t = t.unit.now.events
 
 -- the options that the unit is written with
 abbrev pub options_in : {R : Type 0} → Trial R → OptionsView

@@ -4,7 +4,7 @@ ghost use Rattle.std.specs.Prelude.{◌≡◌, ◌==◌, ℕ, List, [], string_b
 ghost use Rattle.std.specs.List.{list_any};
 ghost use Rattle.tocmark_event.specs.Options.{options_view};
 ghost use Rattle.tocmark_event.specs.Reading.{ReadingView};
-ghost use Rattle.tocmark_spelling.specs.Buffered.{buffered_view, following_view, next_view};
+ghost use Rattle.tocmark_spelling.specs.Buffered.{following_view, next_view};
 ghost use Rattle.tocmark_spelling.specs.Plan.{Setting};
 ghost use Rattle.tocmark_spelling.specs.PlanOf.{setting_of};
 ghost use Rattle.tocmark_write_renderer.specs.WriterOf.{page_of, sheet_of, site_of};
@@ -15,7 +15,8 @@ ghost use Rattle.tocmark_write_labels.specs.Document.{first_document, known_in, 
 ghost use Rattle.tocmark_write_labels.specs.LabelsOf.{label_now, labels_of, Begins};
 ghost use Rattle.tocmark_render.specs.ReadsBack.{flags_at, whole_text};
 ghost use Rattle.tocmark_render.specs.TrialOf.{IsFront, IsKnown, IsReady, asked_of, or_no_trees, unresolved_in};
-ghost use Rattle.tocmark_write_labels.specs.Units.{label_for, trees_of};
+ghost use Rattle.tocmark_write_labels.specs.Units.{label_for};
+ghost use Rattle.tocmark_write_pending.specs.Units.{trees_of};
 ghost use Rattle.tocmark_render.specs.DocumentOf.{document_at, document_view, document_flags, Gives, HasRoom, Spells, WritesChosen, kept_view, noted, passed};
 
 use crate::earlier::{Earlier, reading_flags};
@@ -27,12 +28,11 @@ use std::mem;
 use tocmark_event::event::{Event, OwnedEvent, ParserOptions};
 use tocmark_event::options::{Error, Options};
 use tocmark_event::reader::Reader;
-use tocmark_spelling::buffered::BufferedEvent;
 use tocmark_spelling::trail::Trail;
 use tocmark_write_labels::definitions::{copied_references, definitions_text};
 use tocmark_write_labels::labels::Labels;
-use tocmark_write_labels::pending::Pending;
 use tocmark_write_labels::reserved_label::reserve_list_label;
+use tocmark_write_pending::pending::Pending;
 use tocmark_write_renderer::parts::{Parts, Reference};
 use tocmark_write_renderer::renderer::Renderer;
 use tocmark_write_unit::findings::findings_of;
@@ -354,7 +354,7 @@ impl Document {
             let d = document_view self.now in
             IfOk result (λ known. IfSome known (IsKnown q d (page_of renderer.new))) }
     {
-        renderer.reserve_lines(likely_len(trial.unit))?;
+        renderer.reserve_lines(likely_len(trial.unit.events()))?;
         let earlier = Earlier {
             known: &self.known,
             flushed: self.flushed,
@@ -444,16 +444,16 @@ impl Document {
         &mut self,
         alloc: Global,
         reader: &'u R,
-        unit: &'u [BufferedEvent],
+        unit: &'u Pending,
         next: Option<&'u OwnedEvent>,
         label: Option<&'u str>,
         options: &'u Options<'_>,
     ) -> Result<String, Error>
-        requires balanced { is_some (trees_of (map buffered_view unit.now)) ≡ true }
+        requires balanced { is_some (trees_of unit.now.events) ≡ true }
         ensures chosen { let flags = document_flags self.old in
             let label = label_now label.entry in
             let s = setting_of (options_view options.now) flags (R.reading reader.now) label in
-            let f = or_no_trees (trees_of (map buffered_view unit.now)) in
+            let f = or_no_trees (trees_of unit.now.events) in
             Spells (document_view self.new) result
             (choice s (document_view self.old) f (following_view next.entry)) }
         ensures stays { OnErr result (document_view self.new ≡ document_view self.old) }
@@ -494,8 +494,7 @@ impl Document {
         ensures flags { document_flags self.new ≡ document_flags self.old }
     {
         let next = kept_event(alloc, next)?;
-        let events = unit.events();
-        let text = self.chosen(alloc, reader, events, lent_event(&next), label, options);
+        let text = self.chosen(alloc, reader, unit, lent_event(&next), label, options);
         drop(next);
         text
     }

@@ -88,7 +88,8 @@ impl Earlier<'_> {
             reserved: trial.label,
         };
         let flags = reading_flags(trial.flags, self.flushed);
-        let found = find(trial.alloc, trial.reader, flags, taken, trial.unit, text)?;
+        let unit = trial.unit.events();
+        let found = find(trial.alloc, trial.reader, flags, taken, unit, text)?;
         if let Some(labels) = found {
             return Ok(Some(labels));
         }

@@ -358,9 +358,10 @@ pub fn choose<'t, R: Reader>(
     if !has_standard_markers(trial.options) {
         return write_unread(trial, renderer);
     }
-    let has_delimiters = has_delimiters(trial.unit);
-    let has_source = has_source(trial.unit);
-    let is_checked = is_checked(trial.options, trial.unit, has_delimiters);
+    let unit = trial.unit.events();
+    let has_delimiters = has_delimiters(unit);
+    let has_source = has_source(unit);
+    let is_checked = is_checked(trial.options, unit, has_delimiters);
     if let Some(known) = search(
         trial,
         earlier,

@@ -12,6 +12,7 @@ use tocmark_event::event::{EventOf, OwnedEvent, ParserOptions};
 use tocmark_event::options::{Error, Options};
 use tocmark_event::reader::Reader;
 use tocmark_spelling::buffered::BufferedEvent;
+use tocmark_write_pending::pending::Pending;
 use tocmark_write_renderer::job::{Job, Manner};
 use tocmark_write_renderer::renderer::Renderer;
 use tocmark_write_unit::block::write_unit;
@@ -27,7 +28,7 @@ pub struct Trial<'t, 'o, R> {
     pub reader: &'t R,
     /// The flags of the parser that the unit is written for.
     pub flags: ParserOptions,
-    pub unit: &'t [BufferedEvent],
+    pub unit: &'t Pending,
     /// What is found out of the unit's events.
     pub found: &'t Findings,
     /// The event after the unit, if there is one.

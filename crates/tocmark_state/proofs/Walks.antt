@@ -12,8 +12,8 @@ use Rattle.tocmark_spelling.specs.Buffered.{sourced}
 use Rattle.tocmark_event.specs.declared.event.flags.ParserOptions.{ParserOptions}
 use Rattle.tocmark_write_labels.specs.Document.{DocumentView}
 use Rattle.tocmark_write_labels.specs.Ending.{last_texts, leading_feeds, unless_empty, with_definitions_in_front}
-use Rattle.tocmark_write_labels.specs.Pending.{PendingView, Joins, behind, nested}
-use Rattle.tocmark_write_labels.proofs.Joined.{unsourced-sourced}
+use Rattle.tocmark_write_pending.specs.Pending.{PendingView, Joins, behind, nested}
+use Rattle.tocmark_write_pending.proofs.Joined.{unsourced-sourced}
 use Rattle.tocmark_render.specs.TrialOf.{Refuses}
 use Rattle.tocmark_render.specs.DocumentOf.{Gives}
 use Rattle.tocmark_state.specs.WorkView.{Answers, keeping}

@@ -7,7 +7,7 @@ use Rattle.tocmark_event.specs.declared.options.Error.{Error}
 use Rattle.tocmark_event.specs.declared.options.Error.TheVariants as error
 use Rattle.tocmark_write_labels.specs.Document.{DocumentView, first_document}
 use Rattle.tocmark_write_labels.specs.Ending.{unless_empty, last_texts}
-use Rattle.tocmark_write_labels.specs.Pending.{nested}
+use Rattle.tocmark_write_pending.specs.Pending.{nested}
 use Rattle.tocmark_state.specs.Ranges.{Pair, resolved}
 
 -- a document: the parser's flags, and what earlier units left

@@ -16,8 +16,8 @@ use Rattle.tocmark_render.specs.TrialOf.{Refuses}
 use Rattle.tocmark_render.specs.DocumentOf.{document_view, document_flags}
 use Rattle.tocmark_write_labels.specs.Ending.{holds_raw_block}
 use Rattle.tocmark_render.specs.Chosen.{chosen}
-use Rattle.tocmark_write_labels.specs.Pending.{text_now}
-use Rattle.tocmark_write_labels.specs.Units.{waits}
+use Rattle.tocmark_write_pending.specs.Pending.{text_now}
+use Rattle.tocmark_write_pending.specs.Units.{waits}
 use Rattle.tocmark_render.specs.declared.document.Document.{Document}
 use Rattle.tocmark_state.specs.declared.work.Progress.{Progress}
 use Rattle.tocmark_state.specs.declared.work.Work.{Work}

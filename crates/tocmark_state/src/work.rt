@@ -10,7 +10,7 @@ ghost use Rattle.tocmark_state.specs.Ranges.{Range};
 ghost use Rattle.tocmark_state.specs.Walk.{step, done, is_due, flushed, flushed_before, advance, joins, walk, nothing_yet, last_choice, ended};
 ghost use Rattle.tocmark_state.specs.Writes.{Makes};
 ghost use Rattle.tocmark_state.specs.WorkView.{Answers, Chooses, Counts, at_most, flags_of, kept_of, pairs, ranged_pairs, rendering_with, standing_of};
-ghost use Rattle.tocmark_write_labels.specs.Pending.{text_now};
+ghost use Rattle.tocmark_write_pending.specs.Pending.{text_now};
 
 use crate::hand::{hand, hand_last};
 use crate::ranges::{Unranged, resolve};
@@ -21,7 +21,7 @@ use tocmark_event::options::{Error, Options};
 use tocmark_event::reader::Reader;
 use tocmark_render::document::Document;
 use tocmark_write_labels::ending::holds_raw_block;
-use tocmark_write_labels::pending::Pending;
+use tocmark_write_pending::pending::Pending;
 
 /// How much a call did. Both counts stop at the greatest `usize`.
 #[derive(Clone, Copy, Debug, PartialEq, Eq, Default)]

@@ -1,12 +1,6 @@
 pub mod FreeLabels
 pub mod LabelLemmas
 pub mod ReservedLabels
-pub mod Forests
-pub mod Balanced
-pub mod OpenContainers
-pub mod EndColumn
-pub mod EndedLists
-pub mod Joined
-pub mod Ambiguous
+pub mod Unlabelled
 pub mod DefinitionTexts
 pub mod Feeds

@@ -4,10 +4,4 @@ pub mod Reserved
 pub mod Definitions
 pub mod DefinitionsOf
 pub mod Ending
-pub mod Pending
-pub mod PendingOf
-pub mod Placeholder
-pub mod OpenContainers
-pub mod EndedLists
 pub mod Units
-pub mod Waiting

@@ -1,27 +1,15 @@
-//! Laws of the definitions: calls that do nothing, whose contracts are the laws.
+//! A law of the definitions: a call that does nothing, whose contract is the law.
 
-ghost use Rattle.std.specs.Prelude.{◌≡◌, ◌++◌, is_some, true, false, List, Option, None, Some};
+ghost use Rattle.std.specs.Prelude.{◌≡◌, false, Option, None};
 ghost use Rattle.tocmark_event.specs.Forest.{flat};
-ghost use Rattle.tocmark_event.specs.View.{EventView, SourcedEvent};
+ghost use Rattle.tocmark_event.specs.View.{EventView};
 ghost use Rattle.tocmark_spelling.specs.Body.{Trees};
 ghost use Rattle.tocmark_write_labels.specs.Document.{DocumentView};
-ghost use Rattle.tocmark_write_labels.specs.Placeholder.{needs_placeholder};
-ghost use Rattle.tocmark_write_labels.specs.Units.{label_for, trees_of, waits};
+ghost use Rattle.tocmark_write_labels.specs.Units.{label_for};
+ghost use Rattle.tocmark_write_pending.specs.Placeholder.{needs_placeholder};
 
 /// Only a unit with a list that needs a placeholder has a label.
 pub fn labels_are_for_placeholders()
     ensures { (d : DocumentView) (f : Trees) (next : Option EventView) →
         needs_placeholder f ≡ false → label_for d (flat f) next ≡ None }
-{}
-
-/// A unit that waits goes on waiting, whatever joins it, if the events are balanced then: so it has
-/// its label at the end.
-pub fn what_waits_goes_on_waiting()
-    ensures { (unit more : List SourcedEvent) → waits unit ≡ true →
-        is_some (trees_of (unit ++ more)) ≡ true → waits (unit ++ more) ≡ true }
-{}
-
-/// A list of which there is a forest is the events of that forest: reading it loses nothing.
-pub fn events_are_those_of_their_trees()
-    ensures { (es : List SourcedEvent) (f : Trees) → trees_of es ≡ Some f → flat f ≡ es }
 {}

@@ -10,7 +10,6 @@ use Rattle.tocmark_write_inlines.specs.Named.{AreNamed}
 use Rattle.tocmark_write_raw_blocks.specs.Raw.{AreRaw}
 use Rattle.tocmark_write_renderer.specs.JobOf.{Reading}
 use Rattle.tocmark_spelling.specs.Kinds.{is_emphasis_or_strong, starts}
-use Rattle.tocmark_spelling.specs.Scans.{AreEnds}
 use Rattle.tocmark_write_unit.specs.declared.findings.Findings.{Findings}
 
 -- the Start of emphasis or of strong emphasis
@@ -24,7 +23,6 @@ has_emphasis es = list_any starts_emphasis es
 -- the findings are those of these events, with this reader, these options and these flags; the columns of emphasis are
 -- found where there is some
 pub record AreFindings (reading : Reading) (o : OptionsView) (flags : ParserOptions) (es : List SourcedEvent) (found : Findings) : Type 0 where
-  pub ends : AreEnds es found.ends.items
   pub facts : AreFacts es found.facts.items
   pub raw : AreRaw o es found.raw.items
   pub named : AreNamed reading flags es found.named.items

@@ -2,3 +2,4 @@
 pub mod FindingsOf
 pub mod NeighboursOf
 pub mod Turn
+pub mod Rest

@@ -15,7 +15,7 @@ use Rattle.tocmark_spelling.specs.Machine.{around, kids_of}
 use Rattle.tocmark_spelling.specs.Opening.{opening}
 use Rattle.tocmark_spelling.specs.Page.{Site}
 use Rattle.tocmark_spelling.specs.Plan.{Setting, Manner}
-use Rattle.tocmark_spelling.specs.Scans.{span}
+use Rattle.tocmark_spelling.specs.Scans.{span, AreEnds}
 use Rattle.tocmark_write_unit.specs.FindingsOf.{AreFindings}
 use Rattle.tocmark_write_unit.specs.declared.turn.Neighbours.{Neighbours}
 
@@ -63,8 +63,9 @@ pub record AreById (s : Setting) (es : List SourcedEvent) (named : List Bool) : 
   pub at : (i : ℕ) (t : TagView) (rest : List SourcedEvent) → drop i es ≡ Start t ∷ rest
       → slice_index_or named i false ≡ by_id s t (kids_of rest)
 
--- this event stands at the place, and what is found out of the unit's events is so of them
+-- this event stands at the place, the containers end there, and what is found out of the unit's events is so of them
 pub record AreFound (reading : Reading) (o : OptionsView) (flags : ParserOptions) (e : SourcedEvent) (n : Neighbours) : Type 0 where
   pub within : n.place < length n.unit.now
   pub at : drop n.place (unit_in n) ≡ e ∷ rest_in n
+  pub ends : AreEnds (unit_in n) n.ends.now
   pub found : AreFindings reading o flags (unit_in n) n.found.now

@@ -16,14 +16,12 @@ use tocmark_spelling::buffered::BufferedEvent;
 use tocmark_write_emphasis::columns::{Columns, columns_of};
 use tocmark_write_inlines::named::named;
 use tocmark_write_lookahead::body_facts::{BodyFacts, body_facts};
-use tocmark_write_lookahead::ends::matching_ends;
+use tocmark_write_pending::pending::Pending;
 use tocmark_write_raw_blocks::raw_facts::{RawFacts, raw_facts};
 
 /// What is found out of a unit's events once, before they are written in one manner or another.
 #[derive(Drop)]
 pub struct Findings {
-    /// At each start where its container ends, if it does.
-    pub ends: Vec<Option<usize>>,
     /// What the bodies of the containers are like.
     pub facts: Vec<BodyFacts>,
     /// What code and HTML blocks ask of their texts.
@@ -81,18 +79,18 @@ pub fn findings_of<R: Reader>(
     reader: &R,
     options: &Options<'_>,
     flags: ParserOptions,
-    unit: &[BufferedEvent],
+    unit: &Pending,
 ) -> Result<Findings, AllocError>
     ensures { IfOk result (λ found. AreFindings (R.reading reader.now)
-        (options_view options.now) flags (map buffered_view unit.now) found) }
+        (options_view options.now) flags unit.now.events found) }
 {
-    let ends = matching_ends(alloc, unit)?;
-    let facts = body_facts(alloc, unit)?;
-    let raw = raw_facts(alloc, options, unit)?;
-    let named = named(alloc, reader, flags, unit, &ends)?;
-    let emphasis = emphasis_columns(alloc, reader, unit, &ends)?;
+    let events = unit.events();
+    let ends = unit.ends();
+    let facts = body_facts(alloc, events)?;
+    let raw = raw_facts(alloc, options, events)?;
+    let named = named(alloc, reader, flags, events, ends)?;
+    let emphasis = emphasis_columns(alloc, reader, events, ends)?;
     Ok(Findings {
-        ends,
         facts,
         raw,
         named,

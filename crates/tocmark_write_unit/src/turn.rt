@@ -51,6 +51,8 @@ use tocmark_write_renderer::renderer::Renderer;
 pub struct Neighbours<'e> {
     /// The unit's events.
     pub unit: &'e [BufferedEvent],
+    /// At each start among them where its container ends, if it does.
+    pub ends: &'e [Option<usize>],
     /// The event's place among them.
     pub place: usize,
     /// What was found out of them.
@@ -130,13 +132,14 @@ fn start_emphasis<'a, R: Reader>(
     renderer.set_last(Last::Other);
     let Neighbours {
         unit,
+        ends,
         place,
         found,
         next,
     } = around;
     let preferred = is_preferred(manner.delimiters.layout);
-    let node = node_at(&found.emphasis, unit, &found.ends, place, preferred, next)?;
-    let behind = next_in_unit(unit, &found.ends, place);
+    let node = node_at(&found.emphasis, unit, ends, place, preferred, next)?;
+    let behind = next_in_unit(unit, ends, place);
     open_emphasis(renderer, job, reader, manner, tag, &node, behind)
 }
 
@@ -253,6 +256,7 @@ fn ahead_of<'e>(around: Neighbours<'e>) -> Ahead<'e>
 {
     let Neighbours {
         unit,
+        ends,
         place,
         found,
         next,
@@ -260,7 +264,7 @@ fn ahead_of<'e>(around: Neighbours<'e>) -> Ahead<'e>
     let raw = raw_at(&found.raw, place);
     Ahead {
         body: facts_at(&found.facts, place),
-        next: following(unit, body_end(&found.ends, place), next),
+        next: following(unit, body_end(ends, place), next),
         longest: raw.longest,
         blank: raw.blank,
         closed: raw.closed,
@@ -374,10 +378,10 @@ fn rest_of<'e>(around: Neighbours<'e>) -> &'e [BufferedEvent]
 
 /// Where the container ends that starts here, if it does.
 fn end_of(around: Neighbours<'_>) -> Option<usize>
-    ensures { AreEnds (unit_in around.entry) around.entry.found.now.ends.items
+    ensures { AreEnds (unit_in around.entry) around.entry.ends.now
         → result ≡ end_at around.entry.place (drop around.entry.place (unit_in around.entry)) }
 {
-    end_at(&around.found.ends, around.place)
+    end_at(around.ends, around.place)
 }
 
 /// How many events stand between this one and a place behind it.

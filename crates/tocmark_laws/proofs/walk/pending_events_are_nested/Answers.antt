@@ -1,4 +1,4 @@
-use Rattle.tocmark_write_labels.proofs.Balanced.{reading-balanced}
+use Rattle.tocmark_write_pending.proofs.Balanced.{reading-balanced}
 use Rattle.tocmark_laws.proofs.Reading.{nothing_nested}
 use Rattle.tocmark_laws.proofs.walk.pending_events_are_nested.Goals as goal
 

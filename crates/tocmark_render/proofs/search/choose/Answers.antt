@@ -31,7 +31,7 @@ returns-in_err-known-clause-chosen g c other =
     let old = site_of c.args.renderer.now in
     let d = left_by other c.args.earlier old in
     rw (p.1, p.2)
-    (left-stopped q d q.setting.options c.has_source-has_source.result c.has_delimiters-has_delimiters.result c.is_checked-is_checked.result acc refl (trial-source reading t c.requires.ready c.has_source-has_source.result c.has_source-has_source.ensures) (trial-delimiters reading t c.requires.ready c.has_delimiters-has_delimiters.result c.has_delimiters-has_delimiters.ensures) (trial-checked reading t c.requires.ready c.has_delimiters-has_delimiters.result c.is_checked-is_checked.result c.has_delimiters-has_delimiters.ensures c.is_checked-is_checked.ensures) refl
+    (left-stopped q d q.setting.options c.has_source-has_source.result c.has_delimiters-has_delimiters.result c.is_checked-is_checked.result acc refl (trial-source reading t c.requires.ready _ c.events-unit.ensures c.has_source-has_source.result c.has_source-has_source.ensures) (trial-delimiters reading t c.requires.ready _ c.events-unit.ensures c.has_delimiters-has_delimiters.result c.has_delimiters-has_delimiters.ensures) (trial-checked reading t c.requires.ready _ c.events-unit.ensures c.has_delimiters-has_delimiters.result c.is_checked-is_checked.result c.has_delimiters-has_delimiters.ensures c.is_checked-is_checked.ensures) refl
     old c.search.new.renderer c.in_err-known.field-0.0 c.in_err-known.ensures.tried)
 
 pub returns-in-Some-clause-chosen : goal.returns-in-Some-clause-chosen
@@ -43,7 +43,7 @@ returns-in-Some-clause-chosen g c other =
     let old = site_of c.args.renderer.now in
     let d = left_by other c.args.earlier old in
     let tried = tries-bare q d old c.search.new.renderer (manners_for q.setting.options c.has_source-has_source.result c.has_delimiters-has_delimiters.result c.is_checked-is_checked.result) (Ok c.in_ok-known.field-0) c.in_ok-known.ensures.tried in
-    written-found q d q.setting.options c.has_source-has_source.result c.has_delimiters-has_delimiters.result c.is_checked-is_checked.result acc refl (trial-source reading t c.requires.ready c.has_source-has_source.result c.has_source-has_source.ensures) (trial-delimiters reading t c.requires.ready c.has_delimiters-has_delimiters.result c.has_delimiters-has_delimiters.ensures) (trial-checked reading t c.requires.ready c.has_delimiters-has_delimiters.result c.is_checked-is_checked.result c.has_delimiters-has_delimiters.ensures c.is_checked-is_checked.ensures) refl
+    written-found q d q.setting.options c.has_source-has_source.result c.has_delimiters-has_delimiters.result c.is_checked-is_checked.result acc refl (trial-source reading t c.requires.ready _ c.events-unit.ensures c.has_source-has_source.result c.has_source-has_source.ensures) (trial-delimiters reading t c.requires.ready _ c.events-unit.ensures c.has_delimiters-has_delimiters.result c.has_delimiters-has_delimiters.ensures) (trial-checked reading t c.requires.ready _ c.events-unit.ensures c.has_delimiters-has_delimiters.result c.is_checked-is_checked.result c.has_delimiters-has_delimiters.ensures c.is_checked-is_checked.ensures) refl
     old c.search.new.renderer c.in_ok-known.field-0 c.in-Some.known (sym c.has_standard_markers.ensures ∙ c.if-not-has_standard_markers.false) tried c.in-Some.is
 
 pub returns-then-accepts-clause-chosen : goal.returns-then-accepts-clause-chosen
@@ -55,7 +55,7 @@ returns-then-accepts-clause-chosen g c other =
     let old = site_of c.args.renderer.now in
     let d = left_by other c.args.earlier old in
     let tried = tries-bare q d old c.search.new.renderer (manners_for q.setting.options c.has_source-has_source.result c.has_delimiters-has_delimiters.result c.is_checked-is_checked.result) (Ok c.in_ok-known.field-0) c.in_ok-known.ensures.tried in
-    left-unrepresentable q d q.setting.options c.has_source-has_source.result c.has_delimiters-has_delimiters.result c.is_checked-is_checked.result acc refl (trial-source reading t c.requires.ready c.has_source-has_source.result c.has_source-has_source.ensures) (trial-delimiters reading t c.requires.ready c.has_delimiters-has_delimiters.result c.has_delimiters-has_delimiters.ensures) (trial-checked reading t c.requires.ready c.has_delimiters-has_delimiters.result c.is_checked-is_checked.result c.has_delimiters-has_delimiters.ensures c.is_checked-is_checked.ensures) refl
+    left-unrepresentable q d q.setting.options c.has_source-has_source.result c.has_delimiters-has_delimiters.result c.is_checked-is_checked.result acc refl (trial-source reading t c.requires.ready _ c.events-unit.ensures c.has_source-has_source.result c.has_source-has_source.ensures) (trial-delimiters reading t c.requires.ready _ c.events-unit.ensures c.has_delimiters-has_delimiters.result c.has_delimiters-has_delimiters.ensures) (trial-checked reading t c.requires.ready _ c.events-unit.ensures c.has_delimiters-has_delimiters.result c.is_checked-is_checked.result c.has_delimiters-has_delimiters.ensures c.is_checked-is_checked.ensures) refl
     old c.search.new.renderer c.in_ok-known.field-0 (sym c.has_standard_markers.ensures ∙ c.if-not-has_standard_markers.false) tried (none-left c.in_ok-known.field-0 c.in_default.not-Some) c.if-is_checked.true (sym c.accepts.ensures ∙ c.if-accepts.true)
 
 pub returns-clause-chosen : goal.returns-clause-chosen
@@ -72,10 +72,10 @@ returns-clause-chosen g c other =
       | else-is_checked-via-then-is_checked+else-accepts w ↦ (λ j. w.if-is_checked.true j && (sym w.accepts.ensures ∙ w.if-accepts.false) j)
       | else-is_checked-via-else-is_checked w ↦ ap (λ b. b && acc) w.if-is_checked.false
     ] in
-    let again = stands-again q d q.setting.options c.has_source-has_source.result c.has_delimiters-has_delimiters.result c.is_checked-is_checked.result acc refl (trial-source reading t c.requires.ready c.has_source-has_source.result c.has_source-has_source.ensures) (trial-delimiters reading t c.requires.ready c.has_delimiters-has_delimiters.result c.has_delimiters-has_delimiters.ensures) (trial-checked reading t c.requires.ready c.has_delimiters-has_delimiters.result c.is_checked-is_checked.result c.has_delimiters-has_delimiters.ensures c.is_checked-is_checked.ensures) refl
+    let again = stands-again q d q.setting.options c.has_source-has_source.result c.has_delimiters-has_delimiters.result c.is_checked-is_checked.result acc refl (trial-source reading t c.requires.ready _ c.events-unit.ensures c.has_source-has_source.result c.has_source-has_source.ensures) (trial-delimiters reading t c.requires.ready _ c.events-unit.ensures c.has_delimiters-has_delimiters.result c.has_delimiters-has_delimiters.ensures) (trial-checked reading t c.requires.ready _ c.events-unit.ensures c.has_delimiters-has_delimiters.result c.is_checked-is_checked.result c.has_delimiters-has_delimiters.ensures c.is_checked-is_checked.ensures) refl
     old c.search.new.renderer c.in_ok-known.field-0 (sym c.has_standard_markers.ensures ∙ c.if-not-has_standard_markers.false) tried (none-left c.in_ok-known.field-0 c.in_default.not-Some) in
     let P : Site → Type 0 = λ x. ComesOrBack w.result x w.new.renderer (spelled_at q x (preferred_manner q.setting.options)) in
-    writes-lost q d q.setting.options c.has_source-has_source.result c.has_delimiters-has_delimiters.result c.is_checked-is_checked.result acc refl (trial-source reading t c.requires.ready c.has_source-has_source.result c.has_source-has_source.ensures) (trial-delimiters reading t c.requires.ready c.has_delimiters-has_delimiters.result c.has_delimiters-has_delimiters.ensures) (trial-checked reading t c.requires.ready c.has_delimiters-has_delimiters.result c.is_checked-is_checked.result c.has_delimiters-has_delimiters.ensures c.is_checked-is_checked.ensures) refl
+    writes-lost q d q.setting.options c.has_source-has_source.result c.has_delimiters-has_delimiters.result c.is_checked-is_checked.result acc refl (trial-source reading t c.requires.ready _ c.events-unit.ensures c.has_source-has_source.result c.has_source-has_source.ensures) (trial-delimiters reading t c.requires.ready _ c.events-unit.ensures c.has_delimiters-has_delimiters.result c.has_delimiters-has_delimiters.ensures) (trial-checked reading t c.requires.ready _ c.events-unit.ensures c.has_delimiters-has_delimiters.result c.is_checked-is_checked.result c.has_delimiters-has_delimiters.ensures c.is_checked-is_checked.ensures) refl
     old c.search.new.renderer c.in_ok-known.field-0 (sym c.has_standard_markers.ensures ∙ c.if-not-has_standard_markers.false) tried (none-left c.in_ok-known.field-0 c.in_default.not-Some)
     w.new.renderer w.result unchecked
     (preferred-written q d old w.new.renderer w.result c.requires.front (subst P again w.ensures.written))

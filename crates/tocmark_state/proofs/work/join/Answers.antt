@@ -1,6 +1,6 @@
 use Rattle.tocmark_event.specs.Text.{text_of}
 use Rattle.tocmark_event.specs.View.{event_view}
-use Rattle.tocmark_write_labels.specs.Pending.{text_now}
+use Rattle.tocmark_write_pending.specs.Pending.{text_now}
 use Rattle.tocmark_spelling.specs.Buffered.{sourced}
 use Rattle.tocmark_state.specs.WorkView.{standing_of}
 use Rattle.tocmark_state.proofs.Walks.{joins_as}

@@ -4,7 +4,7 @@ use Rattle.tocmark_event.specs.Text.{text_of}
 use Rattle.tocmark_event.specs.View.{event_view}
 use Rattle.tocmark_spelling.specs.Buffered.{sourced}
 use Rattle.tocmark_state.specs.Walk.{Walk, Standing, flushed_before, joins}
-use Rattle.tocmark_write_labels.specs.Pending.{text_now}
+use Rattle.tocmark_write_pending.specs.Pending.{text_now}
 use Rattle.tocmark_state.specs.WorkView.{standing_of, rendering_with}
 use Rattle.tocmark_state.proofs.Walks.{advance_sourced, advance_after, advance_texts, RefusesAt-longer, RefusesAt-quiet, Makes-then, joins_texts}
 use Rattle.tocmark_state.proofs.work.take.Goals as goal

@@ -2,7 +2,7 @@ use Rattle.std.proofs.lemmas.Result.{err_from_is_err_and}
 use Rattle.tocmark_event.specs.Text.{text_of}
 use Rattle.tocmark_event.specs.View.{event_view}
 use Rattle.tocmark_spelling.specs.Buffered.{sourced}
-use Rattle.tocmark_write_labels.specs.Pending.{text_now}
+use Rattle.tocmark_write_pending.specs.Pending.{text_now}
 use Rattle.tocmark_state.specs.WorkView.{standing_of, rendering_with}
 use Rattle.tocmark_state.proofs.Walks.{step_ok, step_refused}
 use Rattle.tocmark_state.proofs.work.take_ranged.Goals as goal

@@ -10,7 +10,7 @@ use Rattle.tocmark_write_raw_blocks.specs.Raw.{IsRaw, no_raw}
 use Rattle.tocmark_write_raw_blocks.specs.declared.raw_facts.RawFacts.{RawFacts}
 use Rattle.tocmark_spelling.specs.Machine.{around, kids_of}
 use Rattle.tocmark_spelling.specs.Page.{front}
-use Rattle.tocmark_spelling.specs.Scans.{span, AreEnds}
+use Rattle.tocmark_spelling.specs.Scans.{span}
 use Rattle.tocmark_spelling.specs.Words.{or_else}
 use Rattle.tocmark_write_unit.proofs.Told.{text-told}
 use Rattle.tocmark_write_unit.specs.NeighboursOf.{before_in, look_in, next_in, rest_in, unit_in}
@@ -23,7 +23,7 @@ returns c = λ reading o flags s m t is.
     let rest = rest_in n in
     let kids = kids_of rest in
     let a = around (before_in n) (behind_body rest) (next_in n) in
-    let end_is : c.body_end.result ≡ i + 1 + span 0 rest = c.body_end.ensures.start (unit_in n) t rest (subst (AreEnds (unit_in n)) (sym c.deref-3.ensures.value) is.found.ends) is.at in
+    let end_is : c.body_end.result ≡ i + 1 + span 0 rest = c.body_end.ensures.start (unit_in n) t rest is.ends is.at in
     let P : BodyFacts → Type 0 = IsForeseen (look_in s m t n) in
     let Q : RawFacts → Type 0 = IsRaw o (Start t) kids in
     let facts_is = c.facts_at.ensures ∙ ap (λ x. slice_index_or x i no_facts) c.deref-2.ensures.value ∙ is.found.facts.at i in

@@ -5,7 +5,7 @@ use Rattle.tocmark_spelling.specs.PlanOf.{setting_of}
 use Rattle.tocmark_render.specs.Choice.{choice}
 use Rattle.tocmark_render.specs.DocumentOf.{document_view, Spells}
 use Rattle.tocmark_render.specs.TrialOf.{or_no_trees}
-use Rattle.tocmark_write_labels.specs.Units.{trees_of}
+use Rattle.tocmark_write_pending.specs.Units.{trees_of}
 use Rattle.tocmark_render.proofs.Documents.{unbalanced-refused, balanced-chosen}
 use Rattle.tocmark_render.proofs.document.Document.block.Goals as goal
 

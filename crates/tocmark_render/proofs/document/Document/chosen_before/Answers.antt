@@ -1,13 +1,12 @@
-use Rattle.std.proofs.Common.{◌∙◌, List, subst, Option}
+use Rattle.std.proofs.Common.{◌∙◌, subst, Option}
 use Rattle.tocmark_event.specs.Options.{options_view}
-use Rattle.tocmark_event.specs.View.{EventView, SourcedEvent}
-use Rattle.tocmark_spelling.specs.Buffered.{following_view}
+use Rattle.tocmark_event.specs.View.{EventView}
 use Rattle.tocmark_spelling.specs.PlanOf.{setting_of}
 use Rattle.tocmark_render.specs.Choice.{choice}
 use Rattle.tocmark_render.specs.DocumentOf.{document_view, Spells}
 use Rattle.tocmark_render.specs.TrialOf.{or_no_trees}
 use Rattle.tocmark_write_labels.specs.LabelsOf.{label_now}
-use Rattle.tocmark_write_labels.specs.Units.{trees_of}
+use Rattle.tocmark_write_pending.specs.Units.{trees_of}
 use Rattle.tocmark_render.proofs.document.Document.chosen_before.Goals as goal
 
 pub returns-clause-chosen : goal.returns-clause-chosen
@@ -17,5 +16,4 @@ returns-clause-chosen g c =
     let new = document_view c.chosen-text.new.self in
     let result = c.chosen-text.result in
     let P : Option EventView → Type 0 = λ n. Spells new result (choice s d (or_no_trees (trees_of c.args.unit.now.events)) n) in
-    let E : List SourcedEvent → Type 0 = λ us. Spells new result (choice s d (or_no_trees (trees_of us)) (following_view c.lent_event.result)) in
-    subst P (c.lent_event.ensures ∙ c.in_ok-next.ensures) (subst E c.events-events.ensures c.chosen-text.ensures.chosen)
+    subst P (c.lent_event.ensures ∙ c.in_ok-next.ensures) c.chosen-text.ensures.chosen

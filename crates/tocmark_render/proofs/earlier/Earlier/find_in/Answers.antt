@@ -16,7 +16,7 @@ returns-in-Some-clause-read g c =
     let t = c.args.trial.now in
     let q = asked_of g.R.Reader.reading t in
     let flags = c.reading_flags-flags in
-    ap is_some (sym c.in-Some.is) ∙ c.in_ok-found.ensures.found ∙ trial-read g.R.Reader.reading t c.requires.ready (earlier_view c.args.self.now) c.args.text.now flags.result (flags.ensures q.setting refl)
+    ap is_some (sym c.in-Some.is) ∙ c.in_ok-found.ensures.found ∙ trial-read g.R.Reader.reading t c.requires.ready _ c.events-unit.ensures (earlier_view c.args.self.now) c.args.text.now flags.result (flags.ensures q.setting refl)
 
 pub returns-in-Some-clause-unresolved : goal.returns-in-Some-clause-unresolved
 returns-in-Some-clause-unresolved g c =
@@ -30,7 +30,7 @@ returns-clause-read g c =
     let t = c.args.trial.now in
     let q = asked_of g.R.Reader.reading t in
     let flags = c.reading_flags-flags in
-    ap is_some (sym (none-left c.in_ok-found.found c.in_default.not-Some)) ∙ c.in_ok-found.ensures.found ∙ trial-read g.R.Reader.reading t c.requires.ready (earlier_view c.args.self.now) c.args.text.now flags.result (flags.ensures q.setting refl)
+    ap is_some (sym (none-left c.in_ok-found.found c.in_default.not-Some)) ∙ c.in_ok-found.ensures.found ∙ trial-read g.R.Reader.reading t c.requires.ready _ c.events-unit.ensures (earlier_view c.args.self.now) c.args.text.now flags.result (flags.ensures q.setting refl)
 
 pub returns-clause-refused : goal.returns-clause-refused
 returns-clause-refused g c =
@@ -38,6 +38,6 @@ returns-clause-refused g c =
     let q = asked_of g.R.Reader.reading t in
     let d = earlier_view c.args.self.now in
     let flags = c.reading_flags-flags in
-    let read = trial-read g.R.Reader.reading t c.requires.ready d c.args.text.now flags.result (flags.ensures q.setting refl) in
+    let read = trial-read g.R.Reader.reading t c.requires.ready _ c.events-unit.ensures d c.args.text.now flags.result (flags.ensures q.setting refl) in
     let again = ap (reads_back_in q d) c.in_ok-from_str.ensures.ok ∙ sym read ∙ sym c.in_ok-found.ensures.found ∙ ap is_some (none-left c.in_ok-found.found c.in_default.not-Some) in
     subst (λ ts. AllByRecursion (λ t. reads_back_in q d (string_bytes t) ≡ false) ts) (sym c.in_ok-insert.ensures.keys) (refused-more q d c.in_ok-from_str.field-0 c.args.refused.now.keys c.requires.refused again)

@@ -1,5 +1,0 @@
-use Rattle.tocmark_write_labels.proofs.Ambiguous.{waits-more}
-use Rattle.tocmark_write_labels.proofs.laws.what_waits_goes_on_waiting.Goals as goal
-
-pub returns : goal.returns
-returns c = waits-more

@@ -1,5 +1,0 @@
-use Rattle.tocmark_write_labels.proofs.Joined.{index-nothing}
-use Rattle.tocmark_write_labels.proofs.pending.Pending.clear.Goals as goal
-
-pub invariant_of-self : goal.invariant_of-self
-invariant_of-self c = rw (c.clear.ensures.items, c.clear-2.ensures.items, c.clear-3.ensures.items) index-nothing

@@ -1,0 +1,122 @@
+-- What one more event makes of those that wait.
+use Rattle.std.proofs.Common.{◌≡◌, ℕ, ◌<◌, map, Bool, true, false, if◌then◌else◌, Option, Some, Result, Ok, Err, List, [], ◌∷◌, ◌++◌, refl, sym, ap, ◌∙◌, subst, length, arith}
+use Rattle.std.proofs.lemmas.List.{drop_all, length-map, length-reverse, map-append}
+use Rattle.std.specs.Prelude.{is_ok}
+use Rattle.std.proofs.lemmas.Bool.{false≢true, true≢false}
+use Rattle.tocmark_event.specs.Ends.{same_end}
+use Rattle.tocmark_event.specs.View.{EventView, Start, End, Leaf, SourcedEvent, unsourced}
+use Rattle.tocmark_event.specs.declared.event.TagEnd.{TagEnd}
+use Rattle.tocmark_event.specs.declared.options.Error.{Error}
+use Rattle.tocmark_event.specs.declared.options.Error.TheVariants as error
+use Rattle.tocmark_spelling.specs.Buffered.{buffered_view, sourced}
+use Rattle.tocmark_spelling.specs.declared.buffered.BufferedEvent.{BufferedEvent}
+use Rattle.tocmark_spelling.specs.Scans.{end_at}
+use Rattle.tocmark_write_pending.specs.OpenContainers.{AreOpenFrom, EndsAt, ended_by, ends_with, opened}
+use Rattle.tocmark_write_pending.specs.Pending.{PendingView, behind, closed, nested, one_more}
+use Rattle.tocmark_write_pending.specs.PendingOf.{AreIndexed, ends_awaited, places_of}
+use Rattle.tocmark_write_pending.specs.Waiting.{has_ambiguous_list}
+use Rattle.tocmark_write_pending.specs.declared.nesting.OpenContainer.{OpenContainer}
+use Rattle.tocmark_write_pending.proofs.Balanced.{reading-more, reading-nothing}
+use Rattle.tocmark_write_pending.proofs.EndColumn.{ends-more}
+use Rattle.tocmark_write_pending.proofs.OpenContainers.{never, opens-more, place-inside, some-same}
+
+pub unsourced-sourced : (e : EventView) (source : Option (List ℕ)) → unsourced (sourced e source) ≡ e
+unsourced-sourced (Start t) source = refl
+unsourced-sourced (End k) source = refl
+unsourced-sourced (Leaf l) source = refl
+
+abbrev closed_on : Bool → List TagEnd → Result (List TagEnd) Error
+closed_on b os = if b then Ok os else Err error.UnexpectedEvent
+
+closed-on-wrong : (b : Bool) (os : List TagEnd) → is_ok (closed_on b os) ≡ false → closed_on b os ≡ Err error.UnexpectedEvent
+closed-on-wrong true os h = absurd (true≢false h)
+closed-on-wrong false os h = refl
+
+closed-wrong : (os : List TagEnd) (k : TagEnd) → is_ok (closed os k) ≡ false → closed os k ≡ Err error.UnexpectedEvent
+closed-wrong [] k h = refl
+closed-wrong (o ∷ os) k h = closed-on-wrong (same_end k o) os h
+
+nested-wrong : (os : List TagEnd) (e : EventView) → is_ok (nested os e) ≡ false → nested os e ≡ Err error.UnexpectedEvent
+nested-wrong os (Start t) h = absurd (true≢false h)
+nested-wrong os (End k) h = closed-wrong os k h
+nested-wrong os (Leaf l) h = absurd (true≢false h)
+
+module _ (p : PendingView) (e : EventView) (source : Option (List ℕ)) where
+  -- an event that can't come is refused
+  pub event-refused : is_ok (nested p.open_tags e) ≡ false → one_more p (sourced e source) ≡ Err error.UnexpectedEvent
+  event-refused h =
+      ap (behind p (sourced e source)) (ap (nested p.open_tags) (unsourced-sourced e source) ∙ nested-wrong p.open_tags e h)
+
+  -- an event that can come stands behind the others
+  pub event-joined : (os : List TagEnd) → nested p.open_tags e ≡ Ok os → one_more p (sourced e source) ≡ Ok (record { events = p.events ++ sourced e source ∷ []; open_tags = os })
+  event-joined os h = ap (behind p (sourced e source)) (ap (nested p.open_tags) (unsourced-sourced e source) ∙ h)
+
+-- one event more that waits
+pub events-more : (es now : List BufferedEvent) (b : BufferedEvent) (e : SourcedEvent) → now ≡ es ++ b ∷ [] → buffered_view b ≡ e → map buffered_view now ≡ map buffered_view es ++ e ∷ []
+events-more es now b e h is =
+    ap (map buffered_view) h ∙ map-append buffered_view es (b ∷ []) ∙ ap (λ x. map buffered_view es ++ x ∷ []) is
+
+-- ---- what is kept beside the events
+
+-- nothing is kept of no event
+pub index-nothing : AreIndexed [] [] [] [] false
+index-nothing = record { nested = reading-nothing; places_open = tt; ends_known = record { len = refl; at = λ i. ap (end_at i) (sym (drop_all i [] (omega arith))) }; ambiguity = refl }
+
+-- as many Ends are awaited, and as many places kept, as containers are open
+pub awaited-count : (cs : List OpenContainer) → length (ends_awaited cs) ≡ length cs
+awaited-count cs = length-reverse (map (λ (c : OpenContainer). c.end) cs) ∙ length-map cs (λ (c : OpenContainer). c.end)
+
+pub same-count : (cs : List OpenContainer) → length (ends_awaited cs) ≡ length (places_of cs)
+same-count cs =
+    awaited-count cs
+    ∙ sym (length-map cs (λ (c : OpenContainer). c.place))
+    ∙ sym (length-reverse (map (λ (c : OpenContainer). c.place) cs))
+
+-- an event that can come ends the innermost container, if it is an End
+pub ended-at : (es : List SourcedEvent) (os : List TagEnd) (is : List ℕ) (e : SourcedEvent) → length os ≡ length is → AreOpenFrom es 0 is → is_ok (nested os (unsourced e)) ≡ true → EndsAt es e (ended_by (unsourced e) is)
+ended-at es os is (Start t) n a h = tt
+ended-at es [] [] (End k) n a h = absurd (false≢true h)
+ended-at es (o ∷ os) [] (End k) n a h = absurd (omega (arith, n))
+ended-at es os (p ∷ is) (End k) n a h = a.0
+ended-at es os is (Leaf l) n a h = tt
+
+-- what is kept with one event more
+event-indexed : (es : List SourcedEvent) (os now : List TagEnd) (is : List ℕ) (ends : List (Option ℕ)) (was b : Bool) (e : SourcedEvent) (o : Option ℕ) → AreIndexed es os is ends was → length os ≡ length is → o ≡ ended_by (unsourced e) is
+    → nested os (unsourced e) ≡ Ok now → ((e : SourcedEvent) → EndsAt es e o → b ≡ has_ambiguous_list false (es ++ e ∷ []))
+    → AreIndexed (es ++ e ∷ []) now (opened (unsourced e) (length es) is) (ends_with o ends) b
+event-indexed es os now is ends was b e o held same by n a =
+    let at : EndsAt es e o = subst (EndsAt es e) (sym by) (ended-at es os is e same held.places_open (ap is_ok n)) in
+    record {
+      nested = reading-more es e os now held.nested n;
+      places_open = opens-more es is e held.places_open;
+      ends_known = ends-more es e o ends held.ends_known at;
+      ambiguity = a e at;
+    }
+
+sourced-indexed : (es : List SourcedEvent) (os now : List TagEnd) (is : List ℕ) (ends : List (Option ℕ)) (was b : Bool) (e : EventView) (source : Option (List ℕ)) (o : Option ℕ) → AreIndexed es os is ends was → length os ≡ length is → o ≡ ended_by e is
+    → nested os e ≡ Ok now → ((e : SourcedEvent) → EndsAt es e o → b ≡ has_ambiguous_list false (es ++ e ∷ []))
+    → AreIndexed (es ++ sourced e source ∷ []) now (opened e (length es) is) (ends_with o ends) b
+sourced-indexed es os now is ends was b (Start t) source o held same by n a = event-indexed es os now is ends was b (Start t) o held same by n a
+sourced-indexed es os now is ends was b (End k) source o held same by n a = event-indexed es os now is ends was b (End k) o held same by n a
+sourced-indexed es os now is ends was b (Leaf l) source o held same by n a = event-indexed es os now is ends was b (Leaf (record { leaf = l; source = source })) o held same by n a
+
+-- the same of the lists that are kept now
+pub index-joined : (es all : List SourcedEvent) (os now : List TagEnd) (is places : List ℕ) (ends column : List (Option ℕ)) (was b : Bool) (e : EventView) (source : Option (List ℕ)) (o : Option ℕ) → AreIndexed es os is ends was → length os ≡ length is
+    → o ≡ ended_by e is → all ≡ es ++ sourced e source ∷ [] → nested os e ≡ Ok now → places ≡ opened e (length es) is → column ≡ ends_with o ends
+    → ((e : SourcedEvent) → EndsAt es e o → b ≡ has_ambiguous_list false (es ++ e ∷ []))
+    → AreIndexed all now places column b
+index-joined es all os now is places ends column was b e source o held same by more n opens closes a =
+    subst (λ (xs : List SourcedEvent). AreIndexed xs now places column b) (sym more)
+    (subst (λ (ps : List ℕ). AreIndexed (es ++ sourced e source ∷ []) now ps column b) (sym opens)
+    (subst (λ (cs : List (Option ℕ)). AreIndexed (es ++ sourced e source ∷ []) now (opened e (length es) is) cs b) (sym closes)
+    (sourced-indexed es os now is ends was b e source o held same by n a)))
+
+-- where a container ends there is an event
+pub ended-inside : (es : List SourcedEvent) (os : List TagEnd) (is : List ℕ) (ends : List (Option ℕ)) (was : Bool) (e : EventView) (o : Option ℕ) (p : ℕ) → AreIndexed es os is ends was → o ≡ ended_by e is → o ≡ Some p → p < length ends
+ended-inside es os is ends was (Start t) o p held by h = absurd (never p (sym by ∙ h))
+ended-inside es os [] ends was (End k) o p held by h = absurd (never p (sym by ∙ h))
+ended-inside es os (q ∷ is) ends was (End k) o p held by h =
+    let same : q ≡ p = some-same q p (sym by ∙ h) in
+    let inside = place-inside es q 0 held.places_open.0 in
+    omega (arith, same, inside, held.ends_known.len)
+ended-inside es os is ends was (Leaf l) o p held by h = absurd (never p (sym by ∙ h))

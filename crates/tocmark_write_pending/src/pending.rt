@@ -1,0 +1,204 @@
+//! The events that wait for their unit, with what is found out of them as they come.
+
+ghost use Rattle.std.specs.Prelude.{◌≡◌, ◌==◌, length, map, option_map, string_bytes, IfOk, is_some};
+ghost use Rattle.tocmark_event.specs.Text.{text_of};
+ghost use Rattle.tocmark_event.specs.View.{event_view};
+ghost use Rattle.tocmark_spelling.specs.Buffered.{buffered_view, sourced};
+ghost use Rattle.tocmark_spelling.specs.Scans.{AreEnds};
+ghost use Rattle.tocmark_write_pending.specs.Pending.{Joins, nothing_pending, text_now};
+ghost use Rattle.tocmark_write_pending.specs.Units.{trees_of, waits};
+
+use crate::nesting::{OpenContainer, can_come, ended_by, nest, note_end};
+use crate::placeholder::is_ambiguous_behind;
+use std::alloc::{AllocError, Global};
+use std::marker::Model;
+use tocmark_event::event::Event;
+use tocmark_event::options::Error;
+use tocmark_spelling::buffered::BufferedEvent;
+
+/// Events that wait for their unit. Each End among them is the innermost open container's.
+///
+/// Where no container is open the events are those of whole trees: that needn't be found out again.
+/// Nor need what is kept beside them, to which each event adds in a constant number of steps.
+#[derive(Drop)]
+pub struct Pending {
+    events: Vec<BufferedEvent>,
+    /// The open containers, outermost first.
+    containers: Vec<OpenContainer>,
+    /// For each event that starts a container the place where that ends, if it has ended; `None` for
+    /// others.
+    ends: Vec<Option<usize>>,
+    /// Whether a list among the events needs a placeholder. That only goes from false to true.
+    is_ambiguous: bool,
+}
+
+impl Model for Pending {
+    ghost use Rattle.tocmark_write_pending.specs.Pending.{PendingView};
+
+    ghost Value = { PendingView };
+
+    ghost use Rattle.tocmark_write_pending.specs.PendingOf.{IsIndexed, pending_of};
+
+    ghost view = { pending_of };
+
+    ghost invariant = { IsIndexed };
+}
+
+fn copied_source(alloc: Global, source: Option<&str>) -> Result<Option<String>, AllocError>
+    ensures { IfOk result (λ copy. option_map string_bytes copy ≡ text_now source.entry) }
+{
+    match source {
+        Some(text) => Ok(Some(String::from_str(alloc, text)?)),
+        None => Ok(None),
+    }
+}
+
+/// A copy of an event, and of its spelling in the source where that is known.
+fn buffered(
+    alloc: Global,
+    event: &Event<'_>,
+    source: Option<&str>,
+) -> Result<BufferedEvent, AllocError>
+    ensures { IfOk result (λ copy. buffered_view copy
+        ≡ sourced (event_view text_of event.now) (text_now source.entry)) }
+{
+    let event = event.copied(alloc)?;
+    let source = copied_source(alloc, source)?;
+    Ok(BufferedEvent { event, source })
+}
+
+fn copied_event(alloc: Global, buffered: &BufferedEvent) -> Result<BufferedEvent, AllocError>
+    ensures { IfOk result (λ copy. buffered_view copy ≡ buffered_view buffered.now) }
+{
+    let event = buffered.event.copied(alloc)?;
+    let source = match &buffered.source {
+        Some(text) => copied_source(alloc, Some(text.as_str()))?,
+        None => None,
+    };
+    Ok(BufferedEvent { event, source })
+}
+
+fn copied_events(alloc: Global, events: &[BufferedEvent]) -> Result<Vec<BufferedEvent>, AllocError>
+    ensures { IfOk result (λ copies. map buffered_view copies.items
+        ≡ map buffered_view events.now) }
+{
+    let mut copies = Vec::new(alloc);
+    for buffered in events {
+        copies.push(copied_event(alloc, buffered)?)?;
+    }
+    Ok(copies)
+}
+
+impl Pending {
+    /// No event waits.
+    pub fn new(alloc: Global) -> Pending
+        ensures { result ≡ nothing_pending }
+    {
+        Pending {
+            events: Vec::new(alloc),
+            containers: Vec::new(alloc),
+            ends: Vec::new(alloc),
+            is_ambiguous: false,
+        }
+    }
+
+    /// The events, in the order in which they came.
+    pub fn events(&self) -> &[BufferedEvent]
+        ensures { map buffered_view result.now ≡ self.now.events }
+    {
+        self.events.as_slice()
+    }
+
+    /// For each event that starts a container the place among the events where that ends, if it has
+    /// ended; `None` for others.
+    ///
+    /// ```
+    /// let mut pending = Pending::new(alloc);
+    /// pending.join(alloc, &Event::Start(Tag::Paragraph), None)?;
+    /// pending.join(alloc, &Event::End(TagEnd::Paragraph), None)?;
+    /// assert!(pending.ends() == [Some(1), None]);
+    /// ```
+    pub fn ends(&self) -> &[Option<usize>]
+        ensures { AreEnds self.now.events result.now }
+    {
+        self.ends.as_slice()
+    }
+
+    /// Whether no event waits.
+    pub fn is_empty(&self) -> bool
+        ensures { result ≡ (length self.now.events == 0) }
+    {
+        self.events.is_empty()
+    }
+
+    /// Whether no container is open, so that the events are those of whole trees, if there are any.
+    pub fn is_whole(&self) -> bool
+        ensures closed { result ≡ (length self.now.open_tags == 0) }
+        ensures whole { result ≡ is_some (trees_of self.now.events) }
+    {
+        self.containers.is_empty()
+    }
+
+    /// Whether the unit waits for a label that only the end of the events can give: a list in it needs
+    /// a placeholder, since it would be read otherwise without one.
+    ///
+    /// A list does whose first item is empty and which stands just behind inline content, and one with
+    /// a single item that holds a single paragraph and nothing else. A unit in which a container is
+    /// open waits for nothing.
+    pub fn needs_placeholder(&self) -> bool
+        ensures { result ≡ waits self.now.events }
+    {
+        self.is_whole() && self.is_ambiguous
+    }
+
+    /// Adds a copy of an event, with what stands for it in the source where that is known.
+    ///
+    /// An `Err` is `UnexpectedEvent` for an End that isn't the innermost open container's, or
+    /// `OutOfMemory`; all is then as it was.
+    pub fn join(
+        &mut self,
+        alloc: Global,
+        event: &Event<'_>,
+        source: Option<&str>,
+    ) -> Result<(), Error>
+        ensures { Joins self.old
+            (sourced (event_view text_of event.now) (text_now source.entry)) result self.new }
+    {
+        if !can_come(&self.containers, event) {
+            return Err(Error::UnexpectedEvent);
+        }
+        let place = self.events.len();
+        let ended = ended_by(&self.containers, event);
+        let is_ambiguous = is_ambiguous_behind(self.is_ambiguous, &self.events, &self.ends, ended);
+        self.containers.reserve(1)?;
+        self.ends.reserve(1)?;
+        let copy = buffered(alloc, event, source)?;
+        self.events.push(copy)?;
+        self.is_ambiguous = is_ambiguous;
+        note_end(&mut self.ends, ended);
+        nest(&mut self.containers, event, place);
+        Ok(())
+    }
+
+    /// Lets go of the events, and of what was found out of them. No container is open then.
+    pub fn clear(&mut self)
+        ensures { self.new ≡ nothing_pending }
+    {
+        self.events.clear();
+        self.containers.clear();
+        self.ends.clear();
+        self.is_ambiguous = false;
+    }
+
+    /// The same events, copied. An `Err` says that memory ran out.
+    pub fn copied(&self, alloc: Global) -> Result<Pending, AllocError>
+        ensures { IfOk result (λ copy. copy ≡ self.now) }
+    {
+        Ok(Pending {
+            events: copied_events(alloc, &self.events)?,
+            containers: Vec::from_slice(alloc, &self.containers)?,
+            ends: Vec::from_slice(alloc, &self.ends)?,
+            is_ambiguous: self.is_ambiguous,
+        })
+    }
+}
