@@ -1,11 +1,11 @@
-//! Runs of one script in other calls.
+//! Runs of one script in other calls, between which the state is cloned.
 
 use crate::runs::run;
 use crate::tally::Tally;
 use std::alloc::{AllocError, Global};
 use test_script_lines::script::{Call, Script};
 
-/// The answer where the events are cut in two.
+/// The answer where the events are cut in two, and a clone of the state takes those behind the cut.
 fn in_two(alloc: Global, script: &Script<'static>, place: usize) -> Result<String, AllocError> {
     let end = script.events.len();
     let front = Call::Process {
@@ -13,10 +13,15 @@ fn in_two(alloc: Global, script: &Script<'static>, place: usize) -> Result<Strin
         end: place,
     };
     let back = Call::Process { start: place, end };
-    run(alloc, script, &[front, back, Call::Finish], false)
+    run(
+        alloc,
+        script,
+        &[front, Call::Clone, back, Call::Finish],
+        false,
+    )
 }
 
-/// The answer where each call but the last takes so many events.
+/// The answer where each call but the last takes so many events, and a clone of the state goes on behind it.
 fn in_parts(alloc: Global, script: &Script<'static>, size: usize) -> Result<String, AllocError> {
     let events = script.events.len();
     let size = size.max(1);
@@ -25,6 +30,7 @@ fn in_parts(alloc: Global, script: &Script<'static>, size: usize) -> Result<Stri
         if start % size == 0 {
             let end = start.saturating_add(size).min(events);
             calls.push(Call::Process { start, end })?;
+            calls.push(Call::Clone)?;
         }
     }
     calls.push(Call::Finish)?;
