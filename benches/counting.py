@@ -10,8 +10,13 @@ NAME = f"benches/{os.path.basename(sys.argv[0])}"
 MEMCHECK = ["valgrind", "--tool=memcheck", "--leak-check=no", "--undef-value-errors=no"]
 CACHEGRIND = ["valgrind", "--tool=cachegrind", "--cache-sim=no", "--cachegrind-out-file=/dev/null"]
 CALLGRIND = ["valgrind", "--tool=callgrind", "--callgrind-out-file=/dev/null"]
-# What a reading is made by; `read` itself, which only calls it, may be part of its caller.
-READING = "tocmark_core_reader::reader::find"
+# What a reading is made by, as a whole or block by block; `read` itself, which only calls these, may be part of its caller.
+# None of them calls another one.
+PARTS = [
+    "tocmark_core_reader::reader::find_blocks",
+    "tocmark_core_reader::block_reading::BlockReading::next",
+    "tocmark_core_reader::block_reading::BlockReading::rest",
+]
 
 
 def built(crate):
@@ -46,10 +51,10 @@ def counted(words, text=""):
 
 def counted_in_readings(words, text=""):
     """The number of instructions that a command took in readings of the core reader."""
-    ran = run([*CALLGRIND, f"--toggle-collect={READING}", *words], text)
+    ran = run([*CALLGRIND, *(f"--toggle-collect={part}" for part in PARTS), *words], text)
     count = int(re.search(rb"Collected : (\d+)", ran.stderr)[1])
     if not count:
-        sys.exit(f"{NAME}: nothing is counted in {READING}")
+        sys.exit(f"{NAME}: nothing is counted in {' and '.join(PARTS)}")
     return count
 
 

@@ -1,8 +1,8 @@
 -- A block's nodes are the same behind all others: so they may be written block by block.
 use Rattle.std.proofs.Common.{◌≡◌, ℕ, Bool, true, false, ◌++◌, ◌∷◌, [], List, map, Option, refl, ap, sym, ◌∙◌}
 use Rattle.std.specs.List.{fold}
-use Rattle.std.specs.Prelude.{nat_le, if◌then◌else◌, get_or, take, length, ◌+◌, ◌<◌}
-use Rattle.std.proofs.lemmas.List.Sums.{fold-append, fold_more}
+use Rattle.std.specs.Prelude.{nat_le, if◌then◌else◌}
+use Rattle.std.proofs.lemmas.List.Sums.{fold-append}
 use Rattle.tocmark_read_scan.specs.Basic.{plus}
 use Rattle.tocmark_read_syntax.specs.declared.Syntax.{Syntax}
 use Rattle.tocmark_read_syntax.specs.declared.Names.{Names}
@@ -16,7 +16,7 @@ use Rattle.tocmark_read_inlines.specs.Inlines as inlines
 use Rattle.tocmark_read_spans.specs.declared.definitions.Entry.{Entry}
 use Rattle.tocmark_core_reader.specs.Emitted.{NodeView, Writing, step}
 use Rattle.tocmark_core_reader.specs.Inlines.{inline_node}
-use Rattle.tocmark_core_reader.specs.Pages.{State, Progress, written_behind, written_by, written_alone, content_line, lines_nodes, block_node, pieces_of, with_inlines, leaf_inlines_in, task_nodes, with_block, with_task, bare_in, with_lines, fence_node_in, with_fence_in, with_rule, wrapped_in, paragraph_taken_in, taken_as_in, block_taken_in, is_unwrapped, block_step_in, cell_inlines_in, cell_taken_in}
+use Rattle.tocmark_core_reader.specs.Pages.{State, Progress, written_behind, written_by, content_line, lines_nodes, block_node, pieces_of, with_inlines, leaf_inlines_in, task_nodes, with_block, with_task, bare_in, with_lines, fence_node_in, with_fence_in, with_rule, wrapped_in, paragraph_taken_in, taken_as_in, block_taken_in, is_unwrapped, block_step_in, cell_inlines_in, cell_taken_in}
 
 abbrev pub Find : Type 0
 Find = List ℕ → Option Entry
@@ -144,18 +144,23 @@ adds_kind syntax kind.DefinitionList text find pieces unwrapped b = adds_block t
 adds_kind syntax kind.DefinitionListTitle text find pieces unwrapped b = adds_wrapped syntax text find pieces b
 adds_kind syntax kind.DefinitionListDefinition text find pieces unwrapped b = adds_block text b
 
--- one more block, written behind the others
-pub block_behind : (syntax : Syntax) (text : List ℕ) (find : Find) (all : List Piece) (unwrapped : Bool) (b : Block) (s : State) → written_alone text (block_taken_in syntax text find all unwrapped b s) ≡ written_by text (block_taken_in syntax text find all unwrapped b) (written_alone text s)
+-- one more block
+pub adds_taken : (syntax : Syntax) (text : List ℕ) (find : Find) (all : List Piece) (unwrapped : Bool) (b : Block) → Adds text (block_taken_in syntax text find all unwrapped b)
 unfolding block_taken_in
-block_behind syntax text find all unwrapped b s = adds_kind syntax b.kind text find (pieces_of all b.first b.last) unwrapped b (record { events = []; stack = [] }) s
+adds_taken syntax text find all unwrapped b = adds_kind syntax b.kind text find (pieces_of all b.first b.last) unwrapped b
 
--- one more of a list of blocks
-pub more_behind : (syntax : Syntax) (text : List ℕ) (find : Find) (blocks : List Block) (all : List Piece) (start : State) (i : ℕ) (d : Block) (unwrapped : Bool) (before after : Progress) → i < length blocks → unwrapped ≡ is_unwrapped blocks (get_or blocks i d) → before ≡ written_alone text (fold (block_step_in syntax text find blocks all) start (take i blocks)) → after ≡ written_by text (block_taken_in syntax text find all unwrapped (get_or blocks i d)) before → after ≡ written_alone text (fold (block_step_in syntax text find blocks all) start (take (i + 1) blocks))
-more_behind syntax text find blocks all start i d unwrapped before after lt u b a =
-    let block : Block = get_or blocks i d in
-    let s : State = fold (block_step_in syntax text find blocks all) start (take i blocks) in
-    a
-    ∙ ap (written_by text (block_taken_in syntax text find all unwrapped block)) b
-    ∙ ap (λ x. written_by text (block_taken_in syntax text find all x block) (written_alone text s)) u
-    ∙ sym (block_behind syntax text find all (is_unwrapped blocks block) block s)
-    ∙ ap (written_alone text) (sym (fold_more (block_step_in syntax text find blocks all) start blocks i d lt))
+module _ (syntax : Syntax) (text : List ℕ) (find : Find) (all : List Block) (pieces : List Piece) where
+  -- some of all blocks
+  abbrev pub some_taken : List Block → State → State
+  some_taken some s = fold (block_step_in syntax text find all pieces) s some
+
+  adds_some : (some : List Block) → Adds text (some_taken some)
+  adds_some [] w s = refl
+  adds_some (b ∷ bs) w s = adds_both text (block_taken_in syntax text find pieces (is_unwrapped all b) b) (some_taken bs) (adds_taken syntax text find pieces (is_unwrapped all b) b) (adds_some bs) w s
+
+  -- the first of them is written, and then the others
+  pub first_behind : (b : Block) (bs : List Block) (unwrapped : Bool) (before after : Progress) → unwrapped ≡ is_unwrapped all b → after ≡ written_by text (block_taken_in syntax text find pieces unwrapped b) before → written_by text (some_taken (b ∷ bs)) before ≡ written_by text (some_taken bs) after
+  first_behind b bs unwrapped before after u a =
+      adds_some bs before.writing (block_taken_in syntax text find pieces (is_unwrapped all b) b (record { nodes = []; inlines = before.inlines }))
+      ∙ ap (λ x. written_by text (some_taken bs) (written_by text (block_taken_in syntax text find pieces x b) before)) (sym u)
+      ∙ ap (written_by text (some_taken bs)) (sym a)

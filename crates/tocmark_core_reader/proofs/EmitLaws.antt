@@ -30,12 +30,12 @@ Passes (End end) old new = old ≡ end ∷ new
 Passes (Leaf l) old new = old ≡ new
 
 -- the events lead from these open containers to those
-abbrev Leads : List TagEnd → List Marked → List TagEnd → Type 0
+abbrev pub Leads : List TagEnd → List Marked → List TagEnd → Type 0
 Leads old [] new = old ≡ new
 Leads old (e ∷ es) new = (mid : List TagEnd) × Passes (e.0) old mid × Leads mid es new
 
 -- the Ends of open containers, the innermost first
-abbrev ends : List Open → List TagEnd
+abbrev pub ends : List Open → List TagEnd
 ends stack = map (λ o. o.end) (reverse stack)
 
 leads_append : (a b c : List TagEnd) (xs ys : List Marked) → Leads a xs b → Leads b ys c → Leads a (xs ++ ys) c
@@ -51,7 +51,7 @@ ends_split : (depth : ℕ) (stack : List Open) → ends stack ≡ map (λ o. o.e
 ends_split depth stack =
     ap ends (sym (take-append-drop depth stack)) ∙ ap (λ (l : List Open). map (λ o. o.end) l) (reverse-append (take depth stack) (drop depth stack)) ∙ map-append (λ (o : Open). o.end) (reverse (drop depth stack)) (reverse (take depth stack))
 
-leads_closed : (depth : ℕ) (w : Writing) → Leads [] w.events (ends w.stack) → Leads [] (closed depth w).events (ends (closed depth w).stack)
+pub leads_closed : (depth : ℕ) (w : Writing) → Leads [] w.events (ends w.stack) → Leads [] (closed depth w).events (ends (closed depth w).stack)
 leads_closed depth w h =
     leads_append [] (ends w.stack) _ w.events (closings depth w.stack) h
     (subst (λ s. Leads s (closings depth w.stack) (ends (take depth w.stack))) (sym (ends_split depth w.stack)) (leads_ends (reverse (drop depth w.stack)) (ends (take depth w.stack))))
@@ -65,7 +65,7 @@ leads_put text (Container tag) range w h =
 leads_put text Source range w h = leads_append [] _ _ w.events _ h (ends w.stack, refl, refl)
 leads_put text (Given l) range w h = leads_append [] _ _ w.events _ h (ends w.stack, refl, refl)
 
-leads_fold : (text : List ℕ) (nodes : List NodeView) (w : Writing) → Leads [] w.events (ends w.stack) → Leads [] (fold (step text) w nodes).events (ends (fold (step text) w nodes).stack)
+pub leads_fold : (text : List ℕ) (nodes : List NodeView) (w : Writing) → Leads [] w.events (ends w.stack) → Leads [] (fold (step text) w nodes).events (ends (fold (step text) w nodes).stack)
 leads_fold text [] w h = h
 leads_fold text (n ∷ ns) w h = leads_fold text ns (step text w n) (leads_put text n.item _ (closed n.depth w) (leads_closed n.depth w h))
 
@@ -86,10 +86,10 @@ with_start_first (k ∷ s) t es h =
     let rest = h.3 in
     (node t (h.0) (rest.0), rest.1, ap (λ x. Start t ∷ flat_onto (h.0) (End (end_of t) ∷ x)) (rest.2) ∙ ap (λ x. Start t ∷ x) (h.2), rest.3)
 
-abbrev unplaced : List Marked → List EventView
+abbrev pub unplaced : List Marked → List EventView
 unplaced es = map (λ e. e.0) es
 
-levels : (s : List TagEnd) (es : List Marked) → Leads s es [] → Levels s (unplaced es)
+pub levels : (s : List TagEnd) (es : List Marked) → Leads s es [] → Levels s (unplaced es)
 levels s [] h = subst (λ (l : List TagEnd). Levels l []) (sym h) (empty, refl)
 levels s ((Start t, r) ∷ es) h = with_start_first s t (unplaced es) (subst (λ (l : List TagEnd). Levels l (unplaced es)) (h.1) (levels (h.0) es (h.2)))
 levels s ((End k, r) ∷ es) h = subst (λ (l : List TagEnd). Levels l (End k ∷ unplaced es)) (sym (h.1)) (empty, unplaced es, refl, levels (h.0) es (h.2))

@@ -1,7 +1,9 @@
 pub mod Behind
+pub mod BlocksLeft
 pub mod Zeros
 pub mod EmitLaws
 pub mod Finding
+pub mod PartLaws
 pub mod PlainEvents
 pub mod PlainSources
 pub mod PlainLeaves

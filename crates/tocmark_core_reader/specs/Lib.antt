@@ -5,4 +5,5 @@ pub mod Attributes
 pub mod Inlines
 pub mod Pages
 pub mod Reading
+pub mod Left
 pub mod PlainTexts

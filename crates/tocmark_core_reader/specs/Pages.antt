@@ -104,10 +104,6 @@ assembly_view a = record { writing = emission_view a.emission; inlines = inlines
 abbrev pub written_behind : List ℕ → Writing → State → Progress
 written_behind text w s = record { writing = fold (step text) w s.nodes; inlines = s.inlines }
 
--- nothing is written but the nodes
-abbrev pub written_alone : List ℕ → State → Progress
-written_alone text s = written_behind text (record { events = []; stack = [] }) s
-
 -- the nodes that a change puts behind none are written behind what is written
 abbrev pub written_by : List ℕ → (State → State) → Progress → Progress
 written_by text change p = written_behind text p.writing (change (record { nodes = []; inlines = p.inlines }))
@@ -210,6 +206,10 @@ block_step_in syntax text find blocks pieces s b = block_taken_in syntax text fi
 -- no nodes, and the texts of the definitions
 abbrev pub start_state : List ℕ → State
 start_state texts = record { nodes = []; inlines = record { nodes = []; targets = []; texts = texts; missed = [] } }
+
+-- nothing is written, and the texts of the definitions
+abbrev pub nothing_written : List ℕ → Progress
+nothing_written texts = record { writing = record { events = []; stack = [] }; inlines = (start_state texts).inlines }
 
 -- all blocks with their inlines
 abbrev pub assembled_in : Syntax → List ℕ → (List ℕ → Option Entry) → List Block → List Piece → List ℕ → State

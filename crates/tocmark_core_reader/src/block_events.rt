@@ -7,7 +7,7 @@ ghost use Rattle.tocmark_event.specs.View.{tag_view};
 ghost use Rattle.tocmark_read_spans.specs.Definitions.{entry_of};
 ghost use Rattle.tocmark_read_inlines.specs.Inlines.{inlines_view};
 ghost use Rattle.tocmark_core_reader.specs.Emitted.{item_view, emission_view, step};
-ghost use Rattle.tocmark_core_reader.specs.Pages.{pieces_of, content_line, space_nodes, line_item, line_nodes, lines_nodes, block_tag, is_unwrapped, block_node, assembly_view, task_nodes, leaf_inlines_in, with_block, with_task, bare_in, with_lines, with_rule, wrapped_in, paragraph_taken_in, fence_node_in, with_fence_in, block_taken_in, assembled_in, written_alone, written_by, cell_inlines_in, cell_taken_in};
+ghost use Rattle.tocmark_core_reader.specs.Pages.{pieces_of, content_line, space_nodes, line_item, line_nodes, lines_nodes, block_tag, is_unwrapped, block_node, assembly_view, task_nodes, leaf_inlines_in, with_block, with_inlines, with_task, bare_in, with_lines, with_rule, wrapped_in, paragraph_taken_in, fence_node_in, with_fence_in, block_taken_in, nothing_written, written_by, cell_inlines_in, cell_taken_in};
 
 use crate::attributes::heading_tag;
 use crate::emit::{Emission, Node, NodeKind};
@@ -178,7 +178,7 @@ fn block_tag(alloc: Global, text: &str, kind: BlockKind) -> Result<Tag<'static>,
 
 /// Whether a paragraph stands directly in an item of a tight list.
 #[tactic(auto, unfolding(crate::specs::Pages::is_unwrapped))]
-fn is_unwrapped(blocks: &[Block], block: Block) -> bool
+pub(crate) fn is_unwrapped(blocks: &[Block], block: Block) -> bool
     ensures { result ≡ is_unwrapped blocks.now block }
 {
     match block.list {
@@ -286,6 +286,40 @@ pub struct Assembly {
 }
 
 impl Assembly {
+    /// Nothing is written; `texts` are those of the definitions.
+    pub(crate) fn new(alloc: Global, texts: Vec<u8>) -> Self
+        ensures view { assembly_view result ≡ nothing_written texts.items }
+        ensures empty { (result.emission.events.items ≡ [])
+            × (result.emission.stack.items ≡ []) }
+    {
+        Assembly {
+            emission: Emission {
+                events: Vec::new(alloc),
+                stack: Vec::new(alloc),
+            },
+            inlines: no_inlines(alloc, texts),
+            lines: Vec::new(alloc),
+        }
+    }
+
+    /// Writes inlines that were found, and keeps what they have beside the source.
+    fn write_found(&mut self, alloc: Global, text: &str, found: Inlines) -> Result<(), AllocError>
+        ensures { OnOk result (assembly_view self.new ≡ written_by text.now
+            (with_inlines (inlines_view found)) (assembly_view self.old)) }
+    {
+        write_inlines(
+            alloc,
+            &mut self.emission,
+            text,
+            &found.texts,
+            &found.targets,
+            &found.nodes,
+        )?;
+        self.inlines = found;
+        self.inlines.nodes.clear();
+        Ok(())
+    }
+
     /// Reads the inlines of a leaf.
     #[tactic(auto, unfolding(crate::specs::Pages::leaf_inlines_in))]
     fn read_leaf(
@@ -303,7 +337,7 @@ impl Assembly {
         content_lines(&mut self.lines, pieces)?;
         let content = content_of(alloc, document.text.as_bytes(), &self.lines)?;
         let before = mem::replace(&mut self.inlines, no_inlines(alloc, Vec::new(alloc)));
-        let mut found = read_inlines(
+        let found = read_inlines(
             alloc,
             document.syntax,
             before,
@@ -311,17 +345,7 @@ impl Assembly {
             depth,
             document.definitions,
         )?;
-        write_inlines(
-            alloc,
-            &mut self.emission,
-            document.text,
-            &found.texts,
-            &found.targets,
-            &found.nodes,
-        )?;
-        found.nodes.clear();
-        self.inlines = found;
-        Ok(())
+        self.write_found(alloc, document.text, found)
     }
 
     /// Reads the inlines of a cell.
@@ -341,7 +365,7 @@ impl Assembly {
         let content = Content::Pasted(cell);
         let before = mem::replace(&mut self.inlines, no_inlines(alloc, Vec::new(alloc)));
         let depth = block.depth.saturating_add(1);
-        let mut found = read_cell(
+        let found = read_cell(
             alloc,
             document.syntax,
             before,
@@ -349,17 +373,7 @@ impl Assembly {
             depth,
             document.definitions,
         )?;
-        write_inlines(
-            alloc,
-            &mut self.emission,
-            document.text,
-            &found.texts,
-            &found.targets,
-            &found.nodes,
-        )?;
-        found.nodes.clear();
-        self.inlines = found;
-        Ok(())
+        self.write_found(alloc, document.text, found)
     }
 
     #[tactic(auto, unfolding(crate::specs::Pages::with_block))]
@@ -526,9 +540,9 @@ impl Assembly {
         }
     }
 
-    /// One more block; `all` are the pieces of all blocks.
+    /// One more block, whose nodes are written; `all` are the pieces of all blocks.
     #[tactic(auto, unfolding(crate::specs::Pages::block_taken_in))]
-    fn read_block(
+    pub(crate) fn read_block(
         &mut self,
         alloc: Global,
         document: &Document<'_, '_>,
@@ -567,32 +581,4 @@ impl Assembly {
             BlockKind::DefinitionListDefinition => self.open(alloc, document.text, block),
         }
     }
-}
-
-/// All blocks with their inlines; `texts` are those of the definitions. The nodes of a block are
-/// written before the next one is read.
-pub fn assemble(
-    alloc: Global,
-    document: &Document<'_, '_>,
-    blocks: &[Block],
-    pieces: &[Piece],
-    texts: Vec<u8>,
-) -> Result<Assembly, AllocError>
-    ensures { IfOk result (λ a. assembly_view a ≡ written_alone document.now.text.now
-        (assembled_in document.now.syntax document.now.text.now
-        (entry_of document.now.definitions.now) blocks.now pieces.now texts.items)) }
-{
-    let mut assembly = Assembly {
-        emission: Emission {
-            events: Vec::with_capacity(alloc, blocks.len().saturating_add(pieces.len()))?,
-            stack: Vec::new(alloc),
-        },
-        inlines: no_inlines(alloc, texts),
-        lines: Vec::new(alloc),
-    };
-    for block in blocks {
-        let unwrapped = is_unwrapped(blocks, *block);
-        assembly.read_block(alloc, document, pieces, unwrapped, *block)?;
-    }
-    Ok(assembly)
 }

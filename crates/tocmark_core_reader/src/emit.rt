@@ -112,7 +112,7 @@ fn push(
 
 impl Emission {
     /// Ends the containers from a depth on, the innermost first.
-    fn close_to(&mut self, depth: usize) -> Result<(), AllocError>
+    pub fn close_to(&mut self, depth: usize) -> Result<(), AllocError>
         ensures { OnOk result (emission_view self.new ≡ closed depth (emission_view self.old)) }
     {
         while self.stack.len() > depth {
@@ -181,15 +181,5 @@ impl Emission {
         }
         let range = snapped(text, node.start, node.end);
         self.put(alloc, text, node.item, range)
-    }
-
-    /// Ends all containers, and gives the events.
-    pub fn finish(self) -> Result<Vec<Marked>, AllocError>
-        ensures { IfOk result (λ events.
-            map shown events.items ≡ (closed 0 (emission_view self)).events) }
-    {
-        let mut all = self;
-        all.close_to(0)?;
-        Ok(all.events)
     }
 }

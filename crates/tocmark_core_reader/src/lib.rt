@@ -8,6 +8,7 @@
 
 mod attributes;
 pub mod block_events;
+pub mod block_reading;
 mod emit;
 mod inline;
 pub mod laws;
@@ -15,5 +16,6 @@ mod plain;
 mod reader;
 mod words;
 
+pub use block_reading::BlockReading;
 pub use plain::is_plain;
-pub use reader::{CoreReader, find};
+pub use reader::{CoreReader, find, find_blocks};

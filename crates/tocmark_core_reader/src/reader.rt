@@ -4,10 +4,12 @@ ghost use Rattle.std.specs.Prelude.{◌≡◌, map, string_bytes, IfOk, OnOk};
 ghost use Rattle.tocmark_read_blocks.specs.Blocks.{blocks_view};
 ghost use Rattle.tocmark_read_blocks.specs.Definitions.{definition_view};
 ghost use Rattle.tocmark_read_spans.specs.Definitions.{collected_view, entry_of};
-ghost use Rattle.tocmark_core_reader.specs.Reading.{define_step_in, collected_in, noted_as, noted, collected_from, first_entry, found_under, reading_of};
+ghost use Rattle.tocmark_core_reader.specs.Reading.{define_step_in, collected_in, noted_as, noted, collected_from, first_entry, found_under, core_reading, reading_of};
+ghost use Rattle.tocmark_core_reader.specs.Left.{IsBetweenTrees, reading_left};
 ghost use Rattle.tocmark_event.specs.Reading.{reading_view};
 
-use crate::block_events::{Document, assemble};
+use crate::block_events::Assembly;
+use crate::block_reading::BlockReading;
 use crate::words::replaced_bytes;
 use std::alloc::{AllocError, Global};
 use tocmark_event::event::ParserOptions;
@@ -110,33 +112,57 @@ fn definitions(
     Ok(Definitions { places, entries })
 }
 
-/// The events of a text and its labels, with the extensions of a syntax. An `Err` says that memory ran out.
+/// Finds the blocks of a text, with the extensions of a syntax; their events are still to be made. An
+/// `Err` says that memory ran out.
 #[tactic(auto, unfolding(crate::specs::Reading::found_under, crate::specs::Reading::reading_of))]
-pub fn find(alloc: Global, syntax: Syntax, text: &str) -> Result<Reading, AllocError>
-    ensures { IfOk result (λ found. reading_view found ≡ reading_of syntax text.now) }
+pub fn find_blocks(
+    alloc: Global,
+    syntax: Syntax,
+    text: &str,
+) -> Result<BlockReading<'_>, AllocError>
+    ensures left { IfOk result (λ begun. reading_left begun ≡ reading_of syntax text.now) }
+    ensures between { IfOk result (λ begun. IsBetweenTrees begun) }
 {
-    let blocks = read_blocks(alloc, syntax, text.as_bytes())?;
+    let found = read_blocks(alloc, syntax, text.as_bytes())?;
     let Collected {
         keys,
         labels,
         entries,
         texts,
-    } = collect_from(alloc, syntax, text.as_bytes(), &blocks)?;
+    } = collect_from(alloc, syntax, text.as_bytes(), &found)?;
     let defined = distinct_labels(alloc, &texts, &labels)?;
     let definitions = definitions(alloc, &keys, entries)?;
-    let document = Document {
+    Ok(BlockReading {
+        alloc,
         syntax,
         text,
-        definitions: &definitions,
-    };
-    let page = assemble(alloc, &document, &blocks.blocks, &blocks.pieces, texts)?;
-    drop(blocks);
-    let unresolved = distinct_labels(alloc, &page.inlines.texts, &page.inlines.missed)?;
-    Ok(Reading {
-        events: page.emission.finish()?,
+        blocks: found.blocks,
+        pieces: found.pieces,
+        definitions,
         defined,
-        unresolved,
+        assembly: Assembly::new(alloc, texts),
+        place: 0,
+        failed: false,
     })
+}
+
+/// The events of a text and its labels, with the extensions of a syntax. An `Err` says that memory ran out.
+pub fn find(alloc: Global, syntax: Syntax, text: &str) -> Result<Reading, AllocError>
+    ensures { IfOk result (λ found. reading_view found ≡ reading_of syntax text.now) }
+{
+    let blocks = find_blocks(alloc, syntax, text)?;
+    blocks.rest()
+}
+
+impl CoreReader {
+    /// Reads a text block by block: its blocks are found, and their events are handed out by `next`. An
+    /// `Err` says that memory ran out.
+    pub fn blocks<'t>(&self, alloc: Global, text: &'t str) -> Result<BlockReading<'t>, AllocError>
+        ensures left { IfOk result (λ blocks. reading_left blocks ≡ core_reading text.now) }
+        ensures between { IfOk result (λ blocks. IsBetweenTrees blocks) }
+    {
+        find_blocks(alloc, CORE, text)
+    }
 }
 
 impl Reader for CoreReader {

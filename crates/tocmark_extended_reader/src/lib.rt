@@ -5,12 +5,14 @@
 //! the names of character references that it is told to: all of HTML's (`Names`).
 #![tactic(auto)]
 
-ghost use Rattle.std.specs.Prelude.{◌≡◌};
+ghost use Rattle.std.specs.Prelude.{◌≡◌, IfOk};
+ghost use Rattle.tocmark_core_reader.specs.Left.{IsBetweenTrees, reading_left};
+ghost use Rattle.tocmark_core_reader.specs.Reading.{reading_of};
 ghost use Rattle.tocmark_extended_reader.specs.Flags.{syntax_of};
 ghost use Rattle.tocmark_read_syntax.specs.declared.Names.TheVariants.{All};
 
 use std::alloc::{AllocError, Global};
-use tocmark_core_reader::find;
+use tocmark_core_reader::{BlockReading, find, find_blocks};
 use tocmark_event::event::ParserOptions;
 use tocmark_event::reader::{Reader, Reading};
 pub use tocmark_read_syntax::Names;
@@ -130,6 +132,21 @@ impl ExtendedReader {
         ensures { result.names ≡ All }
     {
         ExtendedReader { names: Names::All }
+    }
+
+    /// Reads a text block by block, as `read` does: its blocks are found, and their events are handed out
+    /// by `next`. An `Err` says that memory ran out.
+    pub fn blocks<'t>(
+        &self,
+        alloc: Global,
+        text: &'t str,
+        flags: ParserOptions,
+    ) -> Result<BlockReading<'t>, AllocError>
+        ensures left { IfOk result (λ blocks.
+            reading_left blocks ≡ reading_of (syntax_of self.now.names flags) text.now) }
+        ensures between { IfOk result (λ blocks. IsBetweenTrees blocks) }
+    {
+        find_blocks(alloc, syntax_of(self.names, flags), text)
     }
 }
 

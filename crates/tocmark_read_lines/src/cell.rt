@@ -9,6 +9,7 @@ use crate::line::Line;
 use std::alloc::{AllocError, Global};
 use std::marker::Model;
 use tocmark_read_scan::basic::{byte_at, bytes_between, rest};
+use tocmark_read_scan::class::has_byte;
 
 /// A column of a line: its byte and the place of that. A tab is one to four columns of spaces, up to
 /// the next column that is a multiple of four.
@@ -133,7 +134,7 @@ impl Cells {
     fn read_inked(&mut self, bytes: &[u8], start: usize) -> Result<(), AllocError>
         ensures { OnOk result (self.new ≡ cells_of [] start bytes.now) }
     {
-        if bytes.contains(&b'\t') {
+        if has_byte(bytes, b'\t') {
             self.read_tabbed(bytes, start)
         } else {
             self.read_plain(bytes, start)
