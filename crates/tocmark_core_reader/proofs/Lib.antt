@@ -4,6 +4,7 @@ pub mod Zeros
 pub mod EmitLaws
 pub mod Finding
 pub mod PartLaws
+pub mod Saying
 pub mod PlainEvents
 pub mod PlainSources
 pub mod PlainLeaves

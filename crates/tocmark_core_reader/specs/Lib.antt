@@ -1,4 +1,5 @@
 pub mod Range
+pub mod Definitions
 pub mod Emitted
 pub mod Words
 pub mod Attributes

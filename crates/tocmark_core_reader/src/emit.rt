@@ -71,7 +71,7 @@ fn is_cut(text: &str, at: usize) -> bool
     }
 }
 
-fn snapped(text: &str, start: usize, end: usize) -> (usize, usize)
+pub fn snapped(text: &str, start: usize, end: usize) -> (usize, usize)
     ensures exact { result ≡ snapped text.now start end }
     ensures good { IsGoodRange text.now result }
 {

@@ -9,6 +9,7 @@
 mod attributes;
 pub mod block_events;
 pub mod block_reading;
+pub mod definitions;
 mod emit;
 mod inline;
 pub mod laws;
@@ -17,5 +18,6 @@ mod reader;
 mod words;
 
 pub use block_reading::BlockReading;
+pub use definitions::{DefinitionPlace, ReferenceDefinition, find_definitions};
 pub use plain::is_plain;
 pub use reader::{CoreReader, find, find_blocks};

@@ -12,7 +12,7 @@ ghost use Rattle.tocmark_extended_reader.specs.Flags.{syntax_of};
 ghost use Rattle.tocmark_read_syntax.specs.declared.Names.TheVariants.{All};
 
 use std::alloc::{AllocError, Global};
-use tocmark_core_reader::{BlockReading, find, find_blocks};
+use tocmark_core_reader::{BlockReading, ReferenceDefinition, find, find_blocks, find_definitions};
 use tocmark_event::event::ParserOptions;
 use tocmark_event::reader::{Reader, Reading};
 pub use tocmark_read_syntax::Names;
@@ -127,6 +127,10 @@ pub struct ExtendedReader {
 }
 
 impl ExtendedReader {
+    ghost use Rattle.std.specs.Prelude.{◌≡◌, IfOk, map};
+    ghost use Rattle.std.specs.List.{All as EachOf};
+    ghost use Rattle.tocmark_core_reader.specs.Definitions.{definitions_of, said_view, IsWellPlaced};
+
     /// The reader that knows all names of character references.
     pub fn new() -> Self
         ensures { result.names ≡ All }
@@ -147,6 +151,27 @@ impl ExtendedReader {
         ensures between { IfOk result (λ blocks. IsBetweenTrees blocks) }
     {
         find_blocks(alloc, syntax_of(self.names, flags), text)
+    }
+
+    /// The link reference definitions that this reader finds in a text under some flags, as
+    /// `find_definitions` gives them: in their order, each with what it says and where it stands, in bytes of
+    /// the text. Of several with one label the first counts. An `Err` says that memory ran out.
+    ///
+    /// ```
+    /// let all = ExtendedReader::new().definitions(alloc, "[a]: /b 'c'", flags)?;
+    /// assert_eq!(rt; all[0].place.destination, (5, 7));
+    /// ```
+    pub fn definitions(
+        &self,
+        alloc: Global,
+        text: &str,
+        flags: ParserOptions,
+    ) -> Result<Vec<ReferenceDefinition>, AllocError>
+        ensures exact { IfOk result (λ all. map said_view all.items
+            ≡ definitions_of (syntax_of self.now.names flags) text.now) }
+        ensures ranges { IfOk result (λ all. EachOf (IsWellPlaced text.now) all.items) }
+    {
+        find_definitions(alloc, syntax_of(self.names, flags), text)
     }
 }
 
