@@ -6,7 +6,7 @@ use std::alloc::{AllocError, Global};
 use std::fmt;
 use tocmark::event::ParserOptions;
 use tocmark::{Options, OptionsError};
-use tocmark_json::fault::OptionFault;
+use tocmark_interchange::OptionFault;
 
 /// What is to be done.
 #[derive(Clone, Copy, Drop)]

@@ -1,11 +1,13 @@
 //! Why the program ends without output.
 
 ghost use Rattle.std.specs.Prelude.{◌≡◌};
+ghost use Rattle.tocmark_events_program.specs.Events.{IsWriteFault};
 ghost use Rattle.tocmark_events_program.specs.declared.fault.Fault.TheVariants.{OutOfMemory};
 
 use std::alloc::{AllocError, AllocFailed};
 use thiserror::Error;
 use tocmark::Error as MarkdownError;
+use tocmark_interchange::{OptionsTextError, WriteError};
 use tocmark_json::fault::JsonError;
 
 /// A fault, shown as one line on standard error.
@@ -17,10 +19,8 @@ pub enum Fault {
     Source,
     #[error("tocmark-events: cannot read the options, or they are not UTF-8")]
     Options,
-    #[error("tocmark-events: the options are no JSON: {0}")]
-    OptionsNotJson(serde_json::Error),
-    #[error("tocmark-events: the options: {0}")]
-    NotOptions(String),
+    #[error("tocmark-events: {0}")]
+    NotOptions(OptionsTextError),
     #[error("tocmark-events: standard input is not UTF-8")]
     NotUtf8,
     #[error("tocmark-events: standard input is no JSON: {0}")]
@@ -48,5 +48,24 @@ impl<T: Drop> From<AllocFailed<T>> for Fault {
 
     fn from(_fault: AllocFailed<T>) -> Fault {
         Fault::OutOfMemory
+    }
+}
+
+impl From<WriteError> for Fault {
+    ghost from_gives = { λ _ e. ¬ (IsWriteFault e) };
+
+    fn from(error: WriteError) -> Fault {
+        match error {
+            WriteError::NotJson(error) => Fault::NotJson(error),
+            WriteError::NotEvents(error) => Fault::NotEvents(error),
+            WriteError::Refused(error) => Fault::Markdown(error),
+            WriteError::OutOfMemory => Fault::OutOfMemory,
+        }
+    }
+}
+
+impl From<OptionsTextError> for Fault {
+    fn from(error: OptionsTextError) -> Fault {
+        Fault::NotOptions(error)
     }
 }

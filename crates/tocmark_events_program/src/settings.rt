@@ -6,34 +6,8 @@ use std::fmt;
 use std::fmt::Write;
 use tocmark::Options;
 use tocmark::event::ParserOptions;
-use tocmark_extended_reader::EXTENSIONS;
-use tocmark_json::fault::OptionFault;
-use tocmark_json::options::set_option;
-
-/// The extensions by their names.
-const NAMED: [(&str, ParserOptions); 12] = [
-    ("tables", ParserOptions::ENABLE_TABLES),
-    ("footnotes", ParserOptions::ENABLE_FOOTNOTES),
-    ("strikethrough", ParserOptions::ENABLE_STRIKETHROUGH),
-    ("subscript", ParserOptions::ENABLE_SUBSCRIPT),
-    ("superscript", ParserOptions::ENABLE_SUPERSCRIPT),
-    ("math", ParserOptions::ENABLE_MATH),
-    ("tasklists", ParserOptions::ENABLE_TASKLISTS),
-    (
-        "yaml-metadata",
-        ParserOptions::ENABLE_YAML_STYLE_METADATA_BLOCKS,
-    ),
-    (
-        "pluses-metadata",
-        ParserOptions::ENABLE_PLUSES_DELIMITED_METADATA_BLOCKS,
-    ),
-    ("quote-kinds", ParserOptions::ENABLE_GFM),
-    (
-        "heading-attributes",
-        ParserOptions::ENABLE_HEADING_ATTRIBUTES,
-    ),
-    ("definition-lists", ParserOptions::ENABLE_DEFINITION_LIST),
-];
+use tocmark_extended_reader::{EXTENSIONS, NAMED_EXTENSIONS};
+use tocmark_interchange::{OptionFault, set_option};
 
 /// Of what GitHub reads beside CommonMark, that which the reader reads.
 const GFM: ParserOptions = ParserOptions(
@@ -57,7 +31,7 @@ pub fn syntax_named(name: &str) -> Option<ParserOptions> {
 
 /// The flag of an extension.
 pub fn extension_named(name: &str) -> Option<ParserOptions> {
-    for (known, flag) in &NAMED {
+    for (known, flag) in &NAMED_EXTENSIONS {
         if *known == name {
             return Some(*flag);
         }
@@ -68,7 +42,7 @@ pub fn extension_named(name: &str) -> Option<ParserOptions> {
 /// Writes the names of the extensions among these flags.
 fn name_extensions(help: &mut String, flags: ParserOptions) -> fmt::Result {
     let mut is_later = false;
-    for (name, flag) in &NAMED {
+    for (name, flag) in &NAMED_EXTENSIONS {
         if flags.contains(*flag) {
             if is_later {
                 help.write_str(", ")?;

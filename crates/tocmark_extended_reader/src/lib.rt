@@ -1,8 +1,8 @@
 //! A reader of CommonMark 0.31.2 with the extensions that flags name: `ExtendedReader`.
 //!
 //! Below it stands `tocmark_core_reader`, which reads with a syntax; above it stand its users. Enter at
-//! `ExtendedReader`. `EXTENSIONS` are the flags that it reads; all others change nothing. Under all flags alike it knows
-//! the names of character references that it is told to: all of HTML's (`Names`).
+//! `ExtendedReader`. `EXTENSIONS` are the flags that it reads, and `NAMED_EXTENSIONS` names them; all others change nothing.
+//! Under all flags alike it knows the names of character references that it is told to: all of HTML's (`Names`).
 #![tactic(auto)]
 
 ghost use Rattle.std.specs.Prelude.{◌≡◌, IfOk};
@@ -35,6 +35,31 @@ pub const EXTENSIONS: ParserOptions = ParserOptions(
         | ParserOptions::ENABLE_HEADING_ATTRIBUTES.0
         | ParserOptions::ENABLE_DEFINITION_LIST.0,
 );
+
+/// The flag of each of these extensions, behind the name by which command lines and configuration files know it.
+pub const NAMED_EXTENSIONS: [(&str, ParserOptions); 12] = [
+    ("tables", ParserOptions::ENABLE_TABLES),
+    ("footnotes", ParserOptions::ENABLE_FOOTNOTES),
+    ("strikethrough", ParserOptions::ENABLE_STRIKETHROUGH),
+    ("subscript", ParserOptions::ENABLE_SUBSCRIPT),
+    ("superscript", ParserOptions::ENABLE_SUPERSCRIPT),
+    ("math", ParserOptions::ENABLE_MATH),
+    ("tasklists", ParserOptions::ENABLE_TASKLISTS),
+    (
+        "yaml-metadata",
+        ParserOptions::ENABLE_YAML_STYLE_METADATA_BLOCKS,
+    ),
+    (
+        "pluses-metadata",
+        ParserOptions::ENABLE_PLUSES_DELIMITED_METADATA_BLOCKS,
+    ),
+    ("quote-kinds", ParserOptions::ENABLE_GFM),
+    (
+        "heading-attributes",
+        ParserOptions::ENABLE_HEADING_ATTRIBUTES,
+    ),
+    ("definition-lists", ParserOptions::ENABLE_DEFINITION_LIST),
+];
 
 /// The extensions that flags name, with the names of character references that are known.
 #[tactic(auto, unfolding(crate::specs::Flags::syntax_of))]

@@ -4,7 +4,7 @@ use std::alloc::Global;
 use std::fmt;
 use std::fmt::Write;
 use tocmark_event::event::ParserOptions;
-use tocmark_extended_reader::EXTENSIONS;
+use tocmark_extended_reader::{EXTENSIONS, NAMED_EXTENSIONS};
 use tocmark_format::{Bullet, Delimiter, Escapes, Fence, Marker, Numbering, Style};
 
 /// What a text is read as, and how it is to look.
@@ -45,31 +45,6 @@ pub const KEYS: [(&str, Key, &str); 10] = [
     ("fence", Key::Fence, "`, ~ or source"),
     ("fence-length", Key::FenceLength, "a number from 3 to 1000"),
     ("escape", Key::Escape, "minimal or all"),
-];
-
-/// The extensions by their names.
-const EXTENSION_NAMES: [(&str, ParserOptions); 12] = [
-    ("tables", ParserOptions::ENABLE_TABLES),
-    ("footnotes", ParserOptions::ENABLE_FOOTNOTES),
-    ("strikethrough", ParserOptions::ENABLE_STRIKETHROUGH),
-    ("subscript", ParserOptions::ENABLE_SUBSCRIPT),
-    ("superscript", ParserOptions::ENABLE_SUPERSCRIPT),
-    ("math", ParserOptions::ENABLE_MATH),
-    ("tasklists", ParserOptions::ENABLE_TASKLISTS),
-    (
-        "yaml-metadata",
-        ParserOptions::ENABLE_YAML_STYLE_METADATA_BLOCKS,
-    ),
-    (
-        "pluses-metadata",
-        ParserOptions::ENABLE_PLUSES_DELIMITED_METADATA_BLOCKS,
-    ),
-    ("quote-kinds", ParserOptions::ENABLE_GFM),
-    (
-        "heading-attributes",
-        ParserOptions::ENABLE_HEADING_ATTRIBUTES,
-    ),
-    ("definition-lists", ParserOptions::ENABLE_DEFINITION_LIST),
 ];
 
 /// What documents on GitHub have beside CommonMark, front matter among it, so far as the reader reads it.
@@ -166,11 +141,11 @@ fn put<T: Copy>(field: &mut T, value: Option<T>) -> bool {
 fn extended(flags: ParserOptions, name: &str) -> Option<ParserOptions> {
     match name.strip_prefix("no-") {
         Some(name) => {
-            let flag = named(&EXTENSION_NAMES, name)?;
+            let flag = named(&NAMED_EXTENSIONS, name)?;
             Some(ParserOptions(flags.0 & !flag.0))
         }
         None => {
-            let flag = named(&EXTENSION_NAMES, name)?;
+            let flag = named(&NAMED_EXTENSIONS, name)?;
             Some(ParserOptions(flags.0 | flag.0))
         }
     }
@@ -208,7 +183,7 @@ pub fn set(settings: &mut Settings, key: Key, word: &str) -> bool {
 /// Writes the names of the extensions among these flags.
 fn name_extensions(help: &mut String, flags: ParserOptions) -> fmt::Result {
     let mut is_later = false;
-    for (name, flag) in &EXTENSION_NAMES {
+    for (name, flag) in &NAMED_EXTENSIONS {
         if flags.contains(*flag) {
             if is_later {
                 help.write_str(", ")?;

@@ -5,6 +5,7 @@ use Rattle.std.specs.List.{concat}
 use Rattle.std.specs.Slice.Iter.{iter_rest}
 use Rattle.serde_json.specs.Data.{Data}
 use Rattle.serde_json.specs.Read.{read}
+use Rattle.serde_json.specs.Written.{IsInOrder}
 use Rattle.tocmark_core_reader.specs.Reading.{reading_of}
 use Rattle.tocmark_extended_reader.specs.Flags.{syntax_of}
 use Rattle.tocmark_read_syntax.specs.declared.Names.TheVariants.{All}
@@ -16,7 +17,7 @@ use Rattle.tocmark_event.specs.declared.event.flags.ParserOptions.{ParserOptions
 use Rattle.tocmark_event.specs.declared.options.Error.{Error}
 use Rattle.tocmark_event.specs.declared.options.Error.TheVariants as error
 use Rattle.tocmark_json.specs.Json.{event_json, events_json, pair_json, pair_view, pairs_json}
-use Rattle.tocmark_json.specs.Options.{IsOptionsJson}
+use Rattle.tocmark_interchange.specs.Options.{IsOptionsJson}
 use Rattle.tocmark_json.specs.Place.{StandsIn}
 use Rattle.tocmark_json.specs.declared.fault.JsonError.{JsonError}
 use Rattle.tocmark_state.specs.Ranges.{Pair, unranged}
@@ -76,6 +77,14 @@ pub record IsWrittenFrom (options : OptionsView) (flags : ParserOptions) (has_so
   pub is_text : IsTextOf input pairs
   pub is_written : IsWritten options flags source (in_source has_source pairs) output
 
+-- the JSON of some events, written again: each item and member once and in order
+pub record IsWrittenAgain (input output : List ℕ) : Type 0 where
+  pub value : Data
+  pub pairs : List Pair
+  pub is_read : read input ≡ Some value
+  pub is_json : IsJsonOf value pairs
+  pub is_again : IsInOrder output value
+
 -- the error is what the events come to; of memory, and of a writer that refuses a text for want of it, nothing is said
 abbrev pub IsRefusal : Walk Done → Error → Type 0
 IsRefusal walk (error.FormatFailed f) = Unit {0}
@@ -98,9 +107,13 @@ abbrev pub IsCause : OptionsView → ParserOptions → Bool → List ℕ → Lis
 IsCause options flags has_source source input (write_error.Refused e) = (pairs : List Pair) × IsTextOf input pairs × IsRefusal (writing options flags source (in_source has_source pairs)) e
 IsCause options flags has_source source input e = IsNoEvents input e
 
+-- the options that a text has as JSON
+abbrev pub HasOptions : List ℕ → OptionsView → Type 0
+HasOptions text options = (value : Data) × (read text ≡ Some value) × IsOptionsJson value options
+
 -- the options that a text has as JSON, and the default ones of an empty text
 abbrev pub AreOptions : List ℕ → OptionsView → Type 0
-AreOptions text options = ((text ≡ []) × (options ≡ default_options)) ⊎ ((value : Data) × (read text ≡ Some value) × IsOptionsJson value options)
+AreOptions text options = ((text ≡ []) × (options ≡ default_options)) ⊎ HasOptions text options
 
 -- why a value has no options: its fault has a line of its own
 abbrev pub IsNoOptions : OptionsTextError → Type 0

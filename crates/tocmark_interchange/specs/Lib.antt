@@ -1,1 +1,2 @@
 pub mod Interchange
+pub mod Options

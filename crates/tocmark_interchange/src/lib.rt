@@ -1,8 +1,10 @@
-//! Markdown to the JSON text of its events, and such a text to Markdown: what bindings for other languages call.
+//! Markdown to the JSON text of its events, and such a text to Markdown: what other languages reach, through a library or a
+//! program.
 //!
-//! Below it stand the library (`tocmark`), the reader of extensions and `tocmark_json`; above it stands `tocmark_c`. Enter at
-//! `read_json` (`reading`) and `write_json` (`writing`); `options` has the writer's options from their JSON text, `fault`
-//! says why a text is refused, `pairs` lends the events that are written.
+//! Below it stand the library (`tocmark`), the reader of extensions, `tocmark_json` and `tocmark_json_text`; above it stand
+//! `tocmark_events_program` and `tocmark_c`. Enter at `read_json` (`reading`) and `write_json` (`writing`); `checking` has
+//! events in the one form of their JSON, `options` the writer's options from their JSON text, `option_values` those of a
+//! JSON value, `fault` says why a text is refused, `pairs` lends the events that are written.
 //!
 //! ```
 //! let flags = ParserOptions::ENABLE_STRIKETHROUGH;
@@ -12,13 +14,17 @@
 //! ```
 #![tactic(auto)]
 
+pub mod checking;
 pub mod fault;
+pub mod option_values;
 pub mod options;
 mod pairs;
 pub mod reading;
 pub mod writing;
 
-pub use fault::{OptionsTextError, WriteError};
-pub use options::options_from_text;
+pub use checking::check_json;
+pub use fault::{OptionFault, OptionsTextError, WriteError};
+pub use option_values::{options_from_json, set_option};
+pub use options::{options_from_text, options_in_json};
 pub use reading::read_json;
-pub use writing::write_json;
+pub use writing::{write_json, write_over};

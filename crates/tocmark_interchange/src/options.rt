@@ -4,15 +4,15 @@ ghost use Rattle.std.specs.Prelude.{◌≡◌, IfErr, IfOk, None};
 ghost use Rattle.tocmark_event.specs.Options.{options_view};
 ghost use Rattle.tocmark_event.specs.Validation.{validation};
 ghost use Rattle.serde_json.specs.View.{view};
-ghost use Rattle.tocmark_json.specs.Options.{IsOptionsJson};
-ghost use Rattle.tocmark_interchange.specs.Interchange.{AreOptions, IsNoOptions, IsNoOptionsText, IsOptionsCause};
+ghost use Rattle.tocmark_interchange.specs.Options.{IsOptionsJson};
+ghost use Rattle.tocmark_interchange.specs.Interchange.{AreOptions, HasOptions, IsNoOptions, IsNoOptionsText, IsOptionsCause};
 
 use crate::fault::OptionsTextError;
+use crate::option_values::options_from_json;
 use serde_json::Value;
 use std::alloc::Global;
 use tocmark::Options;
 use tocmark::event::ParserOptions;
-use tocmark_json::options::options_from_json;
 
 /// The options that a JSON text has, and the default ones of an empty text, which the writer takes under these flags.
 ///
@@ -43,6 +43,18 @@ fn options_in(alloc: Global, text: &str) -> Result<Options<'static>, OptionsText
     if text.is_empty() {
         return Ok(Options::default());
     }
+    options_in_json(alloc, text)
+}
+
+/// The options that a JSON text has, whether the writer takes them or not: those of the default options, but for the fields
+/// that have a key there.
+///
+/// An `Err` says that the text is no JSON (`NotJson`), that its value isn't that of options (`NotOptions`), or that memory ran
+/// out.
+pub fn options_in_json(alloc: Global, text: &str) -> Result<Options<'static>, OptionsTextError>
+    ensures options { IfOk result (λ options. HasOptions text.now (options_view options)) }
+    ensures cause { IfErr result (IsNoOptionsText text.now) }
+{
     match Value::from_str(alloc, text) {
         Ok(value) => options_of(alloc, &value),
         Err(error) if error.is_memory() => Err(OptionsTextError::OutOfMemory),
@@ -52,7 +64,8 @@ fn options_in(alloc: Global, text: &str) -> Result<Options<'static>, OptionsText
 
 /// The options of a value.
 fn options_of(alloc: Global, value: &Value) -> Result<Options<'static>, OptionsTextError>
-    ensures options { IfOk result (λ options. IsOptionsJson (view value.now) (options_view options)) }
+    ensures options { IfOk result (λ options.
+        IsOptionsJson (view value.now) (options_view options)) }
     ensures cause { IfErr result IsNoOptions }
 {
     match options_from_json(value) {

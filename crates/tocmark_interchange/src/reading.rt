@@ -8,12 +8,13 @@ use std::alloc::{AllocError, Global};
 use tocmark::event::ParserOptions;
 use tocmark::reader::Reader;
 use tocmark_extended_reader::{ExtendedReader, Names};
-use tocmark_json::printing::ranged_to_text;
+use tocmark_json_text::printing::ranged_to_text;
 
 /// The JSON text of the events that the reader of extensions finds in a text under these flags: an array of events with
 /// their ranges in bytes. An `Err` says that memory ran out.
 pub fn read_json(alloc: Global, text: &str, flags: ParserOptions) -> Result<String, AllocError>
-    ensures { IfOk result (λ output. IsInOrder (string_bytes output) (reading_json flags text.now)) }
+    ensures { IfOk result (λ output.
+        IsInOrder (string_bytes output) (reading_json flags text.now)) }
 {
     let reader = ExtendedReader { names: Names::All };
     let reading = reader.read(alloc, text, flags)?;

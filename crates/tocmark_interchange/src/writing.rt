@@ -1,6 +1,7 @@
 //! The JSON text of events to Markdown.
 
-ghost use Rattle.std.specs.Prelude.{◌≡◌, IfErr, IfOk, is_some, map, string_bytes};
+ghost use Rattle.std.specs.Prelude.{◌≡◌, IfErr, IfOk, Some, is_some, map, string_bytes};
+ghost use Rattle.serde_json.specs.Read.{read};
 ghost use Rattle.serde_json.specs.View.{view};
 ghost use Rattle.tocmark_event.specs.Options.{options_view};
 ghost use Rattle.tocmark_event.specs.Text.{text_of};
@@ -33,7 +34,8 @@ fn without_ranges(
     Ok(pairs)
 }
 
-fn has_ranges(value: &Value) -> bool {
+/// Whether the value is a list of pairs: whether its first element is an array.
+pub(crate) fn has_ranges(value: &Value) -> bool {
     match value {
         Value::Array(items) => match items.first() {
             Some(Value::Array(_)) => true,
@@ -73,17 +75,25 @@ fn pairs_of(alloc: Global, value: &Value) -> Result<Vec<Placed<'static>>, JsonEr
     }
 }
 
+/// The value of a JSON text.
+pub(crate) fn value_in(alloc: Global, json: &str) -> Result<Value, WriteError>
+    ensures value { IfOk result (λ value. read json.now ≡ Some (view value)) }
+    ensures cause { IfErr result (IsNoEvents json.now) }
+{
+    match Value::from_str(alloc, json) {
+        Ok(value) => Ok(value),
+        Err(error) if error.is_memory() => Err(WriteError::OutOfMemory),
+        Err(error) => Err(WriteError::NotJson(error)),
+    }
+}
+
 /// The events that a text has as JSON, with the ranges that they have there.
 fn pairs_in(alloc: Global, json: &str) -> Result<Vec<Placed<'static>>, WriteError>
     ensures pairs { IfOk result (λ pairs.
         IsTextOf json.now (map (pair_view text_of) pairs.items)) }
     ensures cause { IfErr result (IsNoEvents json.now) }
 {
-    let value = match Value::from_str(alloc, json) {
-        Ok(value) => value,
-        Err(error) if error.is_memory() => return Err(WriteError::OutOfMemory),
-        Err(error) => return Err(WriteError::NotJson(error)),
-    };
+    let value = value_in(alloc, json)?;
     match pairs_of(alloc, &value) {
         Ok(pairs) => Ok(pairs),
         Err(JsonError::OutOfMemory) => Err(WriteError::OutOfMemory),
@@ -130,8 +140,9 @@ fn written<'a>(
     }
 }
 
-/// The Markdown of the events that a text has as JSON, over this source or none.
-fn write_over(
+/// The Markdown of the events that a JSON text has, as of `write_json`. Where `has_source` isn't set their ranges are dropped,
+/// whatever the source is. An `Err` says what one of `write_json` does.
+pub fn write_over(
     alloc: Global,
     json: &str,
     source: &str,

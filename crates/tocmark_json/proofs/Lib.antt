@@ -1,4 +1,3 @@
-pub mod Adding
 pub mod Lists
 pub mod Numbers
 pub mod Inverse

@@ -1,4 +1,2 @@
 pub mod Json
-pub mod Options
 pub mod Place
-pub mod Printed

@@ -92,28 +92,3 @@ impl fmt::Display for JsonError {
 }
 
 impl std::error::Error for JsonError {}
-
-/// Why a value isn't that of options.
-#[derive(Clone, Copy, Debug, PartialEq, Eq)]
-pub enum OptionFault<'a> {
-    /// The value isn't an object.
-    NotAnObject,
-    /// Something else is wanted at this key, or another key.
-    Wanted {
-        /// The key, as it stands in the object.
-        key: &'a str,
-        /// What should stand there.
-        wanted: &'static str,
-    },
-}
-
-impl<'a> fmt::Display for OptionFault<'a> {
-    fn fmt<W: fmt::Write>(&self, f: &mut fmt::Formatter<W>) -> fmt::Result {
-        match self {
-            OptionFault::NotAnObject => write!(f, "expected an object of options"),
-            OptionFault::Wanted { key, wanted } => write!(f, "{key}: expected {wanted}"),
-        }
-    }
-}
-
-impl<'a> std::error::Error for OptionFault<'a> {}

@@ -1,4 +1,4 @@
-//! The variants that are names alone.
+//! The variants that are names alone: their names, and the variants that have these.
 
 ghost use Rattle.std.specs.Prelude.{◌≡◌, IfSome};
 ghost use Rattle.serde_json.specs.Data.{string};
@@ -21,6 +21,20 @@ pub fn level_named(name: &str) -> Option<HeadingLevel>
     }
 }
 
+/// The name of the level of a heading.
+pub fn level_name(level: HeadingLevel) -> &'static str
+    ensures { string result.now ≡ level_json level }
+{
+    match level {
+        HeadingLevel::H1 => "H1",
+        HeadingLevel::H2 => "H2",
+        HeadingLevel::H3 => "H3",
+        HeadingLevel::H4 => "H4",
+        HeadingLevel::H5 => "H5",
+        HeadingLevel::H6 => "H6",
+    }
+}
+
 /// The kind of a block quote that has this name.
 pub fn quote_named(name: &str) -> Option<BlockQuoteKind>
     ensures { IfSome result (λ kind. string name.now ≡ quote_json kind) }
@@ -32,6 +46,19 @@ pub fn quote_named(name: &str) -> Option<BlockQuoteKind>
         "Warning" => Some(BlockQuoteKind::Warning),
         "Caution" => Some(BlockQuoteKind::Caution),
         _ => None,
+    }
+}
+
+/// The name of the kind of a block quote.
+pub fn quote_name(kind: BlockQuoteKind) -> &'static str
+    ensures { string result.now ≡ quote_json kind }
+{
+    match kind {
+        BlockQuoteKind::Note => "Note",
+        BlockQuoteKind::Tip => "Tip",
+        BlockQuoteKind::Important => "Important",
+        BlockQuoteKind::Warning => "Warning",
+        BlockQuoteKind::Caution => "Caution",
     }
 }
 
@@ -48,6 +75,18 @@ pub fn alignment_named(name: &str) -> Option<Alignment>
     }
 }
 
+/// The name of an alignment.
+pub fn alignment_name(alignment: Alignment) -> &'static str
+    ensures { string result.now ≡ alignment_json alignment }
+{
+    match alignment {
+        Alignment::None => "None",
+        Alignment::Left => "Left",
+        Alignment::Center => "Center",
+        Alignment::Right => "Right",
+    }
+}
+
 /// The kind of a block of metadata that has this name.
 pub fn metadata_named(name: &str) -> Option<MetadataBlockKind>
     ensures { IfSome result (λ kind. string name.now ≡ metadata_json kind) }
@@ -56,6 +95,16 @@ pub fn metadata_named(name: &str) -> Option<MetadataBlockKind>
         "YamlStyle" => Some(MetadataBlockKind::YamlStyle),
         "PlusesStyle" => Some(MetadataBlockKind::PlusesStyle),
         _ => None,
+    }
+}
+
+/// The name of the kind of a block of metadata.
+pub fn metadata_name(kind: MetadataBlockKind) -> &'static str
+    ensures { string result.now ≡ metadata_json kind }
+{
+    match kind {
+        MetadataBlockKind::YamlStyle => "YamlStyle",
+        MetadataBlockKind::PlusesStyle => "PlusesStyle",
     }
 }
 

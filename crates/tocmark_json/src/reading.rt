@@ -164,7 +164,7 @@ fn fenced_from<U: OwnedWords>(alloc: Global, value: &Value) -> Result<CodeBlockK
     ensures { IfOk result (λ kind. view value.now ≡ code_json (code_view U.Words.bytes kind)) }
 {
     match only_member(value) {
-        Some(("Fenced", info)) => Ok(CodeBlockKindOf::Fenced(text_from(alloc, info, "Fenced")?)),
+        Some(("Fenced", info)) => text_from(alloc, info, "Fenced").map(CodeBlockKindOf::Fenced),
         _ => Err(wanted("CodeBlock", A_KIND_OF_CODE)),
     }
 }
@@ -178,25 +178,18 @@ fn code_from<U: OwnedWords>(alloc: Global, value: &Value) -> Result<CodeBlockKin
     }
 }
 
-fn classes_in<U: OwnedWords + Drop>(alloc: Global, items: &[Value]) -> Result<Vec<U>, Fault>
-    ensures { IfOk result (λ classes. array (items_view items.now)
+fn classes_from<U: OwnedWords + Drop>(alloc: Global, value: &Value) -> Result<Vec<U>, Fault>
+    ensures { IfOk result (λ classes. view value.now
         ≡ listed string (map U.Words.bytes classes.items)) }
 {
+    let Value::Array(items) = value else {
+        return Err(wanted("classes", "an array of strings"));
+    };
     let mut classes = Vec::new(alloc);
     for item in items {
         classes.push(text_from(alloc, item, "classes")?)?;
     }
     Ok(classes)
-}
-
-fn classes_from<U: OwnedWords + Drop>(alloc: Global, value: &Value) -> Result<Vec<U>, Fault>
-    ensures { IfOk result (λ classes. view value.now
-        ≡ listed string (map U.Words.bytes classes.items)) }
-{
-    match value {
-        Value::Array(items) => classes_in(alloc, items),
-        _ => Err(wanted("classes", "an array of strings")),
-    }
 }
 
 fn attribute_from<U: OwnedWords + Drop>(
@@ -213,20 +206,6 @@ fn attribute_from<U: OwnedWords + Drop>(
     Ok((key, optional_text_from(alloc, content, "attrs")?))
 }
 
-fn attributes_in<U: OwnedWords + Drop>(
-    alloc: Global,
-    items: &[Value],
-) -> Result<Vec<(U, Option<U>)>, Fault>
-    ensures { IfOk result (λ attributes. array (items_view items.now)
-        ≡ listed attribute_json (map (attribute_view U.Words.bytes) attributes.items)) }
-{
-    let mut attributes = Vec::new(alloc);
-    for item in items {
-        attributes.push(attribute_from(alloc, item)?)?;
-    }
-    Ok(attributes)
-}
-
 fn attributes_from<U: OwnedWords + Drop>(
     alloc: Global,
     value: &Value,
@@ -234,31 +213,28 @@ fn attributes_from<U: OwnedWords + Drop>(
     ensures { IfOk result (λ attributes. view value.now
         ≡ listed attribute_json (map (attribute_view U.Words.bytes) attributes.items)) }
 {
-    match value {
-        Value::Array(items) => attributes_in(alloc, items),
-        _ => Err(wanted("attrs", "an array of attributes")),
-    }
-}
-
-fn alignments_in(alloc: Global, items: &[Value]) -> Result<Vec<Alignment>, Fault>
-    ensures { IfOk result (λ alignments. array (items_view items.now)
-        ≡ listed alignment_json alignments.items) }
-{
-    let mut alignments = Vec::new(alloc);
+    let Value::Array(items) = value else {
+        return Err(wanted("attrs", "an array of attributes"));
+    };
+    let mut attributes = Vec::new(alloc);
     for item in items {
-        alignments.push(alignment_from(item)?)?;
+        attributes.push(attribute_from(alloc, item)?)?;
     }
-    Ok(alignments)
+    Ok(attributes)
 }
 
 fn alignments_from(alloc: Global, value: &Value) -> Result<Vec<Alignment>, Fault>
     ensures { IfOk result (λ alignments. view value.now
         ≡ listed alignment_json alignments.items) }
 {
-    match value {
-        Value::Array(items) => alignments_in(alloc, items),
-        _ => Err(wanted("Table", AN_ALIGNMENT)),
+    let Value::Array(items) = value else {
+        return Err(wanted("Table", AN_ALIGNMENT));
+    };
+    let mut alignments = Vec::new(alloc);
+    for item in items {
+        alignments.push(alignment_from(item)?)?;
     }
+    Ok(alignments)
 }
 
 fn heading_from<U: OwnedWords + Drop>(alloc: Global, value: &Value) -> Result<TagOf<U>, Fault>
@@ -407,13 +383,11 @@ fn tag_with<U: OwnedWords + Drop>(
     match name {
         "Heading" => heading_from(alloc, content),
         "BlockQuote" => Ok(TagOf::BlockQuote(quote_from(content)?)),
-        "CodeBlock" => Ok(TagOf::CodeBlock(code_from(alloc, content)?)),
+        "CodeBlock" => code_from(alloc, content).map(TagOf::CodeBlock),
         "List" => Ok(TagOf::List(start_from(content)?)),
-        "FootnoteDefinition" => Ok(TagOf::FootnoteDefinition(text_from(
-            alloc,
-            content,
-            "FootnoteDefinition",
-        )?)),
+        "FootnoteDefinition" => {
+            text_from(alloc, content, "FootnoteDefinition").map(TagOf::FootnoteDefinition)
+        }
         "Table" => Ok(TagOf::Table(alignments_from(alloc, content)?)),
         "Link" => link_from(alloc, content),
         "Image" => image_from(alloc, content),
@@ -468,10 +442,10 @@ fn end_with(name: &str, content: &Value) -> Result<TagEnd, Fault>
     ensures { IfOk result (λ end. tagged name.now (view content.now) ≡ end_json end) }
 {
     match name {
-        "Heading" => Ok(TagEnd::Heading(level_from(content, "Heading")?)),
-        "BlockQuote" => Ok(TagEnd::BlockQuote(quote_from(content)?)),
-        "List" => Ok(TagEnd::List(truth_from(content, "List")?)),
-        "MetadataBlock" => Ok(TagEnd::MetadataBlock(metadata_from(content)?)),
+        "Heading" => level_from(content, "Heading").map(TagEnd::Heading),
+        "BlockQuote" => quote_from(content).map(TagEnd::BlockQuote),
+        "List" => truth_from(content, "List").map(TagEnd::List),
+        "MetadataBlock" => metadata_from(content).map(TagEnd::MetadataBlock),
         _ => Err(wanted("End", AN_END)),
     }
 }
@@ -511,19 +485,17 @@ fn event_with<U: OwnedWords + Drop>(
         ≡ event_json (event_view U.Words.bytes event)) }
 {
     match name {
-        "Start" => Ok(EventOf::Start(tag_from(alloc, content)?)),
+        "Start" => tag_from(alloc, content).map(EventOf::Start),
         "End" => Ok(EventOf::End(end_from(content)?)),
-        "Text" => Ok(EventOf::Text(text_from(alloc, content, "Text")?)),
-        "Code" => Ok(EventOf::Code(text_from(alloc, content, "Code")?)),
-        "InlineMath" => Ok(EventOf::InlineMath(text_from(alloc, content, "InlineMath")?)),
-        "DisplayMath" => Ok(EventOf::DisplayMath(text_from(alloc, content, "DisplayMath")?)),
-        "Html" => Ok(EventOf::Html(text_from(alloc, content, "Html")?)),
-        "InlineHtml" => Ok(EventOf::InlineHtml(text_from(alloc, content, "InlineHtml")?)),
-        "FootnoteReference" => Ok(EventOf::FootnoteReference(text_from(
-            alloc,
-            content,
-            "FootnoteReference",
-        )?)),
+        "Text" => text_from(alloc, content, "Text").map(EventOf::Text),
+        "Code" => text_from(alloc, content, "Code").map(EventOf::Code),
+        "InlineMath" => text_from(alloc, content, "InlineMath").map(EventOf::InlineMath),
+        "DisplayMath" => text_from(alloc, content, "DisplayMath").map(EventOf::DisplayMath),
+        "Html" => text_from(alloc, content, "Html").map(EventOf::Html),
+        "InlineHtml" => text_from(alloc, content, "InlineHtml").map(EventOf::InlineHtml),
+        "FootnoteReference" => {
+            text_from(alloc, content, "FootnoteReference").map(EventOf::FootnoteReference)
+        }
         "TaskListMarker" => Ok(EventOf::TaskListMarker(truth_from(content, "TaskListMarker")?)),
         _ => Err(wanted("event", AN_EVENT)),
     }

@@ -7,7 +7,8 @@ ghost use Rattle.serde_json.specs.View.{view};
 ghost use Rattle.tocmark_event.specs.View.{attribute_view, code_view, event_view, tag_view};
 ghost use Rattle.tocmark_json.specs.Json.{alignment_json, attribute_json, both, code_json, end_json, event_json, events_json, heading_json, level_json, link_json, link_type_json, listed, metadata_json, optional, pair_json, pair_view, pairs_json, quote_json, range_json, ranged_view, size_json, tag_json, tagged};
 
-use serde_json::{Map, Value, json};
+use crate::names::{alignment_name, level_name, metadata_name, quote_name};
+use serde_json::{Map, Value};
 use std::alloc::{AllocError, Global};
 use tocmark_event::event::{
     Alignment, BlockQuoteKind, CodeBlockKindOf, EventOf, HeadingLevel, LinkType, MetadataBlockKind,
@@ -56,51 +57,6 @@ fn both(alloc: Global, first: Value, second: Value) -> Result<Value, AllocError>
     items.push(first)?;
     items.push(second)?;
     Ok(Value::Array(items))
-}
-
-pub(crate) fn level_name(level: HeadingLevel) -> &'static str
-    ensures { string result.now ≡ level_json level }
-{
-    match level {
-        HeadingLevel::H1 => "H1",
-        HeadingLevel::H2 => "H2",
-        HeadingLevel::H3 => "H3",
-        HeadingLevel::H4 => "H4",
-        HeadingLevel::H5 => "H5",
-        HeadingLevel::H6 => "H6",
-    }
-}
-
-pub(crate) fn quote_name(kind: BlockQuoteKind) -> &'static str
-    ensures { string result.now ≡ quote_json kind }
-{
-    match kind {
-        BlockQuoteKind::Note => "Note",
-        BlockQuoteKind::Tip => "Tip",
-        BlockQuoteKind::Important => "Important",
-        BlockQuoteKind::Warning => "Warning",
-        BlockQuoteKind::Caution => "Caution",
-    }
-}
-
-pub(crate) fn alignment_name(alignment: Alignment) -> &'static str
-    ensures { string result.now ≡ alignment_json alignment }
-{
-    match alignment {
-        Alignment::None => "None",
-        Alignment::Left => "Left",
-        Alignment::Center => "Center",
-        Alignment::Right => "Right",
-    }
-}
-
-pub(crate) fn metadata_name(kind: MetadataBlockKind) -> &'static str
-    ensures { string result.now ≡ metadata_json kind }
-{
-    match kind {
-        MetadataBlockKind::YamlStyle => "YamlStyle",
-        MetadataBlockKind::PlusesStyle => "PlusesStyle",
-    }
 }
 
 fn link_type_to_json(alloc: Global, link_type: LinkType) -> Result<Value, AllocError>

@@ -1,0 +1,63 @@
+//! The JSON text of events in its one form.
+
+ghost use Rattle.std.specs.Prelude.{◌≡◌, List, IfErr, IfOk, OnOk, string_bytes};
+ghost use Rattle.serde_json.specs.View.{view};
+ghost use Rattle.serde_json.specs.Written.{IsInOrder};
+ghost use Rattle.tocmark_state.specs.Ranges.{Pair};
+ghost use Rattle.tocmark_interchange.specs.Interchange.{IsJsonOf, IsNoEvents, IsNoList, IsWrittenAgain};
+
+use crate::fault::WriteError;
+use crate::writing::{has_ranges, value_in};
+use serde_json::Value;
+use std::alloc::Global;
+use tocmark::event::Event;
+use tocmark_json::fault::JsonError;
+use tocmark_json::reading::{events_from_json, pairs_from_json};
+use tocmark_json_text::printing::{events_to_text, pairs_to_text};
+
+fn plain_again(alloc: Global, value: &Value) -> Result<String, JsonError>
+    ensures again { IfOk result (λ output. IsInOrder (string_bytes output) (view value.now)) }
+    ensures events { OnOk result ((pairs : List Pair) × IsJsonOf (view value.now) pairs) }
+    ensures place { IfErr result (IsNoList (view value.now)) }
+{
+    let events: Vec<Event<'static>> = events_from_json(alloc, value)?;
+    Ok(events_to_text(alloc, &events)?)
+}
+
+fn ranged_again(alloc: Global, value: &Value) -> Result<String, JsonError>
+    ensures again { IfOk result (λ output. IsInOrder (string_bytes output) (view value.now)) }
+    ensures events { OnOk result ((pairs : List Pair) × IsJsonOf (view value.now) pairs) }
+    ensures place { IfErr result (IsNoList (view value.now)) }
+{
+    let pairs: Vec<(Event<'static>, Option<(usize, usize)>)> = pairs_from_json(alloc, value)?;
+    Ok(pairs_to_text(alloc, &pairs)?)
+}
+
+/// The text of the events of a value.
+fn written_again(alloc: Global, value: &Value) -> Result<String, JsonError>
+    ensures again { IfOk result (λ output. IsInOrder (string_bytes output) (view value.now)) }
+    ensures events { OnOk result ((pairs : List Pair) × IsJsonOf (view value.now) pairs) }
+    ensures place { IfErr result (IsNoList (view value.now)) }
+{
+    if has_ranges(value) {
+        ranged_again(alloc, value)
+    } else {
+        plain_again(alloc, value)
+    }
+}
+
+/// The JSON text of events in its one form: without spaces, the keys in order.
+///
+/// An `Err` says that the text is no JSON (`NotJson`) or not that of events (`NotEvents`, with the first one that is none), or
+/// that memory ran out.
+pub fn check_json(alloc: Global, json: &str) -> Result<String, WriteError>
+    ensures again { IfOk result (λ output. IsWrittenAgain json.now (string_bytes output)) }
+    ensures cause { IfErr result (IsNoEvents json.now) }
+{
+    let value = value_in(alloc, json)?;
+    match written_again(alloc, &value) {
+        Ok(output) => Ok(output),
+        Err(JsonError::OutOfMemory) => Err(WriteError::OutOfMemory),
+        Err(error) => Err(WriteError::NotEvents(error)),
+    }
+}

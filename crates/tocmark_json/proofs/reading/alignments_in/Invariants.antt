@@ -1,7 +1,0 @@
-use Rattle.std.proofs.Common.{◌≡◌, map, take}
-use Rattle.serde_json.specs.View.{view}
-use Rattle.tocmark_json.specs.Json.{alignment_json}
-use Rattle.tocmark_json.proofs.reading.alignments_in.Given as goal
-
-abbrev pub invariant-loop-item : goal.invariant-loop-item
-invariant-loop-item l = map alignment_json l.alignments.items ≡ map view (take l.item-index l.items)
