@@ -15,7 +15,7 @@ use Rattle.tocmark_core_reader.specs.Reading.{reading_of}
 use Rattle.tocmark_extended_reader.specs.Flags.{syntax_of}
 use Rattle.tocmark_read_syntax.specs.declared.Names.TheVariants.{All}
 use Rattle.tocmark_event.specs.Merged.{merged}
-use Rattle.tocmark_rewrite.specs.Given.{found_events}
+use Rattle.tocmark_rewrite_edits.specs.Given.{found_events}
 use Rattle.tocmark_c.specs.Style.{has_style}
 use Rattle.tocmark_c.specs.declared.style.TocmarkStyle.{TocmarkStyle}
 use Rattle.tocmark_c.specs.declared.cause.Cause.{Cause}

@@ -2,8 +2,8 @@
 
 ghost use Rattle.std.specs.Prelude.{◌≡◌, IfOk, IfSome, IsNone, IsTrue, string_bytes};
 ghost use Rattle.tocmark_event.specs.Merged.{merged};
-ghost use Rattle.tocmark_rewrite.specs.Digest.{says};
-ghost use Rattle.tocmark_rewrite.specs.Given.{found_events, given_events};
+ghost use Rattle.tocmark_rewrite_edits.specs.Digest.{says};
+ghost use Rattle.tocmark_rewrite_edits.specs.Given.{found_events, given_events};
 
 use crate::answer::{Formatted, Left, Reason};
 use crate::compose::composed;
@@ -13,9 +13,9 @@ use std::alloc::{AllocError, Global};
 use tocmark_event::event::{Event, ParserOptions};
 use tocmark_event::options::Options;
 use tocmark_event::reader::Reader;
-use tocmark_rewrite::digest::Digest;
 use tocmark_rewrite::pieces::Tools;
-use tocmark_rewrite::trees::{Block, blocks};
+use tocmark_rewrite_edits::digest::Digest;
+use tocmark_rewrite_edits::trees::{Block, blocks};
 
 /// The byte order mark, which others take for no character, and readers of Markdown for one of the first line.
 const MARK: &str = "\u{feff}";

@@ -1,5 +1,2 @@
-pub mod Digest
-pub mod Edits
-pub mod Given
 pub mod Kept
 pub mod Parts

@@ -4,11 +4,11 @@ ghost use Rattle.std.specs.Prelude.{IfOk, OnOk, string_bytes};
 ghost use Rattle.tocmark_rewrite.specs.Parts.{IsMadeOf};
 
 use crate::output::Output;
-use crate::patch::Patch;
 use crate::pieces::{Definitions, Piece, label_of};
 use crate::plan::Plan;
-use crate::trees::{Block, has_text, trimmed};
 use std::alloc::{AllocError, Global};
+use tocmark_rewrite_edits::patch::Patch;
+use tocmark_rewrite_edits::trees::{Block, has_text, trimmed};
 
 /// The source with its patches, whose places grow; none that begins before the end of another is made.
 pub(crate) fn patched(alloc: Global, source: &str, patches: &[Patch]) -> Result<Output, AllocError>

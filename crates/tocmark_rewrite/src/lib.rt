@@ -1,12 +1,11 @@
 //! Writes an edited document again: what wasn't changed stays byte for byte, and the answer is read as the edited
 //! events.
 //!
-//! Below it stand the writer (`tocmark_state`), of which it takes the text of blocks that it has to write, and the
-//! comparison of events (`tocmark_write_read_back`); above it stand programs that change documents. Enter at
-//! `rewritten` (`rewrite`). `plan` finds which trees stand in the source as they are, `patch` replaces the bytes of
-//! single events, `pieces` and `join` write changed trees and put them between the kept ones; all leave a list of
-//! parts (`output`), which is read back. `answer` says what became of each tree, `fault` why there is no answer, and
-//! `edits` has changes of events that such programs make.
+//! Below it stand the writer (`tocmark_state`), of which it takes the text of blocks that it has to write, and
+//! `tocmark_rewrite_edits`, which says where edits stand in a source; above it stand programs that change documents.
+//! Enter at `rewritten` (`rewrite`). `plan` finds which trees stand in the source as they are, `pieces` and `join`
+//! write changed trees and put them between the kept ones; all leave a list of parts (`output`), which is read back.
+//! `answer` says what became of each tree, and `fault` why there is no answer.
 //!
 //! ```
 //! let mut reading = CoreReader.read(alloc, source, flags)?;
@@ -16,19 +15,13 @@
 #![tactic(auto)]
 
 pub mod answer;
-pub mod digest;
-pub mod edits;
 pub mod fault;
-pub mod given;
 mod join;
 pub mod output;
-mod patch;
 pub mod pieces;
 mod plan;
 pub mod rewrite;
-pub mod same;
 mod texts;
-pub mod trees;
 
 pub use answer::{Fate, Kept, Rewritten, RewrittenTree};
 pub use fault::{Fault, Place};

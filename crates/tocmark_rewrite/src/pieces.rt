@@ -1,15 +1,15 @@
 //! The trees that were changed, each written by itself.
 
 use crate::fault::Fault;
-use crate::given::{GivenEvents, GivenPairs};
 use crate::plan::{Plan, place_of};
 use crate::texts::Texts;
-use crate::trees::{Block, Tree};
 use std::alloc::{AllocError, Global};
 use std::collections::HashMap;
 use tocmark_event::event::{Event, ParserOptions};
 use tocmark_event::options::{Error, Options};
 use tocmark_event::reader::Reader;
+use tocmark_rewrite_edits::given::{GivenEvents, GivenPairs};
+use tocmark_rewrite_edits::trees::{Block, Tree};
 use tocmark_state::state::State;
 
 /// What reading and writing take beside a text or its events.

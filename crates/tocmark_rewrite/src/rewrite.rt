@@ -4,7 +4,7 @@ ghost use Rattle.std.specs.Prelude.{◌≡◌, ◌↔◌, IfOk, IfSome, IsTrue, 
 ghost use Rattle.std.specs.List.{All};
 ghost use Rattle.tocmark_event.specs.Merged.{merged};
 ghost use Rattle.tocmark_event.specs.View.{EventView};
-ghost use Rattle.tocmark_rewrite.specs.Given.{found_events, given_events};
+ghost use Rattle.tocmark_rewrite_edits.specs.Given.{found_events, given_events};
 ghost use Rattle.tocmark_rewrite.specs.Kept.{IsHonest, IsTold};
 ghost use Rattle.tocmark_rewrite.specs.Parts.{IsMadeOf};
 
@@ -12,15 +12,15 @@ use crate::answer::{Rewritten, told};
 use crate::fault::{Fault, Place};
 use crate::join::{Manner, joined, patched};
 use crate::output::{Output, Part};
-use crate::patch::{Patch, Patches};
 use crate::pieces::{Definitions, Tools, events_of, make_pieces, write_tree};
 use crate::plan::{Plan, place_of, planned};
-use crate::same::{are_same, differ};
-use crate::trees::{Block, Tree, blocks, trees};
 use std::alloc::{AllocError, Global};
 use tocmark_event::event::{Event, ParserOptions};
 use tocmark_event::options::Options;
 use tocmark_event::reader::Reader;
+use tocmark_rewrite_edits::patch::{Patch, Patches};
+use tocmark_rewrite_edits::same::{are_same, differ};
+use tocmark_rewrite_edits::trees::{Block, Tree, blocks, trees};
 
 /// The source as it was read, and what becomes of the trees that were given.
 #[derive(Clone, Copy)]

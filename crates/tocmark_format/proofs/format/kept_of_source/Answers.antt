@@ -1,6 +1,6 @@
 use Rattle.std.proofs.Common.{◌≡◌, ◌∙◌, ap, sym}
 use Rattle.tocmark_event.specs.Merged.{merged}
-use Rattle.tocmark_rewrite.specs.Given.{found_events, given_events}
+use Rattle.tocmark_rewrite_edits.specs.Given.{found_events, given_events}
 use Rattle.tocmark_rewrite.proofs.Readings.{found-given}
 use Rattle.tocmark_format.proofs.format.kept_of_source.Goals as goal
 

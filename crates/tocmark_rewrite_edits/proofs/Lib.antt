@@ -1,0 +1,3 @@
+pub mod Digests
+pub mod Fronts
+pub mod Marks
