@@ -1,14 +1,20 @@
 -- What the program is asked, and what it answers.
-use Rattle.std.specs.Prelude.{◌≡◌, ◌⊎◌, ℕ, List, [], ◌∷◌, map, if◌then◌else◌, Ok, Some, None, String, codes, bytes_eq, string_bytes, Option}
+use Rattle.std.specs.Prelude.{◌≡◌, ◌⊎◌, ℕ, List, [], ◌∷◌, map, if◌then◌else◌, Ok, Some, None, String, codes, bytes_eq, string_bytes, Option, ◌++◌}
 use Rattle.std.specs.Global.{Global}
 use Rattle.std.specs.Io.KnownBytes.{Appends}
 use Rattle.std.specs.List.{concat}
 use Rattle.std.specs.Str.{IsUtf8}
 use Rattle.tocmark_event.specs.Options.{default_options}
+use Rattle.tocmark_event.specs.View.{EventView}
+use Rattle.tocmark_core_reader.specs.Left.{reading_left}
 use Rattle.tocmark_core_reader.specs.Reading.{core_reading}
+use Rattle.tocmark_core_reader.specs.declared.block_reading.BlockReading.{BlockReading}
+use Rattle.tocmark_core_reader.specs.declared.reader.CoreReader.{CoreReader}
+use Rattle.tocmark_state.specs.StateView.{Stands, rendering_of}
+use Rattle.tocmark_state.specs.declared.state.State.{State}
 use Rattle.tocmark_state.specs.Ranges.{Pair, unranged}
 use Rattle.tocmark_state.specs.WorkView.{rendering}
-use Rattle.tocmark_state.specs.Walk.{Walk, Done, done, nothing_yet, script}
+use Rattle.tocmark_state.specs.Walk.{Rendering, Walk, Done, done, nothing_yet, script, walk}
 use Rattle.tocmark_program.specs.declared.arguments.Spelling.{Spelling}
 use Rattle.tocmark_program.specs.declared.arguments.Spelling.TheVariants.{Escaped, FromSource}
 use Rattle.tocmark_program.specs.declared.fault.Fault.{Fault}
@@ -45,6 +51,27 @@ events_in FromSource text = map (λ e. (e.0, Some e.1)) (core_reading text).even
 abbrev pub rewriting : Spelling → List ℕ → Walk Done
 rewriting spelling text =
     script (rendering default_options (λ t flags. core_reading t)) text (nothing_yet (record { 0 = 0 })) (events_in spelling text)
+
+-- how events are handed to a state: with their ranges where the text's spellings are wanted
+abbrev pub as_pairs : Spelling → List (EventView × (ℕ × ℕ)) → List Pair
+as_pairs Escaped es = map (λ e. unranged e.0) es
+as_pairs FromSource es = map (λ e. (e.0, Some e.1)) es
+
+-- how a text is written: by the default options, to be read by the core reader
+abbrev pub plain_rendering : Rendering
+plain_rendering = rendering default_options (λ t flags. core_reading t)
+
+-- a state took these pairs, and what it handed is the output
+pub record IsWritten (text : List ℕ) (taken : List Pair) (state : State CoreReader) (output : List ℕ) : Type 0 where
+  pub stands : Stands (λ r t flags. core_reading t) (record { 0 = 0 }) text state taken
+  pub same : rendering_of (λ r t flags. core_reading t) state ≡ plain_rendering
+  pub handed : output ≡ concat (walk plain_rendering text (nothing_yet (record { 0 = 0 })) taken).texts
+
+-- it took some pairs, and with those of the blocks that are left they are all
+pub record IsWriting (spelling : Spelling) (text : List ℕ) (all : List Pair) (state : State CoreReader) (blocks : BlockReading) (output : List ℕ) : Type 0 where
+  pub taken : List Pair
+  pub written : IsWritten text taken state output
+  pub whole : taken ++ as_pairs spelling (reading_left blocks).events ≡ all
 
 -- the text, read and written back, is this one
 pub record IsRewritten (spelling : Spelling) (text output : List ℕ) : Type 0 where

@@ -5,10 +5,12 @@
 mod arguments;
 mod fault;
 
-ghost use Rattle.std.specs.Prelude.{◌≡◌, ◌≤◌, ℕ, List, None, IfErr, IfOk, IfSome, OnErr, OnOk, string_bytes};
+ghost use Rattle.std.specs.Prelude.{◌≡◌, ◌≤◌, ◌++◌, ℕ, List, None, IfErr, IfOk, IfSome, OnErr, OnOk, string_bytes};
 ghost use Rattle.std.specs.Str.{IsUtf8};
 ghost use Rattle.std.specs.Io.KnownBytes.{Appends};
-ghost use Rattle.tocmark_program.specs.Program.{asked, status_of, IsWriteFault, IsRewritten, WritesLate, Wrote};
+ghost use Rattle.tocmark_event.specs.Reading.{reading_view};
+ghost use Rattle.tocmark_state.specs.Ranges.{Pair};
+ghost use Rattle.tocmark_program.specs.Program.{as_pairs, asked, events_in, status_of, IsWriteFault, IsRewritten, IsWriting, IsWritten, WritesLate, Wrote};
 
 use arguments::{Spelling, asked};
 use fault::Fault;
@@ -16,26 +18,82 @@ use std::alloc::Global;
 use std::io::{Read, Write};
 use std::process::ExitCode;
 use std::{env, io};
-use tocmark::core_reader::CoreReader;
+use tocmark::core_reader::{BlockReading, CoreReader};
 use tocmark::event::ParserOptions;
-use tocmark::reader::Reader;
-use tocmark::{Error, cmark, cmark_with_source_range};
+use tocmark::reader::Reading;
+use tocmark::{Error, Options, Progress, State};
 
-/// The text, read and written back.
+/// Writes the events of one block.
+fn write_block(
+    state: &mut State<CoreReader>,
+    spelling: Spelling,
+    text: &str,
+    block: &Reading,
+    output: &mut String,
+) -> Result<Progress, Error>
+    ensures { (done : List Pair) → IsWritten text.now done state.old (string_bytes output.old)
+        → OnOk result (IsWritten text.now (done ++ as_pairs spelling (reading_view block.now).events)
+        state.new (string_bytes output.new)) }
+{
+    match spelling {
+        Spelling::Escaped => state.process(block.events(), output),
+        Spelling::FromSource => state.process_with_source_range(block.pairs(), text, output),
+    }
+}
+
+/// Writes the events of all blocks that are left.
+#[tactic(auto, using(crate::proofs::Written::goes_on, crate::proofs::Written::goes_to_end, crate::proofs::Written::fewer_left))]
+fn write_blocks(
+    state: &mut State<CoreReader>,
+    spelling: Spelling,
+    text: &str,
+    blocks: &mut BlockReading<'_>,
+    output: &mut String,
+) -> Result<(), Error>
+    ensures { (all : List Pair)
+        → IsWriting spelling text.now all state.old blocks.old (string_bytes output.old)
+        → OnOk result (IsWritten text.now all state.new (string_bytes output.new)) }
+{
+    while let Some(block) = blocks.next()? {
+        let written = write_block(state, spelling, text, &block, output);
+        drop(block);
+        written?;
+    }
+    Ok(())
+}
+
+/// Writes the events of all blocks that are left, and their end.
+fn write_all(
+    state: &mut State<CoreReader>,
+    spelling: Spelling,
+    text: &str,
+    blocks: &mut BlockReading<'_>,
+    output: &mut String,
+) -> Result<(), Error>
+    ensures { IsWriting spelling text.now (events_in spelling text.now) state.old blocks.old
+        (string_bytes output.old)
+        → OnOk result (IsRewritten spelling text.now (string_bytes output.new)) }
+{
+    write_blocks(state, spelling, text, blocks, output)?;
+    state.finish(output)?;
+    Ok(())
+}
+
+/// The text, read and written back, block by block.
 fn rewritten(alloc: Global, spelling: Spelling, text: &str) -> Result<String, Error>
     ensures { IfOk result (λ output. IsRewritten spelling text.now (string_bytes output)) }
 {
+    let mut blocks = CoreReader.blocks(alloc, text)?;
     let flags = ParserOptions::empty();
-    let reading = CoreReader.read(alloc, text, flags)?;
+    let mut state = State::new(alloc, CoreReader, flags, Options::default())?;
     let mut output = String::new(alloc);
-    let state = match spelling {
-        Spelling::Escaped => cmark(alloc, reading.events(), &mut output, CoreReader, flags)?,
-        Spelling::FromSource => {
-            cmark_with_source_range(alloc, reading.pairs(), text, &mut output, CoreReader, flags)?
-        }
-    };
+    let written = write_all(&mut state, spelling, text, &mut blocks, &mut output);
     drop(state);
-    Ok(output)
+    drop(blocks);
+    match written {
+        Ok(()) => Ok(output),
+        Err(error) => Err(error),
+    }
 }
 
 /// The fault where reading the input ends with an error of this kind.

@@ -1,0 +1,9 @@
+use Rattle.std.proofs.Common.{string_bytes}
+use Rattle.tocmark_core_reader.specs.Left.{IsAtEnd, reading_left}
+use Rattle.tocmark_program.proofs.Written.{goes_to_end, none_left}
+use Rattle.tocmark_program.proofs.write_blocks.Goals as goal
+
+pub returns : goal.returns
+returns c =
+    goes_to_end c.args.spelling c.args.text.now c.args.state.now c.loop-block.state c.args.blocks.now c.loop-block.blocks c.next.new.self (string_bytes c.args.output.now) (string_bytes c.loop-block.output) c.loop-block.invariant
+    (none_left c.in_ok-block.field-0 (IsAtEnd (reading_left c.loop-block.blocks) (reading_left c.next.new.self)) c.in_default.not-Some c.in_ok-block.ensures.none)
