@@ -69,7 +69,7 @@ impl Row<'_> {
 
     /// The event behind the unit at this place.
     fn behind(&self, place: usize) -> Option<&OwnedEvent> {
-        match self.units.get(place + 1) {
+        match self.units.get(place.saturating_add(1)) {
             Some(unit) => first_of(unit),
             None => first_of(&self.pending),
         }
