@@ -2,9 +2,11 @@
 //!
 //! Standard input has texts, each as a JSON string on a line of its own. For each there are three lines: whether it stays
 //! as it is where no event was changed; what it becomes where each `http:` destination is one by `https:`; and what it
-//! becomes where each heading moves one level down. Behind a line `%` the texts are only counted. Empty lines and those
-//! that begin with `#` say nothing. With the argument `https`, `mark` or `lower` there is one line for each text: what it
-//! becomes where that alone is done, `mark` being a word behind each destination.
+//! becomes where each heading moves one level down. Behind `@definitions` there is a line for each definition of a label:
+//! what it says, and the ranges of all of it, its destination and its title. Behind `@blocks` a text, which may have
+//! tables, is read block by block: a line has how many events each of them has. Behind a line `%` the texts are only
+//! counted. Empty lines and those that begin with `#` say nothing. With the argument `https`, `mark` or `lower` there is
+//! one line for each text: what it becomes where that alone is done, `mark` being a word behind each destination.
 #![tactic(auto)]
 
 use serde_json::Value;
@@ -15,6 +17,7 @@ use tocmark::Options;
 use tocmark::core_reader::CoreReader;
 use tocmark::event::{CowStr, Event, ParserOptions, Tag};
 use tocmark::reader::Reader;
+use tocmark_extended_reader::ExtendedReader;
 use tocmark_rewrite::{Fault, rewritten};
 use tocmark_rewrite_edits::edits::{Shift, set_destination, shift_headings};
 
@@ -28,6 +31,15 @@ enum Edit {
     Secure,
     Mark,
     Lower,
+}
+
+/// What is said of a text.
+#[derive(Clone, Copy)]
+enum Question {
+    Three,
+    Definitions,
+    Blocks,
+    Count,
 }
 
 fn edit_named(name: &str) -> io::Result<Edit> {
@@ -161,37 +173,82 @@ fn counted(alloc: Global, counts: Counts, text: &str) -> Counts {
     }
 }
 
+/// A line for each definition of a text.
+fn write_definitions<W: Write>(alloc: Global, output: &mut W, text: &str) -> io::Result<()> {
+    let reader = ExtendedReader::new();
+    for definition in &reader.definitions(alloc, text, ParserOptions::empty())? {
+        let place = definition.place;
+        writeln!(
+            output,
+            "[{}]: <{}> \"{}\" {}..{} {}..{} {}..{}",
+            definition.label,
+            definition.destination,
+            definition.title,
+            place.whole.0,
+            place.whole.1,
+            place.destination.0,
+            place.destination.1,
+            place.title.0,
+            place.title.1
+        )?;
+    }
+    writeln!(output, "-")
+}
+
+/// How many events each block of a text has, where blocks are read one after the other.
+fn write_blocks<W: Write>(alloc: Global, output: &mut W, text: &str) -> io::Result<()> {
+    let reader = ExtendedReader::new();
+    let mut blocks = reader.blocks(alloc, text, ParserOptions::ENABLE_TABLES)?;
+    for _turn in 0..=text.len() {
+        let Some(block) = blocks.next()? else {
+            break;
+        };
+        write!(output, "{} ", block.events.len())?;
+    }
+    writeln!(output, "-")
+}
+
+/// What the lines behind a line ask, if it isn't a text.
+fn question_of(line: &str) -> Option<Question> {
+    match line {
+        "@definitions" => Some(Question::Definitions),
+        "@blocks" => Some(Question::Blocks),
+        "%" => Some(Question::Count),
+        _ => None,
+    }
+}
+
 fn answer_all<W: Write>(alloc: Global, output: &mut W, lines: &str) -> io::Result<()> {
-    let mut counts = None;
+    let mut question = Question::Three;
+    let mut counts = Counts {
+        texts: 0,
+        stayed: 0,
+        secured: 0,
+        lowered: 0,
+    };
     for line in lines.split('\n') {
-        if line == "%" {
-            counts = Some(Counts {
-                texts: 0,
-                stayed: 0,
-                secured: 0,
-                lowered: 0,
-            });
+        if let Some(other) = question_of(line) {
+            question = other;
         } else if !line.is_empty() && !line.starts_with('#') {
             let text = text_of(alloc, line)?;
-            match counts {
-                None => answer(alloc, output, text.as_str())?,
-                Some(so_far) => counts = Some(counted(alloc, so_far, text.as_str())),
+            match question {
+                Question::Three => answer(alloc, output, text.as_str())?,
+                Question::Definitions => write_definitions(alloc, output, text.as_str())?,
+                Question::Blocks => write_blocks(alloc, output, text.as_str())?,
+                Question::Count => counts = counted(alloc, counts, text.as_str()),
             }
         }
     }
-    if let Some(counts) = counts {
-        let Counts {
-            texts,
-            stayed,
-            secured,
-            lowered,
-        } = counts;
-        writeln!(
-            output,
-            "{texts} texts: {stayed} stay, {secured} and {lowered} are rewritten"
-        )?;
-    }
-    Ok(())
+    let Counts {
+        texts,
+        stayed,
+        secured,
+        lowered,
+    } = counts;
+    writeln!(
+        output,
+        "{texts} texts: {stayed} stay, {secured} and {lowered} are rewritten"
+    )
 }
 
 /// A line for each text: what it becomes.
