@@ -1,4 +1,4 @@
-use Rattle.std.proofs.Common.{◌≡◌, ◌-◌, length, map, drop, take, reverse}
+use Rattle.std.proofs.Common.{◌≡◌, ◌-◌, length, map}
 use Rattle.tocmark_write_emphasis.specs.Low.{OpensLow}
 use Rattle.tocmark_event.specs.Forest.{flat}
 use Rattle.tocmark_write_renderer.specs.JobOf.{manner_view, setting_in}
