@@ -107,7 +107,8 @@ fn with_https<R: Reader>(
         IsMadeOf text.now (string_bytes answer.text) answer.parts.items) }
     ensures kept { IfOk result (λ answer.
         All (IsTold (found_events (R.reading reader.now text.now flags))
-        (secured_events (R.reading reader.now text.now flags)) answer.parts.items) answer.trees.items) }
+        (secured_events (R.reading reader.now text.now flags)) answer.parts.items)
+        answer.trees.items) }
 {
     let reading = read_secured(alloc, text, reader, flags)?;
     let options = Options::default();

@@ -21,7 +21,8 @@ pub fn lay(text: &str, out: &mut [u8]) -> isize
 /// Answers a text as `lay` does, or the code of a cause.
 pub fn answer(said: Result<String, Cause>, out: &mut [u8]) -> isize
     ensures { MatchResult said
-        (λ text. (result ≡ pos (length (string_bytes text))) × (out.new ≡ laid (string_bytes text) out.old))
+        (λ text. (result ≡ pos (length (string_bytes text)))
+        × (out.new ≡ laid (string_bytes text) out.old))
         (λ cause. (result ≡ code_of cause) × (out.new ≡ out.old)) }
 {
     match said {

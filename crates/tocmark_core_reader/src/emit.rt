@@ -131,7 +131,8 @@ impl Emission {
         range: (usize, usize),
     ) -> Result<(), AllocError>
         ensures { OnOk result (emission_view self.new
-            ≡ put text.now (Container (tag_view text_of tag.entry)) range (emission_view self.old)) }
+            ≡ put text.now (Container (tag_view text_of tag.entry)) range
+            (emission_view self.old)) }
     {
         let end = tag.to_end();
         push(&mut self.events, Event::Start(tag), range)?;

@@ -85,7 +85,8 @@ fn faults<R: Reader>(
     found: &Digest,
 ) -> Result<Option<Vec<usize>>, AllocError>
     ensures { IfOk result (λ answer. IsNone answer
-        → (merged (found_events (R.reading document.now.tools.reader.now text.now document.now.tools.flags))
+        → (merged (found_events (R.reading document.now.tools.reader.now text.now
+        document.now.tools.flags))
         ≡ says found.now)) }
 {
     let tools = &document.tools;
@@ -133,7 +134,8 @@ fn rounds<R: Reader>(
     texts: &mut Texts,
 ) -> Result<Option<String>, AllocError>
     ensures { IfOk result (λ answer. IfSome answer (λ text.
-        merged (found_events (R.reading document.now.tools.reader.now (string_bytes text) document.now.tools.flags))
+        merged (found_events (R.reading document.now.tools.reader.now (string_bytes text)
+        document.now.tools.flags))
         ≡ says found.now)) }
 {
     for _ in 0..ROUNDS {
@@ -168,9 +170,11 @@ fn new_text<R: Reader>(
     texts: &mut Texts,
 ) -> Result<String, AllocError>
     requires { says found.now
-        ≡ merged (found_events (R.reading document.now.tools.reader.now document.now.source.now document.now.tools.flags)) }
+        ≡ merged (found_events (R.reading document.now.tools.reader.now document.now.source.now
+        document.now.tools.flags)) }
     ensures { IfOk result (λ text.
-        merged (found_events (R.reading document.now.tools.reader.now (string_bytes text) document.now.tools.flags))
+        merged (found_events (R.reading document.now.tools.reader.now (string_bytes text)
+        document.now.tools.flags))
         ≡ says found.now) }
 {
     if let Some(text) = rounds(document, blocks, found, pieces, texts)? {
@@ -218,7 +222,8 @@ fn kept_of<'a, R: Reader>(
 /// What is kept of the source.
 fn kept_of_source<R: Reader>(document: &Document<'_, '_, R>) -> Result<Kept, AllocError>
     ensures { IfOk result (λ kept. says kept.found
-        ≡ merged (found_events (R.reading document.now.tools.reader.now document.now.source.now document.now.tools.flags))) }
+        ≡ merged (found_events (R.reading document.now.tools.reader.now document.now.source.now
+        document.now.tools.flags))) }
 {
     let tools = &document.tools;
     let reading = tools
@@ -231,8 +236,10 @@ fn kept_of_source<R: Reader>(document: &Document<'_, '_, R>) -> Result<Kept, All
 /// The document in this style.
 fn formatted_as<R: Reader>(document: &Document<'_, '_, R>) -> Result<Formatted, AllocError>
     ensures { IfOk result (λ answer.
-        merged (found_events (R.reading document.now.tools.reader.now (string_bytes answer.text) document.now.tools.flags))
-        ≡ merged (found_events (R.reading document.now.tools.reader.now document.now.source.now document.now.tools.flags))) }
+        merged (found_events (R.reading document.now.tools.reader.now (string_bytes answer.text)
+        document.now.tools.flags))
+        ≡ merged (found_events (R.reading document.now.tools.reader.now document.now.source.now
+        document.now.tools.flags))) }
 {
     let Kept {
         blocks,

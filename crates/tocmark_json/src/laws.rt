@@ -13,5 +13,6 @@ pub fn events_are_told_apart()
 /// Two lists of events with their ranges that have one JSON value are the same. So `pairs_from_json`, if
 /// it succeeds on what `pairs_to_json` made, gives the events and ranges that this was made of.
 pub fn pairs_are_told_apart()
-    ensures { (ps qs : List (EventView × Option (ℕ × ℕ))) → pairs_json ps ≡ pairs_json qs → ps ≡ qs }
+    ensures { (ps qs : List (EventView × Option (ℕ × ℕ)))
+        → pairs_json ps ≡ pairs_json qs → ps ≡ qs }
 {}

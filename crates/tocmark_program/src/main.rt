@@ -32,7 +32,8 @@ fn write_block(
     output: &mut String,
 ) -> Result<Progress, Error>
     ensures { (done : List Pair) → IsWritten text.now done state.old (string_bytes output.old)
-        → OnOk result (IsWritten text.now (done ++ as_pairs spelling (reading_view block.now).events)
+        → OnOk result (IsWritten text.now
+        (done ++ as_pairs spelling (reading_view block.now).events)
         state.new (string_bytes output.new)) }
 {
     match spelling {

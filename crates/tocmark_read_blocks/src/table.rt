@@ -264,7 +264,8 @@ impl BlocksSoFar {
     /// Whether a line can be a delimiter row where it stands.
     #[tactic(auto, unfolding(crate::specs::Tables::may_delimit))]
     fn may_delimit(&self, row: &Row<'_, '_>, cursor: Cursor, directly: bool) -> bool
-        ensures { result ≡ may_delimit row.now.text.now row.now.cells.now row.now.line cursor directly
+        ensures { result
+            ≡ may_delimit row.now.text.now row.now.cells.now row.now.line cursor directly
             (page self.now) }
     {
         directly

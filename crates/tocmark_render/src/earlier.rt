@@ -73,7 +73,8 @@ impl Earlier<'_> {
         requires refused { let q = asked_of R.reading trial.now in
             AreRefused q (earlier_view self.now) refused.old }
         ensures read { let q = asked_of R.reading trial.now in
-            IfOk result (λ found. is_some found ≡ reads_back_in q (earlier_view self.now) text.now) }
+            IfOk result (λ found. is_some found
+            ≡ reads_back_in q (earlier_view self.now) text.now) }
         ensures unresolved { let q = asked_of R.reading trial.now in
             IfOk result (λ found. IfSome found (λ labels.
             map string_bytes labels.items ≡ unresolved_in q (earlier_view self.now) text.now)) }

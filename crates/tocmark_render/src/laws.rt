@@ -22,7 +22,8 @@ ghost use Rattle.tocmark_write_labels.specs.Units.{labelled};
 /// doesn't read, it takes its preferred spelling.
 pub fn units_without_delimiters_are_preferred()
     ensures { (s : Setting) (d : DocumentView) (f : Trees) (next : Option EventView) →
-        is_delimiter_block f ≡ false → s.options.check_plain_blocks ≡ false → (has_source f && has_standard_markers s.options) ≡ false →
+        is_delimiter_block f ≡ false → s.options.check_plain_blocks ≡ false →
+        (has_source f && has_standard_markers s.options) ≡ false →
         choice s d f next ≡ preferred s d f next }
 {}
 

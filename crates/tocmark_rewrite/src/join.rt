@@ -55,7 +55,8 @@ fn gap(source: &str, blocks: &[Block], k: usize) -> (usize, usize) {
 /// Two line ends, if something stands before.
 fn separate(alloc: Global, source: &str, output: &mut Output) -> Result<(), AllocError>
     requires { IsMadeOf source.now (string_bytes output.old.text) output.old.parts.items }
-    ensures { OnOk result (IsMadeOf source.now (string_bytes output.new.text) output.new.parts.items) }
+    ensures { OnOk result
+        (IsMadeOf source.now (string_bytes output.new.text) output.new.parts.items) }
 {
     if output.text.is_empty() {
         return Ok(());
@@ -75,7 +76,8 @@ fn put_gaps(
     output: &mut Output,
 ) -> Result<(), AllocError>
     requires { IsMadeOf source.now (string_bytes output.old.text) output.old.parts.items }
-    ensures { OnOk result (IsMadeOf source.now (string_bytes output.new.text) output.new.parts.items) }
+    ensures { OnOk result
+        (IsMadeOf source.now (string_bytes output.new.text) output.new.parts.items) }
 {
     for k in first..last {
         let (from, to) = gap(source, between.blocks, k);
@@ -98,7 +100,8 @@ fn copy_line(
     output: &mut Output,
 ) -> Result<(), AllocError>
     requires { IsMadeOf source.now (string_bytes output.old.text) output.old.parts.items }
-    ensures { OnOk result (IsMadeOf source.now (string_bytes output.new.text) output.new.parts.items) }
+    ensures { OnOk result
+        (IsMadeOf source.now (string_bytes output.new.text) output.new.parts.items) }
 {
     let line = source.get(from..to).unwrap_or("");
     let Some(label) = label_of(line) else {
@@ -128,7 +131,8 @@ fn copy_lines(
     output: &mut Output,
 ) -> Result<(), AllocError>
     requires { IsMadeOf source.now (string_bytes output.old.text) output.old.parts.items }
-    ensures { OnOk result (IsMadeOf source.now (string_bytes output.new.text) output.new.parts.items) }
+    ensures { OnOk result
+        (IsMadeOf source.now (string_bytes output.new.text) output.new.parts.items) }
 {
     let bytes = source.as_bytes();
     let mut start = from;
@@ -161,7 +165,8 @@ fn put_definitions(
     output: &mut Output,
 ) -> Result<(), AllocError>
     requires { IsMadeOf source.now (string_bytes output.old.text) output.old.parts.items }
-    ensures { OnOk result (IsMadeOf source.now (string_bytes output.new.text) output.new.parts.items) }
+    ensures { OnOk result
+        (IsMadeOf source.now (string_bytes output.new.text) output.new.parts.items) }
 {
     let end = output.line_end();
     let text = definitions.text(alloc, end)?;
@@ -185,7 +190,8 @@ fn put_tail(
     output: &mut Output,
 ) -> Result<(), AllocError>
     requires { IsMadeOf source.now (string_bytes output.old.text) output.old.parts.items }
-    ensures { OnOk result (IsMadeOf source.now (string_bytes output.new.text) output.new.parts.items) }
+    ensures { OnOk result
+        (IsMadeOf source.now (string_bytes output.new.text) output.new.parts.items) }
 {
     let count = between.blocks.len();
     if next == count {
@@ -213,7 +219,8 @@ fn put_before(
     output: &mut Output,
 ) -> Result<(), AllocError>
     requires { IsMadeOf source.now (string_bytes output.old.text) output.old.parts.items }
-    ensures { OnOk result (IsMadeOf source.now (string_bytes output.new.text) output.new.parts.items) }
+    ensures { OnOk result
+        (IsMadeOf source.now (string_bytes output.new.text) output.new.parts.items) }
 {
     match stands_for {
         None => separate(alloc, source, output),
@@ -237,7 +244,8 @@ fn put_block(
     output: &mut Output,
 ) -> Result<(), AllocError>
     requires { IsMadeOf source.now (string_bytes output.old.text) output.old.parts.items }
-    ensures { OnOk result (IsMadeOf source.now (string_bytes output.new.text) output.new.parts.items) }
+    ensures { OnOk result
+        (IsMadeOf source.now (string_bytes output.new.text) output.new.parts.items) }
 {
     match plan.kept {
         Some(block) => output.copy(source, block.from, block.to),

@@ -45,7 +45,8 @@ impl Output {
     /// Copies bytes of the source; nothing if they are no slice of it.
     pub(crate) fn copy(&mut self, source: &str, from: usize, to: usize) -> Result<(), AllocError>
         requires { IsMadeOf source.now (string_bytes self.old.text) self.old.parts.items }
-        ensures { OnOk result (IsMadeOf source.now (string_bytes self.new.text) self.new.parts.items) }
+        ensures { OnOk result
+            (IsMadeOf source.now (string_bytes self.new.text) self.new.parts.items) }
     {
         if let Some(slice) = source.get(from..to) {
             self.parts.push(Part::Source(from, to))?;
@@ -57,7 +58,8 @@ impl Output {
     /// Adds a text that was written.
     pub(crate) fn put(&mut self, source: &str, text: String) -> Result<(), AllocError>
         requires { IsMadeOf source.now (string_bytes self.old.text) self.old.parts.items }
-        ensures { OnOk result (IsMadeOf source.now (string_bytes self.new.text) self.new.parts.items) }
+        ensures { OnOk result
+            (IsMadeOf source.now (string_bytes self.new.text) self.new.parts.items) }
     {
         self.text.push_str(text.as_str())?;
         self.parts.push(Part::Written(text))?;

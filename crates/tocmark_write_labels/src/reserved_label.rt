@@ -38,7 +38,8 @@ fn started_ids(alloc: Global, events: &[BufferedEvent]) -> Result<Vec<&str>, All
 
 fn label_set(alloc: Global, ids: &[&str]) -> Result<Labels, AllocError>
     ensures { IfOk result (λ labels.
-        (label : List ℕ) → is_among (labels_of labels) label ≡ is_among (folded_ids ids.now) label) }
+        (label : List ℕ) → is_among (labels_of labels) label
+        ≡ is_among (folded_ids ids.now) label) }
 {
     let mut labels = Labels::new(alloc);
     for id in ids {

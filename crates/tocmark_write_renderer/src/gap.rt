@@ -69,7 +69,8 @@ impl<'a> Renderer<'a> {
     fn close_up(&mut self, event: &OwnedEvent) -> Result<(), AllocError>
         ensures stands { OnOk result
             (Stands self.new (levels_of self.old)
-            (close_up (event_view string_bytes event.now) (levels_of self.old) (page_of self.old))) }
+            (close_up (event_view string_bytes event.now) (levels_of self.old)
+            (page_of self.old))) }
         ensures mark { self.new.at_mark ≡ self.old.at_mark }
     {
         match self.quote_line_for(event)? {
