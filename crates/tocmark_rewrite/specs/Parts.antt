@@ -1,6 +1,7 @@
 -- A text that is a list of parts.
 use Rattle.std.specs.Prelude.{◌≡◌, ℕ, List, map, slice_range, string_bytes}
 use Rattle.std.specs.List.{concat}
+use Rattle.tocmark_rewrite.specs.declared.output.Output.{Output}
 use Rattle.tocmark_rewrite.specs.declared.output.Part.{Part}
 use Rattle.tocmark_rewrite.specs.declared.output.Part.TheVariants.{Source, Written}
 
@@ -12,3 +13,7 @@ part_text source (Written text) = string_bytes text
 -- the text is that of its parts, one after the other
 abbrev pub IsMadeOf : List ℕ → List ℕ → List Part → Type 0
 IsMadeOf source text parts = text ≡ concat (map (part_text source) parts)
+
+-- what is written so far is made of its parts
+abbrev pub Builds : List ℕ → Output → Type 0
+Builds source output = IsMadeOf source (string_bytes output.text) output.parts.items

@@ -30,7 +30,8 @@ pub struct Kept {
 pub enum Fate {
     /// Its lines are those of the source.
     Kept(Kept),
-    /// Its lines are those of the source but for the bytes of what was changed.
+    /// Its lines are those of the source but for the bytes of what was changed: events, blocks or items in
+    /// it, or a definition that others use.
     Patched,
     /// It was written anew.
     Written,
@@ -97,7 +98,7 @@ fn fate_of(parts: &[Part], next: usize, plan: &Plan, patched: bool) -> Fate
         return changed(patched);
     };
     let Some(part) = part_of(parts, next, block.from, block.to) else {
-        return changed(patched);
+        return Fate::Patched;
     };
     Fate::Kept(Kept {
         first: block.first,
@@ -127,13 +128,15 @@ fn tree_of(
     }
 }
 
-/// What became of each tree.
+/// What became of each tree: those that weren't kept were patched, but for the trees that begin with the events
+/// at these places.
 pub(crate) fn told(
     alloc: Global,
     blocks: &[Block],
     parts: &[Part],
     plans: &[Plan],
     patched: bool,
+    written: &[usize],
 ) -> Result<Vec<RewrittenTree>, AllocError>
     ensures { IfOk result (λ trees. (found given : List EventView)
         → All (IsHonest found given) plans.now → All (IsTold found given parts.now) trees.items) }
@@ -141,7 +144,8 @@ pub(crate) fn told(
     let mut trees = Vec::new(alloc);
     let mut next = 0usize;
     for plan in plans {
-        let tree = tree_of(blocks, parts, next, plan, patched);
+        let is_patched = patched && written.binary_search(&plan.tree.first).is_err();
+        let tree = tree_of(blocks, parts, next, plan, is_patched);
         if let Fate::Kept(kept) = tree.fate {
             next = kept.part;
         }

@@ -1,19 +1,23 @@
 //! Blocks side by side: those that are kept as they stand in the source, those that were written between them.
 
-ghost use Rattle.std.specs.Prelude.{IfOk, OnOk, string_bytes};
-ghost use Rattle.tocmark_rewrite.specs.Parts.{IsMadeOf};
+ghost use Rattle.std.specs.Prelude.{IfOk, OnOk};
+ghost use Rattle.tocmark_rewrite.specs.Parts.{Builds};
 
 use crate::output::Output;
-use crate::pieces::{Definitions, Piece, label_of};
+use crate::pieces::{Definitions, Piece};
 use crate::plan::Plan;
 use std::alloc::{AllocError, Global};
 use tocmark_rewrite_edits::patch::Patch;
 use tocmark_rewrite_edits::trees::{Block, has_text, trimmed};
 
 /// The source with its patches, whose places grow; none that begins before the end of another is made.
-pub(crate) fn patched(alloc: Global, source: &str, patches: &[Patch]) -> Result<Output, AllocError>
-    ensures { IfOk result (λ output.
-        IsMadeOf source.now (string_bytes output.text) output.parts.items) }
+pub(crate) fn patched(
+    alloc: Global,
+    source: &str,
+    patches: &[Patch],
+    written: &[usize],
+) -> Result<Output, AllocError>
+    ensures { IfOk result (λ output. Builds source.now output) }
 {
     let mut output = Output::new(alloc, source);
     let mut at = 0usize;
@@ -26,14 +30,15 @@ pub(crate) fn patched(alloc: Global, source: &str, patches: &[Patch]) -> Result<
     }
     output.copy(source, at, source.len())?;
     output.is_patched = true;
+    output.written.extend_from_slice(written)?;
     Ok(output)
 }
 
-/// What stands between the blocks of the source: where these are, and which definitions are written anew.
+/// The blocks of the source, and the definitions in it that are written anew, in the order of their places.
 #[derive(Clone, Copy)]
 struct Between<'b> {
     blocks: &'b [Block],
-    definitions: &'b Definitions,
+    definitions: &'b [Patch],
 }
 
 /// The source between the tree before this one and this one.
@@ -54,9 +59,8 @@ fn gap(source: &str, blocks: &[Block], k: usize) -> (usize, usize) {
 
 /// Two line ends, if something stands before.
 fn separate(alloc: Global, source: &str, output: &mut Output) -> Result<(), AllocError>
-    requires { IsMadeOf source.now (string_bytes output.old.text) output.old.parts.items }
-    ensures { OnOk result
-        (IsMadeOf source.now (string_bytes output.new.text) output.new.parts.items) }
+    requires { Builds source.now output.old }
+    ensures { OnOk result (Builds source.now output.new) }
 {
     if output.text.is_empty() {
         return Ok(());
@@ -75,75 +79,45 @@ fn put_gaps(
     last: usize,
     output: &mut Output,
 ) -> Result<(), AllocError>
-    requires { IsMadeOf source.now (string_bytes output.old.text) output.old.parts.items }
-    ensures { OnOk result
-        (IsMadeOf source.now (string_bytes output.new.text) output.new.parts.items) }
+    requires { Builds source.now output.old }
+    ensures { OnOk result (Builds source.now output.new) }
 {
     for k in first..last {
         let (from, to) = gap(source, between.blocks, k);
         if has_text(source.as_bytes(), from, to) {
             separate(alloc, source, output)?;
             let (start, past) = trimmed(source.as_bytes(), from, to);
-            copy_lines(alloc, source, between.definitions, start, past, output)?;
+            copy_stretch(source, between.definitions, start, past, output)?;
         }
     }
     Ok(())
 }
 
-/// A line of a gap, or the definition that stands in its place.
-fn copy_line(
-    alloc: Global,
+/// A stretch of the source; definitions in it that written trees define anew are replaced.
+fn copy_stretch(
     source: &str,
-    definitions: &Definitions,
+    definitions: &[Patch],
     from: usize,
     to: usize,
     output: &mut Output,
 ) -> Result<(), AllocError>
-    requires { IsMadeOf source.now (string_bytes output.old.text) output.old.parts.items }
-    ensures { OnOk result
-        (IsMadeOf source.now (string_bytes output.new.text) output.new.parts.items) }
+    requires { Builds source.now output.old }
+    ensures { OnOk result (Builds source.now output.new) }
 {
-    let line = source.get(from..to).unwrap_or("");
-    let Some(label) = label_of(line) else {
-        return output.copy(source, from, to);
-    };
-    let Some(other) = definitions.line_of(label) else {
-        return output.copy(source, from, to);
-    };
-    output.put(source, String::from_str(alloc, other)?)?;
-    if line.ends_with("\r\n") {
-        output.put(source, String::from_str(alloc, "\r\n")?)
-    } else if line.ends_with("\n") {
-        output.put(source, String::from_str(alloc, "\n")?)
-    } else {
-        Ok(())
-    }
-}
-
-/// Lines of the source between blocks; definitions of labels that written trees define anew are
-/// replaced.
-fn copy_lines(
-    alloc: Global,
-    source: &str,
-    definitions: &Definitions,
-    from: usize,
-    to: usize,
-    output: &mut Output,
-) -> Result<(), AllocError>
-    requires { IsMadeOf source.now (string_bytes output.old.text) output.old.parts.items }
-    ensures { OnOk result
-        (IsMadeOf source.now (string_bytes output.new.text) output.new.parts.items) }
-{
-    let bytes = source.as_bytes();
-    let mut start = from;
-    for k in from..to {
-        if let Some(b'\n') = bytes.get(k) {
-            let past = k.saturating_add(1);
-            copy_line(alloc, source, definitions, start, past, output)?;
-            start = past;
+    let mut at = from;
+    let first = definitions.partition_point(|patch| patch.from < from);
+    for k in first..definitions.len() {
+        let Some(patch) = definitions.get(k) else {
+            break;
+        };
+        if patch.to > to {
+            break;
         }
+        output.copy(source, at, patch.from)?;
+        output.put(source, patch.text.clone()?)?;
+        at = patch.to;
     }
-    copy_line(alloc, source, definitions, start, to, output)
+    output.copy(source, at, to)
 }
 
 /// How the blocks are put side by side.
@@ -164,9 +138,8 @@ fn put_definitions(
     definitions: &Definitions,
     output: &mut Output,
 ) -> Result<(), AllocError>
-    requires { IsMadeOf source.now (string_bytes output.old.text) output.old.parts.items }
-    ensures { OnOk result
-        (IsMadeOf source.now (string_bytes output.new.text) output.new.parts.items) }
+    requires { Builds source.now output.old }
+    ensures { OnOk result (Builds source.now output.new) }
 {
     let end = output.line_end();
     let text = definitions.text(alloc, end)?;
@@ -189,14 +162,13 @@ fn put_tail(
     next: usize,
     output: &mut Output,
 ) -> Result<(), AllocError>
-    requires { IsMadeOf source.now (string_bytes output.old.text) output.old.parts.items }
-    ensures { OnOk result
-        (IsMadeOf source.now (string_bytes output.new.text) output.new.parts.items) }
+    requires { Builds source.now output.old }
+    ensures { OnOk result (Builds source.now output.new) }
 {
     let count = between.blocks.len();
     if next == count {
         let (from, to) = gap(source, between.blocks, next);
-        return copy_lines(alloc, source, between.definitions, from, to, output);
+        return copy_stretch(source, between.definitions, from, to, output);
     }
     let past = count.saturating_add(1);
     put_gaps(alloc, source, between, next, past, output)?;
@@ -218,16 +190,15 @@ fn put_before(
     raw: bool,
     output: &mut Output,
 ) -> Result<(), AllocError>
-    requires { IsMadeOf source.now (string_bytes output.old.text) output.old.parts.items }
-    ensures { OnOk result
-        (IsMadeOf source.now (string_bytes output.new.text) output.new.parts.items) }
+    requires { Builds source.now output.old }
+    ensures { OnOk result (Builds source.now output.new) }
 {
     match stands_for {
         None => separate(alloc, source, output),
         Some(place) => {
             if raw && place == next {
                 let (from, to) = gap(source, between.blocks, place);
-                return copy_lines(alloc, source, between.definitions, from, to, output);
+                return copy_stretch(source, between.definitions, from, to, output);
             }
             let past = place.saturating_add(1);
             put_gaps(alloc, source, between, next, past, output)?;
@@ -239,18 +210,27 @@ fn put_before(
 /// A block, kept or written.
 fn put_block(
     source: &str,
+    between: Between<'_>,
     plan: &Plan,
     piece: &Piece,
     output: &mut Output,
 ) -> Result<(), AllocError>
-    requires { IsMadeOf source.now (string_bytes output.old.text) output.old.parts.items }
-    ensures { OnOk result
-        (IsMadeOf source.now (string_bytes output.new.text) output.new.parts.items) }
+    requires { Builds source.now output.old }
+    ensures { OnOk result (Builds source.now output.new) }
 {
     match plan.kept {
-        Some(block) => output.copy(source, block.from, block.to),
+        Some(block) => copy_stretch(source, between.definitions, block.from, block.to, output),
         None => output.put(source, piece.body.clone()?),
     }
+}
+
+/// What was written: the trees that aren't kept, the definitions that they ask for, and those of the source
+/// whose place these take.
+#[derive(Clone, Copy)]
+pub(crate) struct Written<'w> {
+    pub(crate) pieces: &'w [Piece],
+    pub(crate) definitions: &'w Definitions,
+    pub(crate) redefined: &'w [Patch],
 }
 
 /// The blocks side by side.
@@ -259,28 +239,28 @@ pub(crate) fn joined(
     source: &str,
     blocks: &[Block],
     plans: &[Plan],
-    pieces: &[Piece],
-    definitions: &Definitions,
+    written: Written<'_>,
     manner: Manner,
 ) -> Result<Output, AllocError>
-    ensures { IfOk result (λ output.
-        IsMadeOf source.now (string_bytes output.text) output.parts.items) }
+    ensures { IfOk result (λ output. Builds source.now output) }
 {
     let mut output = Output::new(alloc, source);
-    let none = Definitions::none(alloc);
-    let redefined = if manner.redefines { definitions } else { &none };
     let between = Between {
         blocks,
-        definitions: redefined,
+        definitions: if manner.redefines {
+            written.redefined
+        } else {
+            &[]
+        },
     };
     // the first block of the source that isn't passed, and whether the one before was kept
     let mut next = 0usize;
     let mut follows = true;
-    for (plan, piece) in plans.iter().zip(pieces) {
+    for (plan, piece) in plans.iter().zip(written.pieces) {
         let raw = !manner.apart || (follows && plan.kept.is_some());
         let place = plan.stands_for;
         put_before(alloc, source, between, next, place, raw, &mut output)?;
-        put_block(source, plan, piece, &mut output)?;
+        put_block(source, between, plan, piece, &mut output)?;
         if let Some(place) = place {
             next = place.saturating_add(1);
         }
@@ -288,7 +268,7 @@ pub(crate) fn joined(
     }
     put_tail(alloc, source, between, next, &mut output)?;
     if manner.defines {
-        put_definitions(alloc, source, definitions, &mut output)?;
+        put_definitions(alloc, source, written.definitions, &mut output)?;
     }
     Ok(output)
 }

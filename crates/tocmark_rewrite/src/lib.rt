@@ -3,9 +3,10 @@
 //!
 //! Below it stand the writer (`tocmark_state`), of which it takes the text of blocks that it has to write, and
 //! `tocmark_rewrite_edits`, which says where edits stand in a source; above it stand programs that change documents.
-//! Enter at `rewritten` (`rewrite`). `plan` finds which trees stand in the source as they are, `pieces` and `join`
-//! write changed trees and put them between the kept ones; all leave a list of parts (`output`), which is read back.
-//! `answer` says what became of each tree, and `fault` why there is no answer.
+//! Enter at `rewritten` (`rewrite`). `plan` finds which trees stand in the source as they are, `inner` writes the
+//! blocks in a tree that were changed, `pieces` and `join` write changed trees and put them between the kept ones;
+//! all leave a list of parts (`output`), which is read back. `answer` says what became of each tree, and `fault` why
+//! there is no answer.
 //!
 //! ```
 //! let mut reading = CoreReader.read(alloc, source, flags)?;
@@ -16,6 +17,7 @@
 
 pub mod answer;
 pub mod fault;
+mod inner;
 mod join;
 pub mod output;
 pub mod pieces;

@@ -1,7 +1,7 @@
 //! What is written so far: a list of parts.
 
-ghost use Rattle.std.specs.Prelude.{◌≡◌, OnOk, string_bytes};
-ghost use Rattle.tocmark_rewrite.specs.Parts.{IsMadeOf};
+ghost use Rattle.std.specs.Prelude.{OnOk};
+ghost use Rattle.tocmark_rewrite.specs.Parts.{Builds};
 
 use std::alloc::{AllocError, Global};
 
@@ -23,17 +23,20 @@ pub(crate) struct Output {
     pub(crate) has_returns: bool,
     /// Whether it is the source with patches.
     pub(crate) is_patched: bool,
+    /// The first events of the trees that were written as a whole, in their order, where it is.
+    pub(crate) written: Vec<usize>,
 }
 
 impl Output {
     pub(crate) fn new(alloc: Global, source: &str) -> Output
-        ensures { IsMadeOf source.now (string_bytes result.text) result.parts.items }
+        ensures { Builds source.now result }
     {
         Output {
             text: String::new(alloc),
             parts: Vec::new(alloc),
             has_returns: source.contains("\r\n"),
             is_patched: false,
+            written: Vec::new(alloc),
         }
     }
 
@@ -44,9 +47,8 @@ impl Output {
 
     /// Copies bytes of the source; nothing if they are no slice of it.
     pub(crate) fn copy(&mut self, source: &str, from: usize, to: usize) -> Result<(), AllocError>
-        requires { IsMadeOf source.now (string_bytes self.old.text) self.old.parts.items }
-        ensures { OnOk result
-            (IsMadeOf source.now (string_bytes self.new.text) self.new.parts.items) }
+        requires { Builds source.now self.old }
+        ensures { OnOk result (Builds source.now self.new) }
     {
         if let Some(slice) = source.get(from..to) {
             self.parts.push(Part::Source(from, to))?;
@@ -57,9 +59,8 @@ impl Output {
 
     /// Adds a text that was written.
     pub(crate) fn put(&mut self, source: &str, text: String) -> Result<(), AllocError>
-        requires { IsMadeOf source.now (string_bytes self.old.text) self.old.parts.items }
-        ensures { OnOk result
-            (IsMadeOf source.now (string_bytes self.new.text) self.new.parts.items) }
+        requires { Builds source.now self.old }
+        ensures { OnOk result (Builds source.now self.new) }
     {
         self.text.push_str(text.as_str())?;
         self.parts.push(Part::Written(text))?;

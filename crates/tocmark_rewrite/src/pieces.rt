@@ -4,11 +4,16 @@ use crate::fault::Fault;
 use crate::plan::{Plan, place_of};
 use crate::texts::Texts;
 use std::alloc::{AllocError, Global};
-use std::collections::HashMap;
+use std::collections::{HashMap, HashSet};
+use tocmark_core_reader::ReferenceDefinition;
 use tocmark_event::event::{Event, ParserOptions};
 use tocmark_event::options::{Error, Options};
 use tocmark_event::reader::Reader;
+use tocmark_read_scan::basic::bytes_between;
+use tocmark_read_tokens::label::key_of;
+use tocmark_read_tokens::word::definition_at;
 use tocmark_rewrite_edits::given::{GivenEvents, GivenPairs};
+use tocmark_rewrite_edits::patch::Patch;
 use tocmark_rewrite_edits::trees::{Block, Tree};
 use tocmark_state::state::State;
 
@@ -38,7 +43,7 @@ pub struct Piece {
 pub(crate) struct Definitions {
     /// A line for each, in the order in which they are asked for.
     lines: Vec<String>,
-    /// The line of each label.
+    /// The line of each label, by its key.
     places: HashMap<String, usize>,
 }
 
@@ -196,18 +201,21 @@ pub(crate) fn make_pieces<'a, R: Reader>(
     Ok(all)
 }
 
-/// The label with which a line begins that may be a definition.
-pub(crate) fn label_of(line: &str) -> Option<&str> {
-    if !line.starts_with("[") {
-        return None;
+/// The key of the label that a line defines; the line itself where it is no definition.
+fn key_in(alloc: Global, line: &str) -> Result<String, AllocError> {
+    let bytes = line.as_bytes();
+    match definition_at(bytes, 0) {
+        None => String::from_str(alloc, line),
+        Some(found) => {
+            let label = bytes_between(bytes, found.label.start, found.label.end);
+            key_of(alloc, label)
+        }
     }
-    let end = line.find("]:")?;
-    line.get(..end)
 }
 
 impl Definitions {
     /// No definitions.
-    pub(crate) fn none(alloc: Global) -> Definitions {
+    fn none(alloc: Global) -> Definitions {
         Definitions {
             lines: Vec::new(alloc),
             places: HashMap::new(alloc),
@@ -215,12 +223,11 @@ impl Definitions {
     }
 
     fn add(&mut self, alloc: Global, line: &str) -> Result<(), AllocError> {
-        let label = label_of(line).unwrap_or(line);
-        if self.places.contains_key(label) {
+        let key = key_in(alloc, line)?;
+        if self.places.contains_key(key.as_str()) {
             return Ok(());
         }
-        self.places
-            .insert(String::from_str(alloc, label)?, self.lines.len())?;
+        self.places.insert(key, self.lines.len())?;
         self.lines.push(String::from_str(alloc, line)?)?;
         Ok(())
     }
@@ -236,11 +243,37 @@ impl Definitions {
         Ok(all)
     }
 
-    /// The line that defines a label.
-    pub(crate) fn line_of(&self, label: &str) -> Option<&str> {
-        let place = self.places.get(label)?;
+    pub(crate) fn is_empty(&self) -> bool {
+        self.lines.is_empty()
+    }
+
+    /// The line that defines the label with a key.
+    fn line_of(&self, key: &str) -> Option<&str> {
+        let place = self.places.get(key)?;
         let line = self.lines.get(*place)?;
         Some(line.as_str())
+    }
+
+    /// The definitions of the source that these take the place of, the first of each label.
+    pub(crate) fn patches(
+        &self,
+        alloc: Global,
+        found: &[ReferenceDefinition],
+    ) -> Result<Vec<Patch>, AllocError> {
+        let mut patches = Vec::new(alloc);
+        let mut seen = HashSet::new(alloc);
+        for definition in found {
+            let key = key_of(alloc, definition.label.as_bytes())?;
+            if let Some(line) = self.line_of(key.as_str())
+                && !seen.contains(key.as_str())
+            {
+                let (from, to) = definition.place.whole;
+                let text = String::from_str(alloc, line)?;
+                patches.push(Patch { from, to, text })?;
+                seen.insert(key)?;
+            }
+        }
+        Ok(patches)
     }
 
     /// All lines, with line ends between them.

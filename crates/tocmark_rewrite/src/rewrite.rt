@@ -6,11 +6,12 @@ ghost use Rattle.tocmark_event.specs.Merged.{merged};
 ghost use Rattle.tocmark_event.specs.View.{EventView};
 ghost use Rattle.tocmark_rewrite_edits.specs.Given.{found_events, given_events};
 ghost use Rattle.tocmark_rewrite.specs.Kept.{IsHonest, IsTold};
-ghost use Rattle.tocmark_rewrite.specs.Parts.{IsMadeOf};
+ghost use Rattle.tocmark_rewrite.specs.Parts.{Builds, IsMadeOf};
 
 use crate::answer::{Rewritten, told};
 use crate::fault::{Fault, Place};
-use crate::join::{Manner, joined, patched};
+use crate::inner::{block_patch, innermost};
+use crate::join::{Manner, Written, joined, patched};
 use crate::output::{Output, Part};
 use crate::pieces::{Definitions, Tools, events_of, make_pieces, write_tree};
 use crate::plan::{Plan, place_of, planned};
@@ -18,6 +19,7 @@ use std::alloc::{AllocError, Global};
 use tocmark_event::event::{Event, ParserOptions};
 use tocmark_event::options::Options;
 use tocmark_event::reader::Reader;
+use tocmark_extended_reader::ExtendedReader;
 use tocmark_rewrite_edits::patch::{Patch, Patches};
 use tocmark_rewrite_edits::same::{are_same, differ};
 use tocmark_rewrite_edits::trees::{Block, Tree, blocks, trees};
@@ -54,13 +56,12 @@ fn accepted<R: Reader>(
     output: Output,
     events: &[(Event<'_>, (usize, usize))],
 ) -> Result<Option<Output>, AllocError>
-    requires { IsMadeOf source.now (string_bytes output.text) output.parts.items }
+    requires { Builds source.now output }
     ensures same { IfOk result (λ answer. IfSome answer (λ output.
         merged (found_events
         (R.reading tools.now.reader.now (string_bytes output.text) tools.now.flags))
         ≡ merged (given_events events.now))) }
-    ensures parts { IfOk result (λ answer. IfSome answer (λ output.
-        IsMadeOf source.now (string_bytes output.text) output.parts.items)) }
+    ensures parts { IfOk result (λ answer. IfSome answer (λ output. Builds source.now output)) }
 {
     let text = output.text.as_str();
     if is_read_as(tools.alloc, tools.reader, tools.flags, text, events)? {
@@ -73,8 +74,7 @@ fn accepted<R: Reader>(
 /// The source as it stands.
 fn whole(alloc: Global, source: &str) -> Result<Output, AllocError>
     ensures text { IfOk result (λ output. string_bytes output.text ≡ source.now) }
-    ensures parts { IfOk result (λ output.
-        IsMadeOf source.now (string_bytes output.text) output.parts.items) }
+    ensures parts { IfOk result (λ output. Builds source.now output) }
 {
     let text = String::from_str(alloc, source)?;
     let mut parts = Vec::new(alloc);
@@ -84,6 +84,7 @@ fn whole(alloc: Global, source: &str) -> Result<Output, AllocError>
         parts,
         has_returns: false,
         is_patched: false,
+        written: Vec::new(alloc),
     })
 }
 
@@ -101,6 +102,7 @@ fn answer(alloc: Global, work: &Work<'_>, output: Output) -> Result<Rewritten, A
         &output.parts,
         work.plans,
         output.is_patched,
+        &output.written,
     )?;
     let Output { text, parts, .. } = output;
     Ok(Rewritten { text, parts, trees })
@@ -135,17 +137,61 @@ fn add_small<'a>(
     Ok(all)
 }
 
+/// Adds the patches of the innermost blocks in which a tree was changed, each by itself; none and false if the
+/// tree is the innermost, or if one is refused.
+fn add_inner<'a, R: Reader>(
+    tools: &Tools<'_, '_, R>,
+    source: &str,
+    patches: &mut Patches,
+    old: &[(Event<'_>, (usize, usize))],
+    new: &'a [(Event<'a>, (usize, usize))],
+) -> Result<bool, AllocError> {
+    let before = patches.list.len();
+    for pairing in &innermost(tools.alloc, old, new)? {
+        let left = old.get(pairing.old.0..pairing.old.1).unwrap_or(&[]);
+        let right = new.get(pairing.new.0..pairing.new.1).unwrap_or(&[]);
+        if left.len() == old.len() || !add_block(tools, source, patches, left, right)? {
+            patches.list.truncate(before);
+            return Ok(false);
+        }
+    }
+    patches.has_inner = true;
+    Ok(true)
+}
+
+/// Adds the patches of a block in a container; none and false if it is refused.
+fn add_block<'a, R: Reader>(
+    tools: &Tools<'_, '_, R>,
+    source: &str,
+    patches: &mut Patches,
+    old: &[(Event<'_>, (usize, usize))],
+    new: &'a [(Event<'a>, (usize, usize))],
+) -> Result<bool, AllocError> {
+    if add_small(tools.alloc, source, patches, old, new)? {
+        return Ok(true);
+    }
+    match old.first() {
+        None => Ok(false),
+        Some(pair) => {
+            let patch = block_patch(tools, source, pair.1, new)?;
+            patches.take(patch)
+        }
+    }
+}
+
 /// Adds the patch that replaces a block's lines by its tree as it is written; false if it is refused.
 fn add_written<'a, R: Reader>(
     tools: &Tools<'_, '_, R>,
     source: &str,
     patches: &mut Patches,
     block: Block,
-    new: &'a [(Event<'a>, (usize, usize))],
+    tree: Tree,
+    events: &'a [(Event<'a>, (usize, usize))],
 ) -> Result<bool, AllocError> {
-    let Ok(piece) = write_tree(tools, source, block.begins, new) else {
+    let Ok(piece) = write_tree(tools, source, block.begins, events_of(events, tree)) else {
         return Ok(false);
     };
+    patches.written.push(tree.first)?;
     patches.list.push(Patch {
         from: block.from,
         to: block.to,
@@ -154,34 +200,59 @@ fn add_written<'a, R: Reader>(
     Ok(true)
 }
 
+/// Adds the patches of a tree, the smallest that there are: those of events, of blocks in it if these may be
+/// written by themselves, or of all of it; false if it is refused.
+fn add_tree<'a, R: Reader>(
+    tools: &Tools<'_, '_, R>,
+    source: &str,
+    patches: &mut Patches,
+    work: &Work<'_>,
+    at: usize,
+    events: &'a [(Event<'a>, (usize, usize))],
+    inner: bool,
+) -> Result<bool, AllocError> {
+    let (Some(plan), Some(block)) = (work.plans.get(at), work.blocks.get(at)) else {
+        return Ok(false);
+    };
+    if plan.kept.is_some() {
+        return Ok(true);
+    }
+    let old = work.found.get(block.first..block.past).unwrap_or(&[]);
+    let new = events_of(events, plan.tree);
+    if add_small(tools.alloc, source, patches, old, new)? {
+        return Ok(true);
+    }
+    if inner && add_inner(tools, source, patches, old, new)? {
+        return Ok(true);
+    }
+    add_written(tools, source, patches, *block, plan.tree, events)
+}
+
 /// The patches of all trees, where each stands for the block in its place; none if one is refused.
 fn all_patches<'a, R: Reader>(
     tools: &Tools<'_, '_, R>,
     source: &str,
     work: &Work<'_>,
     events: &'a [(Event<'a>, (usize, usize))],
+    inner: bool,
 ) -> Result<Option<Patches>, AllocError> {
-    if !are_in_place(work) {
-        return Ok(None);
-    }
     let alloc = tools.alloc;
     let mut patches = Patches::new(alloc);
-    for (plan, block) in work.plans.iter().zip(work.blocks) {
-        if plan.kept.is_none() {
-            let old = work.found.get(block.first..block.past).unwrap_or(&[]);
-            let new = events_of(events, plan.tree);
-            if !add_small(alloc, source, &mut patches, old, new)?
-                && !add_written(tools, source, &mut patches, *block, new)?
-            {
-                return Ok(None);
-            }
+    for at in 0..work.plans.len() {
+        if !add_tree(tools, source, &mut patches, work, at, events, inner)? {
+            return Ok(None);
         }
     }
-    patches.add_definitions(alloc, source)?;
+    if patches.redefines() {
+        let found = ExtendedReader::new().definitions(alloc, source, tools.flags)?;
+        patches.add_definitions(alloc, source, &found)?;
+    }
+    patches.sort()?;
     Ok(Some(patches))
 }
 
-/// The source with just what was edited replaced, if it is read as the events.
+/// The source with just what was edited replaced, if it is read as the events: where blocks in trees may be
+/// written by themselves, and where they may not.
 fn patched_text<'a, R: Reader>(
     tools: &Tools<'_, '_, R>,
     source: &str,
@@ -192,15 +263,26 @@ fn patched_text<'a, R: Reader>(
         merged (found_events
         (R.reading tools.now.reader.now (string_bytes output.text) tools.now.flags))
         ≡ merged (given_events events.now))) }
-    ensures parts { IfOk result (λ answer. IfSome answer (λ output.
-        IsMadeOf source.now (string_bytes output.text) output.parts.items)) }
+    ensures parts { IfOk result (λ answer. IfSome answer (λ output. Builds source.now output)) }
 {
-    let Some(patches) = all_patches(tools, source, work, events)? else {
+    if !are_in_place(work) {
         return Ok(None);
-    };
-    let output = patched(tools.alloc, source, &patches.list)?;
-    drop(patches);
-    accepted(tools, source, output, events)
+    }
+    for inner in [true, false] {
+        let Some(patches) = all_patches(tools, source, work, events, inner)? else {
+            return Ok(None);
+        };
+        let output = patched(tools.alloc, source, &patches.list, &patches.written)?;
+        let has_inner = patches.has_inner;
+        drop(patches);
+        if let Some(output) = accepted(tools, source, output, events)? {
+            return Ok(Some(output));
+        }
+        if !has_inner {
+            return Ok(None);
+        }
+    }
+    Ok(None)
 }
 
 /// Whether a tree that was read is one that was given.
@@ -245,6 +327,20 @@ fn difference<R: Reader>(
     Ok(place)
 }
 
+/// The definitions of the source that others take the place of.
+fn redefined<R: Reader>(
+    tools: &Tools<'_, '_, R>,
+    source: &str,
+    definitions: &Definitions,
+) -> Result<Vec<Patch>, AllocError> {
+    let alloc = tools.alloc;
+    if definitions.is_empty() {
+        return Ok(Vec::new(alloc));
+    }
+    let found = ExtendedReader::new().definitions(alloc, source, tools.flags)?;
+    definitions.patches(alloc, &found)
+}
+
 /// Kept blocks and written ones side by side, in the first manner in which they are read as the events.
 fn joined_text<'a, R: Reader>(
     tools: &Tools<'_, '_, R>,
@@ -256,13 +352,18 @@ fn joined_text<'a, R: Reader>(
         merged (found_events
         (R.reading tools.now.reader.now (string_bytes output.text) tools.now.flags))
         ≡ merged (given_events events.now)) }
-    ensures parts { IfOk result (λ output.
-        IsMadeOf source.now (string_bytes output.text) output.parts.items) }
+    ensures parts { IfOk result (λ output. Builds source.now output) }
 {
     let alloc = tools.alloc;
     let (blocks, plans) = (work.blocks, work.plans);
     let pieces = make_pieces(tools, source, blocks, plans, events)?;
     let definitions = Definitions::of(alloc, &pieces)?;
+    let redefined = redefined(tools, source, &definitions)?;
+    let written = Written {
+        pieces: &pieces,
+        definitions: &definitions,
+        redefined: &redefined,
+    };
     let mut manner = Manner {
         apart: false,
         redefines: false,
@@ -275,13 +376,13 @@ fn joined_text<'a, R: Reader>(
                 redefines,
                 defines,
             };
-            let output = joined(alloc, source, blocks, plans, &pieces, &definitions, manner)?;
+            let output = joined(alloc, source, blocks, plans, written, manner)?;
             if let Some(output) = accepted(tools, source, output, events)? {
                 return Ok(output);
             }
         }
     }
-    let last = joined(alloc, source, blocks, plans, &pieces, &definitions, manner)?;
+    let last = joined(alloc, source, blocks, plans, written, manner)?;
     let place = difference(tools, work, events, last.text.as_str())?;
     Err(Fault::ReadOtherwise(place))
 }
@@ -299,8 +400,7 @@ fn new_text<'a, R: Reader>(
         merged (found_events
         (R.reading tools.now.reader.now (string_bytes output.text) tools.now.flags))
         ≡ merged (given_events events.now)) }
-    ensures parts { IfOk result (λ output.
-        IsMadeOf source.now (string_bytes output.text) output.parts.items) }
+    ensures parts { IfOk result (λ output. Builds source.now output) }
 {
     if !differ(work.found, events) && are_same(tools.alloc, work.found, events)? {
         let output = whole(tools.alloc, source)?;
@@ -321,6 +421,9 @@ fn new_text<'a, R: Reader>(
 /// - If nothing was changed, the answer is the source.
 /// - Where a link's or an image's destination or title, a text, a heading's level or the info string of a
 ///   code block was changed, the bytes of just that are replaced, if the whole is read as the events then.
+///   What a link by a label leads to stands in the label's definition, and is replaced there.
+/// - Where more was changed, so is the innermost block in which it was, or the item, as it is written by
+///   itself; or else the whole tree at the top.
 /// - Else trees at the top whose events are those of the source keep their lines, and what stands between
 ///   them, and the others are written.
 ///

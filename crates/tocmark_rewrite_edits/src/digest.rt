@@ -202,8 +202,8 @@ impl Digest {
     }
 
     fn put_mark(&mut self, mark: u8) -> Result<(), AllocError>
-        ensures bytes { OnOk result
-            (self.new.bytes.items ≡ self.old.bytes.items ++ 255 ∷ mark ∷ []) }
+        ensures bytes { OnOk result (self.new.bytes.items
+            ≡ self.old.bytes.items ++ 255 ∷ mark ∷ []) }
         ensures others { self.new.others ≡ self.old.others }
     {
         self.put_bytes(&[SIGN, mark])

@@ -7,9 +7,10 @@ use crate::edits::number_of;
 use crate::trees::line_end;
 use std::alloc::{AllocError, Global};
 use std::collections::HashMap;
+use tocmark_core_reader::{DefinitionPlace, ReferenceDefinition};
 use tocmark_event::event::{CodeBlockKindOf, Event, HeadingLevel, LinkType, Tag};
 use tocmark_read_tokens::label::key_of;
-use tocmark_read_tokens::word::{destination, label};
+use tocmark_read_tokens::word::destination;
 use tocmark_write_read_back::event::same_event;
 use tocmark_write_texts::text_modifications::close_link;
 
@@ -21,12 +22,25 @@ pub struct Patch {
     pub text: String,
 }
 
+/// What a definition is to say.
+#[derive(Drop)]
+struct DefinitionChange {
+    old_destination: String,
+    destination: String,
+    /// The new title, if it is another one.
+    title: Option<String>,
+}
+
 /// The patches of a document, in the order of their places.
 #[derive(Drop)]
 pub struct Patches {
     pub list: Vec<Patch>,
-    /// The old destination of definitions and the new one, by the key of the label.
-    definitions: HashMap<String, (String, String)>,
+    /// What definitions are to say, by the key of the label.
+    definitions: HashMap<String, DefinitionChange>,
+    /// The first events of the trees that are written as a whole.
+    pub written: Vec<usize>,
+    /// Whether blocks in trees are written by themselves.
+    pub has_inner: bool,
     /// The Starts that are open.
     open: Vec<usize>,
     /// Whether a text stands as it is, as in code.
@@ -244,11 +258,6 @@ fn respelled(alloc: Global, spelled: &str, old: &str, new: &str) -> Result<Strin
     }
 }
 
-/// Whether a byte may stand before a definition on its line: a blank, or one of a container's mark.
-fn is_marking(byte: u8) -> bool {
-    b" \t>-+*.)0123456789".contains(&byte)
-}
-
 /// A title as it is spelled, behind a space; nothing for the empty one.
 fn spelled_title(alloc: Global, text: &str) -> Result<String, AllocError> {
     let closing = closing(alloc, "a", text)?;
@@ -266,6 +275,43 @@ fn spelled_text(alloc: Global, text: &str) -> Result<String, AllocError> {
         spelled.push(c)?;
     }
     Ok(spelled)
+}
+
+/// A definition that leads elsewhere.
+fn redirection(
+    alloc: Global,
+    source: &str,
+    place: DefinitionPlace,
+    old: &str,
+    new: &str,
+) -> Result<Patch, AllocError> {
+    let (from, to) = place.destination;
+    let spelled = source.get(from..to).unwrap_or("");
+    let text = if new.is_empty() {
+        String::from_str(alloc, "<>")?
+    } else {
+        respelled(alloc, spelled, old, new)?
+    };
+    Ok(Patch { from, to, text })
+}
+
+/// A definition with another title, or without one.
+fn retitling(alloc: Global, place: DefinitionPlace, new: &str) -> Result<Patch, AllocError> {
+    let (from, to) = place.title;
+    let text = spelled_title(alloc, new)?;
+    if from == to || new.is_empty() {
+        return Ok(Patch {
+            from: place.destination.1,
+            to,
+            text,
+        });
+    }
+    let bare = text.as_str().get(1..).unwrap_or("");
+    Ok(Patch {
+        from,
+        to,
+        text: String::from_str(alloc, bare)?,
+    })
 }
 
 /// An inline link whose destination or title was changed; `inner` is the byte behind its text.
@@ -485,13 +531,15 @@ impl Patches {
         Patches {
             list: Vec::new(alloc),
             definitions: HashMap::new(alloc),
+            written: Vec::new(alloc),
+            has_inner: false,
             open: Vec::new(alloc),
             is_raw: false,
         }
     }
 
     /// Takes a patch; false if there is none.
-    fn take(&mut self, patch: Option<Patch>) -> Result<bool, AllocError> {
+    pub fn take(&mut self, patch: Option<Patch>) -> Result<bool, AllocError> {
         match patch {
             None => Ok(false),
             Some(patch) => {
@@ -499,6 +547,31 @@ impl Patches {
                 Ok(true)
             }
         }
+    }
+
+    /// Notes what the definition of a link's label is to say; false if it is another label.
+    fn redefine(
+        &mut self,
+        alloc: Global,
+        old: LinkParts<'_>,
+        new: LinkParts<'_>,
+    ) -> Result<bool, AllocError> {
+        if old.id != new.id {
+            return Ok(false);
+        }
+        let title = if old.title == new.title {
+            None
+        } else {
+            Some(String::from_str(alloc, new.title)?)
+        };
+        let change = DefinitionChange {
+            old_destination: String::from_str(alloc, old.destination)?,
+            destination: String::from_str(alloc, new.destination)?,
+            title,
+        };
+        let key = key_of(alloc, old.id.as_bytes())?;
+        self.definitions.insert(key, change)?;
+        Ok(true)
     }
 
     /// A link or an image that ends, whose Start was changed; `inner` is the byte behind its text.
@@ -517,12 +590,8 @@ impl Patches {
         if old.link_type != new.link_type {
             return Ok(false);
         }
-        if is_reference(old.link_type) && old.title == new.title {
-            let key = key_of(alloc, old.id.as_bytes())?;
-            let old = String::from_str(alloc, old.destination)?;
-            let new = String::from_str(alloc, new.destination)?;
-            self.definitions.insert(key, (old, new))?;
-            return Ok(true);
+        if is_reference(old.link_type) {
+            return self.redefine(alloc, old, new);
         }
         if old.link_type != LinkType::Inline {
             return Ok(false);
@@ -613,59 +682,47 @@ impl Patches {
         Ok(true)
     }
 
-    /// The patch of the definition that begins at a bracket, if its label's is to be changed.
-    fn definition(
+    /// Whether some definition is to say something else.
+    pub fn redefines(&self) -> bool {
+        !self.definitions.is_empty()
+    }
+
+    /// Adds those of the definitions, the first one of each label that is to say something else.
+    pub fn add_definitions(
         &mut self,
         alloc: Global,
         source: &str,
-        at: usize,
-    ) -> Result<Option<Patch>, AllocError> {
-        let bytes = source.as_bytes();
-        let Some(word) = label(bytes, at) else {
-            return Ok(None);
-        };
-        if byte_at(source, word.next) != b':' {
-            return Ok(None);
+        found: &[ReferenceDefinition],
+    ) -> Result<(), AllocError> {
+        for definition in found {
+            let key = key_of(alloc, definition.label.as_bytes())?;
+            if let Some(change) = self.definitions.remove(key.as_str()) {
+                self.add_definition(alloc, source, definition.place, &change)?;
+            }
         }
-        let from = behind_white(source, word.next.saturating_add(1));
-        let Some(old) = destination(bytes, from) else {
-            return Ok(None);
-        };
-        let key = key_of(alloc, bytes.get(word.start..word.end).unwrap_or(&[]))?;
-        match self.definitions.remove(key.as_str()) {
-            None => Ok(None),
-            Some(change) => Ok(Some(Patch {
-                from,
-                to: old.next,
-                text: respelled(
-                    alloc,
-                    source.get(from..old.next).unwrap_or(""),
-                    change.0.as_str(),
-                    change.1.as_str(),
-                )?,
-            })),
-        }
+        Ok(())
     }
 
-    /// Adds those of the definitions, the first one of each label whose destination was changed, and puts all in the
-    /// order of their places.
-    pub fn add_definitions(&mut self, alloc: Global, source: &str) -> Result<(), AllocError> {
-        // whether nothing stands before on the line but marks of containers
-        let mut begins = true;
-        for at in 0..source.len() {
-            if self.definitions.is_empty() {
-                break;
-            }
-            let byte = byte_at(source, at);
-            if begins
-                && byte == b'['
-                && let Some(patch) = self.definition(alloc, source, at)?
-            {
-                self.list.push(patch)?;
-            }
-            begins = byte == b'\n' || byte == b'\r' || begins && is_marking(byte);
+    fn add_definition(
+        &mut self,
+        alloc: Global,
+        source: &str,
+        place: DefinitionPlace,
+        change: &DefinitionChange,
+    ) -> Result<(), AllocError> {
+        let (old, new) = (change.old_destination.as_str(), change.destination.as_str());
+        if old != new {
+            self.list
+                .push(redirection(alloc, source, place, old, new)?)?;
         }
-        self.list.sort_by_key(|patch| patch.from)?;
+        if let Some(title) = &change.title {
+            self.list.push(retitling(alloc, place, title.as_str())?)?;
+        }
         Ok(())
+    }
+
+    /// Puts all in the order of their places.
+    pub fn sort(&mut self) -> Result<(), AllocError> {
+        self.list.sort_by_key(|patch| patch.from)
     }
 }

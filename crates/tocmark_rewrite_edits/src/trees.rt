@@ -41,7 +41,7 @@ fn is_end(byte: u8) -> bool {
 }
 
 /// The first byte of the line on which a byte stands.
-fn line_start(bytes: &[u8], at: usize) -> usize {
+pub fn line_start(bytes: &[u8], at: usize) -> usize {
     for k in (0..at.min(bytes.len())).rev() {
         if let Some(byte) = bytes.get(k)
             && is_end(*byte)
@@ -65,7 +65,7 @@ pub fn line_end(bytes: &[u8], at: usize) -> usize {
 }
 
 /// The end of the last line before a byte that isn't blank.
-fn lines_end(bytes: &[u8], from: usize, to: usize) -> usize {
+pub fn lines_end(bytes: &[u8], from: usize, to: usize) -> usize {
     let mut last = from;
     for k in (from..to.min(bytes.len())).rev() {
         if let Some(byte) = bytes.get(k)
