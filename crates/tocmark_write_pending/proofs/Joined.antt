@@ -1,6 +1,6 @@
 -- What one more event makes of those that wait.
-use Rattle.std.proofs.Common.{◌≡◌, ℕ, ◌<◌, map, Bool, true, false, if◌then◌else◌, Option, Some, Result, Ok, Err, List, [], ◌∷◌, ◌++◌, refl, sym, ap, ◌∙◌, subst, length, arith}
-use Rattle.std.proofs.lemmas.List.{drop_all, length-map, length-reverse, map-append}
+use Rattle.std.proofs.Common.{◌≡◌, ℕ, ◌<◌, map, Bool, true, false, if◌then◌else◌, Option, Some, Result, Ok, Err, List, [], ◌∷◌, ◌++◌, refl, sym, ap, ◌∙◌, subst, length, reverse, arith}
+use Rattle.std.proofs.lemmas.List.{drop_all, length-map, length-reverse, map-append, reverse-append}
 use Rattle.std.specs.Prelude.{is_ok}
 use Rattle.std.proofs.lemmas.Bool.{false≢true, true≢false}
 use Rattle.tocmark_event.specs.Ends.{same_end}
@@ -13,12 +13,17 @@ use Rattle.tocmark_spelling.specs.declared.buffered.BufferedEvent.{BufferedEvent
 use Rattle.tocmark_spelling.specs.Scans.{end_at}
 use Rattle.tocmark_write_pending.specs.OpenContainers.{AreOpenFrom, EndsAt, ended_by, ends_with, opened}
 use Rattle.tocmark_write_pending.specs.Pending.{PendingView, behind, closed, nested, one_more}
-use Rattle.tocmark_write_pending.specs.PendingOf.{AreIndexed, ends_awaited, places_of}
+use Rattle.tocmark_write_pending.specs.PendingOf.{AreIndexed, AreRunsOf, ends_awaited, places_of}
+use Rattle.tocmark_write_pending.specs.RunColumn.{HoldRuns, run_view}
+use Rattle.tocmark_write_pending.specs.declared.runs.Run.{Run}
 use Rattle.tocmark_write_pending.specs.Waiting.{has_ambiguous_list}
+use Rattle.tocmark_write_pending.specs.WidthColumn.{AreWidths, width_at, width_ended, widths_with}
 use Rattle.tocmark_write_pending.specs.declared.nesting.OpenContainer.{OpenContainer}
 use Rattle.tocmark_write_pending.proofs.Balanced.{reading-more, reading-nothing}
 use Rattle.tocmark_write_pending.proofs.EndColumn.{ends-more}
 use Rattle.tocmark_write_pending.proofs.OpenContainers.{never, opens-more, place-inside, some-same}
+use Rattle.tocmark_write_pending.proofs.RunColumn.{runs-none}
+use Rattle.tocmark_write_pending.proofs.WidthColumn.{widths-more}
 
 pub unsourced-sourced : (e : EventView) (source : Option (List ℕ)) → unsourced (sourced e source) ≡ e
 unsourced-sourced (Start t) source = refl
@@ -61,6 +66,9 @@ events-more es now b e h is =
 -- nothing is kept of no event
 pub index-nothing : AreIndexed [] [] [] [] false
 index-nothing = record { nested = reading-nothing; places_open = tt; ends_known = record { len = refl; at = λ i. ap (end_at i) (sym (drop_all i [] (omega arith))) }; ambiguity = refl }
+
+pub all-nothing : AreIndexed [] [] [] [] false × AreRunsOf [] [] [] × AreWidths [] []
+all-nothing = (index-nothing, runs-none, record { len = refl; at = λ i. ap width_at (sym (drop_all i [] (omega arith))) })
 
 -- as many Ends are awaited, and as many places kept, as containers are open
 pub awaited-count : (cs : List OpenContainer) → length (ends_awaited cs) ≡ length cs
@@ -120,3 +128,30 @@ ended-inside es os (q ∷ is) ends was (End k) o p held by h =
     let inside = place-inside es q 0 held.places_open.0 in
     omega (arith, same, inside, held.ends_known.len)
 ended-inside es os is ends was (Leaf l) o p held by h = absurd (never p (sym by ∙ h))
+
+-- one event more among the runs
+pub runs-indexed : (events all : List BufferedEvent) (b : BufferedEvent) (runs : List Run) (numbers : List ℕ) → all ≡ events ++ b ∷ []
+    → HoldRuns (buffered_view b ∷ reverse (map buffered_view events)) (reverse (map run_view runs)) (reverse numbers)
+    → AreRunsOf (map buffered_view all) runs numbers
+runs-indexed events all b runs numbers more held =
+    let turned : reverse (map buffered_view all) ≡ buffered_view b ∷ reverse (map buffered_view events) =
+    ap reverse (ap (map buffered_view) more ∙ map-append buffered_view events (b ∷ [])) ∙ reverse-append (map buffered_view events) (buffered_view b ∷ []) in
+    subst (λ (es : List SourcedEvent). HoldRuns es (reverse (map run_view runs)) (reverse numbers)) (sym turned) held
+
+width-more : (es : List SourcedEvent) (os now : List TagEnd) (is : List ℕ) (e : SourcedEvent) (o : Option ℕ) (widths : List ℕ) (w : ℕ) → AreOpenFrom es 0 is → AreWidths es widths → length os ≡ length is → o ≡ ended_by (unsourced e) is
+    → nested os (unsourced e) ≡ Ok now → ((e : SourcedEvent) → EndsAt es e o → w ≡ width_ended es o)
+    → AreWidths (es ++ e ∷ []) (widths_with o w widths)
+width-more es os now is e o widths w opens held same by n a =
+    let at : EndsAt es e o = subst (EndsAt es e) (sym by) (ended-at es os is e same opens (ap is_ok n)) in
+    subst (λ v. AreWidths (es ++ e ∷ []) (widths_with o v widths)) (sym (a e at)) (widths-more es e o widths held at)
+
+-- one event more among the widths
+pub widths-indexed : (es all : List SourcedEvent) (os now : List TagEnd) (is : List ℕ) (e : EventView) (source : Option (List ℕ)) (o : Option ℕ) (widths new : List ℕ) (w : ℕ) → AreOpenFrom es 0 is → AreWidths es widths → length os ≡ length is
+    → o ≡ ended_by e is → all ≡ es ++ sourced e source ∷ [] → nested os e ≡ Ok now → new ≡ widths_with o w widths
+    → ((e : SourcedEvent) → EndsAt es e o → w ≡ width_ended es o)
+    → AreWidths all new
+widths-indexed es all os now is e source o widths new w opens held same by more n set a =
+    let event : unsourced (sourced e source) ≡ e = unsourced-sourced e source in
+    subst (λ (xs : List SourcedEvent). AreWidths xs new) (sym more)
+    (subst (λ (ws : List ℕ). AreWidths (es ++ sourced e source ∷ []) ws) (sym set)
+    (width-more es os now is (sourced e source) o widths w opens held same (by ∙ ap (λ x. ended_by x is) (sym event)) (ap (nested os) event ∙ n) a))

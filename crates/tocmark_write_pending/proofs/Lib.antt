@@ -1,7 +1,12 @@
 pub mod Forests
 pub mod Balanced
 pub mod OpenContainers
+pub mod Columns
 pub mod EndColumn
+pub mod WidthColumn
 pub mod EndedLists
+pub mod RunColumn
+pub mod RunLists
+pub mod RunPlaces
 pub mod Joined
 pub mod Ambiguous

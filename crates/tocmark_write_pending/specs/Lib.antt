@@ -1,4 +1,6 @@
 pub mod Pending
+pub mod RunColumn
+pub mod WidthColumn
 pub mod PendingOf
 pub mod Placeholder
 pub mod OpenContainers

@@ -7,9 +7,12 @@ use Rattle.tocmark_spelling.specs.Buffered.{buffered_view}
 use Rattle.tocmark_spelling.specs.Scans.{AreEnds}
 use Rattle.tocmark_write_pending.specs.OpenContainers.{AreOpenFrom}
 use Rattle.tocmark_write_pending.specs.Pending.{PendingView}
+use Rattle.tocmark_write_pending.specs.RunColumn.{HoldRuns, run_view}
 use Rattle.tocmark_write_pending.specs.Waiting.{has_ambiguous_list}
+use Rattle.tocmark_write_pending.specs.WidthColumn.{AreWidths}
 use Rattle.tocmark_write_pending.specs.declared.nesting.OpenContainer.{OpenContainer}
 use Rattle.tocmark_write_pending.specs.declared.pending.Pending.TheInside.{Inside}
+use Rattle.tocmark_write_pending.specs.declared.runs.Run.{Run}
 
 -- the Ends of these open containers, innermost first
 abbrev pub ends_awaited : List OpenContainer → List TagEnd
@@ -27,6 +30,10 @@ pub record AreIndexed (es : List SourcedEvent) (awaited : List TagEnd) (places :
   pub ends_known : AreEnds es ends
   pub ambiguity : ambiguous ≡ has_ambiguous_list false es
 
+-- these are the runs of delimiters among the events, in order, and for each event the number of its run
+abbrev pub AreRunsOf : List SourcedEvent → List Run → List ℕ → Type 0
+AreRunsOf es runs numbers = HoldRuns (reverse es) (reverse (map run_view runs)) (reverse numbers)
+
 -- the events with their spellings, and the open containers, innermost first
 abbrev pub pending_of : Inside → PendingView
 pending_of a = record { events = map buffered_view a.events.items; open_tags = ends_awaited a.containers.items }
@@ -35,3 +42,5 @@ pending_of a = record { events = map buffered_view a.events.items; open_tags = e
 abbrev pub IsIndexed : Inside → Type 0
 IsIndexed a =
     AreIndexed (map buffered_view a.events.items) (ends_awaited a.containers.items) (places_of a.containers.items) a.ends.items a.is_ambiguous
+    × AreRunsOf (map buffered_view a.events.items) a.runs.items a.numbers.items
+    × AreWidths (map buffered_view a.events.items) a.widths.items

@@ -1,15 +1,19 @@
 //! The events that wait for their unit, with what is found out of them as they come.
 
-ghost use Rattle.std.specs.Prelude.{◌≡◌, ◌==◌, length, map, option_map, string_bytes, IfOk, is_some};
+ghost use Rattle.std.specs.Prelude.{◌≡◌, ◌<◌, ◌==◌, ◌∷◌, ◌++◌, [], drop, length, map, option_map, reverse, string_bytes, take, vec_capacity, IfOk, is_some};
 ghost use Rattle.tocmark_event.specs.Text.{text_of};
 ghost use Rattle.tocmark_event.specs.View.{event_view};
 ghost use Rattle.tocmark_spelling.specs.Buffered.{buffered_view, sourced};
 ghost use Rattle.tocmark_spelling.specs.Scans.{AreEnds};
 ghost use Rattle.tocmark_write_pending.specs.Pending.{Joins, nothing_pending, text_now};
+ghost use Rattle.tocmark_write_pending.specs.RunColumn.{run_here, run_view};
 ghost use Rattle.tocmark_write_pending.specs.Units.{trees_of, waits};
+ghost use Rattle.tocmark_write_pending.specs.WidthColumn.{width_at};
 
 use crate::nesting::{OpenContainer, can_come, ended_by, nest, note_end};
 use crate::placeholder::is_ambiguous_behind;
+use crate::runs::{Run, join_runs, run_at};
+use crate::widths::{ended_width, note_width, width_at};
 use std::alloc::{AllocError, Global};
 use std::marker::Model;
 use tocmark_event::event::Event;
@@ -28,6 +32,13 @@ pub struct Pending {
     /// For each event that starts a container the place where that ends, if it has ended; `None` for
     /// others.
     ends: Vec<Option<usize>>,
+    /// The runs of delimiters, in order.
+    runs: Vec<Run>,
+    /// For each event how many runs begin up to it.
+    numbers: Vec<usize>,
+    /// For each event that starts a container how many markers that opens with, if it has ended; 0 for
+    /// others.
+    widths: Vec<usize>,
     /// Whether a list among the events needs a placeholder. That only goes from false to true.
     is_ambiguous: bool,
 }
@@ -89,6 +100,14 @@ fn copied_events(alloc: Global, events: &[BufferedEvent]) -> Result<Vec<Buffered
     Ok(copies)
 }
 
+/// Puts an event where there is room for it.
+fn put_event(events: &mut Vec<BufferedEvent>, event: BufferedEvent)
+    requires room { length events.old.items < vec_capacity events.old }
+    ensures items { events.new.items ≡ events.old.items ++ event ∷ [] }
+{
+    let _room = events.push(event);
+}
+
 impl Pending {
     /// No event waits.
     pub fn new(alloc: Global) -> Pending
@@ -98,6 +117,9 @@ impl Pending {
             events: Vec::new(alloc),
             containers: Vec::new(alloc),
             ends: Vec::new(alloc),
+            runs: Vec::new(alloc),
+            numbers: Vec::new(alloc),
+            widths: Vec::new(alloc),
             is_ambiguous: false,
         }
     }
@@ -122,6 +144,39 @@ impl Pending {
         ensures { AreEnds self.now.events result.now }
     {
         self.ends.as_slice()
+    }
+
+    /// The run of delimiters in which the event at a place stands: the longest stretch of starts of
+    /// emphasis and strong emphasis round it, or of their ends. `None` for other events.
+    ///
+    /// ```
+    /// let mut pending = Pending::new(alloc);
+    /// pending.join(alloc, &Event::Start(Tag::Emphasis), None)?;
+    /// pending.join(alloc, &Event::Start(Tag::Strong), None)?;
+    /// assert!(pending.run_at(0).map(|run| run.width) == Some(3));
+    /// ```
+    pub fn run_at(&self, place: usize) -> Option<Run>
+        ensures { option_map run_view result
+            ≡ run_here (reverse (take place self.now.events)) (drop place self.now.events) }
+    {
+        run_at(&self.events, &self.runs, &self.numbers, place)
+    }
+
+    /// How many markers the container opens with that starts at a place, if it has ended: its own, and
+    /// those of a first child that is emphasis or strong emphasis. 0 for another event.
+    ///
+    /// ```
+    /// let mut pending = Pending::new(alloc);
+    /// pending.join(alloc, &Event::Start(Tag::Emphasis), None)?;
+    /// pending.join(alloc, &Event::Start(Tag::Strong), None)?;
+    /// pending.join(alloc, &Event::End(TagEnd::Strong), None)?;
+    /// pending.join(alloc, &Event::End(TagEnd::Emphasis), None)?;
+    /// assert!(pending.width_at(0) == 3 && pending.width_at(1) == 2);
+    /// ```
+    pub fn width_at(&self, place: usize) -> usize
+        ensures { result ≡ width_at (drop place self.now.events) }
+    {
+        width_at(&self.widths, place)
     }
 
     /// Whether no event waits.
@@ -170,12 +225,18 @@ impl Pending {
         let place = self.events.len();
         let ended = ended_by(&self.containers, event);
         let is_ambiguous = is_ambiguous_behind(self.is_ambiguous, &self.events, &self.ends, ended);
+        let width = ended_width(&self.events, &self.ends, &self.widths, ended)?;
         self.containers.reserve(1)?;
         self.ends.reserve(1)?;
+        self.numbers.reserve(1)?;
+        self.events.reserve(1)?;
+        self.widths.reserve(1)?;
         let copy = buffered(alloc, event, source)?;
-        self.events.push(copy)?;
+        join_runs(&mut self.runs, &mut self.numbers, &copy, &self.events)?;
+        put_event(&mut self.events, copy);
         self.is_ambiguous = is_ambiguous;
         note_end(&mut self.ends, ended);
+        note_width(&mut self.widths, ended, width);
         nest(&mut self.containers, event, place);
         Ok(())
     }
@@ -187,6 +248,9 @@ impl Pending {
         self.events.clear();
         self.containers.clear();
         self.ends.clear();
+        self.runs.clear();
+        self.numbers.clear();
+        self.widths.clear();
         self.is_ambiguous = false;
     }
 
@@ -198,6 +262,9 @@ impl Pending {
             events: copied_events(alloc, &self.events)?,
             containers: Vec::from_slice(alloc, &self.containers)?,
             ends: Vec::from_slice(alloc, &self.ends)?,
+            runs: Vec::from_slice(alloc, &self.runs)?,
+            numbers: Vec::from_slice(alloc, &self.numbers)?,
+            widths: Vec::from_slice(alloc, &self.widths)?,
             is_ambiguous: self.is_ambiguous,
         })
     }

@@ -52,7 +52,8 @@ fn starts_paragraph(event: &BufferedEvent) -> bool
     matches!(&event.event, EventOf::Start(TagOf::Paragraph))
 }
 
-fn rest_of(events: &[BufferedEvent], start: usize) -> &[BufferedEvent]
+/// The events from a place on.
+pub(crate) fn rest_of(events: &[BufferedEvent], start: usize) -> &[BufferedEvent]
     ensures { result.now ≡ drop start events.now }
 {
     if start <= events.len() {

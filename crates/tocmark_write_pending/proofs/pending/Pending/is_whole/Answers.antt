@@ -13,5 +13,5 @@ returns-clause-whole c =
     let containers = c.self.inside.containers in
     let closed : c.is_empty.result ≡ (length (ends_awaited containers.items) == 0) = cc (containers.ok.0, c.is_empty.ensures, awaited-count containers.items) in
     closed
-    ∙ reading-whole (map buffered_view c.self.inside.events.items) (ends_awaited containers.items) c.self.invariant.nested
+    ∙ reading-whole (map buffered_view c.self.inside.events.items) (ends_awaited containers.items) c.self.invariant.0.nested
     ∙ ap (λ (p : PendingView). is_some (trees_of p.events)) c.self.view_is

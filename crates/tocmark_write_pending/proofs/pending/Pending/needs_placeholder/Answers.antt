@@ -6,7 +6,7 @@ use Rattle.tocmark_write_pending.proofs.pending.Pending.needs_placeholder.Goals 
 
 pub returns-then-is_whole : goal.returns-then-is_whole
 returns-then-is_whole c =
-    c.self.invariant.ambiguity
+    c.self.invariant.0.ambiguity
     ∙ ap (λ (p : PendingView). has_ambiguous_list false p.events) c.self.view_is
     ∙ waits-balanced c.args.self.now.events (sym c.if-is_whole.ensures.whole)
 

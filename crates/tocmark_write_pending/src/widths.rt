@@ -1,0 +1,128 @@
+//! How many markers the containers of a unit open with, found when they end.
+
+ghost use Rattle.std.specs.Prelude.{◌≡◌, ◌<◌, ℕ, drop, length, map, slice_index_or, vec_capacity, IfOk, Some};
+ghost use Rattle.tocmark_event.specs.View.{SourcedEvent};
+ghost use Rattle.tocmark_spelling.specs.Buffered.{buffered_view};
+ghost use Rattle.tocmark_spelling.specs.Runs.{start_width};
+ghost use Rattle.tocmark_spelling.specs.Scans.{AreEnds};
+ghost use Rattle.tocmark_write_pending.specs.OpenContainers.{EndsAt, IsOpenAt};
+ghost use Rattle.tocmark_write_pending.specs.WidthColumn.{AreWidths, added_by, is_last, width_by, width_ended, width_now, widths_with};
+
+use crate::placeholder::rest_of;
+use std::alloc::AllocError;
+use tocmark_event::event::{EventOf, TagOf};
+use tocmark_spelling::buffered::BufferedEvent;
+use tocmark_write_lookahead::ends::end_at;
+
+fn start_width(event: &BufferedEvent) -> usize
+    ensures { result ≡ start_width (buffered_view event.now) }
+{
+    match &event.event {
+        EventOf::Start(TagOf::Emphasis) => 1,
+        EventOf::Start(TagOf::Strong) => 2,
+        _ => 0,
+    }
+}
+
+/// What a first child adds to the container that ends behind it, given how many markers it opens with.
+fn added_by(event: &BufferedEvent, is_only: bool, width: usize) -> usize
+    ensures { result ≡ added_by (buffered_view event.now) is_only width }
+{
+    match &event.event {
+        EventOf::Start(TagOf::Emphasis) => { if is_only { 0 } else { width } }
+        EventOf::Start(TagOf::Strong) => width,
+        _ => 0,
+    }
+}
+
+/// Whether a container ended with the last of so many events.
+fn is_last(end: Option<usize>, count: usize) -> bool
+    ensures { result ≡ is_last end count }
+{
+    match end {
+        Some(end) => end < count && count - end == 1,
+        None => false,
+    }
+}
+
+/// How many markers open a container that ends behind these events, the first of which is its start;
+/// given whether its first child is its only one, and how many markers that opens with.
+fn width_by(events: &[BufferedEvent], is_only: bool, width: usize) -> Result<usize, AllocError>
+    ensures { IfOk result (λ all. all ≡ width_by (map buffered_view events.now) is_only width) }
+{
+    match events {
+        [start, first, ..] => {
+            start_width(start)
+                .checked_add(added_by(first, is_only, width))
+                .ok_or(AllocError)
+        }
+        [start] => Ok(start_width(start)),
+        [] => Ok(0),
+    }
+}
+
+/// How many markers the container opens with that starts at a place, if it has ended; 0 for another event.
+pub(crate) fn width_at(widths: &[usize], place: usize) -> usize
+    ensures { result ≡ slice_index_or widths.now place 0 }
+{
+    if place < widths.len() {
+        widths[place]
+    } else {
+        0
+    }
+}
+
+/// How many markers the container opens with whose start is at a place, and which one more event ends.
+fn width_from(
+    events: &[BufferedEvent],
+    ends: &[Option<usize>],
+    widths: &[usize],
+    start: usize,
+) -> Result<usize, AllocError>
+    requires ends { AreEnds (map buffered_view events.now) ends.now }
+    requires widths { AreWidths (map buffered_view events.now) widths.now }
+    ensures { let es = map buffered_view events.now in
+        IsOpenAt es start 0 → IfOk result (λ all. all ≡ width_now (drop start es)) }
+{
+    if start < events.len() {
+        let first = start + 1;
+        let is_only = is_last(end_at(ends, first), events.len());
+        width_by(rest_of(events, start), is_only, width_at(widths, first))
+    } else {
+        Ok(0)
+    }
+}
+
+/// How many markers the container opens with that one more event ends, if it ends one, whose start is at a
+/// place.
+///
+/// An `Err` says that they are as many as no text can have.
+pub(crate) fn ended_width(
+    events: &[BufferedEvent],
+    ends: &[Option<usize>],
+    widths: &[usize],
+    ended: Option<usize>,
+) -> Result<usize, AllocError>
+    requires ends { AreEnds (map buffered_view events.now) ends.now }
+    requires widths { AreWidths (map buffered_view events.now) widths.now }
+    ensures { let es = map buffered_view events.now in
+        (e : SourcedEvent) → EndsAt es e ended → IfOk result (λ all. all ≡ width_ended es ended) }
+{
+    match ended {
+        Some(start) => width_from(events, ends, widths, start),
+        None => Ok(0),
+    }
+}
+
+/// Notes how many markers a container opens with whose start is at a place, if one more event ends one.
+/// There is room for one more.
+pub(crate) fn note_width(widths: &mut Vec<usize>, ended: Option<usize>, width: usize)
+    requires room { length widths.old.items < vec_capacity widths.old }
+    requires inside { (p : ℕ) → ended ≡ Some p → p < length widths.old.items }
+    ensures { widths.new.items ≡ widths_with ended width widths.old.items }
+{
+    if let Some(start) = ended {
+        widths[start] = width;
+    }
+    let _room = widths.push(0);
+}
