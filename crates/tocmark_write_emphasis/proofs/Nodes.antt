@@ -1,7 +1,7 @@
 -- What the columns say of a place is what an opening there is told.
-use Rattle.std.proofs.Common.{◌≡◌, ℕ, zero, suc, ◌+◌, ◌-◌, ◌<◌, ◌≤◌, Bool, true, false, List, ◌∷◌, ◌++◌, Option, Some, None, IfSome, refl, sym, ap, ◌∙◌, subst, map, drop, take, reverse, length, get_or, slice_index_or, arith, if◌then◌else◌}
-use Rattle.std.specs.Prelude.{not, ◌&&◌, ◌||◌, ◌==◌}
-use Rattle.std.proofs.lemmas.List.{reverse-append, drop-drop, length-drop}
+use Rattle.std.proofs.Common.{◌≡◌, ℕ, zero, suc, ◌+◌, ◌-◌, ◌<◌, ◌≤◌, Bool, true, false, List, [], ◌∷◌, ◌++◌, Option, Some, None, IfSome, refl, sym, ap, ◌∙◌, subst, map, drop, take, reverse, length, get_or, slice_index_or, arith, if◌then◌else◌}
+use Rattle.std.specs.Prelude.{not, ◌&&◌, ◌||◌, ◌==◌, is_none, unwrap_or}
+use Rattle.std.proofs.lemmas.List.{reverse-append, drop-drop}
 use Rattle.std.proofs.lemmas.Bool.{eqb-true, false≢true}
 use Rattle.std.proofs.Math.Seq.{take-add}
 use Rattle.tocmark_event.specs.Forest.{empty, leaf, node, flat_onto}
@@ -10,27 +10,28 @@ use Rattle.tocmark_event.specs.Options.{OptionsView}
 use Rattle.tocmark_event.specs.declared.event.flags.ParserOptions.{ParserOptions}
 use Rattle.tocmark_spelling.specs.Body.{Trees}
 use Rattle.tocmark_spelling.specs.Buffered.{sourced, event_of, buffered_view}
-use Rattle.tocmark_spelling.specs.Edges.{edge, edge_after}
+use Rattle.tocmark_spelling.specs.Edges.{edge_after, edge_before}
 use Rattle.tocmark_spelling.specs.Kinds.{is_emphasis_or_strong, starts}
 use Rattle.tocmark_spelling.specs.Look.{is_preferred}
 use Rattle.tocmark_spelling.specs.Machine.{kids_of}
 use Rattle.tocmark_spelling.specs.Marker.{ends_delimiter, is_strong}
 use Rattle.tocmark_spelling.specs.Page.{front}
 use Rattle.tocmark_spelling.specs.PlanOf.{setting_of}
-use Rattle.tocmark_spelling.specs.Runs.{Run, behind_run, is_marker, marker_only, text_only, tag_width, start_width, close_width}
+use Rattle.tocmark_spelling.specs.Runs.{Run, behind_run, is_marker, marker_only, run_at, text_only, tag_width, end_width, start_width, close_width}
 use Rattle.tocmark_spelling.specs.Scans.{span}
 use Rattle.tocmark_spelling.specs.Words.{or_else}
 use Rattle.tocmark_spelling.specs.declared.buffered.BufferedEvent.{BufferedEvent}
 use Rattle.tocmark_spelling.proofs.Turns.{before-event, drop-all, drop-event, events-take, length-events}
-use Rattle.tocmark_write_lookahead.specs.Ahead.{behind_body, body_in, up_to_end, width_in, is_disturbed, IsNested}
-use Rattle.tocmark_write_lookahead.specs.Sides.{no_side, picked, run_of, side_at}
-use Rattle.tocmark_write_lookahead.specs.declared.sides.Side.{Side}
-use Rattle.tocmark_write_lookahead.proofs.Ahead.{place-within, place-rest, place-before, opening-look, closing-look, width-look, prefers-look}
-use Rattle.tocmark_write_emphasis.specs.Facts.{Readings, run_view, tag_of, tag_at}
+use Rattle.tocmark_write_lookahead.specs.Ahead.{behind_body, body_in, closing_ahead, opening_ahead, up_to_end, width_ahead_of, is_disturbed, IsNested}
+use Rattle.tocmark_write_pending.specs.OpenContainers.{left_open}
+use Rattle.tocmark_write_pending.specs.RunColumn.{Ends, Starts, is_counted, run_here, run_view}
+use Rattle.tocmark_write_pending.specs.WidthColumn.{width_at}
+use Rattle.tocmark_write_lookahead.proofs.Ahead.{place-rest, place-before, opening-look, closing-look, width-look, prefers-look}
+use Rattle.tocmark_write_emphasis.specs.Facts.{Readings, tag_of, tag_at}
 use Rattle.tocmark_write_emphasis.specs.declared.facts.EmphasisEvents.{EmphasisEvents}
 use Rattle.tocmark_write_emphasis.specs.ColumnsOf.{AreColumns}
 use Rattle.tocmark_write_emphasis.specs.Low.{HasLowLiterals}
-use Rattle.tocmark_write_emphasis.specs.NodeOf.{Begins, IsTold, IsNodeOf}
+use Rattle.tocmark_write_emphasis.specs.NodeOf.{Begins, IsTold, IsNodeOf, no_run}
 use Rattle.tocmark_write_emphasis.specs.declared.columns.Columns.{Columns}
 
 unsourced-sourced : (e : EventView) (s : Option (List ℕ)) → unsourced (sourced e s) ≡ e
@@ -61,21 +62,28 @@ strong-is Emphasis e = refl
 strong-is Strong e = refl
 strong-is t e = absurd (false≢true e)
 
--- the End of a container is among the events behind its Start
-span-within : (f : Trees) (d : ℕ) (r : List SourcedEvent) → span d r < length r → span d (flat_onto f r) < length (flat_onto f r)
-span-within empty d r h = h
-span-within (leaf l f) zero r h = let less = span-within f zero r h in omega (arith, less)
-span-within (leaf l f) (suc d) r h = let less = span-within f (suc d) r h in omega (arith, less)
-span-within (node t kids f) d r h =
-    let right = span-within f d r h in
-    let less = span-within kids (suc d) (End (end_of t) ∷ flat_onto f r) (omega (arith, right)) in
-    omega (arith, less)
+-- the End of a container stands behind its children
+end-flat : (f : Trees) (d : ℕ) (r : List SourcedEvent) → drop (span d (flat_onto f r)) (flat_onto f r) ≡ drop (span d r) r
+end-flat empty d r = refl
+end-flat (leaf l f) zero r = end-flat f zero r
+end-flat (leaf l f) (suc d) r = end-flat f (suc d) r
+end-flat (node t kids f) d r = end-flat kids (suc d) (End (end_of t) ∷ flat_onto f r) ∙ end-flat f d r
 
-nested-within : (t : TagView) (rest : List SourcedEvent) → IsNested t rest → span 0 rest < length rest
-nested-within t rest nested =
-    let P : List SourcedEvent → Type 0 = λ es. span 0 es < length es in
-    let there : P (flat_onto (kids_of rest) (End (end_of t) ∷ behind_body rest)) = span-within (kids_of rest) 0 (End (end_of t) ∷ behind_body rest) (omega arith) in
-    subst P (sym nested) there
+-- so it ends it
+open-flat : (f : Trees) (d : ℕ) (r : List SourcedEvent) → left_open d (flat_onto f r) ≡ left_open d r
+open-flat empty d r = refl
+open-flat (leaf l f) zero r = open-flat f zero r
+open-flat (leaf l f) (suc d) r = open-flat f (suc d) r
+open-flat (node t kids f) d r = open-flat kids (suc d) (End (end_of t) ∷ flat_onto f r) ∙ open-flat f d r
+
+module _ (t : TagView) (rest : List SourcedEvent) (nested : IsNested t rest) where
+  end-stands : drop (span 0 rest) rest ≡ End (end_of t) ∷ behind_body rest
+  end-stands =
+      ap (λ (es : List SourcedEvent). drop (span 0 es) es) nested
+      ∙ end-flat (kids_of rest) 0 (End (end_of t) ∷ behind_body rest)
+
+  has-ended : left_open 0 rest ≡ None
+  has-ended = ap (left_open 0) nested ∙ open-flat (kids_of rest) 0 (End (end_of t) ∷ behind_body rest)
 
 -- the events before the End of a container
 before-end : (es rest : List SourcedEvent) (i end : ℕ) (t : TagView) → drop i es ≡ Start t ∷ rest → end ≡ i + 1 + span 0 rest → reverse (take end es) ≡ up_to_end (Start t ∷ reverse (take i es)) rest
@@ -102,33 +110,30 @@ prefers-by reading es rest i t c false layout_is o flags label cols at e =
     cols.by_runs o flags label i t rest at ∙ ap (λ b. is_disturbed (setting_of o flags reading label) (not b) (Start t ∷ reverse (take i es)) rest) (sym e)
 
 -- what was found at a place
-pub record IsFound (es : List SourcedEvent) (i end : ℕ) (e : SourcedEvent) (c : Columns) (preferred : Bool) (next : Option EventView) (own : ℕ) (before first last after : Side) (n : EmphasisEvents) : Type 0 where
+pub record IsFound (es : List SourcedEvent) (i end : ℕ) (e : SourcedEvent) (c : Columns) (preferred : Bool) (next : Option EventView) (n : EmphasisEvents) : Type 0 where
   pub strong : n.strong ≡ starts is_strong (unsourced e)
   pub follows : n.follows_closing ≡ ends_delimiter (front (reverse (take i es)))
   pub next_is : n.next ≡ edge_after (or_else (front (drop (end + 1) es)) next)
-  pub own_is : own ≡ tag_width (tag_of n.strong)
-  pub opening : run_view n.opening ≡ run_of own before first
-  pub closing : run_view n.closing ≡ run_of own last after
-  pub before_is : before ≡ slice_index_or c.starts_before.items i no_side
-  pub first_is : first ≡ slice_index_or c.starts_ahead.items (i + 1) no_side
-  pub last_is : last ≡ slice_index_or c.ends_before.items end no_side
-  pub after_is : after ≡ slice_index_or c.ends_ahead.items (end + 1) no_side
-  pub width : n.width ≡ own + slice_index_or c.widths.items (i + 1) 0
+  pub opening : run_view n.opening ≡ unwrap_or (run_here (reverse (take i es)) (drop i es)) no_run
+  pub closing : run_view n.closing ≡ unwrap_or (run_here (reverse (take end es)) (drop end es)) no_run
+  pub width : n.width ≡ width_at (drop i es)
   pub prefers : n.prefers ≡ slice_index_or (if preferred then c.by_neighbours.items else c.by_runs.items) i false
+
+start-run : (t : TagView) (back rest : List SourcedEvent) → is_emphasis_or_strong t ≡ true → run_here back (Start t ∷ rest) ≡ Some (run_at start_width (tag_width t) back rest)
+start-run Emphasis back rest h = refl
+start-run Strong back rest h = refl
+start-run t back rest h = absurd (false≢true h)
+
+end-run : (t : TagView) (back rest : List SourcedEvent) → is_emphasis_or_strong t ≡ true → run_here back (End (end_of t) ∷ rest) ≡ Some (run_at close_width (tag_width t) back rest)
+end-run Emphasis back rest h = refl
+end-run Strong back rest h = refl
+end-run t back rest h = absurd (false≢true h)
 
 start-is : (es rest : List SourcedEvent) (i : ℕ) (e : SourcedEvent) (t : TagView) → drop i es ≡ e ∷ drop (i + 1) es → drop i es ≡ Start t ∷ rest → e ≡ Start t
 start-is es rest i e t a b = ap (λ x. get_or x 0 e) (sym a ∙ b)
 
 -- a place where a container of emphasis or strong emphasis starts
-module _ (reading : Readings) (es rest : List SourcedEvent) (i end : ℕ) (e : SourcedEvent) (t : TagView) (c : Columns) (preferred : Bool) (next : Option EventView) (own : ℕ) (before first last after : Side) (n : EmphasisEvents) (cols : AreColumns reading es c) (end_is : end ≡ i + 1 + span 0 rest) (event : drop i es ≡ e ∷ drop (i + 1) es) (begins : Begins es i t rest) (found : IsFound es i end e c preferred next own before first last after n) where
-  lt : i < length es
-  lt = place-within es rest i (Start t) begins.at
-
-  end-within : end < length es
-  end-within =
-      let less = nested-within t rest begins.nested in
-      omega (arith, less, end_is, lt, sym (length-drop i es) ∙ ap length begins.at)
-
+module _ (reading : Readings) (es rest : List SourcedEvent) (i end : ℕ) (e : SourcedEvent) (t : TagView) (c : Columns) (preferred : Bool) (next : Option EventView) (n : EmphasisEvents) (cols : AreColumns reading es c) (end_is : end ≡ i + 1 + span 0 rest) (event : drop i es ≡ e ∷ drop (i + 1) es) (begins : Begins es i t rest) (found : IsFound es i end e c preferred next n) where
   behind : drop (end + 1) es ≡ behind_body rest
   behind = behind-end es rest i end t begins.at end_is
 
@@ -137,31 +142,32 @@ module _ (reading : Readings) (es rest : List SourcedEvent) (i end : ℕ) (e : S
       ap tag_of (found.strong ∙ ap (λ x. starts is_strong (unsourced x)) (start-is es rest i e t event begins.at))
       ∙ strong-is t begins.delimits
 
-  own-is : own ≡ tag_width t
-  own-is = found.own_is ∙ ap tag_width tag-is
-
-  opening-is : run_view n.opening ≡ run_of (tag_width t) (side_at false start_width (reverse (take i es))) (side_at true start_width rest)
+  opening-is : run_view n.opening ≡ opening_ahead t (reverse (take i es)) rest
   opening-is =
       found.opening
-      ∙ ap (λ w. run_of w before first) own-is
-      ∙ ap (λ s. run_of (tag_width t) s first) (found.before_is ∙ cols.starts_before i lt)
-      ∙ ap (λ s. run_of (tag_width t) (side_at false start_width (reverse (take i es))) s)
-      (found.first_is ∙ cols.starts_ahead (i + 1) ∙ ap (side_at true start_width) (place-rest es rest i (Start t) begins.at))
+      ∙ ap (λ (xs : List SourcedEvent). unwrap_or (run_here (reverse (take i es)) xs) no_run) begins.at
+      ∙ ap (λ (o : Option Run). unwrap_or o no_run) (start-run t (reverse (take i es)) rest begins.delimits)
 
-  closing-is : run_view n.closing ≡ run_of (tag_width t) (side_at false close_width (up_to_end (Start t ∷ reverse (take i es)) rest)) (side_at true close_width (behind_body rest))
+  -- its End
+  end-there : drop end es ≡ End (end_of t) ∷ behind_body rest
+  end-there =
+      ap (λ k. drop k es) end_is
+      ∙ sym (drop-drop (span 0 rest) (i + 1) es)
+      ∙ ap (drop (span 0 rest)) (place-rest es rest i (Start t) begins.at)
+      ∙ end-stands t rest begins.nested
+
+  closing-is : run_view n.closing ≡ closing_ahead t (reverse (take i es)) rest
   closing-is =
       found.closing
-      ∙ ap (λ w. run_of w last after) own-is
-      ∙ ap (λ s. run_of (tag_width t) s after)
-      (found.last_is ∙ cols.ends_before end end-within ∙ ap (side_at false close_width) (before-end es rest i end t begins.at end_is))
-      ∙ ap (λ s. run_of (tag_width t) (side_at false close_width (up_to_end (Start t ∷ reverse (take i es)) rest)) s)
-      (found.after_is ∙ cols.ends_ahead (end + 1) ∙ ap (side_at true close_width) behind)
+      ∙ ap (λ (xs : List SourcedEvent). unwrap_or (run_here (reverse (take end es)) xs) no_run) end-there
+      ∙ ap (λ (o : Option Run). unwrap_or o no_run) (end-run t (reverse (take end es)) (behind_body rest) begins.delimits)
+      ∙ ap (λ (back : List SourcedEvent). run_at close_width (tag_width t) back (behind_body rest)) (before-end es rest i end t begins.at end_is)
 
-  width-is : n.width ≡ tag_width t + width_in rest
+  width-is : n.width ≡ width_ahead_of t rest
   width-is =
       found.width
-      ∙ ap (λ w. w + slice_index_or c.widths.items (i + 1) 0) own-is
-      ∙ ap (λ w. tag_width t + w) (cols.widths (i + 1) ∙ ap width_in (place-rest es rest i (Start t) begins.at))
+      ∙ ap width_at begins.at
+      ∙ (λ j. if is_none (has-ended t rest begins.nested j) then width_ahead_of t rest else 0)
 
   told-is : IsTold reading es i preferred t rest next n
   told-is o flags label m layout =
@@ -201,20 +207,32 @@ marker_only-low (Some c) = by_case (is_marker c) (marker-bound c)
     by_case true h = h refl
     by_case false h = tt
 
-side-low : (first : Bool) (width : SourcedEvent → ℕ) (es : List SourcedEvent) → IfSome (side_at first width es).literal (λ c. c < 128)
-side-low first width es = marker_only-low (edge (picked first) (text_only (front (behind_run width es))))
+-- the markers beside a run are ASCII
+record IsLow (r : Run) : Type 0 where
+  before : IfSome r.literal_before (λ c. c < 128)
+  after : IfSome r.literal_after (λ c. c < 128)
 
-pub literals-low : (reading : Readings) (es : List SourcedEvent) (c : Columns) → AreColumns reading es c → (i end own own' : ℕ) (before first last after : Side) (n : EmphasisEvents) → i < length es
-    → run_view n.opening ≡ run_of own before first → run_view n.closing ≡ run_of own' last after
-    → before ≡ slice_index_or c.starts_before.items i no_side → after ≡ slice_index_or c.ends_ahead.items (end + 1) no_side → HasLowLiterals n
-literals-low reading es c cols i end own own' before first last after n lt opening closing before_is after_is =
-    let Low : Option ℕ → Type 0 = λ o. IfSome o (λ c. c < 128) in
-    let left : n.opening.literal_before ≡ (side_at false start_width (reverse (take i es))).literal = ap (λ (r : Run). r.literal_before) opening ∙ ap (λ (s : Side). s.literal) (before_is ∙ cols.starts_before i lt) in
-    let right : n.closing.literal_after ≡ (side_at true close_width (drop (end + 1) es)).literal = ap (λ (r : Run). r.literal_after) closing ∙ ap (λ (s : Side). s.literal) (after_is ∙ cols.ends_ahead (end + 1)) in
-    record {
-      before = subst Low (sym left) (side-low false start_width (reverse (take i es)));
-      after = subst Low (sym right) (side-low true close_width (drop (end + 1) es));
-    }
+at-low : (width : SourcedEvent → ℕ) (own : ℕ) (back after : List SourcedEvent) → IsLow (run_at width own back after)
+at-low width own back after = record {
+  before = marker_only-low (edge_before (text_only (front (behind_run width back))));
+  after = marker_only-low (edge_after (text_only (front (behind_run width after))));
+}
+
+if-low : (b : Bool) (r : Run) → IsLow r → IsLow (unwrap_or (if b then Some r else None) no_run)
+if-low true r h = h
+if-low false r h = record { before = tt; after = tt }
+
+run-low : (back es : List SourcedEvent) → IsLow (unwrap_or (run_here back es) no_run)
+run-low back [] = record { before = tt; after = tt }
+run-low back (Start t ∷ after) = if-low (is_counted Starts (Start t)) (run_at start_width (tag_width t) back after) (at-low start_width (tag_width t) back after)
+run-low back (End k ∷ after) = if-low (is_counted Ends (End k)) (run_at close_width (end_width k) back after) (at-low close_width (end_width k) back after)
+run-low back (Leaf l ∷ after) = record { before = tt; after = tt }
+
+pub literals-low : (es : List SourcedEvent) (i end : ℕ) (n : EmphasisEvents) → run_view n.opening ≡ unwrap_or (run_here (reverse (take i es)) (drop i es)) no_run → run_view n.closing ≡ unwrap_or (run_here (reverse (take end es)) (drop end es)) no_run → HasLowLiterals n
+literals-low es i end n opening closing =
+    let left : IsLow (run_view n.opening) = subst IsLow (sym opening) (run-low (reverse (take i es)) (drop i es)) in
+    let right : IsLow (run_view n.closing) = subst IsLow (sym closing) (run-low (reverse (take end es)) (drop end es)) in
+    record { before = left.before; after = right.after }
 
 -- the event just behind a container
 pub next-is : (es rest : List SourcedEvent) (i end : ℕ) (t : TagView) → end ≡ i + 1 + span 0 rest → Begins es i t rest → or_else (front (drop (end + 1) es)) None ≡ front (behind_body rest)

@@ -4,11 +4,8 @@ use Rattle.tocmark_event.specs.Options.{OptionsView}
 use Rattle.tocmark_event.specs.View.{SourcedEvent}
 use Rattle.tocmark_event.specs.declared.event.flags.ParserOptions.{ParserOptions}
 use Rattle.tocmark_spelling.specs.PlanOf.{setting_of}
-use Rattle.tocmark_spelling.specs.Runs.{start_width, close_width}
 use Rattle.tocmark_write_lookahead.specs.Ahead.{AreDisturbed}
-use Rattle.tocmark_write_lookahead.specs.Sides.{AreAhead, AreBefore}
 use Rattle.tocmark_write_emphasis.specs.Facts.{Readings}
-use Rattle.tocmark_write_emphasis.specs.Widths.{AreWidths}
 use Rattle.tocmark_write_emphasis.specs.declared.columns.Columns.{Columns}
 
 -- with this reader, whatever the options, flags and label are: for each Start whether a node of its body disturbs
@@ -19,10 +16,5 @@ ArePreferences reading runs es found =
 
 -- the columns are those of these events, with this reader
 pub record AreColumns (reading : Readings) (es : List SourcedEvent) (c : Columns) : Type 0 where
-  pub starts_before : AreBefore start_width es c.starts_before.items
-  pub ends_before : AreBefore close_width es c.ends_before.items
-  pub starts_ahead : AreAhead start_width es c.starts_ahead.items
-  pub ends_ahead : AreAhead close_width es c.ends_ahead.items
-  pub widths : AreWidths es c.widths.items
   pub by_runs : ArePreferences reading true es c.by_runs.items
   pub by_neighbours : ArePreferences reading false es c.by_neighbours.items

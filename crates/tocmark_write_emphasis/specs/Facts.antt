@@ -17,10 +17,9 @@ use Rattle.tocmark_spelling.specs.declared.plan.Layout.TheVariants.{Preferred, U
 use Rattle.tocmark_spelling.specs.declared.plan.Delimiters.{Delimiters}
 use Rattle.tocmark_spelling.specs.PlanOf.{setting_of}
 use Rattle.tocmark_spelling.specs.Places.{nearest}
-use Rattle.tocmark_spelling.specs.Runs as runs
 use Rattle.tocmark_spelling.specs.Runs.{run_around, last_run}
 use Rattle.tocmark_spelling.specs.Words.{last_character, last_byte}
-use Rattle.tocmark_write_emphasis.specs.declared.facts.Run.{Run}
+use Rattle.tocmark_write_pending.specs.RunColumn.{run_view}
 use Rattle.tocmark_write_emphasis.specs.declared.facts.EmphasisEvents.{EmphasisEvents}
 use Rattle.tocmark_write_emphasis.specs.declared.facts.Parent.{Parent}
 use Rattle.tocmark_write_emphasis.specs.declared.facts.NodeSurroundings.{NodeSurroundings}
@@ -41,16 +40,6 @@ markers_of d = record { emphasis = d.emphasis; strong = d.strong.now }
 -- the marker that is asked for, by its first byte if it has several
 abbrev pub asked_by : Delimiters → Bool → ℕ
 asked_by d strong = asked_marker (markers_of d) (tag_of strong)
-
--- a run of delimiters, as a plain value
-abbrev pub run_view : Run → runs.Run
-run_view r = record {
-  before = r.before;
-  after = r.after;
-  literal_before = r.literal_before;
-  literal_after = r.literal_after;
-  width = r.width;
-}
 
 -- what is told of a node is what its opening is told of the unit's events
 pub record IsNode (node : EmphasisEvents) (l : Look) : Type 0 where

@@ -1,6 +1,6 @@
 -- Definitions.
 pub mod Facts
-pub mod Widths
+pub mod Marks
 pub mod ColumnsOf
 pub mod NodeOf
 pub mod Low

@@ -1,5 +1,5 @@
 -- A node of emphasis or strong emphasis among a unit's events.
-use Rattle.std.specs.Prelude.{◌≡◌, ℕ, true, Bool, Option, List, ◌∷◌, drop, take, reverse}
+use Rattle.std.specs.Prelude.{◌≡◌, ℕ, true, Bool, Option, None, List, ◌∷◌, drop, take, reverse}
 use Rattle.tocmark_event.specs.Options.{OptionsView}
 use Rattle.tocmark_event.specs.View.{TagView, EventView, SourcedEvent, Start}
 use Rattle.tocmark_event.specs.declared.event.flags.ParserOptions.{ParserOptions}
@@ -8,9 +8,14 @@ use Rattle.tocmark_spelling.specs.Look.{Look, look, is_preferred}
 use Rattle.tocmark_spelling.specs.Machine.{kids_of, around}
 use Rattle.tocmark_spelling.specs.Plan.{Setting, Manner}
 use Rattle.tocmark_spelling.specs.PlanOf.{setting_of}
+use Rattle.tocmark_spelling.specs.Runs.{Run}
 use Rattle.tocmark_write_lookahead.specs.Ahead.{behind_body, IsNested}
 use Rattle.tocmark_write_emphasis.specs.Facts.{IsNode, Readings, tag_at}
 use Rattle.tocmark_write_emphasis.specs.declared.facts.EmphasisEvents.{EmphasisEvents}
+
+-- a run without markers, beside which nothing stands
+abbrev pub no_run : Run
+no_run = record { before = None; after = None; literal_before = None; literal_after = None; width = 0 }
 
 -- at this place starts a container of emphasis or strong emphasis, behind whose Start these events stand
 pub record Begins (es : List SourcedEvent) (i : ℕ) (t : TagView) (rest : List SourcedEvent) : Type 0 where

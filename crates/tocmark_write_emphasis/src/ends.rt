@@ -1,18 +1,7 @@
 //! What a written text ends with.
 
 ghost use Rattle.std.specs.Prelude.{◌≡◌};
-ghost use Rattle.tocmark_spelling.specs.Words.{last_byte, last_character};
-
-/// The last character of a text.
-pub fn last_character(text: &str) -> Option<char>
-    ensures { result ≡ last_character text.now }
-{
-    let mut characters = text.chars();
-    match characters.next_back() {
-        Some(character) => Some(character),
-        None => None,
-    }
-}
+ghost use Rattle.tocmark_spelling.specs.Words.{last_byte};
 
 /// The last byte of a text; 0 where there is none.
 pub fn last_byte(text: &str) -> u8

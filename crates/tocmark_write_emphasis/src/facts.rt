@@ -6,20 +6,7 @@ ghost use Rattle.tocmark_spelling.specs.Runs.{is_marker};
 ghost use Rattle.tocmark_write_emphasis.specs.Facts.{asked_by, asks_runs};
 
 use tocmark_spelling::plan::{Delimiters, Layout};
-
-/// A run of delimiters in the events of a unit.
-#[derive(Clone, Copy)]
-pub struct Run {
-    /// The characters before and after it, as they are seen beside delimiters; none at the border of
-    /// a block.
-    pub before: Option<char>,
-    pub after: Option<char>,
-    /// The `*` or `_` with which a text before it ends, and with which a text after it begins.
-    pub literal_before: Option<char>,
-    pub literal_after: Option<char>,
-    /// How many markers it has.
-    pub width: usize,
-}
+use tocmark_write_pending::runs::Run;
 
 /// What the events of a unit say of a node of emphasis or strong emphasis.
 #[derive(Clone, Copy)]

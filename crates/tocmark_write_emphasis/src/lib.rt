@@ -1,8 +1,9 @@
 //! Emphasis and strong emphasis, from the events of a unit to the written markers.
 //!
-//! Below it stands `tocmark_write_inlines`, above it `tocmark_write_unit`. Enter at `opening`. `marker` has the
-//! marker in each layout, from plain facts of the unit, of the text that is written, and of the open containers
-//! (`facts`); `node` and `columns` find these facts in the unit's events.
+//! Below it stand `tocmark_write_inlines` and `tocmark_write_pending`, above it `tocmark_write_unit`. Enter at
+//! `opening`. `marker` has the marker in each layout, from plain facts of the unit, of the text that is written, and of
+//! the open containers (`facts`). `node` has these facts of the unit, from what is kept beside its events and from what
+//! the reader says of them (`columns`, and `preferences` for each of these).
 #![tactic(auto)]
 
 pub mod columns;
@@ -12,7 +13,7 @@ pub mod marker;
 pub mod node;
 pub mod opening;
 mod place;
+mod preferences;
 mod preferred;
 mod runs;
 mod sharing;
-mod widths;

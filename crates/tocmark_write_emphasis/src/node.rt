@@ -1,77 +1,51 @@
 //! A node of emphasis or strong emphasis, as its opening sees it.
 
-ghost use Rattle.std.specs.Prelude.{◌≡◌, ◌≤◌, ◌<◌, ◌+◌, if◌then◌else◌, map, take, drop, reverse, length, slice_index_or, IfOk, Some, None, string_bytes, false, List};
+ghost use Rattle.std.specs.Prelude.{◌≡◌, ◌≤◌, ◌<◌, ◌+◌, if◌then◌else◌, map, take, drop, reverse, length, slice_index_or, option_map, unwrap_or, Some, None, string_bytes, false, List};
 ghost use Rattle.tocmark_event.specs.View.{event_view, unsourced, SourcedEvent, TagView};
-ghost use Rattle.tocmark_write_lookahead.specs.Sides.{no_side, run_of};
 ghost use Rattle.tocmark_write_emphasis.specs.ColumnsOf.{AreColumns};
 ghost use Rattle.tocmark_write_emphasis.specs.Low.{HasLowLiterals};
-ghost use Rattle.tocmark_write_emphasis.specs.NodeOf.{Begins, IsNodeAt};
+ghost use Rattle.tocmark_write_emphasis.specs.NodeOf.{Begins, IsNodeAt, no_run};
 ghost use Rattle.tocmark_write_lookahead.specs.Ahead.{behind_body};
-ghost use Rattle.tocmark_write_emphasis.specs.Facts.{run_view, tag_of, Readings};
+ghost use Rattle.tocmark_write_emphasis.specs.Facts.{Readings};
+ghost use Rattle.tocmark_write_pending.specs.RunColumn.{run_view};
 ghost use Rattle.tocmark_spelling.specs.Buffered.{buffered_view, following_view};
 ghost use Rattle.tocmark_spelling.specs.Edges.{edge_after, event_edge};
 ghost use Rattle.tocmark_spelling.specs.Kinds.{starts};
 ghost use Rattle.tocmark_spelling.specs.Marker.{ends_delimiter, is_strong};
 ghost use Rattle.tocmark_spelling.specs.Page.{front};
-ghost use Rattle.tocmark_spelling.specs.Runs.{tag_width};
 ghost use Rattle.tocmark_spelling.specs.Scans.{AreEnds};
 ghost use Rattle.tocmark_spelling.specs.Words.{first_character, or_else};
 
 use crate::columns::Columns;
-use crate::facts::{EmphasisEvents, Run};
-use crate::widths::width_behind;
-use std::alloc::AllocError;
+use crate::facts::EmphasisEvents;
 use tocmark_event::event::{EventOf, OwnedEvent, TagEnd, TagOf};
 use tocmark_spelling::buffered::BufferedEvent;
 use tocmark_spelling::kinds::{is_inline_end, is_inline_tag};
 use tocmark_write_lookahead::ends::body_end;
-use tocmark_write_lookahead::sides::{Side, inline_edge, no_side};
+use tocmark_write_pending::edges::{first_character, inline_edge};
+use tocmark_write_pending::pending::Pending;
+use tocmark_write_pending::runs::Run;
 
-fn side_at(sides: &[Side], place: usize) -> Side
-    ensures { result ≡ slice_index_or sides.now place no_side }
+/// The run itself, or one without markers where none is given.
+fn run_or_none(run: Option<Run>) -> Run
+    ensures { run_view result ≡ unwrap_or (option_map run_view run) no_run }
 {
-    if place < sides.len() {
-        sides[place]
-    } else {
-        no_side()
+    match run {
+        Some(run) => run,
+        None => Run {
+            before: None,
+            after: None,
+            literal_before: None,
+            literal_after: None,
+            width: 0,
+        },
     }
-}
-
-fn side_behind(sides: &[Side], place: usize) -> Side
-    ensures { result ≡ slice_index_or sides.now (place + 1) no_side }
-{
-    if place < sides.len() {
-        side_at(sides, place + 1)
-    } else {
-        no_side()
-    }
-}
-
-/// The run of a delimiter of this width between two sides. An `Err` says that it is as long as no
-/// text can be.
-fn run_between(own: usize, before: Side, after: Side) -> Result<Run, AllocError>
-    ensures { IfOk result (λ run. run_view run ≡ run_of own before after) }
-{
-    let front = before.width.checked_add(own).ok_or(AllocError)?;
-    Ok(Run {
-        before: before.character,
-        after: after.character,
-        literal_before: before.literal,
-        literal_after: after.literal,
-        width: front.checked_add(after.width).ok_or(AllocError)?,
-    })
 }
 
 fn starts_strong(event: &BufferedEvent) -> bool
     ensures { result ≡ starts is_strong (unsourced (buffered_view event.now)) }
 {
     matches!(&event.event, EventOf::Start(TagOf::Strong))
-}
-
-fn width_of(strong: bool) -> usize
-    ensures { result ≡ tag_width (tag_of strong) }
-{
-    if strong { 2 } else { 1 }
 }
 
 /// Whether an event ends emphasis or strong emphasis.
@@ -96,12 +70,6 @@ fn follows_closing(events: &[BufferedEvent], place: usize) -> bool
     } else {
         ends_delimiter(&events[place - 1])
     }
-}
-
-fn first_character(text: &str) -> Option<char>
-    ensures { result ≡ first_character text.now }
-{
-    text.chars().next()
 }
 
 /// The first character of an event, as its neighbours see it.
@@ -171,15 +139,6 @@ impl Columns {
     }
 }
 
-/// How many markers open a container at this place, which is so wide itself. An `Err` says that
-/// they are as many as no text can have.
-fn opening_width(widths: &[usize], place: usize, own: usize) -> Result<usize, AllocError>
-    ensures { IfOk result (λ width. width ≡ own + slice_index_or widths.now (place + 1) 0) }
-{
-    own.checked_add(width_behind(widths, place))
-        .ok_or(AllocError)
-}
-
 /// The event in the unit just behind the container that starts at this place. `ends` says where the
 /// containers end.
 pub fn next_in_unit<'e>(
@@ -198,41 +157,29 @@ pub fn next_in_unit<'e>(
 
 /// The node of emphasis or strong emphasis that starts at this place of a unit's events.
 ///
-/// `columns` and `ends` are those of the events; `preferred` says whether the layout is the
-/// preferred one, and `next` is the event after the unit. An `Err` says that a run is as long as
-/// no text can be.
+/// `columns` are those of the unit; `preferred` says whether the layout is the preferred one, and `next`
+/// is the event after the unit.
 pub fn node_at(
     columns: &Columns,
-    events: &[BufferedEvent],
-    ends: &[Option<usize>],
+    unit: &Pending,
     place: usize,
     preferred: bool,
     next: Option<&OwnedEvent>,
-) -> Result<EmphasisEvents, AllocError>
-    requires within { place < length events.now }
-    requires ends { AreEnds (map buffered_view events.now) ends.now }
-    ensures node { (reading : Readings)
-        → AreColumns reading (map buffered_view events.now) columns.now
-        → IfOk result (λ node. IsNodeAt reading (map buffered_view events.now) place preferred
-        (following_view next.entry) node) }
-    ensures low { (reading : Readings)
-        → AreColumns reading (map buffered_view events.now) columns.now
-        → IfOk result HasLowLiterals }
+) -> EmphasisEvents
+    requires within { place < length unit.now.events }
+    ensures node { (reading : Readings) → AreColumns reading unit.now.events columns.now
+        → IsNodeAt reading unit.now.events place preferred (following_view next.entry) result }
+    ensures low { HasLowLiterals result }
 {
-    let strong = starts_strong(&events[place]);
-    let own = width_of(strong);
-    let end = body_end(ends, place);
-    let before = side_at(&columns.starts_before, place);
-    let opening = run_between(own, before, side_behind(&columns.starts_ahead, place))?;
-    let last = side_at(&columns.ends_before, end);
-    let closing = run_between(own, last, side_behind(&columns.ends_ahead, end))?;
-    Ok(EmphasisEvents {
-        strong,
+    let events = unit.events();
+    let end = body_end(unit.ends(), place);
+    EmphasisEvents {
+        strong: starts_strong(&events[place]),
         follows_closing: follows_closing(events, place),
         next: edge_after(following(events, end, next)),
-        opening,
-        closing,
-        width: opening_width(&columns.widths, place, own)?,
+        opening: run_or_none(unit.run_at(place)),
+        closing: run_or_none(unit.run_at(end)),
+        width: unit.width_at(place),
         prefers: columns.prefers(place, preferred),
-    })
+    }
 }

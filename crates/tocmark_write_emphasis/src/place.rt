@@ -13,13 +13,14 @@ ghost use Rattle.tocmark_spelling.specs.Marker.{is_end, is_token, marker_of, ope
 ghost use Rattle.tocmark_spelling.specs.Places.{nearest};
 ghost use Rattle.tocmark_spelling.specs.Runs.{last_run, run_around};
 
-use crate::ends::{last_byte, last_character};
+use crate::ends::last_byte;
 use crate::facts::{NodeSurroundings, Parent, asks_runs};
 use std::alloc::{AllocError, Global};
 use tocmark_event::event::{EventOf, OwnedEvent, TagOf};
 use tocmark_spelling::plan::{Delimiters, Layout};
 use tocmark_write_containers::content::OpeningChoice;
 use tocmark_write_containers::frame::Frame;
+use tocmark_write_pending::edges::last_character;
 use tocmark_write_read_back::number::end_number;
 use tocmark_write_renderer::renderer::Renderer;
 

@@ -68,4 +68,5 @@ pub record AreFound (reading : Reading) (o : OptionsView) (flags : ParserOptions
   pub within : n.place < length n.unit.now
   pub at : drop n.place (unit_in n) ≡ e ∷ rest_in n
   pub ends : AreEnds (unit_in n) n.ends.now
+  pub pending : n.pending.now.events ≡ unit_in n
   pub found : AreFindings reading o flags (unit_in n) n.found.now

@@ -89,6 +89,7 @@ pub fn write_rest<'a, R: Reader>(
     let mut place = rest.place;
     while place < events.len() {
         let around = Neighbours {
+            pending: rest.unit,
             unit: events,
             ends,
             place,

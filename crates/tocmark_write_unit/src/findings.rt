@@ -4,7 +4,6 @@ ghost use Rattle.std.specs.Prelude.{◌≡◌, map, true, IfOk};
 ghost use Rattle.tocmark_write_emphasis.specs.ColumnsOf.{AreColumns};
 ghost use Rattle.tocmark_event.specs.Options.{options_view};
 ghost use Rattle.tocmark_spelling.specs.Buffered.{buffered_view};
-ghost use Rattle.tocmark_spelling.specs.Scans.{AreEnds};
 ghost use Rattle.tocmark_write_unit.specs.FindingsOf.{AreFindings, has_emphasis, starts_emphasis};
 
 use std::alloc::{AllocError, Global};
@@ -28,7 +27,7 @@ pub struct Findings {
     pub raw: Vec<RawFacts>,
     /// Which links and images are written by their ids.
     pub named: Vec<bool>,
-    /// What emphasis and strong emphasis ask; nothing in a unit without them.
+    /// What emphasis and strong emphasis ask the reader; nothing in a unit without them.
     pub emphasis: Columns,
 }
 
@@ -57,15 +56,13 @@ fn has_emphasis(unit: &[BufferedEvent]) -> bool
 fn emphasis_columns<R: Reader>(
     alloc: Global,
     reader: &R,
-    unit: &[BufferedEvent],
-    ends: &[Option<usize>],
+    unit: &Pending,
 ) -> Result<Columns, AllocError>
-    requires { AreEnds (map buffered_view unit.now) ends.now }
-    ensures { IfOk result (λ columns. has_emphasis (map buffered_view unit.now) ≡ true
-        → AreColumns (R.reading reader.now) (map buffered_view unit.now) columns) }
+    ensures { IfOk result (λ columns. has_emphasis unit.now.events ≡ true
+        → AreColumns (R.reading reader.now) unit.now.events columns) }
 {
-    if has_emphasis(unit) {
-        columns_of(alloc, reader, unit, ends)
+    if has_emphasis(unit.events()) {
+        columns_of(alloc, reader, unit)
     } else {
         Ok(Columns::none(alloc))
     }
@@ -89,7 +86,7 @@ pub fn findings_of<R: Reader>(
     let facts = body_facts(alloc, events)?;
     let raw = raw_facts(alloc, options, events)?;
     let named = named(alloc, reader, flags, events, ends)?;
-    let emphasis = emphasis_columns(alloc, reader, events, ends)?;
+    let emphasis = emphasis_columns(alloc, reader, unit)?;
     Ok(Findings {
         facts,
         raw,

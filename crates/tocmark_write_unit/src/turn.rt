@@ -42,6 +42,7 @@ use tocmark_write_inlines::leaf::{Beside, write_leaf};
 use tocmark_write_inlines::links::{close_named, open_image, open_link, write_id};
 use tocmark_write_lookahead::body_facts::facts_at;
 use tocmark_write_lookahead::ends::{body_end, end_at};
+use tocmark_write_pending::pending::Pending;
 use tocmark_write_raw_blocks::raw_facts::raw_at;
 use tocmark_write_renderer::job::{Job, Manner};
 use tocmark_write_renderer::renderer::Renderer;
@@ -49,6 +50,8 @@ use tocmark_write_renderer::renderer::Renderer;
 /// What stands around an event of a unit.
 #[derive(Clone, Copy)]
 pub struct Neighbours<'e> {
+    /// The unit, with what is kept beside its events.
+    pub pending: &'e Pending,
     /// The unit's events.
     pub unit: &'e [BufferedEvent],
     /// At each start among them where its container ends, if it does.
@@ -131,6 +134,7 @@ fn start_emphasis<'a, R: Reader>(
 {
     renderer.set_last(Last::Other);
     let Neighbours {
+        pending,
         unit,
         ends,
         place,
@@ -138,7 +142,7 @@ fn start_emphasis<'a, R: Reader>(
         next,
     } = around;
     let preferred = is_preferred(manner.delimiters.layout);
-    let node = node_at(&found.emphasis, unit, ends, place, preferred, next)?;
+    let node = node_at(&found.emphasis, pending, place, preferred, next);
     let behind = next_in_unit(unit, ends, place);
     open_emphasis(renderer, job, reader, manner, tag, &node, behind)
 }
@@ -260,6 +264,7 @@ fn ahead_of<'e>(around: Neighbours<'e>) -> Ahead<'e>
         place,
         found,
         next,
+        ..
     } = around;
     let raw = raw_at(&found.raw, place);
     Ahead {

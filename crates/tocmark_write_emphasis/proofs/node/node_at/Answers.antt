@@ -1,39 +1,40 @@
-use Rattle.std.proofs.Common.{◌∙◌, ◌+◌, ap, map, arith, slice_index_or}
-use Rattle.tocmark_write_lookahead.specs.Sides.{no_side}
+use Rattle.std.proofs.Common.{◌≡◌, ◌∷◌, ◌+◌, ◌∙◌, Option, ap, arith, drop, reverse, subst, take, List, length}
+use Rattle.std.specs.Prelude.{unwrap_or}
+use Rattle.tocmark_event.specs.View.{SourcedEvent}
 use Rattle.tocmark_spelling.specs.Buffered.{buffered_view, following_view}
 use Rattle.tocmark_spelling.specs.Edges.{edge_after}
+use Rattle.tocmark_spelling.specs.Marker.{ends_delimiter}
+use Rattle.tocmark_spelling.specs.Page.{front}
+use Rattle.tocmark_spelling.specs.Runs.{Run}
+use Rattle.tocmark_spelling.specs.Words.{or_else}
 use Rattle.tocmark_spelling.proofs.Turns.{drop-event, length-events}
+use Rattle.tocmark_write_emphasis.specs.NodeOf.{no_run}
 use Rattle.tocmark_write_emphasis.proofs.Nodes.{literals-low, node-is}
 use Rattle.tocmark_write_emphasis.proofs.node.node_at.Goals as goal
 
 pub returns-clause-node : goal.returns-clause-node
 returns-clause-node c = λ reading cols t rest begins.
     let a = c.args in
-    let es = map buffered_view a.events.now in
+    let es = a.unit.now.events in
     let i = a.place in
     let end = c.body_end-end.result in
-    let event = drop-event a.events.now i c.index-events-place.result c.requires.within c.index-events-place.is in
-    node-is reading es rest i end (buffered_view c.index-events-place.result) t a.columns.now a.preferred (following_view a.next) c.width_of-own.result c.side_at-before.result c.side_behind.result c.side_at-last.result c.side_behind-2.result _ cols (c.body_end-end.ensures.start es t rest c.requires.ends begins.at) event begins (record {
-      strong = c.starts_strong-strong.ensures;
-      follows = c.follows_closing.ensures;
-      next_is = c.edge_after.ensures ∙ ap edge_after c.following.ensures;
-      own_is = c.width_of-own.ensures;
-      opening = c.in_ok-opening.ensures;
-      closing = c.in_ok-closing.ensures;
-      before_is = c.side_at-before.ensures ∙ ap (λ x. slice_index_or x i no_side) c.deref.ensures.value;
-      first_is = c.side_behind.ensures ∙ ap (λ x. slice_index_or x (i + 1) no_side) c.deref-2.ensures.value;
-      last_is = c.side_at-last.ensures ∙ ap (λ x. slice_index_or x end no_side) c.deref-3.ensures.value;
-      after_is = c.side_behind-2.ensures ∙ ap (λ x. slice_index_or x (end + 1) no_side) c.deref-4.ensures.value;
-      width = c.in_ok-opening_width.ensures ∙ ap (λ x. c.width_of-own.result + slice_index_or x (i + 1) 0) c.deref-5.ensures.value;
+    let b = c.index-events-place.result in
+    let same = c.events-events.ensures in
+    let event : drop i es ≡ buffered_view b ∷ drop (i + 1) es =
+    subst (λ (xs : List SourcedEvent). drop i xs ≡ buffered_view b ∷ drop (i + 1) xs) same
+    (drop-event c.events-events.result.now i b (omega (arith, c.requires.within, ap length same, length-events c.events-events.result.now)) c.index-events-place.is) in
+    node-is reading es rest i end (buffered_view b) t a.columns.now a.preferred (following_view a.next) _ cols (c.body_end-end.ensures.start es t rest c.ends.ensures begins.at) event begins (record {
+      strong = c.starts_strong.ensures;
+      follows = c.follows_closing.ensures ∙ ap (λ (xs : List SourcedEvent). ends_delimiter (front (reverse (take i xs)))) same;
+      next_is = c.edge_after.ensures ∙ ap edge_after (c.following.ensures ∙ ap (λ (xs : List SourcedEvent). or_else (front (drop (end + 1) xs)) (following_view a.next)) same);
+      opening = c.run_or_none.ensures ∙ ap (λ (o : Option Run). unwrap_or o no_run) c.run_at.ensures;
+      closing = c.run_or_none-2.ensures ∙ ap (λ (o : Option Run). unwrap_or o no_run) c.run_at-2.ensures;
+      width = c.width_at.ensures;
       prefers = c.prefers.ensures;
     })
 
 pub returns-clause-low : goal.returns-clause-low
-returns-clause-low c = λ reading cols.
-    let a = c.args in
-    let es = map buffered_view a.events.now in
-    let i = a.place in
-    let end = c.body_end-end.result in
-    literals-low reading es a.columns.now cols i end c.width_of-own.result c.width_of-own.result c.side_at-before.result c.side_behind.result c.side_at-last.result c.side_behind-2.result _ (omega (arith, c.requires.within, length-events a.events.now)) c.in_ok-opening.ensures c.in_ok-closing.ensures
-    (c.side_at-before.ensures ∙ ap (λ x. slice_index_or x i no_side) c.deref.ensures.value)
-    (c.side_behind-2.ensures ∙ ap (λ x. slice_index_or x (end + 1) no_side) c.deref-4.ensures.value)
+returns-clause-low c =
+    literals-low c.args.unit.now.events c.args.place c.body_end-end.result _
+    (c.run_or_none.ensures ∙ ap (λ (o : Option Run). unwrap_or o no_run) c.run_at.ensures)
+    (c.run_or_none-2.ensures ∙ ap (λ (o : Option Run). unwrap_or o no_run) c.run_at-2.ensures)

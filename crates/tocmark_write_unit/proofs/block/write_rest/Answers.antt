@@ -23,6 +23,7 @@ turn-requires-clause-around g c =
       within = c.loop-place-test.true;
       at = drop-event c.events-events.result.now c.loop-place.place c.index-events-place.result c.loop-place-test.true c.index-events-place.is;
       ends = subst (λ (es : List SourcedEvent). AreEnds es c.ends-ends.result.now) same c.ends-ends.ensures;
+      pending = same;
       found = subst (λ (es : List SourcedEvent). AreFindings (g.R.Reader.reading a.reader.now) (options_in a.job) a.job.flags es a.found.now) same c.requires.found;
     }
 
