@@ -1,9 +1,5 @@
 pub mod Closers
-pub mod Nearest
 pub mod Boundaries
-pub mod Disturbers
-pub mod SideLaws
-pub mod LastCharacter
 pub mod Ahead
 pub mod Gathered
 pub mod Feeds

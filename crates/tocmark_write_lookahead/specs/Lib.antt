@@ -1,4 +1,3 @@
 pub mod Ahead
-pub mod Sides
 pub mod BodyFacts
 pub mod TokenRuns

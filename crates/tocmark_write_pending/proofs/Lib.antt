@@ -5,6 +5,7 @@ pub mod Columns
 pub mod EndColumn
 pub mod WidthColumn
 pub mod EndedLists
+pub mod LastCharacter
 pub mod RunColumn
 pub mod RunLists
 pub mod RunPlaces

@@ -1,6 +1,6 @@
 use Rattle.std.proofs.Common.{rules, ◌∙◌, sym, ap, length}
 use Rattle.std.specs.Char.{IsScalar}
-use Rattle.tocmark_write_lookahead.proofs.LastCharacter.{last-is, last-none}
+use Rattle.tocmark_write_pending.proofs.LastCharacter.{last-is, last-none}
 use Rattle.tocmark_write_pending.proofs.edges.last_character.Goals as goal
 
 pub returns-in-Some : goal.returns-in-Some
