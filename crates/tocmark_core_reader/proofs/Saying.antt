@@ -3,8 +3,8 @@ use Rattle.std.proofs.Common.{◌≡◌, ◌∙◌, sym, ap, ℕ, ◌+◌, ◌<�
 use Rattle.std.proofs.lemmas.List.{drop_more, map-append}
 use Rattle.tocmark_read_scan.specs.Basic.{plus}
 use Rattle.tocmark_read_syntax.specs.declared.Names.{Names}
-use Rattle.tocmark_read_blocks.specs.Definitions.{definition_view}
-use Rattle.tocmark_read_blocks.specs.declared.definition.LinkDefinition.{LinkDefinition}
+use Rattle.tocmark_read_leaves.specs.Definitions.{definition_view}
+use Rattle.tocmark_read_leaves.specs.declared.definition.LinkDefinition.{LinkDefinition}
 use Rattle.tocmark_core_reader.specs.Definitions.{SaidDefinition, no_place, said_at, said_from, said_view}
 use Rattle.tocmark_core_reader.specs.declared.definitions.DefinitionPlace.{DefinitionPlace}
 use Rattle.tocmark_core_reader.specs.declared.definitions.ReferenceDefinition.{ReferenceDefinition}

@@ -5,7 +5,7 @@ use Rattle.std.specs.Str.{IsUtf8}
 use Rattle.std.specs.Str.Lossy.{utf8_lossy}
 use Rattle.std.proofs.lemmas.Str.{IsUtf8-append, IsUtf8-from_ascii, utf8_lossy-IsUtf8}
 use Rattle.tocmark_read_scan.proofs.PlainTests.{both_false}
-use Rattle.tocmark_read_blocks.specs.Definitions.{replaced}
+use Rattle.tocmark_read_leaves.specs.Definitions.{replaced}
 use Rattle.tocmark_core_reader.specs.Words.{cleaned, feed_if}
 
 pub without_zeros : (bytes : List ℕ) → list_any (λ b. b == 0) bytes ≡ false → flat_map replaced bytes ≡ bytes

@@ -9,7 +9,8 @@ use crate::block_events::{Assembly, Document, is_unwrapped};
 use std::alloc::{AllocError, Global};
 use std::mem;
 use tocmark_event::reader::Reading;
-use tocmark_read_blocks::{Block, BlockKind, Piece};
+use tocmark_read_leaves::definition::Piece;
+use tocmark_read_open_blocks::page::{Block, BlockKind};
 use tocmark_read_spans::definitions::{Definitions, distinct_labels};
 use tocmark_read_syntax::Syntax;
 

@@ -2,10 +2,10 @@
 use Rattle.std.proofs.Common.{◌≡◌, ℕ, Bool, true, false, ◌||◌, List, refl, true≢false}
 use Rattle.tocmark_read_lines.specs.declared.cell.Cell.{Cell}
 use Rattle.tocmark_read_lines.specs.declared.line.Line.{Line}
-use Rattle.tocmark_read_lines.specs.declared.metadata.Known.{Known}
-use Rattle.tocmark_read_blocks.specs.declared.leaf.LeafStart.{LeafStart}
-use Rattle.tocmark_read_blocks.specs.declared.block.LineStart.{LineStart}
-use Rattle.tocmark_read_blocks.specs.Pages.{State}
+use Rattle.tocmark_read_leaves.specs.declared.metadata.Known.{Known}
+use Rattle.tocmark_read_leaves.specs.declared.leaf.LeafStart.{LeafStart}
+use Rattle.tocmark_read_open_blocks.specs.declared.line_start.LineStart.{LineStart}
+use Rattle.tocmark_read_open_blocks.specs.Pages.{State}
 use Rattle.tocmark_read_blocks.specs.Blocks.{extends_starts, start_or, task_or, task_in, metadata_or, metadata_in, quote_kind_or, quote_kind_in, tag_or, tag_in}
 
 -- of a sum that is false both parts are

@@ -1,6 +1,5 @@
--- How recursions over lists go on from a place.
-use Rattle.std.proofs.Common.{◌≡◌, ℕ, zero, suc, ◌-◌, ◌<◌, List, length, ap, refl, ◌∙◌, arith}
-use native.Mathlib.Numerals.{unary_clauses}
+-- A blank line begins nothing.
+use Rattle.std.proofs.Common.{◌≡◌, ℕ, zero, suc, List, length, ap, refl, ◌∙◌}
 use Rattle.std.specs.Prelude.{Bool, true, false, ◌&&◌}
 use Rattle.tocmark_read_scan.specs.Repeat.{repeated}
 use Rattle.tocmark_read_lines.specs.Cells.{is_blank_at}
@@ -8,25 +7,15 @@ use Rattle.tocmark_read_lines.specs.Containers.{container_at, container_in}
 use Rattle.tocmark_read_lines.specs.DefinitionLists.{begins_definition, definition_start}
 use Rattle.tocmark_read_lines.specs.Notes.{note_start}
 use Rattle.tocmark_read_syntax.specs.declared.Syntax.{Syntax}
-use Rattle.tocmark_read_blocks.specs.Leaves.{leaf_at}
+use Rattle.tocmark_read_leaves.specs.Leaves.{leaf_at}
 use Rattle.tocmark_read_lines.specs.Marks.{tail_of}
 use Rattle.tocmark_read_lines.specs.declared.cell.Cell.{Cell}
 use Rattle.tocmark_read_lines.specs.declared.line.Line.{Line}
-use Rattle.tocmark_read_lines.specs.declared.metadata.Known.{Known}
+use Rattle.tocmark_read_leaves.specs.declared.metadata.Known.{Known}
 use Rattle.tocmark_read_lines.specs.declared.beginnings.Tail.{Tail}
 use Rattle.tocmark_read_blocks.specs.Blocks.{container_once_in, started_in, started_at_in, leaf_started_in, is_front, metadata_in, metadata_or, task_in, task_or, quote_kind_in, quote_kind_or, is_first_line, tag_in, tag_or}
-use Rattle.tocmark_read_blocks.specs.Pages.{State, closed_to, times}
-use Rattle.tocmark_read_blocks.specs.declared.block.LineStart.{LineStart}
-
-pub times_zero : {S : Type 0} (step : S → S) (n : ℕ) (s : S) → n ≡ 0 → times step n s ≡ s
-unfolding times
-times_zero step zero s e = refl
-times_zero step (suc n) s e = absurd (omega arith)
-
-pub times_more : {S : Type 0} (step : S → S) (n : ℕ) (s : S) → 0 < n → times step n s ≡ times step (n - 1) (step s)
-unfolding times
-times_more step zero s h = absurd (omega arith)
-times_more step (suc n) s h = simp unary_clauses refl
+use Rattle.tocmark_read_open_blocks.specs.Pages.{State, closed_to}
+use Rattle.tocmark_read_open_blocks.specs.declared.line_start.LineStart.{LineStart}
 
 -- no extension begins where a test is false
 never : (flag : Bool) → flag && false ≡ false

@@ -1,7 +1,7 @@
 -- How a line changes a page (CommonMark, appendix "A parsing strategy").
-use Rattle.std.specs.Prelude.{ℕ, ◌-◌, Bool, true, false, not, ◌==◌, ◌&&◌, ◌||◌, nat_lt, nat_le, if◌then◌else◌, List, [], length, map, take, slice_get, slice_set, Option, Some, None, is_some, unwrap_or}
+use Rattle.std.specs.Prelude.{ℕ, ◌-◌, Bool, true, false, not, ◌==◌, ◌&&◌, ◌||◌, nat_lt, nat_le, if◌then◌else◌, List, [], length, map, take, slice_get, slice_set, Option, Some, None, is_some}
 use Rattle.std.specs.List.{fold}
-use Rattle.std.specs.Option.{option_map, option_map_or}
+use Rattle.std.specs.Option.{option_map_or}
 use Rattle.tocmark_event.specs.declared.event.BlockQuoteKind.{BlockQuoteKind}
 use Rattle.tocmark_event.specs.declared.event.HeadingLevel.{HeadingLevel}
 use Rattle.tocmark_event.specs.declared.event.MetadataBlockKind.{MetadataBlockKind}
@@ -10,57 +10,52 @@ use Rattle.tocmark_read_scan.specs.Basic.{plus, bytes_between}
 use Rattle.tocmark_read_scan.specs.Repeat.{repeated}
 use Rattle.tocmark_read_syntax.specs.declared.Syntax.{Syntax}
 use Rattle.tocmark_read_syntax.specs.declared.TheConstants.{CORE}
-use Rattle.tocmark_read_lines.specs.Attributes.{before_braces, braces_in, heading_braces, placed_braces}
+use Rattle.tocmark_read_leaves.specs.Attributes.{before_braces, braces_in, heading_braces, placed_braces}
 use Rattle.tocmark_read_lines.specs.Lines.{lines_of}
 use Rattle.tocmark_read_lines.specs.Notes.{note_at}
 use Rattle.tocmark_read_lines.specs.Cells.{cells_of, cell_place, indent_of, ink_from, is_blank_at, moved, trimmed}
-use Rattle.tocmark_read_blocks.specs.Codes.{code_piece, piece_of, text_piece, heading_piece, keeps_line}
-use Rattle.tocmark_read_blocks.specs.Definitions.{DefinitionView, definition_view}
+use Rattle.tocmark_read_leaves.specs.Codes.{code_piece, piece_of, text_piece, heading_piece, keeps_line}
+use Rattle.tocmark_read_leaves.specs.Definitions.{DefinitionView, definition_view}
 use Rattle.tocmark_read_lines.specs.Containers.{after_quote, container_in, is_empty_item, matched, touched_from}
 use Rattle.tocmark_read_lines.specs.Html.{html_ends, html_kind}
-use Rattle.tocmark_read_lines.specs.Metadata.{begins_metadata, behind_blanks, known_of}
-use Rattle.tocmark_read_lines.specs.Quotes.{quote_kind_of}
-use Rattle.tocmark_read_lines.specs.Tasks.{box_at}
-use Rattle.tocmark_read_lines.specs.declared.attributes.Braces.{Braces}
-use Rattle.tocmark_read_lines.specs.declared.metadata.Known.{Known}
-use Rattle.tocmark_read_blocks.specs.Leaves.{is_paragraph, is_table, leaf_at, leaf_turn, rule_at}
+use Rattle.tocmark_read_leaves.specs.Metadata.{begins_metadata, behind_blanks, known_of}
+use Rattle.tocmark_read_leaves.specs.Quotes.{quote_kind_of}
+use Rattle.tocmark_read_leaves.specs.Tasks.{box_at}
+use Rattle.tocmark_read_leaves.specs.declared.attributes.Braces.{Braces}
+use Rattle.tocmark_read_leaves.specs.declared.metadata.Known.{Known}
+use Rattle.tocmark_read_leaves.specs.Leaves.{is_paragraph, is_table, leaf_at, leaf_turn, rule_at}
 use Rattle.tocmark_read_lines.specs.Marks.{tail_of}
-use Rattle.tocmark_read_blocks.specs.DefinitionLists.{definitions_entered}
-use Rattle.tocmark_read_blocks.specs.Pages.{State, first_page, innermost, is_list, is_quote, leaf_finished, settled, closed_to, list_left, note_left, opened_with, leaf_opened, piece_taken, has_text}
+use Rattle.tocmark_read_open_blocks.specs.DefinitionLists.{definition_opened}
+use Rattle.tocmark_read_open_blocks.specs.Pages.{State, first_page, innermost, is_list, is_quote, leaf_finished, settled, closed_to, list_left, note_left, opened_with, leaf_opened, piece_taken, has_text, some_place, start_of, with_place}
 use Rattle.tocmark_read_lines.specs.declared.line.Line.{Line}
 use Rattle.tocmark_read_lines.specs.declared.cell.Cell.{Cell}
 use Rattle.tocmark_read_lines.specs.declared.cell.Cursor.{Cursor}
-use Rattle.tocmark_read_blocks.specs.Rows.{header_of}
-use Rattle.tocmark_read_blocks.specs.Tables.{delimiters_taken, last_piece, row_taken}
-use Rattle.tocmark_read_blocks.specs.declared.block.LineStart.{LineStart}
+use Rattle.tocmark_read_leaves.specs.Rows.{header_of}
+use Rattle.tocmark_read_open_blocks.specs.Tables.{delimiters_taken, last_piece, row_taken}
+use Rattle.tocmark_read_open_blocks.specs.declared.line_start.LineStart.{LineStart}
 use Rattle.tocmark_read_blocks.specs.declared.block.Blocks.{Blocks}
-use Rattle.tocmark_read_blocks.specs.declared.definition.Piece.{Piece}
+use Rattle.tocmark_read_leaves.specs.declared.definition.Piece.{Piece}
 use Rattle.tocmark_read_lines.specs.declared.container.Container.{Container}
 use Rattle.tocmark_read_lines.specs.declared.container.Container.TheVariants as container
 use Rattle.tocmark_read_lines.specs.declared.container.Opened.{Opened}
 use Rattle.tocmark_read_lines.specs.declared.container.ItemStart.{ItemStart}
-use Rattle.tocmark_read_lines.specs.declared.definition_list.DefinitionStart.{DefinitionStart}
 use Rattle.tocmark_read_lines.specs.declared.note.NoteStart.{NoteStart}
 use Rattle.tocmark_read_lines.specs.declared.container.ContainerStart.{ContainerStart}
 use Rattle.tocmark_read_lines.specs.declared.container.ContainerStart.TheVariants as begins
 use Rattle.tocmark_read_lines.specs.declared.html.HtmlKind.{HtmlKind}
 use Rattle.tocmark_read_lines.specs.declared.html.HtmlKind.TheVariants as html
-use Rattle.tocmark_read_blocks.specs.declared.leaf.Leaf.{Leaf}
-use Rattle.tocmark_read_blocks.specs.declared.leaf.Leaf.TheVariants as leaf
-use Rattle.tocmark_read_blocks.specs.declared.leaf.LeafStart.{LeafStart}
-use Rattle.tocmark_read_blocks.specs.declared.leaf.LeafStart.TheVariants as start
-use Rattle.tocmark_read_blocks.specs.declared.leaf.Turn.{Turn}
-use Rattle.tocmark_read_blocks.specs.declared.leaf.Turn.TheVariants as turn
+use Rattle.tocmark_read_leaves.specs.declared.leaf.Leaf.{Leaf}
+use Rattle.tocmark_read_leaves.specs.declared.leaf.Leaf.TheVariants as leaf
+use Rattle.tocmark_read_leaves.specs.declared.leaf.LeafStart.{LeafStart}
+use Rattle.tocmark_read_leaves.specs.declared.leaf.LeafStart.TheVariants as start
+use Rattle.tocmark_read_leaves.specs.declared.leaf.Turn.{Turn}
+use Rattle.tocmark_read_leaves.specs.declared.leaf.Turn.TheVariants as turn
 use Rattle.tocmark_read_lines.specs.declared.beginnings.Fence.{Fence}
 use Rattle.tocmark_read_lines.specs.declared.beginnings.Heading.{Heading}
 use Rattle.tocmark_read_lines.specs.declared.beginnings.Tail.{Tail}
-use Rattle.tocmark_read_blocks.specs.declared.page.Block.{Block}
-use Rattle.tocmark_read_blocks.specs.declared.page.BlockKind.{BlockKind}
-use Rattle.tocmark_read_blocks.specs.declared.page.BlockKind.TheVariants as kind
-
--- the place of the first byte of a line that is no space, at a place of it
-abbrev pub start_of : List Cell → LineStart → Line → ℕ
-start_of cells place line = cell_place cells place.cursor.ink line.end
+use Rattle.tocmark_read_open_blocks.specs.declared.page.Block.{Block}
+use Rattle.tocmark_read_open_blocks.specs.declared.page.BlockKind.{BlockKind}
+use Rattle.tocmark_read_open_blocks.specs.declared.page.BlockKind.TheVariants as kind
 
 -- the info string is the rest of the fence's line without spaces around it
 unfoldable pub info_of : List Cell → Cursor → Fence → Line → BlockKind
@@ -72,10 +67,6 @@ info_of cells cursor fence line =
 -- the open paragraph stands in the innermost container that goes on
 unfoldable pub goes_directly : ℕ → State → Bool
 goes_directly depth s = is_paragraph s.leaf && nat_le (length s.opened) depth
-
--- all containers that are open now go on at this cursor
-abbrev pub with_place : Cursor → State → State × LineStart
-with_place cursor s = (s, record { cursor = cursor; depth = length s.opened })
 
 -- a block quote begins (CommonMark 5.1)
 unfoldable pub quote_opened : List ℕ → List Cell → Line → LineStart → State → State × LineStart
@@ -119,21 +110,6 @@ note_opened text cells line place note s =
     with_place (moved cells place.cursor note.next)
     (opened_with container.Note (name_of cells note line) (start_of cells place line) line
     (note_left (list_left (closed_to text place.depth s))))
-
--- a state with a place to go on at
-abbrev pub some_place : State × LineStart → State × Option LineStart
-some_place p = (p.0, Some (p.1))
-
--- a definition begins in its list, if it has one
-abbrev pub definition_begun : List Cell → Line → LineStart → DefinitionStart → State × Bool → State × Option LineStart
-definition_begun cells line place d (s, false) = (s, None)
-definition_begun cells line place d (s, true) =
-    some_place (with_place (moved cells place.cursor d.next)
-    (opened_with (container.Definition d.width) kind.DefinitionListDefinition (start_of cells place line) line s))
-
--- a definition begins, if a title or a definition of its list stands before it
-unfoldable pub definition_opened : List ℕ → List Cell → Line → LineStart → DefinitionStart → State → State × Option LineStart
-definition_opened text cells line place d s = definition_begun cells line place d (definitions_entered text place.depth s)
 
 -- the container that was found begins
 abbrev pub begun_at : List ℕ → List Cell → Line → LineStart → State → Option ContainerStart → State × Option LineStart

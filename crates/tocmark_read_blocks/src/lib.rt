@@ -1,21 +1,19 @@
-//! The blocks of a Markdown text (CommonMark 0.31.2, sections 4 and 5): a flat list of blocks, each with its depth
-//! and its range in bytes, and for each leaf its lines without the prefixes of its containers.
+//! The blocks of a Markdown text (CommonMark 0.31.2, sections 4 and 5): how each line changes the blocks so far, from
+//! the first line to the last.
 //!
-//! Below it stands `tocmark_read_lines`, above it `tocmark_core_reader`. Enter at `read_blocks` (`block`), which
-//! opens and closes the blocks of a page (`page`). What a line is to an open leaf, and which one it begins, stands in
-//! `leaf`, what a leaf keeps of a line in `code`, and the definitions in front of a paragraph in `definition`.
+//! Below it stands `tocmark_read_open_blocks`, with the blocks so far, and above it `tocmark_core_reader`. Enter at
+//! `read_blocks` (`block`), which goes from line to line: `take_cells` asks which containers go on and what the open
+//! leaf does, `open_all` (`container`) opens the containers that begin, and `start` the leaf behind them. How each
+//! begins stands by construct: paragraphs, code, HTML and breaks in `leaf`, headings in `heading`, metadata in
+//! `metadata`, boxes of tasks in `task`, and the kinds of block quotes in `quote`.
 #![tactic(auto)]
 
 mod block;
-pub mod code;
-pub mod definition;
-mod definition_list;
+mod container;
 mod heading;
-pub mod leaf;
-mod page;
+mod leaf;
+mod metadata;
 mod quote;
-pub mod table;
+mod task;
 
 pub use block::{Blocks, read_blocks};
-pub use definition::{LinkDefinition, Piece};
-pub use page::{Block, BlockKind, Task};

@@ -1,105 +1,107 @@
 //! The kinds of block quotes.
 
 ghost use Rattle.std.specs.Prelude.{◌≡◌, OnOk, slice_get};
-ghost use Rattle.tocmark_read_blocks.specs.Pages.{page};
+ghost use Rattle.tocmark_read_open_blocks.specs.Pages.{page};
 ghost use Rattle.tocmark_read_blocks.specs.Blocks.{is_new_quote, begins_in, is_alone, quote_kind_in, quote_kind_or, is_first_line, tag_in, tag_or, quote_kind_started};
 
-use crate::block::{LineStart, Row};
-use crate::code::code_piece;
-use crate::leaf::{Leaf, LeafStart};
-use crate::page::{Block, BlockKind, BlocksSoFar, is_quote};
 use std::alloc::{AllocError, Global};
 use tocmark_event::event::BlockQuoteKind;
+use tocmark_read_leaves::code::code_piece;
+use tocmark_read_leaves::leaf::{Leaf, LeafStart};
+use tocmark_read_leaves::quote::quote_kind_of;
 use tocmark_read_lines::cell::{Cells, cell_place, indent_of, is_blank_at};
 use tocmark_read_lines::html::{HtmlKind, html_kind};
 use tocmark_read_lines::line::Line;
-use tocmark_read_lines::quote::quote_kind_of;
+use tocmark_read_open_blocks::line_start::{LineStart, Row};
+use tocmark_read_open_blocks::page::{Block, BlockKind, BlocksSoFar, is_quote};
 use tocmark_read_scan::basic::{bytes_between, set};
 
-impl BlocksSoFar {
-    /// Whether the innermost container is a quote that began in this line.
-    #[tactic(auto, unfolding(crate::specs::Blocks::is_new_quote))]
-    fn is_new_quote(&self, line: Line) -> bool
-        ensures { result ≡ is_new_quote line (page self.now) }
-    {
-        let last = self.opened.len().saturating_sub(1);
-        match self.opened.get(last).copied() {
-            None => false,
-            Some(one) => is_quote(one.container) && self.begins_in(line, one.block),
-        }
+/// Whether the innermost container is a quote that began in this line.
+#[tactic(auto, unfolding(crate::specs::Blocks::is_new_quote))]
+fn is_new_quote(so_far: &BlocksSoFar, line: Line) -> bool
+    ensures { result ≡ is_new_quote line (page so_far.now) }
+{
+    let last = so_far.opened.len().saturating_sub(1);
+    match so_far.opened.get(last).copied() {
+        None => false,
+        Some(one) => is_quote(one.container) && begins_in(so_far, line, one.block),
     }
+}
 
-    /// Whether the block at an index begins in a line.
-    fn begins_in(&self, line: Line, index: usize) -> bool
-        ensures { result ≡ begins_in line (slice_get self.now.blocks.items index) }
-    {
-        match self.blocks.get(index).copied() {
-            None => false,
-            Some(block) => line.start <= block.start,
-        }
+/// Whether the block at an index begins in a line.
+fn begins_in(so_far: &BlocksSoFar, line: Line, index: usize) -> bool
+    ensures { result ≡ begins_in line (slice_get so_far.now.blocks.items index) }
+{
+    match so_far.blocks.get(index).copied() {
+        None => false,
+        Some(block) => line.start <= block.start,
     }
+}
 
-    /// The kind just behind the mark of a quote that began in this line.
-    #[tactic(auto, unfolding(crate::specs::Blocks::quote_kind_in))]
-    pub fn quote_kind_in(&self, row: &Row<'_, '_>, place: LineStart) -> Option<BlockQuoteKind>
-        ensures { result ≡ quote_kind_in row.now.known row.now.text.now row.now.cells.now
-            row.now.line place (page self.now) }
+/// The kind just behind the mark of a quote that began in this line.
+#[tactic(auto, unfolding(crate::specs::Blocks::quote_kind_in))]
+pub fn quote_kind_in(
+    so_far: &BlocksSoFar,
+    row: &Row<'_, '_>,
+    place: LineStart,
+) -> Option<BlockQuoteKind>
+    ensures { result ≡ quote_kind_in row.now.known row.now.text.now row.now.cells.now
+        row.now.line place (page so_far.now) }
+{
+    if row.known.syntax.quote_kinds
+        && !is_blank_at(row.cells, place.cursor)
+        && is_new_quote(so_far, row.line)
     {
-        if row.known.syntax.quote_kinds
-            && !is_blank_at(row.cells, place.cursor)
-            && self.is_new_quote(row.line)
-        {
-            let rest = code_piece(row.cells, place.cursor.column, row.line);
-            quote_kind_of(bytes_between(row.text, rest.start, row.line.end))
-        } else {
-            None
-        }
+        let rest = code_piece(row.cells, place.cursor.column, row.line);
+        quote_kind_of(bytes_between(row.text, rest.start, row.line.end))
+    } else {
+        None
     }
+}
 
-    /// Whether a line is the first one of an open paragraph that has none yet.
-    #[tactic(auto, unfolding(crate::specs::Blocks::is_first_line))]
-    fn is_first_line(&self, cells: &Cells, place: LineStart, directly: bool) -> bool
-        ensures { result ≡ is_first_line cells.now place directly (page self.now) }
-    {
-        !is_blank_at(cells, place.cursor)
-            && indent_of(place.cursor) <= 3
-            && directly
-            && !self.has_text()
-    }
+/// Whether a line is the first one of an open paragraph that has none yet.
+#[tactic(auto, unfolding(crate::specs::Blocks::is_first_line))]
+fn is_first_line(so_far: &BlocksSoFar, cells: &Cells, place: LineStart, directly: bool) -> bool
+    ensures { result ≡ is_first_line cells.now place directly (page so_far.now) }
+{
+    !is_blank_at(cells, place.cursor)
+        && indent_of(place.cursor) <= 3
+        && directly
+        && !so_far.has_text()
+}
 
-    /// Whether a tag alone on its line stands behind a quote's kind, whose paragraph has no line yet.
-    #[tactic(auto, unfolding(crate::specs::Blocks::tag_in))]
-    pub fn tag_in(&self, row: &Row<'_, '_>, place: LineStart, directly: bool) -> bool
-        ensures { result ≡ tag_in row.now.known row.now.text.now row.now.cells.now row.now.line
-            place directly (page self.now) }
-    {
-        if row.known.syntax.quote_kinds && self.is_first_line(row.cells, place, directly) {
-            let start = cell_place(row.cells, place.cursor.ink, row.line.end);
-            is_alone(html_kind(bytes_between(row.text, start, row.line.end)))
-        } else {
-            false
-        }
-    }
-
-    /// Names the kind of the quote that this line began. The lines behind it go on as a paragraph's do.
-    #[tactic(auto, unfolding(crate::specs::Blocks::quote_kind_started))]
-    pub fn start_quote_kind(
-        &mut self,
-        row: &Row<'_, '_>,
-        place: LineStart,
-        kind: BlockQuoteKind,
-    ) -> Result<(), AllocError>
-        ensures { OnOk result (page self.new
-            ≡ quote_kind_started row.now.cells.now row.now.line place kind (page self.old)) }
-    {
-        let index = self.blocks.len().saturating_sub(1);
-        if let Some(block) = self.blocks.get(index).copied() {
-            let kind = BlockKind::Quote(Some(kind));
-            set(&mut self.blocks, index, Block { kind, ..block });
-        }
+/// Whether a tag alone on its line stands behind a quote's kind, whose paragraph has no line yet.
+#[tactic(auto, unfolding(crate::specs::Blocks::tag_in))]
+pub fn tag_in(so_far: &BlocksSoFar, row: &Row<'_, '_>, place: LineStart, directly: bool) -> bool
+    ensures { result ≡ tag_in row.now.known row.now.text.now row.now.cells.now row.now.line
+        place directly (page so_far.now) }
+{
+    if row.known.syntax.quote_kinds && is_first_line(so_far, row.cells, place, directly) {
         let start = cell_place(row.cells, place.cursor.ink, row.line.end);
-        self.open_leaf(Leaf::Paragraph, BlockKind::Paragraph, start, row.line)
+        is_alone(html_kind(bytes_between(row.text, start, row.line.end)))
+    } else {
+        false
     }
+}
+
+/// Names the kind of the quote that this line began. The lines behind it go on as a paragraph's do.
+#[tactic(auto, unfolding(crate::specs::Blocks::quote_kind_started))]
+pub fn start_quote_kind(
+    so_far: &mut BlocksSoFar,
+    row: &Row<'_, '_>,
+    place: LineStart,
+    kind: BlockQuoteKind,
+) -> Result<(), AllocError>
+    ensures { OnOk result (page so_far.new
+        ≡ quote_kind_started row.now.cells.now row.now.line place kind (page so_far.old)) }
+{
+    let index = so_far.blocks.len().saturating_sub(1);
+    if let Some(block) = so_far.blocks.get(index).copied() {
+        let kind = BlockKind::Quote(Some(kind));
+        set(&mut so_far.blocks, index, Block { kind, ..block });
+    }
+    let start = cell_place(row.cells, place.cursor.ink, row.line.end);
+    so_far.open_leaf(Leaf::Paragraph, BlockKind::Paragraph, start, row.line)
 }
 
 /// Whether a line begins HTML with a tag alone.

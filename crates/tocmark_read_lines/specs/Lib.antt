@@ -4,9 +4,4 @@ pub mod Marks
 pub mod Html
 pub mod Containers
 pub mod DefinitionLists
-pub mod Metadata
-pub mod Tasks
 pub mod Notes
-pub mod Rows
-pub mod Attributes
-pub mod Quotes

@@ -78,7 +78,7 @@ fn is_behind(cells: &Cells, column: usize) -> bool
 /// The end of a heading's text, which ends before a column at the latest: spaces at its end don't count,
 /// nor do `#` with a space before them.
 #[tactic(auto, unfolding(crate::specs::Marks::heading_end_before))]
-pub(crate) fn heading_end_before(cells: &Cells, from: usize, limit: usize) -> usize
+pub fn heading_end_before(cells: &Cells, from: usize, limit: usize) -> usize
     ensures { result ≡ heading_end_before cells.now from limit }
 {
     let whole = trimmed(cells, from, limit, b' ');

@@ -97,7 +97,7 @@ const BLOCK_NAMES: [&str; 62] = [
 ];
 
 /// Whether two words are the same but for the case of ASCII letters.
-pub(crate) fn same_word(a: &[u8], b: &[u8]) -> bool
+pub fn same_word(a: &[u8], b: &[u8]) -> bool
     ensures { result ≡ same_word a.now b.now }
 {
     a.eq_ignore_ascii_case(b)

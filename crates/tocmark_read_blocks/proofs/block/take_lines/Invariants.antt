@@ -1,0 +1,8 @@
+use Rattle.std.proofs.Common.{◌≡◌, take}
+use Rattle.std.specs.List.{fold}
+use Rattle.tocmark_read_open_blocks.specs.Pages.{page}
+use Rattle.tocmark_read_blocks.specs.Blocks.{line_taken_in}
+use Rattle.tocmark_read_blocks.proofs.block.take_lines.Given as goal
+
+abbrev pub invariant-loop-line : goal.invariant-loop-line
+invariant-loop-line l = page l.so_far ≡ fold (line_taken_in l.known l.text) (page l.fn.so_far) (take l.line-index l.lines)

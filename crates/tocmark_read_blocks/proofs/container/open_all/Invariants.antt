@@ -1,0 +1,10 @@
+use Rattle.std.proofs.Common.{◌≡◌}
+use Rattle.tocmark_read_scan.specs.Repeat.{repeated}
+use Rattle.tocmark_read_open_blocks.specs.Pages.{page}
+use Rattle.tocmark_read_blocks.specs.Blocks.{container_once_in, containers_opened_in}
+use Rattle.tocmark_read_blocks.proofs.container.open_all.Given as goal
+
+abbrev pub invariant-loop-steps_left : goal.invariant-loop-steps_left
+invariant-loop-steps_left l =
+    repeated (container_once_in l.row.known.syntax l.row.text.now l.row.cells.now l.row.line l.fn.tail) l._steps_left l.place (page l.so_far)
+    ≡ containers_opened_in l.row.known.syntax l.row.text.now l.row.cells.now l.row.line l.fn.tail l.fn.first (page l.fn.so_far)

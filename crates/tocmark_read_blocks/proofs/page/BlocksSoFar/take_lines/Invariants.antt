@@ -1,8 +1,0 @@
-use Rattle.std.proofs.Common.{◌≡◌, take}
-use Rattle.std.specs.List.{fold}
-use Rattle.tocmark_read_blocks.specs.Pages.{page}
-use Rattle.tocmark_read_blocks.specs.Blocks.{line_taken_in}
-use Rattle.tocmark_read_blocks.proofs.page.BlocksSoFar.take_lines.Given as goal
-
-abbrev pub invariant-loop-line : goal.invariant-loop-line
-invariant-loop-line l = page l.self ≡ fold (line_taken_in l.known l.text) (page l.fn.self) (take l.line-index l.lines)

@@ -1,0 +1,203 @@
+//! Containers: which one begins at a place of a line, and how it opens.
+
+ghost use Rattle.std.specs.Prelude.{◌≡◌, IfOk, OnOk};
+ghost use Rattle.tocmark_read_open_blocks.specs.Pages.{page};
+ghost use Rattle.tocmark_read_blocks.specs.Blocks.{goes_directly, quote_opened, is_in_list, list_started, item_opened, note_opened, container_once_in, containers_opened_in};
+
+use std::alloc::{AllocError, Global};
+use tocmark_read_leaves::leaf::is_paragraph;
+use tocmark_read_lines::beginnings::Tail;
+use tocmark_read_lines::cell::{cell_place, moved};
+use tocmark_read_lines::container::{
+    Container, ContainerStart, ItemStart, after_quote, container_in,
+};
+use tocmark_read_lines::line::Line;
+use tocmark_read_lines::note::NoteStart;
+use tocmark_read_open_blocks::line_start::{LineStart, Row};
+use tocmark_read_open_blocks::page::{BlockKind, BlocksSoFar};
+
+/// Whether the open paragraph stands in the innermost container that goes on.
+#[tactic(auto, unfolding(crate::specs::Blocks::goes_directly))]
+pub fn goes_directly(so_far: &BlocksSoFar, depth: usize) -> bool
+    ensures { result ≡ goes_directly depth (page so_far.now) }
+{
+    is_paragraph(so_far.leaf) && so_far.opened.len() <= depth
+}
+
+#[tactic(auto, unfolding(crate::specs::Blocks::quote_opened))]
+fn open_quote(
+    so_far: &mut BlocksSoFar,
+    alloc: Global,
+    row: &Row<'_, '_>,
+    place: LineStart,
+) -> Result<LineStart, AllocError>
+    ensures { IfOk result (λ next.
+        (page so_far.new, next)
+        ≡ quote_opened row.now.text.now row.now.cells.now row.now.line place (page so_far.old)) }
+{
+    so_far.close_to(alloc, row.text, place.depth)?;
+    so_far.leave_list();
+    let start = cell_place(row.cells, place.cursor.ink, row.line.end);
+    so_far.open(Container::Quote, BlockKind::Quote(None), start, row.line)?;
+    Ok(LineStart {
+        cursor: after_quote(row.cells, place.cursor),
+        depth: so_far.opened.len(),
+    })
+}
+
+#[tactic(auto, unfolding(crate::specs::Blocks::is_in_list))]
+fn is_in_list(so_far: &BlocksSoFar, sort: u8) -> bool
+    ensures { result ≡ is_in_list sort (page so_far.now) }
+{
+    match so_far
+        .opened
+        .get(so_far.opened.len().saturating_sub(1))
+        .copied()
+    {
+        None => false,
+        Some(one) => match one.container {
+            Container::Quote => false,
+            Container::List(same) => same == sort,
+            Container::Item(_) => false,
+            Container::Note => false,
+            Container::Definitions => false,
+            Container::Definition(_) => false,
+        },
+    }
+}
+
+/// Begins the list of an item, if the innermost container isn't one of its sort.
+#[tactic(auto, unfolding(crate::specs::Blocks::list_started))]
+fn start_list(
+    so_far: &mut BlocksSoFar,
+    item: ItemStart,
+    start: usize,
+    line: Line,
+) -> Result<(), AllocError>
+    ensures { OnOk result (page so_far.new ≡ list_started item start line (page so_far.old)) }
+{
+    if !is_in_list(so_far, item.sort) {
+        so_far.leave_list();
+        let kind = BlockKind::List(item.number);
+        so_far.open(Container::List(item.sort), kind, start, line)?;
+    }
+    Ok(())
+}
+
+#[tactic(auto, unfolding(crate::specs::Blocks::item_opened))]
+fn open_item(
+    so_far: &mut BlocksSoFar,
+    alloc: Global,
+    row: &Row<'_, '_>,
+    place: LineStart,
+    item: ItemStart,
+) -> Result<LineStart, AllocError>
+    ensures { IfOk result (λ next.
+        (page so_far.new, next)
+        ≡ item_opened row.now.text.now row.now.cells.now row.now.line place item
+        (page so_far.old)) }
+{
+    so_far.close_to(alloc, row.text, place.depth)?;
+    let start = cell_place(row.cells, place.cursor.ink, row.line.end);
+    start_list(so_far, item, start, row.line)?;
+    so_far.open(
+        Container::Item(item.width),
+        BlockKind::Item,
+        start,
+        row.line,
+    )?;
+    Ok(LineStart {
+        cursor: moved(row.cells, place.cursor, item.next),
+        depth: so_far.opened.len(),
+    })
+}
+
+/// Begins the definition of a footnote. It ends one in which it would stand directly.
+#[tactic(auto, unfolding(crate::specs::Blocks::note_opened))]
+fn open_note(
+    so_far: &mut BlocksSoFar,
+    alloc: Global,
+    row: &Row<'_, '_>,
+    place: LineStart,
+    note: NoteStart,
+) -> Result<LineStart, AllocError>
+    ensures { IfOk result (λ next.
+        (page so_far.new, next)
+        ≡ note_opened row.now.text.now row.now.cells.now row.now.line place note
+        (page so_far.old)) }
+{
+    so_far.close_to(alloc, row.text, place.depth)?;
+    so_far.leave_list();
+    so_far.leave_note();
+    let start = cell_place(row.cells, place.cursor.ink, row.line.end);
+    let kind = BlockKind::Note(
+        cell_place(row.cells, note.from, row.line.end),
+        cell_place(row.cells, note.to, row.line.end),
+    );
+    so_far.open(Container::Note, kind, start, row.line)?;
+    Ok(LineStart {
+        cursor: moved(row.cells, place.cursor, note.next),
+        depth: so_far.opened.len(),
+    })
+}
+
+/// Opens the container that begins at a place, and gives the place behind its marker.
+#[tactic(auto, unfolding(crate::specs::Blocks::container_once_in))]
+fn open_once(
+    so_far: &mut BlocksSoFar,
+    alloc: Global,
+    row: &Row<'_, '_>,
+    tail: Tail,
+    place: LineStart,
+) -> Result<Option<LineStart>, AllocError>
+    ensures { IfOk result (λ next.
+        (page so_far.new, next)
+        ≡ container_once_in row.now.known.syntax row.now.text.now row.now.cells.now row.now.line
+        tail place
+        (page so_far.old)) }
+{
+    let directly = goes_directly(so_far, place.depth);
+    match container_in(row.known.syntax, row.cells, tail, place.cursor, directly) {
+        None => Ok(None),
+        Some(ContainerStart::Quote) => {
+            let next = open_quote(so_far, alloc, row, place)?;
+            Ok(Some(next))
+        }
+        Some(ContainerStart::Item(item)) => {
+            let next = open_item(so_far, alloc, row, place, item)?;
+            Ok(Some(next))
+        }
+        Some(ContainerStart::Note(note)) => {
+            let next = open_note(so_far, alloc, row, place, note)?;
+            Ok(Some(next))
+        }
+        Some(ContainerStart::Definition(start)) => {
+            so_far.open_definition(alloc, row, place, start)
+        }
+    }
+}
+
+/// Opens the containers that begin at a place one after the other.
+#[tactic(auto, using(tocmark_read_scan::proofs::Repeats::repeated_zero, tocmark_read_scan::proofs::Repeats::repeated_stop, tocmark_read_scan::proofs::Repeats::repeated_more))]
+pub fn open_all(
+    so_far: &mut BlocksSoFar,
+    alloc: Global,
+    row: &Row<'_, '_>,
+    tail: Tail,
+    first: LineStart,
+) -> Result<LineStart, AllocError>
+    ensures { IfOk result (λ last.
+        (page so_far.new, last)
+        ≡ containers_opened_in row.now.known.syntax row.now.text.now row.now.cells.now
+        row.now.line tail first
+        (page so_far.old)) }
+{
+    let mut place = first;
+    for _steps_left in (0..row.cells.len()).rev() {
+        match open_once(so_far, alloc, row, tail, place)? {
+            None => return Ok(place),
+            Some(next) => place = next,
+        }
+    }
+    Ok(place)
+}
