@@ -203,17 +203,14 @@ fn push_info(text: &mut String, c: char) -> Result<(), AllocError>
     }
 }
 
-/// An info string as it is written: `&` as `&amp;`, a backslash twice.
-///
-/// An `Err` says that memory ran out.
-pub fn info_text(alloc: Global, info: &str) -> Result<String, AllocError>
-    ensures { IfOk result (λ text. string_bytes text ≡ flat_map info_byte info.now) }
+/// Adds an info string as it is written: `&` as `&amp;`, a backslash twice.
+fn push_info_text(text: &mut String, info: &str) -> Result<(), AllocError>
+    ensures { Grows result text.old text.new (flat_map info_byte info.now) }
 {
-    let mut text = String::new(alloc);
     for c in info.chars() {
-        push_info(&mut text, c)?;
+        push_info(text, c)?;
     }
-    Ok(text)
+    Ok(())
 }
 
 /// The line that opens a fenced block: its fence, the info string as it is written, and a line
@@ -224,8 +221,12 @@ pub fn fence_line(alloc: Global, fence: &str, info: &str) -> Result<String, Allo
     ensures { IfOk result (λ line.
         string_bytes line ≡ fence.now ++ flat_map info_byte info.now ++ codes "\n") }
 {
-    let info = info_text(alloc, info)?;
-    format!(in alloc; "{fence}{info}\n")
+    let room = fence.len().saturating_add(info.len()).saturating_add(1);
+    let mut line = String::with_capacity(alloc, room)?;
+    line.push_str(fence)?;
+    push_info_text(&mut line, info)?;
+    line.push_str("\n")?;
+    Ok(line)
 }
 
 /// The closing fence, if so many line feeds stand before it; nothing inside a line.

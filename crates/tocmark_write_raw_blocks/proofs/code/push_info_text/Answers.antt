@@ -1,7 +1,7 @@
 use Rattle.tocmark_write_texts.proofs.CharacterLemmas.{written_more}
 use Rattle.tocmark_spelling.specs.Opening.{info_byte}
 use Rattle.tocmark_write_raw_blocks.proofs.Texts.{info_rule}
-use Rattle.tocmark_write_raw_blocks.proofs.code.info_text.Goals as goal
+use Rattle.tocmark_write_raw_blocks.proofs.code.push_info_text.Goals as goal
 
 pub loop-c-preserved : goal.loop-c-preserved
 loop-c-preserved c =
