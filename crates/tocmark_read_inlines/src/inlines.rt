@@ -55,6 +55,12 @@ fn scanner(
     }
 }
 
+/// A text of so many bytes is likely to have a mark.
+const SHORT: usize = 64;
+
+/// For so many marks room is made at once.
+const MARKS: usize = 16;
+
 /// Reads the inlines of one more leaf, at a depth. An `Err` says that memory ran out.
 #[tactic(auto, unfolding(crate::specs::Inlines::read_inlines_in))]
 pub fn read_inlines(
@@ -79,6 +85,9 @@ pub fn read_inlines(
         before.texts,
         before.missed,
     );
+    if SHORT <= bytes.len() {
+        machine.roles.marks.reserve(MARKS)?;
+    }
     machine.read(alloc, syntax, bytes, definitions)?;
     let found = write(alloc, &machine.roles, depth)?;
     push_moved(&mut nodes, content, &found)?;

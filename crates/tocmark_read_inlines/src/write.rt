@@ -249,13 +249,15 @@ fn ascend(marks: &[MarkedByte], end: usize) -> bool
     true
 }
 
-/// The nodes of the roles of a text's bytes, at a depth. An `Err` says that memory ran out.
+/// The nodes of the roles of a text's bytes, at a depth. There is room for a text and a node for each mark
+/// from the start. An `Err` says that memory ran out.
 #[tactic(auto, unfolding(crate::specs::Write::written), using(crate::proofs::Sparse::in_order))]
 pub fn write(alloc: Global, roles: &Roles, depth: usize) -> Result<Vec<Node>, AllocError>
     ensures { IfOk result (λ v. v.items ≡ written (roles_of roles.now) depth) }
 {
+    let nodes = roles.marks.len().saturating_mul(2).saturating_add(1);
     let mut writer = Writer {
-        nodes: Vec::with_capacity(alloc, roles.marks.len().saturating_add(1))?,
+        nodes: Vec::with_capacity(alloc, nodes)?,
         depth,
         text: None,
         place: 0,
@@ -289,6 +291,7 @@ pub fn push_moved(out: &mut Vec<Node>, content: &Content, nodes: &[Node]) -> Res
     ensures { OnOk result (out.new.items
         ≡ out.old.items ++ map (moved (content_view content.now).places) nodes.now) }
 {
+    out.reserve(nodes.len())?;
     for node in nodes {
         out.push(moved(content, *node))?;
     }
