@@ -260,6 +260,9 @@ fn marker_end(wide: bool) -> &'static str
     if wide { "    " } else { " " }
 }
 
+/// How many bytes most markers have beside the number, at most.
+const ROOM_FOR_TOKEN: usize = 8;
+
 /// An item's marker: its number if it has one, the token and a space; if it is wide, three spaces
 /// before these and four behind.
 ///
@@ -269,7 +272,8 @@ pub fn item_marker(alloc: Global, marker: Marker) -> Result<String, AllocError>
         → IfOk result (λ text. string_bytes text ≡ item_marker c) }
 {
     let number = number_text(alloc, marker.number)?;
-    let mut text = String::from_str(alloc, marker_front(marker.wide))?;
+    let mut text = String::with_capacity(alloc, number.len().saturating_add(ROOM_FOR_TOKEN))?;
+    text.push_str(marker_front(marker.wide))?;
     text.push_str(number.as_str())?;
     text.push(marker.token)?;
     text.push_str(marker_end(marker.wide))?;
