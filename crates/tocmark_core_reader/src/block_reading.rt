@@ -44,6 +44,27 @@ pub struct BlockReading<'t> {
     pub(crate) failed: bool,
 }
 
+/// How many events fit into the least room that is made for those of a tree.
+const FEW: usize = 7;
+
+/// How many events fit into the greatest room that is made before there are any.
+const MANY: usize = 64;
+
+/// How many events so many bytes are likely to have, as far as room is made for them at once.
+fn likely_events(bytes: usize) -> usize {
+    (bytes / 3).clamp(FEW, MANY)
+}
+
+/// How many events a block is likely to have: code and HTML have one for each line.
+fn likely_in_block(block: Block) -> usize {
+    match block.kind {
+        BlockKind::Indented | BlockKind::Fenced(_, _) | BlockKind::Html => {
+            block.last.saturating_sub(block.first).saturating_add(2)
+        }
+        _ => likely_events(block.end.saturating_sub(block.start)),
+    }
+}
+
 /// Whether a block has events: a paragraph that holds definitions alone has none.
 fn has_events(block: Block) -> bool
     ensures { result ≡ has_events block.kind block }
@@ -104,12 +125,22 @@ impl BlockReading<'_> {
         Ok(())
     }
 
+    /// How many events the next tree is likely to have.
+    fn likely_in_tree(&self) -> usize {
+        match self.blocks.get(self.place).copied() {
+            None => 0,
+            Some(block) => likely_in_block(block),
+        }
+    }
+
     /// Makes events up to the end of a tree, or of the text.
     #[tactic(auto, using(crate::proofs::BlocksLeft::tree_ended))]
     fn take_tree(&mut self) -> Result<(), AllocError>
         ensures left { OnOk result (reading_left self.new ≡ reading_left self.old) }
         ensures whole { OnOk result (IsHandable self.new) }
     {
+        let room = self.likely_in_tree();
+        self.assembly.emission.events.reserve(room)?;
         while self.goes_on() {
             self.take()?;
         }
@@ -139,7 +170,8 @@ impl BlockReading<'_> {
     fn take_all(&mut self) -> Result<Reading, AllocError>
         ensures { IfOk result (λ found. reading_view found ≡ reading_left self.old) }
     {
-        let room = self.blocks.len().saturating_add(self.pieces.len());
+        let blocks = self.blocks.len().saturating_add(self.pieces.len());
+        let room = blocks.saturating_add(likely_events(self.text.len()));
         self.assembly.emission.events.reserve(room)?;
         while self.place < self.blocks.len() {
             self.take()?;

@@ -2,6 +2,7 @@
 
 ghost use Rattle.std.specs.Prelude.{◌≡◌, ◌++◌, true, string_bytes, IfOk, OnOk};
 ghost use Rattle.std.specs.List.{flat_map};
+ghost use Rattle.std.specs.Str.Lossy.{utf8_lossy};
 ghost use Rattle.tocmark_read_scan.specs.Basic.{bytes_between};
 ghost use Rattle.tocmark_read_tokens.specs.Reference.{unescaped_in};
 ghost use Rattle.tocmark_event.specs.Text.{text_of};
@@ -111,14 +112,24 @@ pub fn cleaned_part(
     }
 }
 
+/// A text without escapes and references, by the names that are known.
+fn resolved_text(alloc: Global, names: Names, bytes: &[u8]) -> Result<String, AllocError>
+    ensures { IfOk result (λ t. string_bytes t ≡ utf8_lossy (unescaped_in names bytes.now)) }
+{
+    let bytes = unescaped(alloc, names, bytes)?;
+    String::from_utf8_lossy(alloc, &bytes)
+}
+
 /// An info string: without escapes and references, by the names that are known.
-#[tactic(auto, unfolding(crate::specs::Words::info_text_in))]
+#[tactic(auto, unfolding(crate::specs::Words::info_text_in), using(crate::proofs::Zeros::without_zeros))]
 pub fn info_text(alloc: Global, names: Names, bytes: &[u8]) -> Result<String, AllocError>
     ensures { IfOk result (λ t. string_bytes t ≡ info_text_in names bytes.now) }
 {
-    let bytes = replaced_bytes(alloc, bytes)?;
-    let bytes = unescaped(alloc, names, &bytes)?;
-    String::from_utf8_lossy(alloc, &bytes)
+    if has_byte(bytes, 0) {
+        let bytes = replaced_bytes(alloc, bytes)?;
+        return resolved_text(alloc, names, &bytes);
+    }
+    resolved_text(alloc, names, bytes)
 }
 
 /// The name of a footnote: with one space for each stretch of white space, and none at its ends.
@@ -140,7 +151,8 @@ pub fn spaces_text(alloc: Global, count: usize) -> Result<String, AllocError>
     String::from_utf8_lossy(alloc, &bytes)
 }
 
-/// A stretch of texts.
+/// A stretch of texts. For an empty one, as most titles and labels are, no memory is taken.
+#[tactic(auto, using(std::proofs::lemmas::Str::utf8_lossy_empty))]
 pub fn stretch_text(
     alloc: Global,
     texts: &[u8],
@@ -149,5 +161,8 @@ pub fn stretch_text(
     ensures { IfOk result (λ t. text_of t ≡ stretch_text texts.now stretch) }
 {
     let bytes = bytes_between(texts, stretch.start, stretch.end);
+    if bytes.is_empty() {
+        return Ok(CowStr::Borrowed(""));
+    }
     Ok(CowStr::Owned(String::from_utf8_lossy(alloc, bytes)?))
 }
