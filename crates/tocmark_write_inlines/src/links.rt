@@ -110,6 +110,9 @@ fn push_inline_closing(text: &mut String, destination: &str, title: &str) -> Res
     }
 }
 
+/// How many bytes most links have round their destination and title, at most.
+const ROOM_FOR_MARKS: usize = 6;
+
 /// The end of an inline link or image.
 fn close_with_destination(
     renderer: &mut Renderer<'_>,
@@ -121,7 +124,8 @@ fn close_with_destination(
         (close_inline (inline_closing destination.now title.now)) }
     ensures mark { renderer.new.at_mark ≡ renderer.old.at_mark }
 {
-    let mut text = String::new(alloc);
+    let room = destination.len().saturating_add(title.len());
+    let mut text = String::with_capacity(alloc, room.saturating_add(ROOM_FOR_MARKS))?;
     push_inline_closing(&mut text, destination, title)?;
     close_inline(renderer, text.as_str())
 }

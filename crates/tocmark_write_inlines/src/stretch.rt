@@ -24,7 +24,6 @@ use std::alloc::{AllocError, Global};
 use tocmark_event::event::{EventOf, OwnedEvent, TagEnd, TagOf};
 use tocmark_spelling::buffered::BufferedEvent;
 use tocmark_spelling::plan::TextSpelling;
-use tocmark_spelling::trail::copied_text;
 use tocmark_write_renderer::job::{Job, Manner};
 use tocmark_write_renderer::parts::Held;
 use tocmark_write_renderer::renderer::Renderer;
@@ -323,6 +322,29 @@ fn longer(held: Held, text: &str, source: &Option<String>) -> Result<Held, Alloc
     })
 }
 
+/// How many bytes there is room for behind the first text of a stretch: code is held line by line.
+const ROOM_FOR_MORE: usize = 256;
+
+/// A copy of a text, with room for what joins it.
+fn begun_text(alloc: Global, text: &str) -> Result<String, AllocError>
+    ensures { IfOk result (λ copy. string_bytes copy ≡ text.now) }
+{
+    let mut copy = String::with_capacity(alloc, text.len().saturating_add(ROOM_FOR_MORE))?;
+    copy.push_str(text)?;
+    Ok(copy)
+}
+
+/// The same of a source, where it is known.
+fn begun_source(alloc: Global, source: &Option<String>) -> Result<Option<String>, AllocError>
+    ensures { IfOk result (λ copy.
+        option_map string_bytes copy ≡ option_map string_bytes source.now) }
+{
+    match source {
+        None => Ok(None),
+        Some(text) => Ok(Some(begun_text(alloc, text.as_str())?)),
+    }
+}
+
 fn begun(
     alloc: Global,
     text: &str,
@@ -334,8 +356,8 @@ fn begun(
         ≡ begun text.now (option_map string_bytes source.now) (following_view previous.entry)) }
 {
     Ok(Held {
-        text: String::from_str(alloc, text)?,
-        source: copied_text(alloc, source)?,
+        text: begun_text(alloc, text)?,
+        source: begun_source(alloc, source)?,
         after_close: ends_delimiter(previous),
     })
 }
