@@ -171,7 +171,7 @@ impl BlockReading<'_> {
         ensures { IfOk result (λ found. reading_view found ≡ reading_left self.old) }
     {
         let blocks = self.blocks.len().saturating_add(self.pieces.len());
-        let room = blocks.saturating_add(likely_events(self.text.len()));
+        let room = blocks.max(likely_events(self.text.len()));
         self.assembly.emission.events.reserve(room)?;
         while self.place < self.blocks.len() {
             self.take()?;
