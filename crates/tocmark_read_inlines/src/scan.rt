@@ -315,8 +315,9 @@ impl Scanner {
         })
     }
 
-    /// Keeps a text with its escapes and references resolved, by the names that are known.
-    #[tactic(auto, unfolding(crate::specs::Scan::kept_resolved_in))]
+    /// Keeps a text with its escapes and references resolved, by the names that are known. One without
+    /// them is kept as it is.
+    #[tactic(auto, unfolding(crate::specs::Scan::kept_resolved_in), using(tocmark_read_tokens::proofs::Unmarked::left_alone))]
     fn keep_resolved(
         &mut self,
         alloc: Global,
@@ -326,6 +327,9 @@ impl Scanner {
         ensures { IfOk result (λ s.
             (scan self.new, s) ≡ kept_resolved_in names text.now (scan self.old)) }
     {
+        if !text.contains(&b'\\') && !text.contains(&b'&') {
+            return self.keep(text);
+        }
         let resolved = unescaped(alloc, names, text)?;
         let stretch = self.keep(&resolved)?;
         Ok(stretch)

@@ -1,3 +1,3 @@
 pub mod Places
 pub mod PlainReferences
-mod Unmarked
+pub mod Unmarked
