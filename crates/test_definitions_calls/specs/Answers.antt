@@ -2,6 +2,7 @@
 use Rattle.std.specs.Prelude.{◌≡◌, ℕ, flat_map, Result, Ok, Err, Option, Some, None, List, [], ◌∷◌}
 use Rattle.tocmark_event.specs.declared.event.flags.ParserOptions.{ParserOptions}
 use Rattle.tocmark_event.specs.declared.options.Error.{Error}
+use Rattle.tocmark_spelling.specs.Page.{Reference}
 use Rattle.tocmark_spelling.specs.Plan.{Setting}
 use Rattle.tocmark_write_labels.specs.Definitions.{definitions_text}
 use Rattle.tocmark_write_labels.specs.Document.{DocumentView}
@@ -10,6 +11,7 @@ use Rattle.tocmark_write_pending.specs.Units.{waits}
 use Rattle.tocmark_render.specs.Chosen.{chosen}
 use Rattle.tocmark_state.specs.Ranges.{Pair}
 use Rattle.tocmark_state.specs.Walk.{Done, done, Kept, Rendering, Standing, walk, ended, script, nothing_yet}
+use Rattle.tocmark_state.specs.WorkView.{rendering_behind}
 
 -- the texts that each call handed, and the error that ended them, if one did
 pub record Answers : Type 0 where
@@ -71,3 +73,22 @@ IsScript r =
 unfoldable pub AreAnswered : List Calls → Type 0
 AreAnswered [] = Unit {0}
 AreAnswered (r ∷ rs) = IsAnswered r × IsScript r × AreAnswered rs
+
+-- an example in a document that has these definitions of links already
+pub record CallsBehind : Type 0 where
+  pub defined : List Reference
+  pub calls : Calls
+
+-- how units are written behind these definitions in a setting
+abbrev pub written_behind : List Reference → Setting → Rendering
+written_behind defined s = rendering_behind defined s.options s.reading
+
+-- call by call
+abbrev pub IsAnsweredBehind : CallsBehind → Type 0
+IsAnsweredBehind r =
+    answers (written_behind r.defined r.calls.setting) r.calls.source (nothing_yet r.calls.setting.flags) r.calls.calls ≡ r.calls.answers
+
+-- each is answered as it says
+unfoldable pub AreAnsweredBehind : List CallsBehind → Type 0
+AreAnsweredBehind [] = Unit {0}
+AreAnsweredBehind (r ∷ rs) = IsAnsweredBehind r × AreAnsweredBehind rs

@@ -7,9 +7,10 @@ ghost use Rattle.tocmark_event.specs.Reading.{ReadingView};
 ghost use Rattle.tocmark_spelling.specs.Buffered.{following_view, next_view};
 ghost use Rattle.tocmark_spelling.specs.Plan.{Setting};
 ghost use Rattle.tocmark_spelling.specs.PlanOf.{setting_of};
-ghost use Rattle.tocmark_write_renderer.specs.WriterOf.{page_of, sheet_of, site_of};
+ghost use Rattle.tocmark_write_renderer.specs.WriterOf.{page_of, reference_view, sheet_of, site_of};
 ghost use Rattle.tocmark_render.specs.Choice.{choice};
 ghost use Rattle.tocmark_render.specs.Chosen.{chosen};
+ghost use Rattle.tocmark_write_labels.specs.Defined.{behind, undefined};
 ghost use Rattle.tocmark_write_labels.specs.Definitions.{definitions_text};
 ghost use Rattle.tocmark_write_labels.specs.Document.{first_document, known_in, literal_in};
 ghost use Rattle.tocmark_write_labels.specs.LabelsOf.{label_now, labels_of, Begins};
@@ -29,6 +30,7 @@ use tocmark_event::event::{Event, OwnedEvent, ParserOptions};
 use tocmark_event::options::{Error, Options};
 use tocmark_event::reader::Reader;
 use tocmark_spelling::trail::Trail;
+use tocmark_write_labels::defined::{add_labels, undefined_text};
 use tocmark_write_labels::definitions::{copied_references, definitions_text};
 use tocmark_write_labels::labels::Labels;
 use tocmark_write_labels::reserved_label::reserve_list_label;
@@ -538,12 +540,51 @@ impl Document {
         text
     }
 
-    /// The definitions that are left: of each unit so far those that it needs, each once, one a line,
-    /// behind a blank line; an empty text where no unit needs one. An `Err` says that memory ran out.
-    pub fn finish(&self, alloc: Global) -> Result<String, Error>
-        ensures { Gives result
-            (definitions_text (document_view self.now).references (document_view self.now).feeds) }
+    /// Notes the labels of definitions that the document has already, unless a unit was written. An
+    /// `Err` says that memory ran out; some are noted then.
+    fn know(&mut self, alloc: Global, defined: &[Reference]) -> Result<(), AllocError>
+        ensures known { OnOk result (document_view self.new
+            ≡ behind (map reference_view defined.now) (document_view self.old)) }
+        ensures flags { document_flags self.new ≡ document_flags self.old }
     {
-        Ok(definitions_text(alloc, &self.references, self.newlines)?)
+        if self.flushed {
+            return Ok(());
+        }
+        add_labels(&mut self.known, alloc, defined)
+    }
+
+    /// Writes a unit and gives its text, as `block` does, in a document that has these definitions
+    /// already: their labels are known to its first unit, and so to all. An `Err` is as in `block`, but
+    /// that some of their labels may be known then.
+    pub fn block_behind<R: Reader>(
+        &mut self,
+        alloc: Global,
+        reader: &R,
+        unit: &Pending,
+        next: Option<&Event<'_>>,
+        options: &Options<'_>,
+        defined: &[Reference],
+    ) -> Result<String, Error>
+        ensures chosen { let flags = document_flags self.old in
+            let s = setting_of (options_view options.now) flags (R.reading reader.now) None in
+            let d = behind (map reference_view defined.now) (document_view self.old) in
+            Spells (document_view self.new) result
+            (chosen s d unit.now.events (next_view next.entry)) }
+        ensures flags { document_flags self.new ≡ document_flags self.old }
+    {
+        self.know(alloc, defined)?;
+        self.block(alloc, reader, unit, next, options)
+    }
+
+    /// The definitions that are left: of each unit so far those that it needs, each once, one a line,
+    /// behind a blank line; those that the document has already aren't among them. An empty text where
+    /// none is left. An `Err` says that memory ran out.
+    pub fn finish(&self, alloc: Global, defined: &[Reference]) -> Result<String, Error>
+        ensures { let d = document_view self.now in
+            Gives result
+            (definitions_text (undefined (map reference_view defined.now) d.references) d.feeds) }
+    {
+        let text = undefined_text(alloc, &self.references, defined, self.newlines)?;
+        Ok(text)
     }
 }

@@ -3,3 +3,4 @@ pub mod Steps
 pub mod Unranged
 pub mod Runs
 pub mod Statuses
+pub mod Behind

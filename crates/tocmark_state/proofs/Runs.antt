@@ -1,18 +1,19 @@
 -- What a loop over events, and a call after others, add to a walk.
-use Rattle.std.proofs.Common.{◌≡◌, ℕ, ◌+◌, ◌-◌, List, [], ◌++◌, length, sum_by, Result, Ok, Err, ap, sym, subst, IsOk}
+use Rattle.std.proofs.Common.{◌≡◌, ℕ, ◌+◌, ◌-◌, List, [], ◌++◌, length, sum_by, Result, Ok, Err, ap, ◌∙◌, sym, subst, IsOk}
 use Rattle.std.specs.List.{FoldsTo}
 use Rattle.std.specs.Result.{IfOk}
 use Rattle.tocmark_event.specs.Options.{OptionsView}
 use Rattle.tocmark_event.specs.Reading.{ReadingView}
 use Rattle.tocmark_event.specs.declared.event.flags.ParserOptions.{ParserOptions}
 use Rattle.tocmark_event.specs.declared.options.Error.{Error}
+use Rattle.tocmark_spelling.specs.Page.{Reference}
 use Rattle.tocmark_state.specs.declared.work.Progress.{Progress}
 use Rattle.tocmark_state.specs.Ranges.{Pair}
 use Rattle.tocmark_state.specs.Walk.{Done, done, Rendering, Standing, Walk, go_on, walk, nothing_yet, ended, script}
 use Rattle.tocmark_state.specs.Writes.{Makes, RefusesAt, TakesAll, TakesAllAt}
 use Rattle.tocmark_event.specs.declared.options.Error.TheVariants as error
 use Rattle.tocmark_state.specs.StateView.{Adds, Ends}
-use Rattle.tocmark_state.specs.WorkView.{Counts, rendering}
+use Rattle.tocmark_state.specs.WorkView.{Counts, rendering_behind}
 use Rattle.tocmark_state.proofs.Walks.{walk_after, Makes-then, RefusesAt-longer}
 use Rattle.tocmark_state.proofs.Steps.{no_ok}
 
@@ -35,17 +36,22 @@ Ends-from gives refuses w v how flags source r p s h m k =
       counts = k;
     }
 
-pub Adds-with : {W : Type 0} (gives refuses : W → List ℕ → W → Type 0) (w v : W) (o o' : OptionsView) (reading : List ℕ → ParserOptions → ReadingView) (flags : ParserOptions) (source : List ℕ) (r : Result Progress Error) (place : Standing) (p q : List Pair) (s : Standing) → o' ≡ o → (walk (rendering o reading) source (nothing_yet flags) p).outcome ≡ Ok s → Makes gives refuses w v r place (walk (rendering o' reading) source s q) → IfOk r (λ n. Counts n (length q) (sum_by length (walk (rendering o' reading) source s q).texts)) → Adds gives refuses w v (rendering o reading) flags source r place p q
-Adds-with gives refuses w v o o' reading flags source r place p q s e h m k =
-    Adds-from gives refuses w v (rendering o reading) flags source r place p q s h
-    (subst (λ (x : OptionsView). Makes gives refuses w v r place (walk (rendering x reading) source s q)) e m)
-    (subst (λ (x : OptionsView). IfOk r (λ n. Counts n (length q) (sum_by length (walk (rendering x reading) source s q).texts))) e k)
+behind-same : (d d' : List Reference) (o o' : OptionsView) (reading : List ℕ → ParserOptions → ReadingView) → d' ≡ d → o' ≡ o → rendering_behind d' o' reading ≡ rendering_behind d o reading
+behind-same d d' o o' reading h e = ap (λ x. rendering_behind x o' reading) h ∙ ap (λ x. rendering_behind d x reading) e
 
-pub Ends-with : {W : Type 0} (gives refuses : W → List ℕ → W → Type 0) (w v : W) (o o' : OptionsView) (reading : List ℕ → ParserOptions → ReadingView) (flags : ParserOptions) (source : List ℕ) (r : Result Progress Error) (p : List Pair) (s : Standing) → o' ≡ o → (walk (rendering o reading) source (nothing_yet flags) p).outcome ≡ Ok s → Makes gives refuses w v r done (ended (rendering o' reading) s) → IfOk r (λ n. Counts n 0 (sum_by length (ended (rendering o' reading) s).texts)) → Ends gives refuses w v (rendering o reading) flags source r p
-Ends-with gives refuses w v o o' reading flags source r p s e h m k =
-    Ends-from gives refuses w v (rendering o reading) flags source r p s h
-    (subst (λ (x : OptionsView). Makes gives refuses w v r done (ended (rendering x reading) s)) e m)
-    (subst (λ (x : OptionsView). IfOk r (λ n. Counts n 0 (sum_by length (ended (rendering x reading) s).texts))) e k)
+pub Adds-with : {W : Type 0} (gives refuses : W → List ℕ → W → Type 0) (w v : W) (d d' : List Reference) (o o' : OptionsView) (reading : List ℕ → ParserOptions → ReadingView) (flags : ParserOptions) (source : List ℕ) (r : Result Progress Error) (place : Standing) (p q : List Pair) (s : Standing) → d' ≡ d → o' ≡ o → (walk (rendering_behind d o reading) source (nothing_yet flags) p).outcome ≡ Ok s → Makes gives refuses w v r place (walk (rendering_behind d' o' reading) source s q) → IfOk r (λ n. Counts n (length q) (sum_by length (walk (rendering_behind d' o' reading) source s q).texts)) → Adds gives refuses w v (rendering_behind d o reading) flags source r place p q
+Adds-with gives refuses w v d d' o o' reading flags source r place p q s f e h m k =
+    let same = behind-same d d' o o' reading f e in
+    Adds-from gives refuses w v (rendering_behind d o reading) flags source r place p q s h
+    (subst (λ (x : Rendering). Makes gives refuses w v r place (walk x source s q)) same m)
+    (subst (λ (x : Rendering). IfOk r (λ n. Counts n (length q) (sum_by length (walk x source s q).texts))) same k)
+
+pub Ends-with : {W : Type 0} (gives refuses : W → List ℕ → W → Type 0) (w v : W) (d d' : List Reference) (o o' : OptionsView) (reading : List ℕ → ParserOptions → ReadingView) (flags : ParserOptions) (source : List ℕ) (r : Result Progress Error) (p : List Pair) (s : Standing) → d' ≡ d → o' ≡ o → (walk (rendering_behind d o reading) source (nothing_yet flags) p).outcome ≡ Ok s → Makes gives refuses w v r done (ended (rendering_behind d' o' reading) s) → IfOk r (λ n. Counts n 0 (sum_by length (ended (rendering_behind d' o' reading) s).texts)) → Ends gives refuses w v (rendering_behind d o reading) flags source r p
+Ends-with gives refuses w v d d' o o' reading flags source r p s f e h m k =
+    let same = behind-same d d' o o' reading f e in
+    Ends-from gives refuses w v (rendering_behind d o reading) flags source r p s h
+    (subst (λ (x : Rendering). Makes gives refuses w v r done (ended x s)) same m)
+    (subst (λ (x : Rendering). IfOk r (λ n. Counts n 0 (sum_by length (ended x s).texts))) same k)
 
 -- the first call of a run that was refused
 pub Adds-script : {W : Type 0} (gives refuses : W → List ℕ → W → Type 0) (w v : W) (how : Rendering) (flags : ParserOptions) (source : List ℕ) (e : Error) (place : Standing) (q : List Pair) → Adds gives refuses w v how flags source (Err e) place [] q → RefusesAt gives refuses w v e (script how source (nothing_yet flags) q)

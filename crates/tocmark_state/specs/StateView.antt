@@ -1,11 +1,13 @@
 -- What a state holds, as plain values.
-use Rattle.std.specs.Prelude.{◌≡◌, ℕ, ◌-◌, ◌++◌, List, length, Result, Ok}
+use Rattle.std.specs.Prelude.{◌≡◌, ℕ, ◌-◌, ◌++◌, List, length, map, Result, Ok}
 use Rattle.std.specs.List.{sum_by}
 use Rattle.std.specs.Result.{IfOk}
 use Rattle.tocmark_event.specs.Options.{owned_options_view}
 use Rattle.tocmark_event.specs.Reading.{ReadingView}
 use Rattle.tocmark_event.specs.declared.event.flags.ParserOptions.{ParserOptions}
 use Rattle.tocmark_event.specs.declared.options.Error.{Error}
+use Rattle.tocmark_spelling.specs.Page.{Reference}
+use Rattle.tocmark_write_renderer.specs.WriterOf.{reference_view}
 use Rattle.tocmark_state.specs.declared.work.Progress.{Progress}
 use Rattle.tocmark_state.specs.declared.state.State.{State}
 use Rattle.tocmark_state.specs.declared.state.Status.{Status}
@@ -13,7 +15,7 @@ use Rattle.tocmark_state.specs.declared.state.Status.TheVariants.{Active, Finish
 use Rattle.tocmark_state.specs.Ranges.{Pair}
 use Rattle.tocmark_state.specs.Walk.{done, Rendering, Standing, walk, nothing_yet, script}
 use Rattle.tocmark_state.specs.Writes.{Makes}
-use Rattle.tocmark_state.specs.WorkView.{Counts, flags_of, pairs, rendering, standing_of}
+use Rattle.tocmark_state.specs.WorkView.{Counts, flags_of, pairs, rendering_behind, standing_of}
 
 -- where the events that a state took stand
 abbrev pub place_of : {R : Type 0} → State R → Standing
@@ -31,15 +33,20 @@ reader_of s = s.reader
 abbrev pub state_flags : {R : Type 0} → State R → ParserOptions
 state_flags s = flags_of s.work
 
--- two states take the same further events, under the same options
+-- the definitions of links that a state's document has already
+abbrev pub defined_of : {R : Type 0} → State R → List Reference
+defined_of s = map reference_view s.defined.items
+
+-- two states take the same further events, under the same options and behind the same definitions
 pub record SameStanding {R : Type 0} (s t : State R) : Type 0 where
   pub status : status_of t ≡ status_of s
   pub options : owned_options_view t.options ≡ owned_options_view s.options
+  pub defined : defined_of t ≡ defined_of s
   pub standing : place_of t ≡ place_of s
 
 -- how a state writes units
 abbrev pub rendering_of : {R : Type 0} → (R → List ℕ → ParserOptions → ReadingView) → State R → Rendering
-rendering_of reading s = rendering (owned_options_view s.options) (reading s.reader)
+rendering_of reading s = rendering_behind (defined_of s) (owned_options_view s.options) (reading s.reader)
 
 -- the state takes events
 abbrev pub IsActive : {R : Type 0} → State R → Type 0

@@ -10,6 +10,9 @@ use Rattle.tocmark_event.specs.declared.event.flags.ParserOptions.{ParserOptions
 use Rattle.tocmark_event.specs.declared.options.Error.{Error}
 use Rattle.tocmark_spelling.specs.Buffered.{sourced}
 use Rattle.tocmark_spelling.specs.PlanOf.{setting_of}
+use Rattle.tocmark_spelling.specs.Page.{Reference}
+use Rattle.tocmark_write_renderer.specs.WriterOf.{reference_view}
+use Rattle.tocmark_write_labels.specs.Defined.{behind, undefined}
 use Rattle.tocmark_write_labels.specs.Definitions.{definitions_text}
 use Rattle.tocmark_write_labels.specs.Document.{DocumentView}
 use Rattle.tocmark_render.specs.TrialOf.{Refuses}
@@ -44,6 +47,18 @@ rendering options reading = record {
   holds_raw = holds_raw_block;
 }
 
+-- a document with its flags, behind which a unit is written where it has these definitions already
+abbrev pub kept_behind : List Reference → Kept → Kept
+kept_behind defined kept = record kept { document = behind defined kept.document }
+
+-- how units are written where a document has these definitions already: their labels are known to the first unit, and so to
+-- all, and the definitions that are left at the end are those of references that they don't define; all else is as without them
+abbrev pub rendering_behind : List Reference → OptionsView → (List ℕ → ParserOptions → ReadingView) → Rendering
+rendering_behind defined options reading = record (rendering options reading) {
+  choice = λ kept unit next. (rendering options reading).choice (kept_behind defined kept) unit next;
+  definitions = λ kept. definitions_text (undefined defined kept.document.references) kept.document.feeds;
+}
+
 -- a document with its flags
 abbrev pub kept_of : Document → Kept
 kept_of d = record { flags = document_flags d; document = document_view d }
@@ -69,7 +84,7 @@ Chooses (Err e) kept choice = Refuses e choice
 
 -- how units are written in a call
 abbrev pub rendering_with : {R : Type 0} → (R → List ℕ → ParserOptions → ReadingView) → Tools R → Rendering
-rendering_with reading t = rendering (options_view t.options) (reading t.reader.now)
+rendering_with reading t = rendering_behind (map reference_view t.defined.now) (options_view t.options) (reading t.reader.now)
 
 -- events as pairs without ranges
 abbrev pub pairs : List (Bor ParserEvent) → List Pair

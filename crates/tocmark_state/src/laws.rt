@@ -1,6 +1,18 @@
-//! Laws of what a call reports: functions that do nothing, whose contracts say what holds.
+//! Laws of what a call reports, and of definitions that a document has already: functions that do nothing, whose
+//! contracts say what holds.
 
-ghost use Rattle.std.specs.Prelude.{◌≡◌, ◌↔◌, IsTrue};
+ghost use Rattle.std.specs.Prelude.{◌≡◌, ◌↔◌, ◌∷◌, ◌++◌, [], ℕ, List, Option, All, IsTrue, true, false, bytes_eq};
+ghost use Rattle.std.specs.List.{list_any};
+ghost use Rattle.tocmark_event.specs.Options.{OptionsView};
+ghost use Rattle.tocmark_event.specs.Reading.{ReadingView};
+ghost use Rattle.tocmark_event.specs.View.{EventView, SourcedEvent};
+ghost use Rattle.tocmark_event.specs.declared.event.flags.ParserOptions.{ParserOptions};
+ghost use Rattle.tocmark_spelling.specs.Page.{Reference};
+ghost use Rattle.tocmark_write_labels.specs.Defined.{is_defined, undefined};
+ghost use Rattle.tocmark_write_labels.specs.Definitions.{definitions_text};
+ghost use Rattle.tocmark_write_labels.specs.Document.{folded};
+ghost use Rattle.tocmark_state.specs.Walk.{Kept};
+ghost use Rattle.tocmark_state.specs.WorkView.{rendering, rendering_behind};
 
 use crate::work::Progress;
 
@@ -9,4 +21,37 @@ use crate::work::Progress;
 pub fn equal_progress_has_equal_counts(a: Progress, b: Progress)
     ensures { IsTrue (⟦<Progress as PartialEq>⟧.eq a b)
         ↔ ((a.events_consumed ≡ b.events_consumed) × (a.bytes_written ≡ b.bytes_written)) }
+{}
+
+/// A state that is told of no definitions writes as one that `State::new` makes.
+pub fn no_definitions_change_nothing()
+    ensures { (options : OptionsView) (reading : List ℕ → ParserOptions → ReadingView) →
+        rendering_behind [] options reading ≡ rendering options reading }
+{}
+
+/// Behind the first unit that is written, a state that is told of definitions chooses each unit's text as any
+/// other state does in the same document: it differs in the first unit, to which their labels are known, and
+/// in what is left at the end.
+pub fn definitions_matter_first_and_last()
+    ensures { (defined : List Reference) (options : OptionsView)
+        (reading : List ℕ → ParserOptions → ReadingView) (kept : Kept) →
+        kept.document.flushed ≡ true → (unit : List SourcedEvent) (next : Option EventView) →
+        (rendering_behind defined options reading).choice kept unit next
+        ≡ (rendering options reading).choice kept unit next }
+{}
+
+/// What a document has already isn't written again. Of a state that is told of definitions, those left at
+/// the end are the ones of the document's references that these don't define (`left`): no reference among
+/// them is defined (`none`). A definition defines itself, if none in front of it in the list has its label
+/// (`own`).
+pub fn what_is_defined_is_not_written_again()
+    ensures left { (defined : List Reference) (options : OptionsView)
+        (reading : List ℕ → ParserOptions → ReadingView) (kept : Kept) →
+        (rendering_behind defined options reading).definitions kept
+        ≡ definitions_text (undefined defined kept.document.references) kept.document.feeds }
+    ensures none { (defined references : List Reference) →
+        All (λ r. is_defined defined r ≡ false) (undefined defined references) }
+    ensures own { (front rest : List Reference) (d : Reference) →
+        list_any (λ e. bytes_eq (folded e.label) (folded d.label)) front ≡ false →
+        is_defined (front ++ d ∷ rest) d ≡ true }
 {}

@@ -1,13 +1,15 @@
 //! A state that takes events.
 
-ghost use Rattle.std.specs.Prelude.{◌+◌, Option, ◌≡◌, IfOk, OnOk, OnErr, List, ℕ, IsOk, Some, []};
+ghost use Rattle.std.specs.Prelude.{◌+◌, Option, ◌≡◌, IfOk, OnOk, OnErr, List, ℕ, IsOk, Some, [], map};
 ghost use Rattle.std.specs.Borrow.{Bor};
 ghost use Rattle.std.specs.Iterator.{IsFinite, DrainsIf};
 ghost use Rattle.tocmark_event.specs.Options.{options_view, owned_options_view};
 ghost use Rattle.tocmark_event.specs.Text.{ParserEvent};
+ghost use Rattle.tocmark_write_labels.specs.Defined.{defined_view};
+ghost use Rattle.tocmark_write_renderer.specs.WriterOf.{reference_view};
 ghost use Rattle.tocmark_state.specs.Ranges.{Range};
 ghost use Rattle.tocmark_state.specs.StateView.{Adds, Ends, rendering_of};
-ghost use Rattle.tocmark_state.specs.WorkView.{pairs, ranged_pairs, rendering};
+ghost use Rattle.tocmark_state.specs.WorkView.{pairs, ranged_pairs, rendering, rendering_behind};
 
 use crate::taker::Taker;
 use crate::work::{Progress, Tools, Work, end, take_all, take_all_ranged};
@@ -16,6 +18,10 @@ use std::fmt;
 use tocmark_event::event::{Event, ParserOptions};
 use tocmark_event::options::{Error, Options, OptionsOf};
 use tocmark_event::reader::Reader;
+pub use tocmark_write_labels::defined::DefinedLabel;
+use tocmark_write_labels::defined::copied_labels;
+use tocmark_write_labels::definitions::copied_references;
+use tocmark_write_renderer::parts::Reference;
 
 /// Whether a state takes events.
 #[derive(Clone, Copy, Debug, PartialEq, Eq)]
@@ -50,6 +56,8 @@ pub struct State<R> {
     alloc: Global,
     reader: R,
     options: OptionsOf<String>,
+    /// The definitions of links that the document has already.
+    defined: Vec<Reference>,
     status: Status,
     work: Work,
 }
@@ -100,11 +108,84 @@ impl<R: Reader + Drop> State<R> {
         ensures flags { IfOk result (λ state. state_flags state ≡ parser_options) }
         ensures refused { IfErr result (λ e. e ≡ Error.OutOfMemory) }
     {
+        let none = Vec::new(alloc);
+        State::begun(alloc, reader, parser_options, options, none)
+    }
+
+    /// A state that took no event, of a part of a document that has these definitions of links already:
+    /// `new`, but that they aren't written again. The options and the definitions aren't checked.
+    ///
+    /// A link by a label is written as `new` has it. At the end it needs no definition where one of these
+    /// has its label, compared in Unicode's case folding, and its destination and title; of two with one
+    /// label the first counts. Where the label is defined otherwise, a definition is left at the end all
+    /// the same. The labels are known from the start: a unit that is read back may not leave one open, as
+    /// the text `[a]` would where `a` is defined.
+    ///
+    /// An `Err` says that memory ran out for copies of the definitions or of the strong token; the reader
+    /// is dropped then.
+    ///
+    /// ```
+    /// let defined = [
+    ///     DefinedLabel { label: "a", destination: "/u", title: "" },
+    /// ];
+    /// let link = |id, to| [
+    ///     Event::Start(Tag::Paragraph),
+    ///     Event::Start(Tag::Link { link_type: LinkType::Reference, dest_url: to, title: "".into(), id }),
+    ///     Event::Text("t".into()),
+    ///     Event::End(TagEnd::Link),
+    ///     Event::End(TagEnd::Paragraph),
+    /// ];
+    /// let (flags, options) = (ParserOptions::empty(), Options::default());
+    /// let mut output = String::new(alloc);
+    /// let mut state = State::with_defined(alloc, CoreReader, flags, options, &defined)?;
+    /// state.process(&link("A".into(), "/u".into()), &mut output)?;
+    /// state.process(&link("b".into(), "/v".into()), &mut output)?;
+    /// state.finish(&mut output)?;
+    /// assert_eq!(rt; output.as_str(), "[t][A]\n\n[t][b]\n\n[b]: /v");
+    /// ```
+    pub fn with_defined(
+        alloc: Global,
+        reader: R,
+        parser_options: ParserOptions,
+        options: Options<'_>,
+        defined: &[DefinedLabel<'_>],
+    ) -> Result<State<R>, Error>
+        ensures stands { IfOk result (λ state.
+            (source : List ℕ) → Stands R.reading parser_options source state []) }
+        ensures same { IfOk result (λ state.
+            rendering_of R.reading state
+            ≡ rendering_behind (map defined_view defined.now) (options_view options.entry)
+            (R.reading reader)) }
+        ensures flags { IfOk result (λ state. state_flags state ≡ parser_options) }
+        ensures refused { IfErr result (λ e. e ≡ Error.OutOfMemory) }
+    {
+        let copies = copied_labels(alloc, defined)?;
+        State::begun(alloc, reader, parser_options, options, copies)
+    }
+
+    /// A state that took no event, behind these definitions. An `Err` is as in `new`.
+    fn begun(
+        alloc: Global,
+        reader: R,
+        parser_options: ParserOptions,
+        options: Options<'_>,
+        defined: Vec<Reference>,
+    ) -> Result<State<R>, Error>
+        ensures stands { IfOk result (λ state.
+            (source : List ℕ) → Stands R.reading parser_options source state []) }
+        ensures same { IfOk result (λ state.
+            rendering_of R.reading state
+            ≡ rendering_behind (map reference_view defined.items) (options_view options.entry)
+            (R.reading reader)) }
+        ensures flags { IfOk result (λ state. state_flags state ≡ parser_options) }
+        ensures refused { IfErr result (λ e. e ≡ Error.OutOfMemory) }
+    {
         let options = owned_options(alloc, options)?;
         Ok(State {
             alloc,
             reader,
             options,
+            defined,
             status: Status::Active,
             work: Work::new(alloc, parser_options),
         })
@@ -162,6 +243,7 @@ impl<R: Reader + Drop> State<R> {
                     alloc: self.alloc,
                     reader: &self.reader,
                     options: lent_options(&self.options),
+                    defined: &self.defined,
                 };
                 match take_all(&tools, &mut self.work, events, writer) {
                     Ok(progress) => Ok(progress),
@@ -231,6 +313,7 @@ impl<R: Reader + Drop> State<R> {
                     alloc: self.alloc,
                     reader: &self.reader,
                     options: lent_options(&self.options),
+                    defined: &self.defined,
                 };
                 match take_all_ranged(&tools, &mut self.work, pairs, source, writer) {
                     Ok(progress) => Ok(progress),
@@ -269,6 +352,7 @@ impl<R: Reader + Drop> State<R> {
                     alloc: self.alloc,
                     reader: &self.reader,
                     options: lent_options(&self.options),
+                    defined: &self.defined,
                 };
                 match end(&tools, &mut self.work, writer) {
                     Ok(bytes_written) => {
@@ -298,11 +382,13 @@ impl<R: Clone> State<R> {
     {
         let reader = self.reader.clone()?;
         let options = owned_options(self.alloc, lent_options(&self.options))?;
+        let defined = copied_references(self.alloc, &self.defined)?;
         let work = self.work.copied(self.alloc)?;
         Ok(State {
             alloc: self.alloc,
             reader,
             options,
+            defined,
             status: self.status,
             work,
         })

@@ -22,6 +22,7 @@ use tocmark_event::reader::Reader;
 use tocmark_render::document::Document;
 use tocmark_write_labels::ending::holds_raw_block;
 use tocmark_write_pending::pending::Pending;
+use tocmark_write_renderer::parts::Reference;
 
 /// How much a call did. Both counts stop at the greatest `usize`.
 #[derive(Clone, Copy, Debug, PartialEq, Eq, Default)]
@@ -50,6 +51,8 @@ pub struct Tools<'s, R> {
     pub alloc: Global,
     pub reader: &'s R,
     pub options: Options<'s>,
+    /// The definitions of links that the document has already.
+    pub defined: &'s [Reference],
 }
 
 impl Work {
@@ -98,12 +101,13 @@ fn flush<R: Reader, W: Taker>(
         (standing_of work.old)).texts) }
     ensures flags { flags_of work.new ≡ flags_of work.old }
 {
-    let text = work.document.block(
+    let text = work.document.block_behind(
         tools.alloc,
         tools.reader,
         &work.pending,
         next,
         &tools.options,
+        tools.defined,
     )?;
     work.pending.clear();
     hand(writer, text.as_str())
@@ -289,12 +293,13 @@ fn last_text<R: Reader>(tools: &Tools<'_, R>, work: &mut Work) -> Result<String,
     if work.pending.is_empty() {
         return Ok(String::new(tools.alloc));
     }
-    let text = work.document.block(
+    let text = work.document.block_behind(
         tools.alloc,
         tools.reader,
         &work.pending,
         None,
         &tools.options,
+        tools.defined,
     )?;
     work.pending = Pending::new(tools.alloc);
     Ok(text)
@@ -318,7 +323,7 @@ pub fn end<R: Reader, W: Taker>(
     }
     let holds_raw = holds_raw_block(work.pending.events());
     let text = last_text(tools, work)?;
-    let definitions = work.document.finish(tools.alloc)?;
+    let definitions = work.document.finish(tools.alloc, tools.defined)?;
     hand_last(
         tools.alloc,
         holds_raw,

@@ -11,7 +11,7 @@ use Rattle.tocmark_spelling.specs.Page as page
 use Rattle.tocmark_write_renderer.specs.WriterOf.{reference_view}
 use Rattle.tocmark_write_renderer.specs.declared.parts.Reference.{Reference}
 use Rattle.tocmark_write_labels.specs.Definitions.{definition, distinct_after, lines_of, same_reference}
-use Rattle.tocmark_write_labels.specs.DefinitionsOf.{key_view}
+use Rattle.tocmark_write_labels.specs.DefinitionsOf.{key_view, same_key}
 use Rattle.tocmark_write_labels.specs.declared.definitions.Key.{Key}
 
 -- the calls of a writer that is a text append to it
@@ -63,10 +63,6 @@ and-assoc : (b c d : Bool) → (b && (c && d)) ≡ ((b && c) && d)
 and-assoc true c d = refl
 and-assoc false c d = refl
 
--- keys are equal
-abbrev pub same_key : Key → Key → Bool
-same_key a b = bytes_eq a.label.now b.label.now && (bytes_eq a.destination.now b.destination.now && bytes_eq a.title.now b.title.now)
-
 tells : (a b : Key) → same_key a b ≡ same_reference (key_view a) (key_view b)
 tells a b = and-assoc (bytes_eq a.label.now b.label.now) (bytes_eq a.destination.now b.destination.now) (bytes_eq a.title.now b.title.now)
 
@@ -74,11 +70,11 @@ any-key : (k : Key) (keys : List Key) → list_any (same_key k) keys ≡ list_an
 any-key k [] = refl
 any-key k (x ∷ keys) = ap (λ b. b || list_any (same_key k) keys) (tells k x) ∙ ap (λ b. same_reference (key_view k) (key_view x) || b) (any-key k keys)
 
-abbrev gathered : List Key → List page.Reference → List page.Reference
+abbrev pub gathered : List Key → List page.Reference → List page.Reference
 gathered keys rs = map key_view keys ++ distinct_after (reverse (map key_view keys)) rs
 
 -- one more reference
-key-inserted : (k : Key) (keys : List Key) (rs : List page.Reference) → gathered (insert_key same_key keys k) rs ≡ gathered keys (key_view k ∷ rs)
+pub key-inserted : (k : Key) (keys : List Key) (rs : List page.Reference) → gathered (insert_key same_key keys k) rs ≡ gathered keys (key_view k ∷ rs)
 key-inserted k keys rs =
     by (list_any (same_key k) keys)
     ∙ ap (λ b. map key_view keys ++ (if b then distinct_after earlier rs else key_view k ∷ distinct_after (key_view k ∷ earlier) rs)) (any-key k keys ∙ sym (any-reverse (same_reference (key_view k)) (map key_view keys)))

@@ -4,3 +4,4 @@ pub mod ReservedLabels
 pub mod Unlabelled
 pub mod DefinitionTexts
 pub mod Feeds
+pub mod DefinedLabels

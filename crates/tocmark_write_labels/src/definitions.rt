@@ -39,13 +39,13 @@ pub fn copied_references(
 
 /// What tells a definition from others.
 #[derive(Clone, Copy, PartialEq, Eq, Hash)]
-struct Key<'a> {
-    label: &'a str,
-    destination: &'a str,
-    title: &'a str,
+pub(crate) struct Key<'a> {
+    pub(crate) label: &'a str,
+    pub(crate) destination: &'a str,
+    pub(crate) title: &'a str,
 }
 
-fn key_of(reference: &Reference) -> Key<'_>
+pub(crate) fn key_of(reference: &Reference) -> Key<'_>
     ensures { key_view result ≡ reference_view reference.now }
 {
     Key {
@@ -105,7 +105,7 @@ fn push_line(text: &mut String, is_first: bool, key: &Key<'_>) -> Result<(), All
 }
 
 /// Definitions, one a line.
-fn push_lines(text: &mut String, keys: &[Key<'_>]) -> Result<(), AllocError>
+pub(crate) fn push_lines(text: &mut String, keys: &[Key<'_>]) -> Result<(), AllocError>
     ensures { OnOk result (string_bytes text.new
         ≡ string_bytes text.old ++ lines_of (map key_view keys.now)) }
 {
@@ -134,7 +134,7 @@ fn push_distinct(
 }
 
 /// Line feeds, so that two stand where so many do already.
-fn push_feeds(text: &mut String, feeds: usize) -> Result<(), AllocError>
+pub(crate) fn push_feeds(text: &mut String, feeds: usize) -> Result<(), AllocError>
     ensures { OnOk result (string_bytes text.new
         ≡ string_bytes text.old ++ replicate (2 - feeds) 10) }
 {

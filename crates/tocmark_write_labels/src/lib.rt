@@ -5,6 +5,7 @@
 //! lists; `definitions` and `ending` have what is written at the end.
 #![tactic(auto)]
 
+pub mod defined;
 pub mod definitions;
 pub mod ending;
 pub mod label_set_laws;

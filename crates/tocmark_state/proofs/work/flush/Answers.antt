@@ -15,15 +15,15 @@ returns-in_err-text-clause-made g c =
     (keeping_refused (document_flags c.args.work.now.document) _ c.in_err-text.field-0.0 c.in_err-text.ensures.chosen))
 
 flushed_to : (g : given.Over) (c : goal.After-drop-text g) → flushed (rendering_with g.R.Reader.reading c.args.tools.now) (next_view c.args.next) (standing_of c.args.work.now)
-    ≡ hand_walk (string_bytes c.in_ok-text.text) (record (standing_of c.args.work.now) { pending = []; document = kept_of c.block.new.self })
+    ≡ hand_walk (string_bytes c.in_ok-text.text) (record (standing_of c.args.work.now) { pending = []; document = kept_of c.block_behind.new.self })
 flushed_to g c =
-    flushed_ok (rendering_with g.R.Reader.reading c.args.tools.now) (next_view c.args.next) (standing_of c.args.work.now) (string_bytes c.in_ok-text.text, kept_of c.block.new.self)
-    (keeping_ok (document_flags c.args.work.now.document) (document_flags c.block.new.self) _ (string_bytes c.in_ok-text.text) (document_view c.block.new.self) c.in_ok-text.ensures.flags c.in_ok-text.ensures.chosen)
+    flushed_ok (rendering_with g.R.Reader.reading c.args.tools.now) (next_view c.args.next) (standing_of c.args.work.now) (string_bytes c.in_ok-text.text, kept_of c.block_behind.new.self)
+    (keeping_ok (document_flags c.args.work.now.document) (document_flags c.block_behind.new.self) _ (string_bytes c.in_ok-text.text) (document_view c.block_behind.new.self) c.in_ok-text.ensures.flags c.in_ok-text.ensures.chosen)
 
 pub returns-clause-made : goal.returns-clause-made
 returns-clause-made g c =
     rw (flushed_to g c, c.clear.ensures, c.requires.whole, ← c.as_str.ensures.value)
-    (Makes-at g.W.Taker.takes g.W.Taker.refuses c.args.writer.now c.hand.new.writer c.hand.result c.as_str.result.now (record (standing_of c.args.work.now) { pending = []; open_tags = []; document = kept_of c.block.new.self }) c.hand.ensures.handed)
+    (Makes-at g.W.Taker.takes g.W.Taker.refuses c.args.writer.now c.hand.new.writer c.hand.result c.as_str.result.now (record (standing_of c.args.work.now) { pending = []; open_tags = []; document = kept_of c.block_behind.new.self }) c.hand.ensures.handed)
 
 pub returns-clause-count : goal.returns-clause-count
 returns-clause-count g c =

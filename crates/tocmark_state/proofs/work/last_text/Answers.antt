@@ -24,6 +24,6 @@ returns-clause-made g c =
     let how = rendering_with g.R.Reader.reading c.args.tools.now in
     let kept = kept_of c.args.work.now.document in
     let es = c.args.work.now.pending.events in
-    let chosen : how.choice kept es None ≡ Ok (string_bytes c.in_ok-text.text, kept_of c.block.new.self) =
-    (keeping_ok (document_flags c.args.work.now.document) (document_flags c.block.new.self) _ (string_bytes c.in_ok-text.text) (document_view c.block.new.self) c.in_ok-text.ensures.flags c.in_ok-text.ensures.chosen) in
+    let chosen : how.choice kept es None ≡ Ok (string_bytes c.in_ok-text.text, kept_of c.block_behind.new.self) =
+    (keeping_ok (document_flags c.args.work.now.document) (document_flags c.block_behind.new.self) _ (string_bytes c.in_ok-text.text) (document_view c.block_behind.new.self) c.in_ok-text.ensures.flags c.in_ok-text.ensures.chosen) in
     choice_some how kept c.args.work.now.pending.events (sym c.if-is_empty.ensures) ∙ chosen

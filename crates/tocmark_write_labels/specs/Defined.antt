@@ -1,0 +1,36 @@
+-- The definitions of links that a document has already.
+use Rattle.std.specs.Prelude.{ℕ, Bool, true, false, not, ◌&&◌, if◌then◌else◌, Option, Some, None, List, [], ◌∷◌, bytes_eq, filter, map}
+use Rattle.tocmark_spelling.specs.Page.{Reference}
+use Rattle.tocmark_write_labels.specs.Document.{DocumentView, folded, with_labels}
+use Rattle.tocmark_write_labels.specs.declared.defined.DefinedLabel.{DefinedLabel}
+
+-- a definition as a plain value (CommonMark, section 4.7)
+abbrev pub defined_view : DefinedLabel → Reference
+defined_view d = record { label = d.label.now; destination = d.destination.now; title = d.title.now }
+
+-- the first of these definitions with this folded label; the others with it don't count (CommonMark, section 4.7)
+abbrev pub definition_for : List Reference → List ℕ → Option Reference
+definition_for [] label = None
+definition_for (d ∷ ds) label = if bytes_eq (folded d.label) label then Some d else definition_for ds label
+
+-- a definition, if there is one, has the destination and the title of a reference
+abbrev pub leads_alike : Option Reference → Reference → Bool
+leads_alike None r = false
+leads_alike (Some d) r = bytes_eq d.destination r.destination && bytes_eq d.title r.title
+
+-- whether a reference is defined by these: the definition for its label leads where it does
+abbrev pub is_defined : List Reference → Reference → Bool
+is_defined defined r = leads_alike (definition_for defined (folded r.label)) r
+
+-- the references that these don't define
+abbrev pub undefined : List Reference → List Reference → List Reference
+undefined defined rs = filter (λ r. not (is_defined defined r)) rs
+
+-- a document in which these labels are known, unless a unit was flushed
+abbrev pub known_unless : Bool → List (List ℕ) → DocumentView → DocumentView
+known_unless true labels d = d
+known_unless false labels d = record d { known = with_labels d.known labels }
+
+-- the document behind which a unit is written: before the first unit the labels of these definitions become known
+abbrev pub behind : List Reference → DocumentView → DocumentView
+behind defined d = known_unless d.flushed (map (λ r. r.label) defined) d
