@@ -11,7 +11,7 @@ use Rattle.tocmark_event.specs.declared.event.flags.ParserOptions.{ParserOptions
 use Rattle.tocmark_spelling.specs.Page as page
 use Rattle.tocmark_write_renderer.specs.WriterOf.{reference_view}
 use Rattle.tocmark_write_renderer.specs.declared.parts.Reference.{Reference}
-use Rattle.tocmark_write_labels.specs.Defined.{behind, definition_for, is_defined, known_unless, leads_alike, undefined}
+use Rattle.tocmark_write_labels.specs.Defined.{definition_for, is_defined, known_unless, leads_alike, undefined}
 use Rattle.tocmark_write_labels.specs.Definitions.{definitions_text}
 use Rattle.tocmark_write_labels.specs.Document.{DocumentView, folded}
 use Rattle.tocmark_write_labels.proofs.DefinedLabels.{none-defined}

@@ -4,3 +4,4 @@ pub mod Unranged
 pub mod Runs
 pub mod Statuses
 pub mod Behind
+pub mod LaterUnits

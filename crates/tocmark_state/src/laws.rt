@@ -11,7 +11,8 @@ ghost use Rattle.tocmark_spelling.specs.Page.{Reference};
 ghost use Rattle.tocmark_write_labels.specs.Defined.{is_defined, undefined};
 ghost use Rattle.tocmark_write_labels.specs.Definitions.{definitions_text};
 ghost use Rattle.tocmark_write_labels.specs.Document.{folded};
-ghost use Rattle.tocmark_state.specs.Walk.{Kept};
+ghost use Rattle.tocmark_state.specs.Ranges.{Pair};
+ghost use Rattle.tocmark_state.specs.Walk.{Kept, Standing, walk};
 ghost use Rattle.tocmark_state.specs.WorkView.{rendering, rendering_behind};
 
 use crate::work::Progress;
@@ -30,14 +31,19 @@ pub fn no_definitions_change_nothing()
 {}
 
 /// Behind the first unit that is written, a state that is told of definitions chooses each unit's text as any
-/// other state does in the same document: it differs in the first unit, to which their labels are known, and
-/// in what is left at the end.
+/// other state does in the same document (`choice`), and makes of all further events what that does (`walk`):
+/// it differs in the first unit, to which their labels are known, and in what is left at the end.
 pub fn definitions_matter_first_and_last()
-    ensures { (defined : List Reference) (options : OptionsView)
+    ensures choice { (defined : List Reference) (options : OptionsView)
         (reading : List ℕ → ParserOptions → ReadingView) (kept : Kept) →
         kept.document.flushed ≡ true → (unit : List SourcedEvent) (next : Option EventView) →
         (rendering_behind defined options reading).choice kept unit next
         ≡ (rendering options reading).choice kept unit next }
+    ensures walk { (defined : List Reference) (options : OptionsView)
+        (reading : List ℕ → ParserOptions → ReadingView) (source : List ℕ) (s : Standing) →
+        s.document.document.flushed ≡ true → (p : List Pair) →
+        walk (rendering_behind defined options reading) source s p
+        ≡ walk (rendering options reading) source s p }
 {}
 
 /// What a document has already isn't written again. Of a state that is told of definitions, those left at
