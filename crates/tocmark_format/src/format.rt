@@ -2,20 +2,21 @@
 
 ghost use Rattle.std.specs.Prelude.{◌≡◌, IfOk, IfSome, IsNone, IsTrue, string_bytes};
 ghost use Rattle.tocmark_event.specs.Merged.{merged};
-ghost use Rattle.tocmark_rewrite_edits.specs.Digest.{says};
-ghost use Rattle.tocmark_rewrite_edits.specs.Given.{found_events, given_events};
+ghost use Rattle.tocmark_rewrite_edits.specs.Digest.{SaysFirst, says};
+ghost use Rattle.tocmark_rewrite_edits.specs.Given.{found_events};
 
 use crate::answer::{Formatted, Left, Reason};
 use crate::compose::composed;
-use crate::pieces::{Document, Piece, Texts, all_left, make_pieces};
+use crate::parts::{PartReader, PartTaker};
+use crate::pieces::{Document, Piece, Texts, Trees, all_left};
 use crate::style::{Escapes, Style};
 use std::alloc::{AllocError, Global};
-use tocmark_event::event::{Event, ParserOptions};
+use tocmark_event::event::ParserOptions;
 use tocmark_event::options::Options;
-use tocmark_event::reader::Reader;
+use tocmark_event::reader::{Reader, Reading};
 use tocmark_rewrite::pieces::Tools;
 use tocmark_rewrite_edits::digest::Digest;
-use tocmark_rewrite_edits::trees::{Block, blocks};
+use tocmark_rewrite_edits::trees::Block;
 
 /// The byte order mark, which others take for no character, and readers of Markdown for one of the first line.
 const MARK: &str = "\u{feff}";
@@ -39,8 +40,8 @@ fn differing(alloc: Global, read: &Digest, found: &Digest) -> Result<Vec<usize>,
     Ok(list)
 }
 
-/// What a reader finds in a text. The events themselves are gone when the answer is there.
-fn digest_of<R: Reader>(
+/// What a reader finds in a text. Of the events themselves only a part is there at a time.
+fn digest_of<R: PartReader>(
     alloc: Global,
     reader: &R,
     flags: ParserOptions,
@@ -49,13 +50,13 @@ fn digest_of<R: Reader>(
     ensures { IfOk result (λ digest. says digest
         ≡ merged (found_events (R.reading reader.now text.now flags))) }
 {
-    let reading = reader.read(alloc, text, flags)?;
-    let digest = Digest::of(alloc, &reading.events)?;
+    let mut digest = Digest::new(alloc);
+    reader.read_parts(alloc, text, flags, &mut digest)?;
     Ok(digest)
 }
 
 /// Nothing if a text is read so, else the trees that are read otherwise.
-fn differences<R: Reader>(
+fn differences<R: PartReader>(
     alloc: Global,
     reader: &R,
     flags: ParserOptions,
@@ -79,7 +80,7 @@ fn loses_mark(source: &str, text: &str) -> bool {
 }
 
 /// Nothing if a text is read as these events, and has the source's mark in front, else the trees to be left.
-fn faults<R: Reader>(
+fn faults<R: PartReader>(
     document: &Document<'_, '_, R>,
     text: &str,
     found: &Digest,
@@ -126,7 +127,7 @@ fn step_all_back(pieces: &mut [Piece], list: &[usize]) -> bool {
 }
 
 /// The document that is read as these events, if some round leads there.
-fn rounds<R: Reader>(
+fn rounds<R: PartReader>(
     document: &Document<'_, '_, R>,
     blocks: &[Block],
     found: &Digest,
@@ -162,7 +163,7 @@ fn leave_all(pieces: &mut [Piece]) {
 }
 
 /// The document that some round leads to, else the source.
-fn new_text<R: Reader>(
+fn new_text<R: PartReader>(
     document: &Document<'_, '_, R>,
     blocks: &[Block],
     found: &Digest,
@@ -185,68 +186,62 @@ fn new_text<R: Reader>(
     Ok(text)
 }
 
-/// What is kept of the source's events, which are gone before the new text is read: both readings together would take
-/// twice the memory.
+/// Keeps what has to be known of the source's events, which come part by part: all at once, they would take more memory
+/// than all else.
 #[derive(Drop)]
-struct Kept {
-    blocks: Vec<Block>,
-    pieces: Vec<Piece>,
-    texts: Texts,
+struct Keeper<'k, 'r, 'd, R> {
+    document: &'k Document<'r, 'd, R>,
+    trees: Trees,
     /// What they say.
     found: Digest,
 }
 
-/// What is kept of these events.
-fn kept_of<'a, R: Reader>(
-    document: &Document<'_, '_, R>,
-    events: &'a [(Event<'a>, (usize, usize))],
-) -> Result<Kept, AllocError>
-    ensures { IfOk result (λ kept. says kept.found ≡ merged (given_events events.now)) }
-{
-    let alloc = document.tools.alloc;
-    let blocks = blocks(alloc, document.source, events)?;
-    let mut texts = Texts {
-        tidy: String::new(alloc),
-        plain: String::new(alloc),
-    };
-    let pieces = make_pieces(document, &blocks, events, &mut texts)?;
-    let found = Digest::of(alloc, events)?;
-    Ok(Kept {
-        blocks,
-        pieces,
-        texts,
-        found,
-    })
+impl<R: Reader> PartTaker for Keeper<'_, '_, '_, R> {
+    ghost has_taken = { λ keeper events. SaysFirst keeper.found events };
+
+    fn take(&mut self, alloc: Global, part: &Reading) -> Result<(), AllocError> {
+        self.trees.add(self.document, &part.events)?;
+        self.found.add(alloc, &part.events)
+    }
 }
 
-/// What is kept of the source.
-fn kept_of_source<R: Reader>(document: &Document<'_, '_, R>) -> Result<Kept, AllocError>
-    ensures { IfOk result (λ kept. says kept.found
+/// What is kept of the source: its trees, and what they say.
+fn kept_of_source<R: PartReader>(
+    document: &Document<'_, '_, R>,
+) -> Result<(Trees, Digest), AllocError>
+    ensures { IfOk result (λ kept. says kept.1
         ≡ merged (found_events (R.reading document.now.tools.reader.now document.now.source.now
         document.now.tools.flags))) }
 {
     let tools = &document.tools;
-    let reading = tools
+    let mut keeper = Keeper {
+        document,
+        trees: Trees::new(tools.alloc),
+        found: Digest::new(tools.alloc),
+    };
+    let source = document.source;
+    tools
         .reader
-        .read(tools.alloc, document.source, tools.flags)?;
-    let kept = kept_of(document, &reading.events)?;
-    Ok(kept)
+        .read_parts(tools.alloc, source, tools.flags, &mut keeper)?;
+    let Keeper { trees, found, .. } = keeper;
+    Ok((trees, found))
 }
 
 /// The document in this style.
-fn formatted_as<R: Reader>(document: &Document<'_, '_, R>) -> Result<Formatted, AllocError>
+fn formatted_as<R: PartReader>(document: &Document<'_, '_, R>) -> Result<Formatted, AllocError>
     ensures { IfOk result (λ answer.
         merged (found_events (R.reading document.now.tools.reader.now (string_bytes answer.text)
         document.now.tools.flags))
         ≡ merged (found_events (R.reading document.now.tools.reader.now document.now.source.now
         document.now.tools.flags))) }
 {
-    let Kept {
+    let (trees, found) = kept_of_source(document)?;
+    let Trees {
         blocks,
         mut pieces,
         mut texts,
-        found,
-    } = kept_of_source(document)?;
+        ..
+    } = trees;
     let text = new_text(document, &blocks, &found, &mut pieces, &mut texts)?;
     let left = all_left(document.tools.alloc, &blocks, pieces)?;
     Ok(Formatted { text, left })
@@ -261,7 +256,7 @@ fn line_end_of(text: &str) -> &'static str {
 }
 
 /// A document in this style, of which a byte order mark is a character as others are.
-fn formatted_text<R: Reader>(
+fn formatted_text<R: PartReader>(
     alloc: Global,
     text: &str,
     reader: &R,
@@ -289,7 +284,7 @@ fn formatted_text<R: Reader>(
 }
 
 /// Whether two texts are read alike.
-fn are_read_alike<R: Reader>(
+fn are_read_alike<R: PartReader>(
     alloc: Global,
     reader: &R,
     flags: ParserOptions,
@@ -311,7 +306,7 @@ fn behind_mark(text: &str) -> &str {
 }
 
 /// A document with a mark, of which what stands behind that is formatted by itself; none if it is read otherwise so.
-fn formatted_behind_mark<R: Reader>(
+fn formatted_behind_mark<R: PartReader>(
     alloc: Global,
     text: &str,
     reader: &R,
@@ -346,7 +341,7 @@ fn unchanged(alloc: Global, text: &str) -> Result<Formatted, AllocError>
 }
 
 /// A document with a mark, in this style.
-fn formatted_with_mark<R: Reader>(
+fn formatted_with_mark<R: PartReader>(
     alloc: Global,
     text: &str,
     reader: &R,
@@ -383,7 +378,7 @@ fn formatted_with_mark<R: Reader>(
 /// let answer = formatted(alloc, "a\n=\n -  b\n", &CoreReader, ParserOptions::empty(), Style::new())?;
 /// assert_eq!(rt; answer.text.as_str(), "# a\n\n- b\n");
 /// ```
-pub fn formatted<R: Reader>(
+pub fn formatted<R: PartReader>(
     alloc: Global,
     text: &str,
     reader: &R,

@@ -13,7 +13,7 @@ use tocmark_event::event::Event;
 use tocmark_event::options::{Error, Options};
 use tocmark_event::reader::{Reader, Reading};
 use tocmark_rewrite::pieces::{Piece as Written, Tools, write_with};
-use tocmark_rewrite_edits::trees::{Block, has_text};
+use tocmark_rewrite_edits::trees::{Block, LineCounter, blocks_in, has_text};
 
 /// In which form a tree is put into the document: each is nearer to the source than the one before.
 #[derive(Clone, Copy, Debug, PartialEq, Eq)]
@@ -241,30 +241,53 @@ fn options_of<R>(
     }
 }
 
-/// The trees of a document.
-pub(crate) fn make_pieces<'a, R: Reader>(
-    document: &Document<'_, '_, R>,
-    blocks: &[Block],
-    found: &'a [(Event<'a>, (usize, usize))],
-    texts: &mut Texts,
-) -> Result<Vec<Piece>, AllocError> {
-    let mut all = Vec::with_capacity(document.tools.alloc, blocks.len())?;
-    let mut before: Option<ListBefore> = None;
-    for block in blocks {
-        let events = found.get(block.first..block.past).unwrap_or(&[]);
+/// The trees at the top of a document, with the lines that they stand on and what is written for them.
+#[derive(Drop)]
+pub(crate) struct Trees {
+    pub(crate) blocks: Vec<Block>,
+    pub(crate) pieces: Vec<Piece>,
+    pub(crate) texts: Texts,
+    counter: LineCounter,
+    /// The list that ends just before the next tree.
+    before: Option<ListBefore>,
+}
+
+impl Trees {
+    /// No trees.
+    pub(crate) fn new(alloc: Global) -> Trees {
+        Trees {
+            blocks: Vec::new(alloc),
+            pieces: Vec::new(alloc),
+            texts: Texts {
+                tidy: String::new(alloc),
+                plain: String::new(alloc),
+            },
+            counter: LineCounter::new(),
+            before: None,
+        }
+    }
+
+    /// Adds a tree with these events.
+    fn add_tree<'a, R: Reader>(
+        &mut self,
+        document: &Document<'_, '_, R>,
+        block: Block,
+        events: &'a [(Event<'a>, (usize, usize))],
+    ) -> Result<(), AllocError> {
         let sign = first_sign(events);
         let is_list = sign == Sign::Bullets || sign == Sign::Numbers;
-        let options = options_of(document, *block, is_list, before, events);
+        let options = options_of(document, block, is_list, self.before, events);
         let piece = if sign == Sign::Raw {
             unwritten(true, None)
-        } else if holds_definitions(document, *block, sign)? {
+        } else if holds_definitions(document, block, sign)? {
             unwritten(false, Some(Reason::HoldsDefinitions))
         } else {
             let lines = document.source.get(block.from..block.to).unwrap_or("");
-            written(document, lines, options, events, texts)?
+            written(document, lines, options, events, &mut self.texts)?
         };
-        all.push(piece)?;
-        before = if is_list {
+        self.pieces.push(piece)?;
+        self.blocks.push(block)?;
+        self.before = if is_list {
             Some(ListBefore {
                 options,
                 to: block.to,
@@ -272,8 +295,22 @@ pub(crate) fn make_pieces<'a, R: Reader>(
         } else {
             None
         };
+        Ok(())
     }
-    Ok(all)
+
+    /// Adds the trees of the next part of a document's events.
+    pub(crate) fn add<'a, R: Reader>(
+        &mut self,
+        document: &Document<'_, '_, R>,
+        part: &'a [(Event<'a>, (usize, usize))],
+    ) -> Result<(), AllocError> {
+        let alloc = document.tools.alloc;
+        for block in &blocks_in(alloc, document.source, part, &mut self.counter)? {
+            let events = part.get(block.first..block.past).unwrap_or(&[]);
+            self.add_tree(document, *block, events)?;
+        }
+        Ok(())
+    }
 }
 
 impl Piece {

@@ -5,8 +5,7 @@ ghost use Rattle.tocmark_format_program.specs.Formats.{SaysTheSame};
 
 use crate::settings::Settings;
 use std::alloc::{AllocError, Global};
-use tocmark_event::reader::Reader;
-use tocmark_format::{Formatted, Left, formatted};
+use tocmark_format::{Formatted, Left, PartReader, formatted};
 
 /// What becomes of a text.
 #[derive(Drop)]
@@ -21,7 +20,7 @@ pub struct Decision {
 /// stretch of texts as one.
 ///
 /// An `Err` says that memory ran out.
-pub fn decided<R: Reader>(
+pub fn decided<R: PartReader>(
     alloc: Global,
     text: &str,
     reader: &R,

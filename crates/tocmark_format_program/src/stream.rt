@@ -9,9 +9,8 @@ use crate::fault::Fault;
 use crate::settings::Settings;
 use std::alloc::Global;
 use std::io::{Read, Write};
-use tocmark_event::reader::Reader;
 use tocmark_extended_reader::{ExtendedReader, Names};
-use tocmark_format::Left;
+use tocmark_format::{Left, PartReader};
 
 /// The reader of all documents.
 pub const READER: ExtendedReader = ExtendedReader { names: Names::All };
@@ -55,7 +54,7 @@ pub fn write_out<O: Write>(output: &mut O, text: &str) -> Result<(), Fault>
 }
 
 /// A text as it is formatted, and what became of it.
-fn formatted_text<R: Reader>(
+fn formatted_text<R: PartReader>(
     alloc: Global,
     reader: &R,
     settings: Settings,
@@ -91,7 +90,7 @@ fn formatted_text<R: Reader>(
 }
 
 /// All that an input has, as it is formatted, and what became of it.
-fn formatted_input<R: Reader, I: Read>(
+fn formatted_input<R: PartReader, I: Read>(
     alloc: Global,
     reader: &R,
     settings: Settings,
@@ -107,7 +106,7 @@ fn formatted_input<R: Reader, I: Read>(
 
 /// Writes all that an input has, as it is formatted. What is written says the same as the input. After an `Err` that
 /// isn't of the output, nothing is written.
-pub fn format_stream<R: Reader, I: Read, O: Write>(
+pub fn format_stream<R: PartReader, I: Read, O: Write>(
     alloc: Global,
     reader: &R,
     settings: Settings,

@@ -252,17 +252,37 @@ impl Digest {
         Ok(())
     }
 
+    /// A digest to which events are added, of which there are none yet.
+    pub fn new(alloc: Global) -> Digest
+        ensures { SaysFirst result [] }
+    {
+        Digest {
+            bytes: Vec::new(alloc),
+            others: Vec::new(alloc),
+        }
+    }
+
+    /// Adds what further events say. An `Err` says that memory ran out; the digest then says some of it.
+    pub fn add(
+        &mut self,
+        alloc: Global,
+        events: &[(Event<'_>, (usize, usize))],
+    ) -> Result<(), AllocError>
+        ensures { OnOk result ((before : List EventView) → SaysFirst self.old before
+            → SaysFirst self.new (before ++ given_events events.now)) }
+    {
+        for pair in events {
+            self.put(alloc, &pair.0)?;
+        }
+        Ok(())
+    }
+
     /// What a list of events says. An `Err` says that memory ran out.
     pub fn of(alloc: Global, events: &[(Event<'_>, (usize, usize))]) -> Result<Digest, AllocError>
         ensures { IfOk result (λ digest. says digest ≡ merged (given_events events.now)) }
     {
-        let mut digest = Digest {
-            bytes: Vec::new(alloc),
-            others: Vec::new(alloc),
-        };
-        for pair in events {
-            digest.put(alloc, &pair.0)?;
-        }
+        let mut digest = Digest::new(alloc);
+        digest.add(alloc, events)?;
         Ok(digest)
     }
 

@@ -116,12 +116,17 @@ pub fn trimmed(bytes: &[u8], from: usize, to: usize) -> (usize, usize) {
 
 /// How many lines end before a byte.
 #[derive(Drop)]
-struct LineCounter {
+pub struct LineCounter {
     at: usize,
     ended: usize,
 }
 
 impl LineCounter {
+    /// Counts from the first byte on.
+    pub fn new() -> LineCounter {
+        LineCounter { at: 0, ended: 0 }
+    }
+
     /// The number of the line on which a byte stands, counted from 1; bytes are asked for in their order.
     fn line_of(&mut self, bytes: &[u8], at: usize) -> usize {
         for k in self.at..at.min(bytes.len()) {
@@ -174,16 +179,17 @@ pub fn trees(
     Ok(all)
 }
 
-/// The trees that the reader found, with their lines. An `Err` says that memory ran out.
-pub fn blocks(
+/// The trees that the reader found in a part of a source, with their lines. The parts come in their order, with the same
+/// counter. An `Err` says that memory ran out.
+pub fn blocks_in(
     alloc: Global,
     source: &str,
-    events: &[(Event<'_>, (usize, usize))],
+    part: &[(Event<'_>, (usize, usize))],
+    counter: &mut LineCounter,
 ) -> Result<Vec<Block>, AllocError> {
     let bytes = source.as_bytes();
-    let mut counter = LineCounter { at: 0, ended: 0 };
     let mut all = Vec::new(alloc);
-    for tree in &trees(alloc, events)? {
+    for tree in &trees(alloc, part)? {
         let from = line_start(bytes, tree.begins);
         let to = lines_end(bytes, tree.begins, tree.ends);
         let first_line = counter.line_of(bytes, from);
@@ -198,4 +204,13 @@ pub fn blocks(
         })?;
     }
     Ok(all)
+}
+
+/// The trees that the reader found, with their lines. An `Err` says that memory ran out.
+pub fn blocks(
+    alloc: Global,
+    source: &str,
+    events: &[(Event<'_>, (usize, usize))],
+) -> Result<Vec<Block>, AllocError> {
+    blocks_in(alloc, source, events, &mut LineCounter::new())
 }

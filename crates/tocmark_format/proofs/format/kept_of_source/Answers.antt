@@ -1,13 +1,9 @@
-use Rattle.std.proofs.Common.{◌≡◌, ◌∙◌, ap, sym}
-use Rattle.tocmark_event.specs.Merged.{merged}
-use Rattle.tocmark_rewrite_edits.specs.Given.{found_events, given_events}
-use Rattle.tocmark_rewrite.proofs.Readings.{found-given}
+use Rattle.std.proofs.Common.{[]}
+use Rattle.tocmark_rewrite_edits.specs.Given.{found_events}
+use Rattle.tocmark_rewrite_edits.proofs.Digests.{says-all}
 use Rattle.tocmark_format.proofs.format.kept_of_source.Goals as goal
 
 pub returns : goal.returns
 returns g c =
-    let read : given_events c.deref.result.now ≡ found_events (g.R.Reader.reading c.args.document.now.tools.reader.now c.args.document.now.source.now c.args.document.now.tools.flags) =
-    ap given_events c.deref.ensures.value
-    ∙ sym (found-given c.in_ok-reading.reading)
-    ∙ ap found_events c.in_ok-reading.ensures in
-    c.in_ok-kept.ensures ∙ ap merged read
+    let d = c.args.document.now in
+    says-all c.read_parts.new.taker.found (found_events (g.R.Reader.reading d.tools.reader.now d.source.now d.tools.flags)) (c.in_ok-read_parts.ensures [] c.new-2.ensures)
