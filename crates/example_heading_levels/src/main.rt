@@ -6,7 +6,7 @@
 //! it stands in the input. The status is 0 if there was none, 1 if there was one, and 2 if there is no answer.
 //!
 //! Proved of `mend_text`, for every reader: the reader finds in the answer what it finds in the input with each heading
-//! at that level, and nothing else (`same`); `parts` and `kept` are as in `rewritten`.
+//! at that level, and nothing else (`same`); `parts` and `kept` are as in `rewritten_slice`.
 #![tactic(auto)]
 
 mod levels;
@@ -31,7 +31,7 @@ use tocmark::Options;
 use tocmark::event::{Event, ParserOptions};
 use tocmark::reader::{Reader, Reading};
 use tocmark_extended_reader::ExtendedReader;
-use tocmark_rewrite::{Fault, Rewritten, rewritten};
+use tocmark_rewrite::{Fault, Rewritten, rewritten_slice};
 use tocmark_rewrite_edits::edits::number_of;
 
 /// Moves each heading that skips a level, and adds it to those that are moved.
@@ -91,7 +91,7 @@ fn mend_text<R: Reader>(
 {
     let (reading, moved) = read_mended(alloc, text, reader, flags)?;
     let options = Options::default();
-    let answer = rewritten(alloc, text, &reading.events, reader, flags, options)?;
+    let answer = rewritten_slice(alloc, text, &reading.events, reader, flags, options)?;
     Ok(Linted { answer, moved })
 }
 

@@ -24,7 +24,7 @@ use tocmark::Options;
 use tocmark::event::{CowStr, Event, ParserOptions, Tag};
 use tocmark::reader::{Reader, Reading};
 use tocmark_extended_reader::ExtendedReader;
-use tocmark_rewrite::{Fate, Fault, Rewritten, rewritten};
+use tocmark_rewrite::{Fate, Fault, Rewritten, rewritten_slice};
 use tocmark_rewrite_edits::edits::set_destination;
 
 /// Where an event leads, if it begins a link or an image.
@@ -112,7 +112,7 @@ fn with_https<R: Reader>(
 {
     let reading = read_secured(alloc, text, reader, flags)?;
     let options = Options::default();
-    let answer = rewritten(alloc, text, &reading.events, reader, flags, options)?;
+    let answer = rewritten_slice(alloc, text, &reading.events, reader, flags, options)?;
     Ok(answer)
 }
 

@@ -4,7 +4,7 @@
 //! `Chapter` in the lists below `items` or `sections` of the book and `sub_items` of a chapter, with their Markdown below
 //! `content`. All else is handed on, with the keys of an object in the order of their bytes. With the arguments `supports
 //! RENDERER` nothing is read, and the status is 0. Proved of `lowered`, for every reader: it finds in a chapter what it
-//! found before with each heading one level down (`same`); `parts` is as in `rewritten`.
+//! found before with each heading one level down (`same`); `parts` is as in `rewritten_slice`.
 #![tactic(auto)]
 
 ghost use Rattle.std.specs.Prelude.{◌≡◌, IfOk, string_bytes};
@@ -21,7 +21,7 @@ use tocmark::Options;
 use tocmark::event::ParserOptions;
 use tocmark::reader::{Reader, Reading};
 use tocmark_extended_reader::ExtendedReader;
-use tocmark_rewrite::{Fault, Rewritten, rewritten};
+use tocmark_rewrite::{Fault, Rewritten, rewritten_slice};
 use tocmark_rewrite_edits::edits::{Shift, shift_headings};
 
 /// The extensions of mdBook's Markdown that the reader reads.
@@ -62,7 +62,7 @@ fn lowered<R: Reader>(
 {
     let reading = read_lowered(alloc, text, reader, flags)?;
     let options = Options::default();
-    let answer = rewritten(alloc, text, &reading.events, reader, flags, options)?;
+    let answer = rewritten_slice(alloc, text, &reading.events, reader, flags, options)?;
     Ok(answer)
 }
 

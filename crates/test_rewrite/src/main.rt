@@ -157,7 +157,7 @@ fn edited(alloc: Global, text: &str, how: Edit) -> Result<String, Fault> {
     let mut reading = CoreReader.read(alloc, text, flags)?;
     make_edit(alloc, &mut reading.events, how)?;
     let options = Options::default();
-    let answer = rewritten(alloc, text, &reading.events, &CoreReader, flags, options)?;
+    let answer = rewritten(alloc, text, reading.pairs(), &CoreReader, flags, options)?;
     Ok(answer.text)
 }
 

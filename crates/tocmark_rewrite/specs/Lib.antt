@@ -1,2 +1,3 @@
+pub mod Edited
 pub mod Kept
 pub mod Parts

@@ -2,6 +2,7 @@
 //!
 //! As in `patch`, what is made here is tried, and no more.
 
+use crate::collect::lent;
 use crate::pieces::{Piece, Tools, write_tree};
 use std::alloc::{AllocError, Global};
 use tocmark_event::event::{Event, Tag, TagEnd};
@@ -227,11 +228,6 @@ fn list_of_item(
     }
     all.push((Event::End(TagEnd::List(number.is_some())), here))?;
     Ok(all)
-}
-
-/// Events of its own, lent as those of a document are.
-fn lent<'a>(events: &'a [(Event<'static>, (usize, usize))]) -> &'a [(Event<'a>, (usize, usize))] {
-    events
 }
 
 /// An item as it is written by itself.

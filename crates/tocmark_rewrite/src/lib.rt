@@ -11,11 +11,12 @@
 //! ```
 //! let mut reading = CoreReader.read(alloc, source, flags)?;
 //! shift_headings(&mut reading.events, Shift::Down(1));
-//! let answer = rewritten(alloc, source, &reading.events, &CoreReader, flags, Options::default())?;
+//! let answer = rewritten(alloc, source, reading.pairs(), &CoreReader, flags, Options::default())?;
 //! ```
 #![tactic(auto)]
 
 pub mod answer;
+mod collect;
 pub mod fault;
 mod inner;
 mod join;
@@ -28,4 +29,4 @@ mod texts;
 pub use answer::{Fate, Kept, Rewritten, RewrittenTree};
 pub use fault::{Fault, Place};
 pub use output::Part;
-pub use rewrite::rewritten;
+pub use rewrite::{rewritten, rewritten_slice};

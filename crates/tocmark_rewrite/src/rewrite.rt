@@ -1,14 +1,19 @@
 //! Rewrites a document: what wasn't changed stays byte for byte.
 
-ghost use Rattle.std.specs.Prelude.{◌≡◌, ◌↔◌, IfOk, IfSome, IsTrue, List, string_bytes};
+ghost use Rattle.std.specs.Prelude.{◌≡◌, ◌↔◌, ℕ, IfOk, IfSome, IsTrue, List, Option, string_bytes};
+ghost use Rattle.std.specs.Borrow.{Bor};
+ghost use Rattle.std.specs.Iterator.{Drains, IsFinite};
 ghost use Rattle.std.specs.List.{All};
 ghost use Rattle.tocmark_event.specs.Merged.{merged};
+ghost use Rattle.tocmark_event.specs.Text.{ParserEvent};
 ghost use Rattle.tocmark_event.specs.View.{EventView};
 ghost use Rattle.tocmark_rewrite_edits.specs.Given.{found_events, given_events};
+ghost use Rattle.tocmark_rewrite.specs.Edited.{IsWrittenFor, edited_events};
 ghost use Rattle.tocmark_rewrite.specs.Kept.{IsHonest, IsTold};
 ghost use Rattle.tocmark_rewrite.specs.Parts.{Builds, IsMadeOf};
 
 use crate::answer::{Rewritten, told};
+use crate::collect::{collected, lent};
 use crate::fault::{Fault, Place};
 use crate::inner::{block_patch, innermost};
 use crate::join::{Manner, Written, joined, patched};
@@ -412,29 +417,9 @@ fn new_text<'a, R: Reader>(
     joined_text(tools, source, work, events)
 }
 
-/// The edited document: what wasn't changed stays byte for byte.
-///
-/// `events` are those that `reader` finds in `source` under `flags`, each with its range, in which the
-/// caller has changed, added or taken away some; an event that is new has the range of what it replaces,
-/// or an empty one at its place. The options say how trees are written that can't be patched.
-///
-/// - If nothing was changed, the answer is the source.
-/// - Where a link's or an image's destination or title, a text, a heading's level or the info string of a
-///   code block was changed, the bytes of just that are replaced, if the whole is read as the events then.
-///   What a link by a label leads to stands in the label's definition, and is replaced there.
-/// - Where more was changed, so is the innermost block in which it was, or the item, as it is written by
-///   itself; or else the whole tree at the top.
-/// - Else trees at the top whose events are those of the source keep their lines, and what stands between
-///   them, and the others are written.
-///
-/// The new text is read as the events that were given, on either side with each longest stretch of texts
-/// as one (the clause `same`). It is its parts one after the other, each a slice of the source or a text
-/// that was written (`parts`). Of a tree that is said to be kept, the events are those of the source, and
-/// its lines were copied (`kept`).
-///
-/// An `Err` says that memory ran out, or which tree is refused by the writer, or at which tree the last
-/// text that was tried is read otherwise; the source and the events are the caller's, as before.
-pub fn rewritten<'a, R: Reader>(
+/// The same for events in a slice, each with a range, which aren't copied: an event that is new has that of what it
+/// replaces, or an empty one at its place.
+pub fn rewritten_slice<'a, R: Reader>(
     alloc: Global,
     source: &str,
     events: &'a [(Event<'a>, (usize, usize))],
@@ -470,5 +455,54 @@ pub fn rewritten<'a, R: Reader>(
     };
     let output = new_text(&tools, source, &work, events)?;
     let answer = answer(alloc, &work, output)?;
+    Ok(answer)
+}
+
+/// The edited document: what wasn't changed stays byte for byte.
+///
+/// `events` are those that `reader` finds in `source` under `flags`, each with its range, in which the
+/// caller has changed, added or taken away some; an event that is new has no range, or that of what it
+/// replaces. `Reading::pairs` gives those of a reading that was edited in place. The options say how trees are
+/// written that can't be patched.
+///
+/// - If nothing was changed, the answer is the source.
+/// - Where a link's or an image's destination or title, a text, a heading's level or the info string of a
+///   code block was changed, the bytes of just that are replaced, if the whole is read as the events then.
+///   What a link by a label leads to stands in the label's definition, and is replaced there.
+/// - Where more was changed, so is the innermost block in which it was, or the item, as it is written by
+///   itself; or else the whole tree at the top.
+/// - Else trees at the top whose events are those of the source keep their lines, and what stands between
+///   them, and the others are written.
+///
+/// The new text is read as the events that were given, on either side with each longest stretch of texts
+/// as one (the clause `edited`). It is its parts one after the other, each a slice of the source or a text
+/// that was written (`parts`). Of a tree that is said to be kept, the events are those of the source, and
+/// its lines were copied (`edited`).
+///
+/// An `Err` says that memory ran out, or which tree is refused by the writer, or at which tree the last
+/// text that was tried is read otherwise; the source is the caller's, as before.
+pub fn rewritten<'a, R, I>(
+    alloc: Global,
+    source: &str,
+    events: I,
+    reader: &R,
+    flags: ParserOptions,
+    options: Options<'_>,
+) -> Result<Rewritten, Fault>
+where
+    R: Reader,
+    I: IntoIterator<Item = (&'a Event<'a>, Option<(usize, usize)>)>,
+    requires { (it : I.IntoIter) → I.into_iter_gives events it
+        → I.IntoIter.can_next it × IsFinite (I.IntoIter.remaining it) }
+    ensures edited { IfOk result (λ answer.
+        (it : I.IntoIter) × (xs : List (Bor ParserEvent × Option (ℕ × ℕ)))
+        × I.into_iter_gives events it × Drains I.IntoIter.next_gives it xs
+        × IsWrittenFor (λ text. R.reading reader.now text flags) source.now (edited_events xs)
+        answer) }
+    ensures parts { IfOk result (λ answer.
+        IsMadeOf source.now (string_bytes answer.text) answer.parts.items) }
+{
+    let copies: Vec<(Event<'static>, (usize, usize))> = collected(alloc, events.into_iter())?;
+    let answer = rewritten_slice(alloc, source, lent(&copies), reader, flags, options)?;
     Ok(answer)
 }

@@ -1,25 +1,17 @@
-use Rattle.std.proofs.Common.{◌≡◌, ◌∙◌, List, ap, subst, sym}
-use Rattle.std.specs.List.{All}
+use Rattle.std.proofs.Common.{◌≡◌, ◌∙◌, List, ap, subst}
 use Rattle.tocmark_event.specs.View.{EventView}
-use Rattle.tocmark_rewrite_edits.specs.Given.{found_events, given_events}
-use Rattle.tocmark_rewrite.specs.Kept.{IsHonest, IsTold}
-use Rattle.tocmark_rewrite.proofs.Readings.{found-given}
+use Rattle.tocmark_rewrite_edits.specs.Given.{given_events}
+use Rattle.tocmark_rewrite.specs.Edited.{IsWrittenFor, edited_events}
 use Rattle.tocmark_rewrite.proofs.rewrite.rewritten.Goals as goal
 
-pub new_text-requires : goal.new_text-requires
-new_text-requires g c =
-    ap given_events c.deref-5.ensures.value
-    ∙ sym (found-given c.in_ok-reading.reading)
-    ∙ ap found_events c.in_ok-reading.ensures
-
-pub returns-clause-kept : goal.returns-clause-kept
-returns-clause-kept g c =
-    let given : List EventView = given_events c.args.events.now in
-    let read : given_events c.deref-2.result.now ≡ found_events (g.R.Reader.reading c.args.reader.now c.args.source.now c.args.flags) =
-    ap given_events c.deref-2.ensures.value
-    ∙ sym (found-given c.in_ok-reading.reading)
-    ∙ ap found_events c.in_ok-reading.ensures in
-    let honest : All (IsHonest (given_events c.deref-2.result.now) given) c.deref-7.result.now =
-    subst (All (IsHonest (given_events c.deref-2.result.now) given)) (sym c.deref-7.ensures.value) c.in_ok-plans.ensures in
-    subst (λ (found : List EventView). All (IsTold found given c.in_ok-answer.answer.parts.items) c.in_ok-answer.answer.trees.items) read
-    (c.in_ok-answer.ensures.told (given_events c.deref-2.result.now) given honest)
+pub returns-clause-edited : goal.returns-clause-edited
+returns-clause-edited g c =
+    let e = c.in_ok-copies.ensures in
+    let same : given_events c.lent.result.now ≡ edited_events e.0 = ap given_events (c.lent.ensures ∙ c.deref.ensures.value) ∙ e.2 in (
+      c.into_iter.result,
+      e.0,
+      c.into_iter.ensures.into_iter_gives,
+      e.1,
+      subst (λ (given : List EventView). IsWrittenFor (λ text. g.R.Reader.reading c.args.reader.now text c.args.flags) c.args.source.now given c.in_ok-answer.answer) same
+          (record { same = c.in_ok-answer.ensures.same; kept = c.in_ok-answer.ensures.kept }),
+    )
