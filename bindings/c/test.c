@@ -203,6 +203,12 @@ static ptrdiff_t writes(const char *json, const char *source, uint32_t flags, co
                             (const uint8_t *)options, strlen(options), out, sizeof out);
 }
 
+static ptrdiff_t checks(const char *json) {
+  uint8_t out[100];
+  return tocmark_write_checked((const uint8_t *)json, strlen(json), (const uint8_t *)"", 0, TOCMARK_GFM,
+                               (const uint8_t *)"", 0, out, sizeof out);
+}
+
 static ptrdiff_t formats(const char *text, struct tocmark_style style, const char *wanted) {
   uint8_t out[100];
   ptrdiff_t size = tocmark_format((const uint8_t *)text, strlen(text), TOCMARK_GFM, &style, out, sizeof out);
@@ -270,14 +276,23 @@ static void errors(void) {
   expect(writes("[[\"Rule\", {\"start\": 2, \"end\": 9}]]", "---", 0, ""), TOCMARK_INVALID_SOURCE_RANGE, "a range");
   expect(writes("[[\"Rule\", {\"start\": 2, \"end\": 9}]]", "", 0, ""), 3, "a range of no source");
   expect(writes("[]", "", 0, ""), 0, "no events");
+  /* A list behind an empty definition of a footnote falls into it. */
+  static const char note[] = "[{\"Start\": {\"FootnoteDefinition\": \"1\"}}, {\"End\": \"FootnoteDefinition\"},"
+                             " {\"Start\": {\"List\": null}}, {\"Start\": \"Item\"}, {\"Text\": \"a\"},"
+                             " {\"End\": \"Item\"}, {\"End\": {\"List\": false}}]";
+  if (writes(note, "", TOCMARK_GFM, "") < 0)
+    wrong("a list behind a definition isn't written", NULL);
+  expect(checks(note), TOCMARK_CHANGED, "a list behind a definition");
+  expect(checks(rule), 3, "a rule that is read again");
+  expect(checks("[1]"), TOCMARK_NOT_EVENTS, "a number that is read again");
   expect(tocmark_read_json((const uint8_t *)"", 0, 0, out, sizeof out), 2, "an empty text");
   expect(tocmark_error_text(TOCMARK_OUT_OF_MEMORY, out, sizeof out), 13, "the text of an error");
   if (memcmp(out, "out of memory", 13) != 0)
     wrong("the text of an error", NULL);
-  for (ptrdiff_t code = -15; code < 0; code++)
+  for (ptrdiff_t code = -16; code < 0; code++)
     if (is_no_error(code))
       wrong("an error has no text", NULL);
-  if (!is_no_error(-16) || !is_no_error(0) || !is_no_error(1) || !is_no_error(PTRDIFF_MIN) || !is_no_error(PTRDIFF_MAX))
+  if (!is_no_error(-17) || !is_no_error(0) || !is_no_error(1) || !is_no_error(PTRDIFF_MIN) || !is_no_error(PTRDIFF_MAX))
     wrong("what is no error has a text", NULL);
 }
 

@@ -66,7 +66,8 @@ enum tocmark_error {
   TOCMARK_INVALID_SOURCE_RANGE = -12, /* a range that is reversed, past the end of the source, or not between characters */
   TOCMARK_FINISHED = -13,             /* events after the end: nothing of these functions leads there */
   TOCMARK_FAILED = -14,               /* a call after one that was refused: nothing of these functions leads there */
-  TOCMARK_INVALID_STYLE = -15         /* a style of another size, or with a number that means nothing */
+  TOCMARK_INVALID_STYLE = -15,        /* a style of another size, or with a number that means nothing */
+  TOCMARK_CHANGED = -16               /* what would be written says something else than the events */
 };
 
 /* The version: 65,536 times the first number, 256 times the second, and the third. */
@@ -86,11 +87,16 @@ ptrdiff_t tocmark_read_json(const uint8_t *text, size_t text_len, uint32_t flags
  * flags: the extensions under which the text is to read back.
  * options: a JSON object, as {"list_token": "-"}; where the text is empty, the default ones.
  *
- * Errors: all but TOCMARK_FINISHED, TOCMARK_FAILED and TOCMARK_INVALID_STYLE. Where several are there, the answer is the
- * first in the order TOCMARK_NOT_UTF8, TOCMARK_SOURCE_NOT_UTF8, TOCMARK_OPTIONS_NOT_UTF8, those of options, those of JSON,
- * those of the events. */
+ * Errors: all but TOCMARK_FINISHED, TOCMARK_FAILED, TOCMARK_INVALID_STYLE and TOCMARK_CHANGED. Where several are there, the
+ * answer is the first in the order TOCMARK_NOT_UTF8, TOCMARK_SOURCE_NOT_UTF8, TOCMARK_OPTIONS_NOT_UTF8, those of options,
+ * those of JSON, those of the events. */
 ptrdiff_t tocmark_write_json(const uint8_t *json, size_t json_len, const uint8_t *source, size_t source_len, uint32_t flags,
                              const uint8_t *options, size_t options_len, uint8_t *out, size_t out_len);
+
+/* The same, if the text says just what the events say: read under these flags it has the same events, where texts side by
+ * side count as one. Else the answer is TOCMARK_CHANGED, behind all other errors. */
+ptrdiff_t tocmark_write_checked(const uint8_t *json, size_t json_len, const uint8_t *source, size_t source_len,
+                                uint32_t flags, const uint8_t *options, size_t options_len, uint8_t *out, size_t out_len);
 
 /* How a formatted document is to look. A character stands for itself; 0 stands for what the source has, and for '*' round
  * emphasis: struct tocmark_style style = {.size = sizeof style, .bullet = '-'}; */

@@ -90,6 +90,13 @@ class Writing(unittest.TestCase):
         self.refused(tocmark.Unrepresentable, -11, struck)
         self.refused(tocmark.InvalidSourceRange, -12, [("Rule", range(2, 9))], "---")
 
+    def test_a_document_is_checked(self):
+        note = [{"Start": {"FootnoteDefinition": "1"}}, {"End": "FootnoteDefinition"}]
+        items = [{"Start": {"List": None}}, {"Start": "Item"}, {"Text": "a"}, {"End": "Item"}, {"End": {"List": False}}]
+        tocmark.write(note + items, syntax="gfm")
+        self.refused(tocmark.Changed, -16, note + items, syntax="gfm", check_document=True)
+        self.assertEqual(tocmark.write(PARAGRAPH, check_document=True), "a")
+
     def test_what_is_no_json(self):
         with self.assertRaises(TypeError):
             tocmark.write([{"Text": b"a"}])

@@ -33,7 +33,7 @@ from typing import Any, Dict, Iterable, List, Mapping, Optional, Tuple, Union
 from . import _library
 
 __version__ = "0.1.0"
-__all__ = ["EXTENSIONS", "SYNTAXES", "Error", "InvalidOptions", "InvalidSourceRange", "InvalidStyle", "NotEvents",
+__all__ = ["EXTENSIONS", "SYNTAXES", "Changed", "Error", "InvalidOptions", "InvalidSourceRange", "InvalidStyle", "NotEvents",
            "UnexpectedEvent", "Unrepresentable", "format", "read", "write"]
 
 Event = Union[str, Dict[str, Any]]
@@ -83,6 +83,10 @@ class InvalidSourceRange(Error, ValueError):
     """A range is reversed, past the end of the source, or not between characters."""
 
 
+class Changed(Error, ValueError):
+    """What would be written says something else than the events."""
+
+
 class InvalidStyle(Error, ValueError):
     """A part of a style has no such value."""
 
@@ -90,7 +94,7 @@ class InvalidStyle(Error, ValueError):
 _NUMBERINGS = {"source": 0, "first": 1, "increment": 2}
 _ESCAPES = {"minimal": 0, "all": 1}
 _ERRORS = {-6: NotEvents, -8: InvalidOptions, -9: InvalidOptions, -10: UnexpectedEvent, -11: Unrepresentable,
-           -12: InvalidSourceRange, -15: InvalidStyle}
+           -12: InvalidSourceRange, -15: InvalidStyle, -16: Changed}
 
 
 def _text(code: int, text: bytes) -> str:
@@ -181,11 +185,12 @@ def _plain(events: Iterable[Union[Event, Placed]]) -> List[Any]:
 
 
 def write(events: Iterable[Union[Event, Placed]], source: str = "", *, syntax: str = "commonmark",
-          extensions: Iterable[str] = (), **options: Union[str, int, bool]) -> str:
+          extensions: Iterable[str] = (), check_document: bool = False, **options: Union[str, int, bool]) -> str:
     """Returns the Markdown of events, alone or with their ranges or `None`. No line feed stands at its end.
 
     `source` is the text of which the ranges are; without it they are dropped. The text is to read back under `syntax` and
-    `extensions`. `options` are those of the writer, as `list_token="-"` or `newlines_after_headline=1`.
+    `extensions`. `options` are those of the writer, as `list_token="-"` or `newlines_after_headline=1`. With
+    `check_document` it is read again as a whole, and refused where that gives other events, texts side by side as one.
 
     >>> import tocmark
     >>> tocmark.write(["Rule"])
@@ -196,12 +201,18 @@ def write(events: Iterable[Union[Event, Placed]], source: str = "", *, syntax: s
     Traceback (most recent call last):
     tocmark.UnexpectedEvent: an event stands where it cannot
 
-    Raises `NotEvents`, `InvalidOptions`, `UnexpectedEvent`, `Unrepresentable`, `InvalidSourceRange`, and `Error` for any
-    other error of the library; `TypeError` where JSON has no such value; `MemoryError`.
+    >>> note = [{"Start": {"FootnoteDefinition": "1"}}, {"End": "FootnoteDefinition"}, "Rule"]
+    >>> tocmark.write(note, syntax="gfm", check_document=True)
+    Traceback (most recent call last):
+    tocmark.Changed: the document would say something else than the events
+
+    Raises `NotEvents`, `InvalidOptions`, `UnexpectedEvent`, `Unrepresentable`, `InvalidSourceRange`, `Changed`, and `Error`
+    for any other error of the library; `TypeError` where JSON has no such value; `MemoryError`.
     """
     data = json.dumps(_plain(events), ensure_ascii=False).encode()
     over = source.encode()
     chosen = json.dumps(options).encode() if options else b""
     flags = _flags(syntax, list(extensions))
-    return _text(*_library.answer(_library.write_json, data, len(data), over, len(over), flags, chosen, len(chosen),
+    function = _library.write_checked if check_document else _library.write_json
+    return _text(*_library.answer(function, data, len(data), over, len(over), flags, chosen, len(chosen),
                                   guess=len(data) + 256))

@@ -1,5 +1,5 @@
 -- What each call writes, and what causes each error.
-use Rattle.std.specs.Prelude.{◌≡◌, ◌==◌, ℕ, List, Bool, false, not, length, IsUtf8, Err, None, Some}
+use Rattle.std.specs.Prelude.{◌≡◌, ◌==◌, ℕ, List, Bool, false, not, length, true, IsUtf8, Err, None, Some}
 use Rattle.serde_json.specs.Data.{Data}
 use Rattle.serde_json.specs.Read.{read}
 use Rattle.serde_json.specs.Written.{IsInOrder}
@@ -10,6 +10,7 @@ use Rattle.tocmark_event.specs.declared.options.Error.{Error}
 use Rattle.tocmark_event.specs.declared.options.Error.TheVariants as error
 use Rattle.tocmark_json.specs.declared.fault.JsonError.{JsonError}
 use Rattle.tocmark_state.specs.Ranges.{Pair}
+use Rattle.tocmark_interchange.specs.Document.{IsChange, IsWrittenTheSame}
 use Rattle.tocmark_interchange.specs.Interchange.{AreOptions, IsNoList, IsTextOf, IsWrittenFrom, in_source, reading_json, writing}
 use Rattle.tocmark_core_reader.specs.Reading.{reading_of}
 use Rattle.tocmark_extended_reader.specs.Flags.{syntax_of}
@@ -77,3 +78,27 @@ IsWriteCause bits source options json cause.InvalidSourceRange = IsRefusedAs err
 IsWriteCause bits source options json cause.Finished = IsRefusedAs error.Finished bits source options json
 IsWriteCause bits source options json cause.Failed = IsRefusedAs error.Failed bits source options json
 IsWriteCause bits source options json cause.InvalidStyle = ⊥
+IsWriteCause bits source options json cause.Changed = ⊥
+
+-- a text is what the events of a JSON text are written as, and just these events are found in it
+abbrev pub IsSameMarkdownOf : ℕ → List ℕ → List ℕ → List ℕ → List ℕ → Type 0
+IsSameMarkdownOf bits source options json output = (o : OptionsView) × AreOptions options o × (validation o (flags_of bits) ≡ None) × IsWrittenTheSame o (flags_of bits) (has_source source) source json output
+
+-- the events of a JSON text would be written as a text in which others are found
+abbrev pub IsChangedAs : ℕ → List ℕ → List ℕ → List ℕ → Type 0
+IsChangedAs bits source options json = (o : OptionsView) × AreOptions options o × IsChange o (flags_of bits) (has_source source) source json
+
+-- why events are not written as a document that says the same
+abbrev pub IsDocumentCauseOf : ℕ → List ℕ → List ℕ → List ℕ → Cause → Type 0
+IsDocumentCauseOf bits source options json cause.Changed = IsChangedAs bits source options json
+IsDocumentCauseOf bits source options json c = IsWriteCause bits source options json c
+
+-- what a call writes, whether the document is read again or not
+abbrev pub IsAsked : Bool → ℕ → List ℕ → List ℕ → List ℕ → List ℕ → Type 0
+IsAsked true bits source options json output = IsSameMarkdownOf bits source options json output
+IsAsked false bits source options json output = IsMarkdownOf bits source options json output
+
+-- and why it writes nothing
+abbrev pub IsAskedCause : Bool → ℕ → List ℕ → List ℕ → List ℕ → Cause → Type 0
+IsAskedCause true bits source options json c = IsDocumentCauseOf bits source options json c
+IsAskedCause false bits source options json c = IsWriteCause bits source options json c

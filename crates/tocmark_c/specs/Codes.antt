@@ -2,6 +2,8 @@
 use Rattle.std.specs.Prelude.{◌==◌, if◌then◌else◌, ℕ, ℤ, pos, negsuc, List, int_lt, unsigned_abs, codes}
 use Rattle.tocmark_event.specs.declared.options.Error.{Error}
 use Rattle.tocmark_event.specs.declared.options.Error.TheVariants as error
+use Rattle.tocmark_interchange.specs.declared.fault.DocumentError.{DocumentError}
+use Rattle.tocmark_interchange.specs.declared.fault.DocumentError.TheVariants as document_error
 use Rattle.tocmark_interchange.specs.declared.fault.OptionsTextError.{OptionsTextError}
 use Rattle.tocmark_interchange.specs.declared.fault.OptionsTextError.TheVariants as options_error
 use Rattle.tocmark_interchange.specs.declared.fault.WriteError.{WriteError}
@@ -26,6 +28,7 @@ order_of cause.InvalidSourceRange = 11
 order_of cause.Finished = 12
 order_of cause.Failed = 13
 order_of cause.InvalidStyle = 14
+order_of cause.Changed = 15
 
 -- the code of a cause: -1 and below
 abbrev pub code_of : Cause → ℤ
@@ -47,6 +50,11 @@ write_cause (write_error.NotJson e) = cause.NotJson
 write_cause (write_error.NotEvents e) = cause.NotEvents
 write_cause (write_error.Refused e) = refusal_cause e
 write_cause write_error.OutOfMemory = cause.OutOfMemory
+
+-- the cause that events are not written as a document that says the same
+abbrev pub document_cause : DocumentError → Cause
+document_cause (document_error.Write e) = write_cause e
+document_cause (document_error.Changed n) = cause.Changed
 
 -- the cause that a text has no options
 abbrev pub options_cause : OptionsTextError → Cause
@@ -77,4 +85,5 @@ error_text n =
     else if n == 13 then codes "events after the end"
     else if n == 14 then codes "a call after one that was refused"
     else if n == 15 then codes "the style has another size, or a number that means nothing"
+    else if n == 16 then codes "the document would say something else than the events"
     else codes "no error of tocmark"

@@ -1,10 +1,10 @@
 //! What went wrong, and the codes of that.
 
 ghost use Rattle.std.specs.Prelude.{◌≡◌};
-ghost use Rattle.tocmark_c.specs.Codes.{code_of, error_text, number_of, options_cause, refusal_cause, write_cause};
+ghost use Rattle.tocmark_c.specs.Codes.{code_of, document_cause, error_text, number_of, options_cause, refusal_cause, write_cause};
 
 use tocmark::Error;
-use tocmark_interchange::{OptionsTextError, WriteError};
+use tocmark_interchange::{DocumentError, OptionsTextError, WriteError};
 
 /// Why a call is refused.
 #[derive(Clone, Copy, Debug, PartialEq, Eq)]
@@ -39,6 +39,8 @@ pub enum Cause {
     Failed,
     /// The style has another size, or a number that means nothing.
     InvalidStyle,
+    /// The document would say something else than the events.
+    Changed,
 }
 
 impl Cause {
@@ -62,6 +64,7 @@ impl Cause {
             Cause::Finished => -13,
             Cause::Failed => -14,
             Cause::InvalidStyle => -15,
+            Cause::Changed => -16,
         }
     }
 
@@ -74,6 +77,16 @@ impl Cause {
             WriteError::NotEvents(_) => Cause::NotEvents,
             WriteError::Refused(error) => Cause::of_refusal(error),
             WriteError::OutOfMemory => Cause::OutOfMemory,
+        }
+    }
+
+    /// Why events aren't written as a document that says the same.
+    pub fn of_document(error: &DocumentError) -> Cause
+        ensures { result ≡ document_cause error.now }
+    {
+        match error {
+            DocumentError::Write(error) => Cause::of_write(error),
+            DocumentError::Changed(_) => Cause::Changed,
         }
     }
 
@@ -131,6 +144,7 @@ pub fn error_text(code: isize) -> &'static str
         13 => "events after the end",
         14 => "a call after one that was refused",
         15 => "the style has another size, or a number that means nothing",
+        16 => "the document would say something else than the events",
         _ => "no error of tocmark",
     }
 }

@@ -11,8 +11,9 @@ mod style;
 
 ghost use Rattle.std.specs.Prelude.{◌≡◌, IfErr, IfOk, is_some, string_bytes};
 ghost use Rattle.tocmark_c.specs.Answer.{IsAnswer, IsErrorText, IsNever};
-ghost use Rattle.tocmark_c.specs.Calls.{IsFormatCause, IsMarkdownOf, IsReadCause, IsReadFrom, IsSameDocument, IsWriteCause, has_source};
+ghost use Rattle.tocmark_c.specs.Calls.{IsAsked, IsAskedCause, IsDocumentCauseOf, IsFormatCause, IsMarkdownOf, IsReadCause, IsReadFrom, IsSameDocument, IsSameMarkdownOf, IsWriteCause, has_source};
 ghost use Rattle.tocmark_event.specs.Options.{options_view};
+ghost use Rattle.tocmark_interchange.specs.Document.{IsDocumentCause, IsWrittenTheSame};
 ghost use Rattle.tocmark_interchange.specs.Interchange.{IsCause, IsWrittenFrom, source_text};
 
 use cause::{Cause, error_text};
@@ -23,7 +24,9 @@ use tocmark::Options;
 use tocmark::event::ParserOptions;
 use tocmark_extended_reader::{ExtendedReader, Names};
 use tocmark_format::formatted;
-use tocmark_interchange::{WriteError, options_from_text, read_json, write_json};
+use tocmark_interchange::{
+    DocumentError, WriteError, options_from_text, read_json, write_checked, write_json,
+};
 
 /// The version: the third number, 256 times the second and 65,536 times the first.
 #[unsafe(no_mangle)]
@@ -66,7 +69,24 @@ pub extern "C" fn tocmark_write_json(
     ensures { IsAnswer (IsMarkdownOf flags source.now options.now json.now)
         (IsWriteCause flags source.now options.now json.now) result out.old out.new }
 {
-    answer(write(alloc, json, source, flags, options), out)
+    answer(write(alloc, json, source, flags, options, false), out)
+}
+
+/// The same, if the reader of extensions finds just these events in it: so the document says what they say.
+#[unsafe(no_mangle)]
+#[tactic(auto, using(crate::proofs::Answers::answered))]
+pub extern "C" fn tocmark_write_checked(
+    alloc: Global,
+    json: &[u8],
+    source: &[u8],
+    flags: u32,
+    options: &[u8],
+    out: &mut [u8],
+) -> isize
+    ensures { IsAnswer (IsSameMarkdownOf flags source.now options.now json.now)
+        (IsDocumentCauseOf flags source.now options.now json.now) result out.old out.new }
+{
+    answer(write(alloc, json, source, flags, options, true), out)
 }
 
 /// A Markdown text in one look, where there is room. The reader finds the same in it as in the text that is given.
@@ -144,6 +164,22 @@ fn write_under(
     write_json(alloc, json, source_of(source), flags, options)
 }
 
+/// The same, if just these events are found in it.
+fn checked_under(
+    alloc: Global,
+    json: &str,
+    source: &str,
+    flags: ParserOptions,
+    options: Options<'static>,
+) -> Result<String, DocumentError>
+    ensures text { IfOk result (λ output. IsWrittenTheSame (options_view options.entry) flags
+        (has_source source.now) source.now json.now (string_bytes output)) }
+    ensures cause { IfErr result (IsDocumentCause (options_view options.entry) flags
+        (has_source source.now) source.now json.now) }
+{
+    write_checked(alloc, json, source_of(source), flags, options)
+}
+
 /// The Markdown of events under the options that a text has.
 #[tactic(auto, using(crate::proofs::Causes::options_told, crate::proofs::Causes::write_told))]
 fn write_text(
@@ -168,16 +204,63 @@ fn write_text(
     }
 }
 
+/// The same, if just these events are found in it.
+#[tactic(auto, using(crate::proofs::Causes::options_told_of_document, crate::proofs::Causes::document_told))]
+fn checked_text(
+    alloc: Global,
+    json: &str,
+    source: &str,
+    flags: u32,
+    options: &str,
+) -> Result<String, Cause>
+    ensures text { IfOk result (λ output.
+        IsSameMarkdownOf flags source.now options.now json.now (string_bytes output)) }
+    ensures cause { IfErr result (IsDocumentCauseOf flags source.now options.now json.now) }
+{
+    let flags = ParserOptions(flags);
+    let options = match options_from_text(alloc, options, flags) {
+        Ok(options) => options,
+        Err(error) => return Err(Cause::of_options(&error)),
+    };
+    match checked_under(alloc, json, source, flags, options) {
+        Ok(output) => Ok(output),
+        Err(error) => Err(Cause::of_document(&error)),
+    }
+}
+
+/// One of both.
+fn asked_text(
+    alloc: Global,
+    json: &str,
+    source: &str,
+    flags: u32,
+    options: &str,
+    is_checked: bool,
+) -> Result<String, Cause>
+    ensures text { IfOk result (λ output.
+        IsAsked is_checked flags source.now options.now json.now (string_bytes output)) }
+    ensures cause { IfErr result
+        (IsAskedCause is_checked flags source.now options.now json.now) }
+{
+    if is_checked {
+        checked_text(alloc, json, source, flags, options)
+    } else {
+        write_text(alloc, json, source, flags, options)
+    }
+}
+
 fn write(
     alloc: Global,
     json: &[u8],
     source: &[u8],
     flags: u32,
     options: &[u8],
+    is_checked: bool,
 ) -> Result<String, Cause>
     ensures text { IfOk result (λ output.
-        IsMarkdownOf flags source.now options.now json.now (string_bytes output)) }
-    ensures cause { IfErr result (IsWriteCause flags source.now options.now json.now) }
+        IsAsked is_checked flags source.now options.now json.now (string_bytes output)) }
+    ensures cause { IfErr result
+        (IsAskedCause is_checked flags source.now options.now json.now) }
 {
     let json = match std::str::from_utf8(json) {
         Ok(json) => json,
@@ -191,5 +274,5 @@ fn write(
         Ok(options) => options,
         Err(_) => return Err(Cause::OptionsNotUtf8),
     };
-    write_text(alloc, json, source, flags, options)
+    asked_text(alloc, json, source, flags, options, is_checked)
 }

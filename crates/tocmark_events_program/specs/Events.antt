@@ -1,8 +1,9 @@
 -- What the program reads and writes.
-use Rattle.std.specs.Prelude.{ℕ, List, Option, is_some}
+use Rattle.std.specs.Prelude.{ℕ, List, Option, false, is_some, true}
 use Rattle.std.specs.Io.KnownBytes.{Appends}
 use Rattle.serde_json.specs.Written.{IsInOrder}
 use Rattle.tocmark_event.specs.Options.{options_view}
+use Rattle.tocmark_interchange.specs.Document.{IsWrittenTheSame}
 use Rattle.tocmark_interchange.specs.Interchange.{IsWrittenAgain, IsWrittenFrom, reading_json}
 use Rattle.tocmark_events_program.specs.declared.arguments.Job.{Job}
 use Rattle.tocmark_events_program.specs.declared.arguments.Job.TheVariants as job
@@ -13,7 +14,8 @@ use Rattle.tocmark_events_program.specs.declared.fault.Fault.TheVariants as faul
 abbrev pub IsAnswer : Job → List ℕ → List ℕ → List ℕ → Type 0
 IsAnswer (job.Read flags) source input output = IsInOrder output (reading_json flags input)
 IsAnswer job.Check source input output = IsWrittenAgain input output
-IsAnswer (job.Write flags options file) source input output = IsWrittenFrom (options_view options) flags (is_some file) source input output
+IsAnswer (job.Write flags options file true) source input output = IsWrittenTheSame (options_view options) flags (is_some file) source input output
+IsAnswer (job.Write flags options file false) source input output = IsWrittenFrom (options_view options) flags (is_some file) source input output
 
 -- the output could not be written whole
 abbrev pub IsWriteFault : Fault → Type 0
@@ -25,6 +27,7 @@ IsWriteFault fault.NotUtf8 = ⊥
 IsWriteFault (fault.NotJson e) = ⊥
 IsWriteFault (fault.NotEvents e) = ⊥
 IsWriteFault (fault.Markdown e) = ⊥
+IsWriteFault (fault.Changed n) = ⊥
 IsWriteFault fault.OutOfMemory = ⊥
 IsWriteFault fault.Write = Unit {0}
 

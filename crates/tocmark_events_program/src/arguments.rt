@@ -22,6 +22,8 @@ pub enum Job<'a> {
         flags: ParserOptions,
         options: Options<'static>,
         source: Option<&'a str>,
+        /// Whether just these events have to be found in it again.
+        is_document: bool,
     },
 }
 
@@ -93,6 +95,10 @@ pub fn command<'a>(alloc: Global, help: Help<'a>) -> Result<Command<'a>, AllocEr
         .long("check-plain-blocks")
         .action(ArgAction::SetTrue)
         .help("Read each unit back before it is written");
+    let document = Arg::new(alloc, "check-document")
+        .long("check-document")
+        .action(ArgAction::SetTrue)
+        .help("Read the whole document back before it is written");
     let option = Arg::new(alloc, "option")
         .long("option")
         .value_name("KEY=VALUE")
@@ -102,7 +108,7 @@ pub fn command<'a>(alloc: Global, help: Help<'a>) -> Result<Command<'a>, AllocEr
         .long("options")
         .value_name("FILE")
         .help("The options of the writer, as a JSON object");
-    let write = write.arg(source)?.arg(reads_back)?;
+    let write = write.arg(source)?.arg(reads_back)?.arg(document)?;
     let write = write.arg(options)?.arg(option)?;
     Command::new(alloc, "tocmark-events")
         .version("0.1.0")
@@ -183,5 +189,6 @@ pub fn asked<'a>(
         flags,
         options,
         source: matches.get_str("source"),
+        is_document: matches.get_flag("check-document"),
     })
 }

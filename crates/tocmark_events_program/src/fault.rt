@@ -7,7 +7,7 @@ ghost use Rattle.tocmark_events_program.specs.declared.fault.Fault.TheVariants.{
 use std::alloc::{AllocError, AllocFailed};
 use thiserror::Error;
 use tocmark::Error as MarkdownError;
-use tocmark_interchange::{OptionsTextError, WriteError};
+use tocmark_interchange::{DocumentError, OptionsTextError, WriteError};
 use tocmark_json::fault::JsonError;
 
 /// A fault, shown as one line on standard error.
@@ -29,6 +29,8 @@ pub enum Fault {
     NotEvents(JsonError),
     #[error("tocmark-events: {0}")]
     Markdown(MarkdownError),
+    #[error("tocmark-events: event {0}: it doesn't come back as it is written")]
+    Changed(usize),
     #[error("tocmark-events: out of memory")]
     OutOfMemory,
     #[error("tocmark-events: cannot write standard output")]
@@ -60,6 +62,17 @@ impl From<WriteError> for Fault {
             WriteError::NotEvents(error) => Fault::NotEvents(error),
             WriteError::Refused(error) => Fault::Markdown(error),
             WriteError::OutOfMemory => Fault::OutOfMemory,
+        }
+    }
+}
+
+impl From<DocumentError> for Fault {
+    ghost from_gives = { λ _ e. ¬ (IsWriteFault e) };
+
+    fn from(error: DocumentError) -> Fault {
+        match error {
+            DocumentError::Write(error) => Fault::from(error),
+            DocumentError::Changed(place) => Fault::Changed(place),
         }
     }
 }

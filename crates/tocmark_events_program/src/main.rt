@@ -14,6 +14,7 @@ ghost use Rattle.std.specs.Io.KnownBytes.{Appends};
 ghost use Rattle.serde_json.specs.Written.{IsInOrder};
 ghost use Rattle.tocmark_event.specs.Options.{options_view};
 ghost use Rattle.tocmark_interchange.specs.Interchange.{IsWrittenAgain, IsWrittenFrom, reading_json};
+ghost use Rattle.tocmark_interchange.specs.Document.{IsWrittenTheSame};
 ghost use Rattle.tocmark_events_program.specs.Events.{IsAnswer, IsAnswered, IsWriteFault};
 
 use arguments::{Help, Job, asked, command, options_file};
@@ -26,7 +27,7 @@ use std::process::ExitCode;
 use std::{env, fs, io};
 use tocmark::Options;
 use tocmark::event::ParserOptions;
-use tocmark_interchange::{check_json, options_in_json, read_json, write_over};
+use tocmark_interchange::{check_json, checked_over, options_in_json, read_json, write_over};
 
 /// The JSON of the events of a text under these flags, with their ranges.
 fn read_events(alloc: Global, text: &str, flags: ParserOptions) -> Result<String, Fault>
@@ -59,6 +60,22 @@ fn write_events(
         has_source source.now text.now (string_bytes output)) }
 {
     Ok(write_over(alloc, text, source, has_source, flags, options)?)
+}
+
+/// The same, if just these events are found in it.
+fn write_document(
+    alloc: Global,
+    text: &str,
+    source: &str,
+    has_source: bool,
+    flags: ParserOptions,
+    options: Options<'static>,
+) -> Result<String, Fault>
+    ensures fault { IfErr result (λ fault. ¬ (IsWriteFault fault)) }
+    ensures same { IfOk result (λ output. IsWrittenTheSame (options_view options.entry) flags
+        has_source source.now text.now (string_bytes output)) }
+{
+    Ok(checked_over(alloc, text, source, has_source, flags, options)?)
 }
 
 fn converted<I: Read>(
@@ -94,7 +111,14 @@ fn answered(alloc: Global, job: Job<'_>, source: &str, text: &str) -> Result<Str
             flags,
             options,
             source: file,
+            is_document: false,
         } => write_events(alloc, text, source, file.is_some(), flags, options),
+        Job::Write {
+            flags,
+            options,
+            source: file,
+            is_document: true,
+        } => write_document(alloc, text, source, file.is_some(), flags, options),
     }
 }
 

@@ -1,3 +1,4 @@
 pub mod Empty
 mod Taken
 mod Refused
+mod FoundAgain

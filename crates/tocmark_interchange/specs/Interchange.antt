@@ -102,6 +102,13 @@ IsNoEvents input (write_error.NotEvents e) = (value : Data) × (read input ≡ S
 IsNoEvents input (write_error.Refused e) = ⊥
 IsNoEvents input write_error.OutOfMemory = Unit {0}
 
+-- why events are not written: the writer refuses them, or memory ran out
+abbrev pub IsPairsCause : OptionsView → ParserOptions → List ℕ → List Pair → WriteError → Type 0
+IsPairsCause options flags source pairs (write_error.NotJson e) = ⊥
+IsPairsCause options flags source pairs (write_error.NotEvents e) = ⊥
+IsPairsCause options flags source pairs (write_error.Refused e) = IsRefusal (writing options flags source pairs) e
+IsPairsCause options flags source pairs write_error.OutOfMemory = Unit {0}
+
 -- why the events that a text has as JSON are not written
 abbrev pub IsCause : OptionsView → ParserOptions → Bool → List ℕ → List ℕ → WriteError → Type 0
 IsCause options flags has_source source input (write_error.Refused e) = (pairs : List Pair) × IsTextOf input pairs × IsRefusal (writing options flags source (in_source has_source pairs)) e

@@ -50,6 +50,29 @@ impl fmt::Display for WriteError {
 
 impl std::error::Error for WriteError {}
 
+/// Why the events that a text has as JSON aren't written as a document that says the same.
+#[derive(Debug, Drop)]
+pub enum DocumentError {
+    /// They aren't written at all.
+    Write(WriteError),
+    /// The event of this number, counted from 0, isn't found in what they would be written as.
+    Changed(usize),
+}
+
+impl fmt::Display for DocumentError {
+    fn fmt<W: fmt::Write>(&self, f: &mut fmt::Formatter<W>) -> fmt::Result {
+        match self {
+            DocumentError::Write(error) => write!(f, "{error}"),
+            DocumentError::Changed(place) => write!(
+                f,
+                "event {place}: it doesn't come back as it is written"
+            ),
+        }
+    }
+}
+
+impl std::error::Error for DocumentError {}
+
 /// Why a text has no options of the writer.
 #[derive(Debug, Drop)]
 pub enum OptionsTextError {

@@ -3,7 +3,7 @@
 //!
 //! Below it stand the library (`tocmark`), the reader of extensions, `tocmark_json` and `tocmark_json_text`; above it stand
 //! `tocmark_events_program` and `tocmark_c`. Enter at `read_json` (`reading`) and `write_json` (`writing`); `checking` has
-//! events in the one form of their JSON, `options` the writer's options from their JSON text, `option_values` those of a
+//! events in the one form of their JSON, `document` writes what is read again as a whole, `options` the writer's options from their JSON text, `option_values` those of a
 //! JSON value, `fault` says why a text is refused, `pairs` lends the events that are written.
 //!
 //! ```
@@ -15,6 +15,7 @@
 #![tactic(auto)]
 
 pub mod checking;
+pub mod document;
 pub mod fault;
 pub mod option_values;
 pub mod options;
@@ -23,7 +24,8 @@ pub mod reading;
 pub mod writing;
 
 pub use checking::check_json;
-pub use fault::{OptionFault, OptionsTextError, WriteError};
+pub use document::{checked_over, write_checked};
+pub use fault::{DocumentError, OptionFault, OptionsTextError, WriteError};
 pub use option_values::{options_from_json, set_option};
 pub use options::{options_from_text, options_in_json};
 pub use reading::read_json;

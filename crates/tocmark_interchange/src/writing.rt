@@ -8,7 +8,7 @@ ghost use Rattle.tocmark_event.specs.Text.{text_of};
 ghost use Rattle.tocmark_event.specs.View.{event_view};
 ghost use Rattle.tocmark_json.specs.Json.{pair_view};
 ghost use Rattle.tocmark_state.specs.Ranges.{unranged};
-ghost use Rattle.tocmark_interchange.specs.Interchange.{IsCause, IsJsonOf, IsNoEvents, IsNoList, IsRefusal, IsTextOf, IsWritten, IsWrittenFrom, places_left, source_text, writing};
+ghost use Rattle.tocmark_interchange.specs.Interchange.{IsCause, IsJsonOf, IsNoEvents, IsNoList, IsPairsCause, IsRefusal, IsTextOf, IsWritten, IsWrittenFrom, places_left, source_text, writing};
 
 use crate::fault::WriteError;
 use crate::pairs::{EventPairs, Placed};
@@ -88,7 +88,7 @@ pub(crate) fn value_in(alloc: Global, json: &str) -> Result<Value, WriteError>
 }
 
 /// The events that a text has as JSON, with the ranges that they have there.
-fn pairs_in(alloc: Global, json: &str) -> Result<Vec<Placed<'static>>, WriteError>
+pub(crate) fn pairs_in(alloc: Global, json: &str) -> Result<Vec<Placed<'static>>, WriteError>
     ensures pairs { IfOk result (λ pairs.
         IsTextOf json.now (map (pair_view text_of) pairs.items)) }
     ensures cause { IfErr result (IsNoEvents json.now) }
@@ -102,7 +102,7 @@ fn pairs_in(alloc: Global, json: &str) -> Result<Vec<Placed<'static>>, WriteErro
 }
 
 /// The events, lent.
-fn lent<'a>(pairs: &'a Vec<Placed<'static>>) -> &'a [(Event<'a>, Option<(usize, usize)>)]
+pub(crate) fn lent<'a>(pairs: &'a Vec<Placed<'static>>) -> &'a [(Event<'a>, Option<(usize, usize)>)]
     ensures { result.now ≡ pairs.now.items }
 {
     pairs
@@ -140,6 +140,27 @@ fn written<'a>(
     }
 }
 
+/// The same, where a refusal for want of memory is one of memory.
+pub(crate) fn written_pairs<'a>(
+    alloc: Global,
+    pairs: EventPairs<'a>,
+    source: &str,
+    flags: ParserOptions,
+    options: Options<'static>,
+) -> Result<String, WriteError>
+    ensures written { IfOk result (λ output. IsWritten (options_view options.entry) flags source.now
+        (places_left pairs.entry) (string_bytes output)) }
+    ensures cause { IfErr result (IsPairsCause (options_view options.entry) flags source.now
+        (places_left pairs.entry)) }
+{
+    match written(alloc, pairs, source, flags, options) {
+        Ok(output) => Ok(output),
+        Err(Error::OutOfMemory) => Err(WriteError::OutOfMemory),
+        Err(Error::FormatFailed(_)) => Err(WriteError::OutOfMemory),
+        Err(error) => Err(WriteError::Refused(error)),
+    }
+}
+
 /// The Markdown of the events that a JSON text has, as of `write_json`. Where `has_source` isn't set their ranges are dropped,
 /// whatever the source is. An `Err` says what one of `write_json` does.
 pub fn write_over(
@@ -157,12 +178,7 @@ pub fn write_over(
 {
     let pairs = pairs_in(alloc, json)?;
     let placed = EventPairs::new(lent(&pairs), has_source);
-    match written(alloc, placed, source, flags, options) {
-        Ok(output) => Ok(output),
-        Err(Error::OutOfMemory) => Err(WriteError::OutOfMemory),
-        Err(Error::FormatFailed(_)) => Err(WriteError::OutOfMemory),
-        Err(error) => Err(WriteError::Refused(error)),
-    }
+    written_pairs(alloc, placed, source, flags, options)
 }
 
 /// The Markdown of the events that a JSON text has: an array of events, or of pairs of an event and its range or `null`.
