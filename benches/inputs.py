@@ -278,14 +278,14 @@ def standard_examples():
     return "".join(f"{text}\n" for text in examples) * 200
 
 
-def repeated(part):
+def megabyte_of(part):
     """1 MB of a part, again and again."""
     return part * (COMPARED_SIZE // len(part.encode()))
 
 
 def lists():
     """Lists of three items with a list in the last one, a paragraph between each two."""
-    return repeated("- a first item of some words\n- a second one\n- a third one\n  1. one\n  2. two\n\nA paragraph stands between.\n\n")
+    return megabyte_of("- a first item of some words\n- a second one\n- a third one\n  1. one\n  2. two\n\nA paragraph stands between.\n\n")
 
 
 def one_list():
@@ -296,12 +296,12 @@ def one_list():
 def links():
     """Paragraphs of links of each kind, with the definitions that they use."""
     paragraph = "See [the guide](https://example.com/a/b.html \"Guide\"), [a page][page], <https://example.com> and ![a picture](p.png).\n\n"
-    return repeated(paragraph) + "[page]: https://example.com/page\n"
+    return megabyte_of(paragraph) + "[page]: https://example.com/page\n"
 
 
 def code():
     """Fenced blocks of five lines, a paragraph with two code spans between each two."""
-    return repeated("Call `run()` with `--help`:\n\n```rust\nfn main() {\n    let n = 1;\n    println!(\"{n}\");\n    run(n);\n}\n```\n\n")
+    return megabyte_of("Call `run()` with `--help`:\n\n```rust\nfn main() {\n    let n = 1;\n    println!(\"{n}\");\n    run(n);\n}\n```\n\n")
 
 
 # large texts, as people write them: a name and what makes the text
