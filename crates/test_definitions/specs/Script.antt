@@ -34,13 +34,13 @@ abbrev pub after_last : Trees → Chosen → Outcome
 after_last f (Err e) = record { texts = []; error = Some e }
 after_last f (Ok c) = wrote (last_texts (some_tag is_raw_block f) (definitions_text c.1.references c.1.feeds) c.0)
 
-abbrev pub label_for : Bool → DocumentView → Trees → Option (List ℕ)
-label_for true d f = Some (reserved_label d (flat f))
-label_for false d f = None
+abbrev pub label_for : Bool → Setting → DocumentView → Trees → Option (List ℕ)
+label_for true s d f = Some (reserved_label s d (flat f))
+label_for false s d f = None
 
 -- the last unit, and the definitions of all
 abbrev pub finished : Setting → DocumentView → Trees → Outcome
-finished s d f = after_last f (choice (record s { label = label_for (needs_placeholder f) d f }) d f None)
+finished s d f = after_last f (choice (record s { label = label_for (needs_placeholder f) s d f }) d f None)
 
 abbrev pub after_unit : Chosen → (DocumentView → Outcome) → Outcome
 after_unit (Err e) rest = record { texts = []; error = Some e }

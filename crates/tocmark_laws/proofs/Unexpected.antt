@@ -83,13 +83,13 @@ flat-choice s d f unit next same =
 pub unit-misplaced : (s : Setting) (d : DocumentView) (unit : List SourcedEvent) (next : Option EventView) → IsBalanced unit → chosen s d unit next ≡ Err UnexpectedEvent → IsMisplacedUnit s unit
 unit-misplaced s d unit next balanced h =
     let is_misplaced_there = choice-misplaced (labelled s d unit next) d balanced.0 next (sym (flat-choice s d balanced.0 unit next balanced.1) ∙ h) in
-    record { forest = balanced.0; is = balanced.1; start = start-labelled s (label_for d unit next) balanced.0 is_misplaced_there }
+    record { forest = balanced.0; is = balanced.1; start = start-labelled s (label_for s d unit next) balanced.0 is_misplaced_there }
 
 -- and it is refused where one stands so
 pub misplaced-unit : (s : Setting) (d : DocumentView) (unit : List SourcedEvent) (next : Option EventView) → IsMisplacedUnit s unit → chosen s d unit next ≡ Err UnexpectedEvent
 misplaced-unit s d unit next h =
     flat-choice s d h.forest unit next h.is
-    ∙ misplaced-choice (labelled s d unit next) d h.forest next (labelled-start s (label_for d unit next) h.forest h.start)
+    ∙ misplaced-choice (labelled s d unit next) d h.forest next (labelled-start s (label_for s d unit next) h.forest h.start)
 
 -- a unit can't be represented only where none of its candidates reads back
 unit-unrepresentable : (s : Setting) (d : DocumentView) (unit : List SourcedEvent) (next : Option EventView) (f : Trees) → flat f ≡ unit → chosen s d unit next ≡ Err Unrepresentable → IsUnrepresentable (labelled s d unit next) d f next

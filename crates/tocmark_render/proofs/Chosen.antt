@@ -20,4 +20,4 @@ chosen-flat s d f next = ap (λ o. choice_of (labelled s d (flat f) next) d o ne
 -- without a label the choice is the forest's in the same setting
 pub chosen-unlabelled : (s : Setting) (d : DocumentView) (f : Trees) (next : Option EventView) → s.label ≡ None → needs_placeholder f ≡ false → chosen s d (flat f) next ≡ choice s d f next
 chosen-unlabelled s d f next e h =
-    chosen-flat s d f next ∙ ap (λ l. choice (record s { label = l }) d f next) (no-label d f next h ∙ sym e)
+    chosen-flat s d f next ∙ ap (λ l. choice (record s { label = l }) d f next) (no-label s d f next h ∙ sym e)

@@ -1,6 +1,6 @@
 -- What is written for a unit is what is chosen for it.
 use Rattle.std.proofs.Common.{◌≡◌, ℕ, Result, Ok, true, false, Option, Some, None, Err, List, refl}
-use Rattle.std.specs.Prelude.{is_some, OnOk}
+use Rattle.std.specs.Prelude.{is_some}
 use Rattle.std.proofs.lemmas.Bool.{false≢true, true≢false}
 use Rattle.tocmark_event.specs.View.{EventView, SourcedEvent}
 use Rattle.tocmark_event.specs.declared.options.Error.TheVariants as error
@@ -22,14 +22,6 @@ use Rattle.tocmark_render.specs.DocumentOf.{noted, passed}
 pub passed-noted : (s : Setting) (d : DocumentView) (here : Site) (p : Page) → passed (noted s d p) p ≡ document_after s (record d { trail = here.page.trail; feeds = here.page.sheet.feeds }) p
 unfolding document_after
 passed-noted s d here p = refl
-
--- a document with other labels
-pub with-labels : (d : DocumentView) (known k literal l : List (List ℕ)) → known ≡ k → literal ≡ l → record d { known = known; literal = literal } ≡ record d { known = k; literal = l }
-with-labels d known k literal l e f = λ j. record d { known = e j; literal = f j }
-
-pub on-ok : {A E P Q : Type 0} (r : Result A E) → (P → Q) → OnOk r P → OnOk r Q
-on-ok (Ok x) f h = f h
-on-ok (Err e) f h = tt
 
 -- ---- a unit as its events
 

@@ -9,7 +9,7 @@ use Rattle.tocmark_spelling.specs.Body.{Trees}
 use Rattle.tocmark_spelling.specs.Page.{Page, Site}
 use Rattle.tocmark_spelling.specs.Spelling.{spelling, is_misplaced}
 use Rattle.tocmark_write_labels.specs.Definitions.{definitions_text}
-use Rattle.tocmark_write_labels.specs.Document.{DocumentView, known_in, literal_in}
+use Rattle.tocmark_write_labels.specs.Document.{DocumentView, bracketed_in, known_in}
 use Rattle.tocmark_render.specs.Candidates.{candidates, is_checked, preferred_manner}
 use Rattle.tocmark_render.specs.ReadsBack.{reads_back}
 use Rattle.tocmark_write_pending.specs.Placeholder.{whole}
@@ -52,10 +52,6 @@ first_that_reads_back s d f next (m ∷ ms) =
 abbrev pub known_after : Setting → DocumentView → List ℕ → List (List ℕ)
 known_after s d defs = known_in s.reading s.flags d.known defs
 
--- the literal labels after a unit with this text
-abbrev pub literal_after : Setting → DocumentView → List ℕ → List (List ℕ)
-literal_after s d text = literal_in s.reading s.flags d.literal text
-
 -- the document that a unit with this page leaves
 unfoldable pub document_after : Setting → DocumentView → Page → DocumentView
 document_after s d p = record {
@@ -63,7 +59,7 @@ document_after s d p = record {
   feeds = p.sheet.feeds;
   references = d.references ++ p.references;
   known = known_after s d (definitions_of p);
-  literal = literal_after s d p.sheet.text;
+  bracketed = bracketed_in d.bracketed p.sheet.text;
   flushed = true;
 }
 

@@ -10,11 +10,11 @@ use Rattle.tocmark_event.specs.declared.options.Error.TheVariants as error
 use Rattle.tocmark_spelling.specs.Page.{Page, Site}
 use Rattle.tocmark_spelling.specs.Plan.{Setting}
 use Rattle.tocmark_spelling.specs.TrailOf.{trail_view}
-use Rattle.tocmark_render.specs.Choice.{Chosen, definitions_of, known_after, literal_after}
+use Rattle.tocmark_render.specs.Choice.{Chosen, definitions_of, known_after}
 use Rattle.tocmark_render.specs.TrialOf.{Refuses, WritesChoice, asked_of}
 use Rattle.tocmark_render.specs.declared.trial.Trial.{Trial}
 use Rattle.tocmark_write_renderer.specs.WriterOf.{Rendering, reference_view, site_of}
-use Rattle.tocmark_write_labels.specs.Document.{DocumentView}
+use Rattle.tocmark_write_labels.specs.Document.{DocumentView, bracketed_in}
 use Rattle.tocmark_write_labels.specs.LabelsOf.{labels_of}
 use Rattle.tocmark_render.specs.declared.document.Document.{Document}
 
@@ -25,7 +25,7 @@ document_view d = record {
   feeds = d.newlines;
   references = map reference_view d.references.items;
   known = labels_of d.known;
-  literal = labels_of d.literal;
+  bracketed = map string_bytes d.bracketed.items;
   flushed = d.flushed;
 }
 
@@ -37,9 +37,9 @@ document_flags d = d.flags
 abbrev pub document_at : Document → Site → DocumentView
 document_at d here = record (document_view d) { trail = here.page.trail; feeds = here.page.sheet.feeds }
 
--- a document that noted the labels of a unit with this page
+-- a document that noted the labels that a unit with this page defines, and its text
 abbrev pub noted : Setting → DocumentView → Page → DocumentView
-noted s d p = record d { known = known_after s d (definitions_of p); literal = literal_after s d p.sheet.text }
+noted s d p = record d { known = known_after s d (definitions_of p); bracketed = bracketed_in d.bracketed p.sheet.text }
 
 -- a document that went on behind a unit with this page
 abbrev pub passed : DocumentView → Page → DocumentView

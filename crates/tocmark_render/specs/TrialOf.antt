@@ -76,14 +76,9 @@ read_of p = whole_text (definitions_of p) p.sheet.text
 abbrev pub reads_back_in : Asked → DocumentView → List ℕ → Bool
 reads_back_in q d text = is_read_back q.setting d q.unit (q.setting.reading text (flags_at q.setting d))
 
--- the labels that a reader looks up in vain in a text that begins with the unit's definitions
-abbrev pub unresolved_in : Asked → DocumentView → List ℕ → List (List ℕ)
-unresolved_in q d text = (q.setting.reading text (flags_at q.setting d)).unresolved
-
--- what is known of a page is so: its definitions, and the labels that a reader looks up in vain in what is read of it
-pub record IsKnown (q : Asked) (d : DocumentView) (p : Page) (known : ReadBack) : Type 0 where
-  pub definitions : string_bytes known.definitions ≡ definitions_of p
-  pub unresolved : map string_bytes known.unresolved.items ≡ unresolved_in q d (read_of p)
+-- what is known of a page is so: its definitions
+abbrev pub IsKnown : Page → ReadBack → Type 0
+IsKnown p known = string_bytes known.definitions ≡ definitions_of p
 
 -- a document that leaves nothing but this to a unit
 abbrev pub earlier_view : Earlier → DocumentView
@@ -125,8 +120,8 @@ abbrev pub TriesIn : {R X : Type 0} → (R → List ℕ → ParserOptions → Re
 TriesIn reading t e old new ms r = Tries (asked_of reading t) (earlier_at e (site_of old)) (site_of old) new ms r
 
 -- what is known of a spelling that is read back is so of the page that the renderer came to
-abbrev pub KnowsIn : {R E : Type 0} → (R → List ℕ → ParserOptions → ReadingView) → Trial R → Earlier → Rendering → Result (Option ReadBack) E → Type 0
-KnowsIn reading t e new r = IfOk r (λ known. IfSome known (IsKnown (asked_of reading t) (earlier_view e) (page_of new)))
+abbrev pub Knows : {E : Type 0} → Rendering → Result (Option ReadBack) E → Type 0
+Knows new r = IfOk r (λ known. IfSome known (IsKnown (page_of new)))
 
 -- an error is that of the definition, unless memory ran out
 abbrev pub Refuses : {Y : Type 0} → Error → Result Y Error → Type 0

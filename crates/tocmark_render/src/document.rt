@@ -12,15 +12,14 @@ ghost use Rattle.tocmark_render.specs.Choice.{choice};
 ghost use Rattle.tocmark_render.specs.Chosen.{chosen};
 ghost use Rattle.tocmark_write_labels.specs.Defined.{behind, undefined};
 ghost use Rattle.tocmark_write_labels.specs.Definitions.{definitions_text};
-ghost use Rattle.tocmark_write_labels.specs.Document.{first_document, known_in, literal_in};
+ghost use Rattle.tocmark_write_labels.specs.Document.{bracketed_in, first_document, known_in};
 ghost use Rattle.tocmark_write_labels.specs.LabelsOf.{label_now, labels_of, Begins};
-ghost use Rattle.tocmark_render.specs.ReadsBack.{flags_at, whole_text};
-ghost use Rattle.tocmark_render.specs.TrialOf.{IsFront, IsKnown, IsReady, asked_of, or_no_trees, unresolved_in};
+ghost use Rattle.tocmark_render.specs.TrialOf.{IsFront, IsKnown, IsReady, Knows, asked_of, or_no_trees};
 ghost use Rattle.tocmark_write_labels.specs.Units.{label_for};
 ghost use Rattle.tocmark_write_pending.specs.Units.{trees_of};
 ghost use Rattle.tocmark_render.specs.DocumentOf.{document_at, document_view, document_flags, Gives, HasRoom, Spells, WritesChosen, kept_view, noted, passed};
 
-use crate::earlier::{Earlier, reading_flags};
+use crate::earlier::Earlier;
 use crate::read_back::ReadBack;
 use crate::search::choose;
 use crate::trial::{Trial, likely_len};
@@ -33,7 +32,7 @@ use tocmark_spelling::trail::Trail;
 use tocmark_write_labels::defined::{add_labels, undefined_text};
 use tocmark_write_labels::definitions::{copied_references, definitions_text};
 use tocmark_write_labels::labels::Labels;
-use tocmark_write_labels::reserved_label::reserve_list_label;
+use tocmark_write_labels::reserved_label::{literal_labels, reserve_list_label};
 use tocmark_write_pending::pending::Pending;
 use tocmark_write_renderer::parts::{Parts, Reference};
 use tocmark_write_renderer::renderer::Renderer;
@@ -51,8 +50,9 @@ pub struct Document {
     references: Vec<Reference>,
     /// The labels that earlier units define.
     known: Labels,
-    /// The labels of earlier units that are no links, since nothing defines them.
-    literal: Labels,
+    /// The texts of earlier units with a bracket. What is no link there, since nothing defines its label,
+    /// must not become one by a label that is reserved at the end: then they are read.
+    bracketed: Vec<String>,
     /// Whether a unit was written.
     flushed: bool,
 }
@@ -110,44 +110,27 @@ fn note_known_labels<R: Reader>(
     known.add_all(trial.alloc, &found.defined)
 }
 
-/// Adds the labels of a unit's text that nothing defines, if the text has a bracket: these are those
-/// that a reader finds in it. An `Err` says that memory ran out; none is added then.
-fn add_open_labels(
-    literal: &mut Labels,
-    alloc: Global,
-    text: &str,
-    unresolved: &[String],
-) -> Result<(), AllocError>
-    ensures literal { (reading : List ℕ → ParserOptions → ReadingView) (flags : ParserOptions)
-        → map string_bytes unresolved.now ≡ (reading text.now flags).unresolved
-        → OnOk result (labels_of literal.new
-        ≡ literal_in reading flags (labels_of literal.old) text.now) }
-    ensures stays { OnErr result (labels_of literal.new ≡ labels_of literal.old) }
+/// Keeps a copy of a unit's text, if that has a bracket. An `Err` says that memory ran out; it isn't kept
+/// then.
+fn keep_bracketed(texts: &mut Vec<String>, alloc: Global, text: &str) -> Result<(), AllocError>
+    ensures kept { OnOk result (map string_bytes texts.new.items
+        ≡ bracketed_in (map string_bytes texts.old.items) text.now) }
+    ensures stays { OnErr result (texts.new.items ≡ texts.old.items) }
 {
     if has_bracket(text) {
-        literal.add_all(alloc, unresolved)
-    } else {
-        Ok(())
+        texts.push(String::from_str(alloc, text)?)?;
     }
+    Ok(())
 }
 
-/// Adds the labels that a reader finds in a unit's text and nothing defines. Only a text with a
-/// bracket is read. An `Err` says that memory ran out or the reader answered it; none is added then.
-fn note_open_labels<R: Reader>(
-    literal: &mut Labels,
-    trial: &Trial<'_, '_, R>,
-    text: &str,
-) -> Result<(), AllocError>
-    ensures literal { let reading = R.reading trial.now.reader.now in
-        OnOk result (labels_of literal.new
-        ≡ literal_in reading trial.now.flags (labels_of literal.old) text.now) }
-    ensures stays { OnErr result (labels_of literal.new ≡ labels_of literal.old) }
+fn copied_texts(alloc: Global, texts: &[String]) -> Result<Vec<String>, AllocError>
+    ensures { IfOk result (λ copies. map string_bytes copies.items ≡ map string_bytes texts.now) }
 {
-    if !has_bracket(text) {
-        return Ok(());
+    let mut copies = Vec::new(alloc);
+    for text in texts {
+        copies.push(String::from_str(alloc, text.as_str())?)?;
     }
-    let found = trial.reader.read(trial.alloc, text, trial.flags)?;
-    literal.add_all(trial.alloc, &found.unresolved)
+    Ok(copies)
 }
 
 impl Document {
@@ -162,7 +145,7 @@ impl Document {
             trail: Trail::new(),
             references: Vec::new(alloc),
             known: Labels::new(alloc),
-            literal: Labels::new(alloc),
+            bracketed: Vec::new(alloc),
             flushed: false,
         }
     }
@@ -178,14 +161,13 @@ impl Document {
             trail: self.trail.copied(alloc)?,
             references: copied_references(alloc, &self.references)?,
             known: self.known.copied()?,
-            literal: self.literal.copied()?,
+            bracketed: copied_texts(alloc, &self.bracketed)?,
             flushed: self.flushed,
         })
     }
 
-    /// Notes the labels that a reader finds defined in the definitions of a unit, and those that
-    /// nothing defines in its text. An `Err` says that memory ran out or the reader answered it; none
-    /// is noted then.
+    /// Notes the labels that a reader finds defined in the definitions of a unit, and its text. An `Err`
+    /// says that memory ran out or the reader answered it; nothing is noted then.
     fn note_labels<R: Reader>(
         &mut self,
         trial: &Trial<'_, '_, R>,
@@ -197,7 +179,7 @@ impl Document {
             let old = document_view self.old in
             OnOk result (document_view self.new ≡ record old {
               known = known_in reading flags old.known definitions.now;
-              literal = literal_in reading flags old.literal text.now;
+              bracketed = bracketed_in old.bracketed text.now;
             }) }
         ensures stays { OnErr result (document_view self.new ≡ document_view self.old) }
         ensures flags { document_flags self.new ≡ document_flags self.old }
@@ -205,55 +187,14 @@ impl Document {
     {
         let before = self.known.len();
         note_known_labels(&mut self.known, trial, definitions)?;
-        let noted = note_open_labels(&mut self.literal, trial, text);
+        let noted = keep_bracketed(&mut self.bracketed, trial.alloc, text);
         if noted.is_err() {
             self.known.truncate(before);
         }
         noted
     }
 
-    /// Whether a unit's text is read by itself and under these flags when it is searched: it needs no
-    /// definitions, and no metadata is read that the flags may ask for.
-    fn reads_alone(&self, flags: ParserOptions, definitions: &str) -> bool
-        ensures definitions { result ≡ true → definitions.now ≡ [] }
-        ensures flags { (s : Setting) → s.flags ≡ flags → result ≡ true
-            → flags_at s (document_view self.now) ≡ flags }
-    {
-        let reading_flags = reading_flags(flags, self.flushed);
-        definitions.is_empty() && reading_flags.0 == flags.0
-    }
-
-    /// Notes the labels of a unit that is read back, as `note_labels` does. Its text isn't read again
-    /// where the search has read just that.
-    fn note_known<R: Reader>(
-        &mut self,
-        trial: &Trial<'_, '_, R>,
-        known: &ReadBack,
-        text: &str,
-    ) -> Result<(), AllocError>
-        requires unresolved { let q = asked_of R.reading trial.now in
-            let whole = whole_text (string_bytes known.now.definitions) text.now in
-            map string_bytes known.now.unresolved.items
-            ≡ unresolved_in q (document_view self.old) whole }
-        ensures noted { let reading = R.reading trial.now.reader.now in
-            let flags = trial.now.flags in
-            let old = document_view self.old in
-            OnOk result (document_view self.new ≡ record old {
-              known = known_in reading flags old.known (string_bytes known.now.definitions);
-              literal = literal_in reading flags old.literal text.now;
-            }) }
-        ensures stays { OnErr result (document_view self.new ≡ document_view self.old) }
-        ensures flags { document_flags self.new ≡ document_flags self.old }
-        ensures references { self.new.references ≡ self.old.references }
-    {
-        if self.reads_alone(trial.flags, known.definitions.as_str()) {
-            add_open_labels(&mut self.literal, trial.alloc, text, &known.unresolved)
-        } else {
-            self.note_labels(trial, known.definitions.as_str(), text)
-        }
-    }
-
-    /// Notes the labels of a unit that no reader has read, as `note_labels` does.
+    /// Notes the labels and the text of a unit that no reader has read, as `note_labels` does.
     fn note_unread<R: Reader>(
         &mut self,
         trial: &Trial<'_, '_, R>,
@@ -271,7 +212,8 @@ impl Document {
         self.note_labels(trial, definitions.as_str(), renderer.text())
     }
 
-    /// Notes the labels of a unit as it is written, and makes room for the definitions that it needs.
+    /// Notes the labels and the text of a unit as it is written, and makes room for the definitions that
+    /// it needs.
     /// An `Err` says that memory ran out or the reader answered it; the document is then as it was.
     fn note<R: Reader>(
         &mut self,
@@ -279,8 +221,7 @@ impl Document {
         renderer: &Renderer<'_>,
         known: Option<ReadBack>,
     ) -> Result<(), AllocError>
-        requires known { let q = asked_of R.reading trial.now in
-            IfSome known (IsKnown q (document_view self.old) (page_of renderer.now)) }
+        requires known { IfSome known (IsKnown (page_of renderer.now)) }
         ensures noted { let s = (asked_of R.reading trial.now).setting in
             OnOk result (document_view self.new
             ≡ noted s (document_view self.old) (page_of renderer.now)) }
@@ -290,7 +231,7 @@ impl Document {
     {
         self.references.reserve(renderer.references().len())?;
         match known {
-            Some(known) => self.note_known(trial, &known, renderer.text()),
+            Some(known) => { self.note_labels(trial, known.definitions.as_str(), renderer.text()) }
             None => self.note_unread(trial, renderer),
         }
     }
@@ -352,9 +293,7 @@ impl Document {
         requires front { IsFront (site_of renderer.old) }
         ensures chosen { let reading = R.reading in
             WritesChosen reading trial.now self.now renderer.old renderer.new result }
-        ensures known { let q = asked_of R.reading trial.now in
-            let d = document_view self.now in
-            IfOk result (λ known. IfSome known (IsKnown q d (page_of renderer.new))) }
+        ensures known { Knows renderer.new result }
     {
         renderer.reserve_lines(likely_len(trial.unit.events()))?;
         let earlier = Earlier {
@@ -410,14 +349,20 @@ impl Document {
     }
 
     /// The label that is reserved for the lists of the last unit, if it waits. An `Err` says that memory
-    /// ran out.
-    fn label_at_end(&self, alloc: Global, unit: &Pending) -> Result<Option<String>, AllocError>
-        ensures { IfOk result (λ label. option_map string_bytes label ≡
-            label_for (document_view self.now) unit.now.events None) }
+    /// ran out or the reader answered it.
+    fn label_at_end<R: Reader>(
+        &self,
+        alloc: Global,
+        reader: &R,
+        unit: &Pending,
+    ) -> Result<Option<String>, AllocError>
+        ensures { (s : Setting) → s.reading ≡ R.reading reader.now → s.flags ≡ document_flags self.now
+            → IfOk result (λ label. option_map string_bytes label ≡
+            label_for s (document_view self.now) unit.now.events None) }
     {
         if unit.needs_placeholder() {
-            let events = unit.events();
-            let label = reserve_list_label(alloc, &self.known, &self.literal, events)?;
+            let literal = literal_labels(alloc, reader, self.flags, &self.bracketed)?;
+            let label = reserve_list_label(alloc, &self.known, &literal, unit.events())?;
             Ok(Some(label))
         } else {
             Ok(None)
@@ -425,19 +370,21 @@ impl Document {
     }
 
     /// The label that is reserved for the lists of a unit: the last unit, which no event follows, has
-    /// one if it waits. An `Err` says that memory ran out.
-    fn label_for(
+    /// one if it waits. An `Err` says that memory ran out or the reader answered it.
+    fn label_for<R: Reader>(
         &self,
         alloc: Global,
+        reader: &R,
         unit: &Pending,
         next: Option<&Event<'_>>,
     ) -> Result<Option<String>, AllocError>
-        ensures { IfOk result (λ label. option_map string_bytes label ≡
-            label_for (document_view self.now) unit.now.events (next_view next.entry)) }
+        ensures { (s : Setting) → s.reading ≡ R.reading reader.now → s.flags ≡ document_flags self.now
+            → IfOk result (λ label. option_map string_bytes label ≡
+            label_for s (document_view self.now) unit.now.events (next_view next.entry)) }
     {
         match next {
             Some(_) => Ok(None),
-            None => self.label_at_end(alloc, unit),
+            None => self.label_at_end(alloc, reader, unit),
         }
     }
 
@@ -534,7 +481,7 @@ impl Document {
         if !unit.is_whole() {
             return Err(Error::UnexpectedEvent);
         }
-        let label = self.label_for(alloc, unit, next)?;
+        let label = self.label_for(alloc, reader, unit, next)?;
         let text = self.chosen_before(alloc, reader, unit, next, lent_label(&label), options);
         drop(label);
         text

@@ -7,7 +7,7 @@ ghost use Rattle.tocmark_write_renderer.specs.JobOf.{manner_view};
 ghost use Rattle.tocmark_write_renderer.specs.WriterOf.{page_of, site_of};
 ghost use Rattle.tocmark_write_labels.specs.Document.{first_document};
 ghost use Rattle.tocmark_render.specs.ReadsBack.{flags_at, whole_text};
-ghost use Rattle.tocmark_render.specs.TrialOf.{AreRefused, IsFront, IsKnown, IsLow, IsReady, KnowsIn, TriesIn, asked_of, earlier_view, read_of, reads_back_in, unresolved_in};
+ghost use Rattle.tocmark_render.specs.TrialOf.{AreRefused, IsFront, IsLow, IsReady, Knows, TriesIn, asked_of, earlier_view, read_of, reads_back_in};
 
 use crate::read_back::{ReadBack, behind_definitions, find};
 use crate::trial::{Refused, Trial, write};
@@ -60,29 +60,25 @@ fn was_refused(refused: &Refused, text: &str) -> bool
 }
 
 impl Earlier<'_> {
-    /// The labels that the reader looks up in vain in a text that begins with the definitions of a
-    /// trial's unit, if it finds the unit there. One that was refused isn't read again, and one that
-    /// is refused now is noted. An `Err` says that memory ran out or the reader answered it.
+    /// Whether the reader finds a trial's unit in a text that begins with its definitions. A text that
+    /// was refused isn't read again, and one that is refused now is noted. An `Err` says that memory ran
+    /// out or the reader answered it.
     fn find_in<R: Reader>(
         &self,
         trial: &Trial<'_, '_, R>,
         refused: &mut Refused,
         text: &str,
-    ) -> Result<Option<Vec<String>>, AllocError>
+    ) -> Result<bool, AllocError>
         requires ready { IsReady R.reading trial.now }
         requires refused { let q = asked_of R.reading trial.now in
             AreRefused q (earlier_view self.now) refused.old }
         ensures read { let q = asked_of R.reading trial.now in
-            IfOk result (λ found. is_some found
-            ≡ reads_back_in q (earlier_view self.now) text.now) }
-        ensures unresolved { let q = asked_of R.reading trial.now in
-            IfOk result (λ found. IfSome found (λ labels.
-            map string_bytes labels.items ≡ unresolved_in q (earlier_view self.now) text.now)) }
+            IfOk result (λ found. found ≡ reads_back_in q (earlier_view self.now) text.now) }
         ensures refused { let q = asked_of R.reading trial.now in
             OnOk result (AreRefused q (earlier_view self.now) refused.new) }
     {
         if was_refused(refused, text) {
-            return Ok(None);
+            return Ok(false);
         }
         let taken = Taken {
             known: self.known,
@@ -91,11 +87,10 @@ impl Earlier<'_> {
         let flags = reading_flags(trial.flags, self.flushed);
         let unit = trial.unit.events();
         let found = find(trial.alloc, trial.reader, flags, taken, unit, text)?;
-        if let Some(labels) = found {
-            return Ok(Some(labels));
+        if !found {
+            refused.insert(String::from_str(trial.alloc, text)?)?;
         }
-        refused.insert(String::from_str(trial.alloc, text)?)?;
-        Ok(None)
+        Ok(found)
     }
 
     /// The same for a text and the definitions that stand before it.
@@ -105,17 +100,13 @@ impl Earlier<'_> {
         refused: &mut Refused,
         definitions: &str,
         text: &str,
-    ) -> Result<Option<Vec<String>>, AllocError>
+    ) -> Result<bool, AllocError>
         requires ready { IsReady R.reading trial.now }
         requires refused { let q = asked_of R.reading trial.now in
             AreRefused q (earlier_view self.now) refused.old }
         ensures read { let q = asked_of R.reading trial.now in
             let whole = whole_text definitions.now text.now in
-            IfOk result (λ found. is_some found ≡ reads_back_in q (earlier_view self.now) whole) }
-        ensures unresolved { let q = asked_of R.reading trial.now in
-            let whole = whole_text definitions.now text.now in
-            IfOk result (λ found. IfSome found (λ labels.
-            map string_bytes labels.items ≡ unresolved_in q (earlier_view self.now) whole)) }
+            IfOk result (λ found. found ≡ reads_back_in q (earlier_view self.now) whole) }
         ensures refused { let q = asked_of R.reading trial.now in
             OnOk result (AreRefused q (earlier_view self.now) refused.new) }
     {
@@ -140,20 +131,16 @@ impl Earlier<'_> {
         ensures read { let q = asked_of R.reading trial.now in
             let text = read_of (page_of renderer.now) in
             IfOk result (λ found. is_some found ≡ reads_back_in q (earlier_view self.now) text) }
-        ensures known { let q = asked_of R.reading trial.now in
-            let d = earlier_view self.now in
-            IfOk result (λ found. IfSome found (IsKnown q d (page_of renderer.now))) }
+        ensures known { Knows renderer.now result }
         ensures refused { let q = asked_of R.reading trial.now in
             OnOk result (AreRefused q (earlier_view self.now) refused.new) }
     {
         let (references, newlines) = (renderer.references(), renderer.newlines());
         let definitions = definitions_text(trial.alloc, references, newlines)?;
-        match self.find_behind(trial, refused, definitions.as_str(), renderer.text())? {
-            None => Ok(None),
-            Some(unresolved) => Ok(Some(ReadBack {
-                definitions,
-                unresolved,
-            })),
+        if self.find_behind(trial, refused, definitions.as_str(), renderer.text())? {
+            Ok(Some(ReadBack { definitions }))
+        } else {
+            Ok(None)
         }
     }
 
@@ -174,7 +161,7 @@ impl Earlier<'_> {
         requires front { IsFront (site_of renderer.old) }
         ensures tried { TriesIn R.reading trial.now self.now renderer.old renderer.new
             (manner_view manner.now ∷ []) result }
-        ensures known { KnowsIn R.reading trial.now self.now renderer.new result }
+        ensures known { Knows renderer.new result }
         ensures refused { let q = asked_of R.reading trial.now in
             OnOk result (AreRefused q (earlier_view self.now) refused.new) }
     {

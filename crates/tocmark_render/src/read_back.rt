@@ -1,6 +1,6 @@
 //! Whether a text is read as the unit that it is written for.
 
-ghost use Rattle.std.specs.Prelude.{◌≡◌, ◌++◌, codes, is_some, map, string_bytes, IfOk, IfSome};
+ghost use Rattle.std.specs.Prelude.{◌≡◌, ◌++◌, codes, map, string_bytes, IfOk};
 ghost use Rattle.tocmark_event.specs.Merged.{merged};
 ghost use Rattle.tocmark_event.specs.View.{unsourced};
 ghost use Rattle.tocmark_write_labels.specs.LabelsOf.{is_taken_in};
@@ -20,12 +20,10 @@ use tocmark_write_read_back::agrees::agrees;
 pub struct ReadBack {
     /// The definitions that it needs.
     pub definitions: String,
-    /// The labels that a reader looks up in vain in it, behind its definitions.
-    pub unresolved: Vec<String>,
 }
 
-/// The labels that a reader looks up in vain in a text, if it finds a unit's events there and none of
-/// these labels is taken. An `Err` says that memory ran out or the reader answered it.
+/// Whether a reader finds a unit's events in a text, and looks no label up in vain there that is taken.
+/// An `Err` says that memory ran out or the reader answered it.
 pub(crate) fn find<R: Reader>(
     alloc: Global,
     reader: &R,
@@ -33,14 +31,11 @@ pub(crate) fn find<R: Reader>(
     taken: Taken<'_, '_>,
     unit: &[BufferedEvent],
     text: &str,
-) -> Result<Option<Vec<String>>, AllocError>
-    ensures found { let views = map buffered_view unit.now in
+) -> Result<bool, AllocError>
+    ensures { let views = map buffered_view unit.now in
         let events = in_paragraph (merged (map unsourced views)) in
         let reading = R.reading reader.now text.now flags in
-        IfOk result (λ found. is_some found ≡ found_in (is_taken_in taken.entry) events reading) }
-    ensures unresolved { let reading = R.reading reader.now text.now flags in
-        IfOk result (λ found. IfSome found
-        (λ labels. map string_bytes labels.items ≡ reading.unresolved)) }
+        IfOk result (λ found. found ≡ found_in (is_taken_in taken.entry) events reading) }
 {
     let reading = reader.read(alloc, text, flags)?;
     let Reading {
@@ -49,12 +44,9 @@ pub(crate) fn find<R: Reader>(
         ..
     } = reading;
     if !agrees(&events, unit) {
-        return Ok(None);
+        return Ok(false);
     }
-    if taken.contains_any(alloc, &unresolved)? {
-        return Ok(None);
-    }
-    Ok(Some(unresolved))
+    Ok(!taken.contains_any(alloc, &unresolved)?)
 }
 
 /// Definitions and a blank line before a text. An `Err` says that memory ran out.

@@ -9,7 +9,7 @@ ghost use Rattle.tocmark_write_renderer.specs.WriterOf.{site_of};
 ghost use Rattle.tocmark_render.specs.Candidates.{delimiter_manners, escaped_manners, fallback_manners, fallbacks, preferred_manner};
 ghost use Rattle.tocmark_render.specs.Choice.{has_standard_markers};
 ghost use Rattle.tocmark_render.specs.Tries.{if_source, is_delimiter_event, is_sourced_event, manners_for};
-ghost use Rattle.tocmark_render.specs.TrialOf.{AreRefused, Chooses, IsFront, IsLow, IsReady, KnowsIn, TriesIn, WritesIn, asked_of, earlier_view, options_in};
+ghost use Rattle.tocmark_render.specs.TrialOf.{AreRefused, Chooses, IsFront, IsLow, IsReady, Knows, TriesIn, WritesIn, asked_of, earlier_view, options_in};
 ghost use Rattle.tocmark_render.specs.Validates.{validates};
 
 use crate::earlier::Earlier;
@@ -105,7 +105,7 @@ fn try_all<'t, R: Reader>(
     requires front { IsFront (site_of renderer.old) }
     ensures tried { TriesIn R.reading trial.now earlier.entry renderer.old renderer.new
         (map manner_view manners.now) result }
-    ensures known { KnowsIn R.reading trial.now earlier.entry renderer.new result }
+    ensures known { Knows renderer.new result }
     ensures refused { let q = asked_of R.reading trial.now in
         OnOk result (AreRefused q (earlier_view earlier.entry) refused.new) }
 {
@@ -133,7 +133,7 @@ fn try_source<'t, R: Reader>(
     requires front { IsFront (site_of renderer.old) }
     ensures tried { TriesIn R.reading trial.now earlier.entry renderer.old renderer.new
         (if_source has_source (options_in trial.now) has_delimiters) result }
-    ensures known { KnowsIn R.reading trial.now earlier.entry renderer.new result }
+    ensures known { Knows renderer.new result }
     ensures refused { let q = asked_of R.reading trial.now in
         OnOk result (AreRefused q (earlier_view earlier.entry) refused.new) }
 {
@@ -163,7 +163,7 @@ fn try_fallbacks<'t, R: Reader>(
     requires front { IsFront (site_of renderer.old) }
     ensures tried { TriesIn R.reading trial.now earlier.entry renderer.old renderer.new
         (flat_map fallback_manners fallbacks) result }
-    ensures known { KnowsIn R.reading trial.now earlier.entry renderer.new result }
+    ensures known { Knows renderer.new result }
 {
     for plan in fallback_plans() {
         let manners = with_all_markers(plan);
@@ -189,7 +189,7 @@ fn try_delimiters<'t, R: Reader>(
     requires front { IsFront (site_of renderer.old) }
     ensures tried { TriesIn R.reading trial.now earlier.entry renderer.old renderer.new
         (delimiter_manners (options_in trial.now)) result }
-    ensures known { KnowsIn R.reading trial.now earlier.entry renderer.new result }
+    ensures known { Knows renderer.new result }
 {
     let manners = run_manners(trial.options);
     if let Some(known) = try_all(trial, earlier, renderer, refused, &manners)? {
@@ -211,7 +211,7 @@ fn try_preferred<'t, R: Reader>(
     requires front { IsFront (site_of renderer.old) }
     ensures tried { TriesIn R.reading trial.now earlier.entry renderer.old renderer.new
         (preferred_manner (options_in trial.now) ∷ []) result }
-    ensures known { KnowsIn R.reading trial.now earlier.entry renderer.new result }
+    ensures known { Knows renderer.new result }
 {
     let manners = [preferred_manner(trial.options, false)];
     try_all(trial, earlier, renderer, refused, &manners)
@@ -234,7 +234,7 @@ fn try_escaped<'t, R: Reader>(
     requires front { IsFront (site_of renderer.old) }
     ensures tried { TriesIn R.reading trial.now earlier.entry renderer.old renderer.new
         (escaped_manners (options_in trial.now) has_delimiters is_checked) result }
-    ensures known { KnowsIn R.reading trial.now earlier.entry renderer.new result }
+    ensures known { Knows renderer.new result }
 {
     if has_delimiters {
         try_delimiters(trial, earlier, renderer, refused)
@@ -262,7 +262,7 @@ fn try_candidates<'t, R: Reader>(
     requires front { IsFront (site_of renderer.old) }
     ensures tried { TriesIn R.reading trial.now earlier.entry renderer.old renderer.new
         (manners_for (options_in trial.now) has_source has_delimiters is_checked) result }
-    ensures known { KnowsIn R.reading trial.now earlier.entry renderer.new result }
+    ensures known { Knows renderer.new result }
 {
     if let Some(known) = try_source(
         trial,
@@ -298,7 +298,7 @@ fn search<'t, R: Reader>(
     requires front { IsFront (site_of renderer.old) }
     ensures tried { TriesIn R.reading trial.now earlier.entry renderer.old renderer.new
         (manners_for (options_in trial.now) has_source has_delimiters is_checked) result }
-    ensures known { KnowsIn R.reading trial.now earlier.entry renderer.new result }
+    ensures known { Knows renderer.new result }
 {
     let mut refused = IndexSet::new(trial.alloc);
     let found = try_candidates(
@@ -353,7 +353,7 @@ pub fn choose<'t, R: Reader>(
     requires ready { IsReady R.reading trial.now }
     requires front { IsFront (site_of renderer.old) }
     ensures chosen { Chooses R.reading trial.now earlier.entry renderer.old renderer.new result }
-    ensures known { KnowsIn R.reading trial.now earlier.entry renderer.new result }
+    ensures known { Knows renderer.new result }
 {
     if !has_standard_markers(trial.options) {
         return write_unread(trial, renderer);

@@ -95,40 +95,40 @@ fn behind_run(run: Option<Run>) -> Option<char>
     }
 }
 
-/// The character before the run of starts that ends with an event, or before what follows the event.
-fn before_starts(event: &BufferedEvent, run: Option<Run>) -> Option<char>
-    ensures { let e = buffered_view event.now in (back rest : List SourcedEvent)
-        → option_map run_view run ≡ run_here back (e ∷ rest)
-        → result ≡ run_before start_width (e ∷ back) }
+/// The character before the run of starts that ends with the event at a place of a unit, or before what
+/// follows the event.
+fn before_starts(event: &BufferedEvent, unit: &Pending, place: usize) -> Option<char>
+    ensures { let e = buffered_view event.now in
+        let es = unit.now.events in (rest : List SourcedEvent) → drop place es ≡ e ∷ rest
+        → result ≡ run_before start_width (e ∷ reverse (take place es)) }
 {
     if is_start(event) {
-        before_run(run)
+        before_run(unit.run_at(place))
     } else {
         last_edge(event)
     }
 }
 
-/// The character behind the run of starts that begins with an event, or that of the event.
-fn behind_starts(event: &BufferedEvent, run: Option<Run>) -> Option<char>
-    ensures { let e = buffered_view event.now in (back rest : List SourcedEvent)
-        → option_map run_view run ≡ run_here back (e ∷ rest)
-        → result ≡ run_after start_width (e ∷ rest) }
+/// The character behind the run of starts that begins with the event at a place of a unit, or that of
+/// the event.
+fn behind_starts(event: &BufferedEvent, unit: &Pending, place: usize) -> Option<char>
+    ensures { let e = buffered_view event.now in (rest : List SourcedEvent)
+        → drop place unit.now.events ≡ e ∷ rest → result ≡ run_after start_width (e ∷ rest) }
 {
     if is_start(event) {
-        behind_run(run)
+        behind_run(unit.run_at(place))
     } else {
         first_edge(event)
     }
 }
 
 /// The same for ends.
-fn behind_ends(event: &BufferedEvent, run: Option<Run>) -> Option<char>
-    ensures { let e = buffered_view event.now in (back rest : List SourcedEvent)
-        → option_map run_view run ≡ run_here back (e ∷ rest)
-        → result ≡ run_after close_width (e ∷ rest) }
+fn behind_ends(event: &BufferedEvent, unit: &Pending, place: usize) -> Option<char>
+    ensures { let e = buffered_view event.now in (rest : List SourcedEvent)
+        → drop place unit.now.events ≡ e ∷ rest → result ≡ run_after close_width (e ∷ rest) }
 {
     if is_finish(event) {
-        behind_run(run)
+        behind_run(unit.run_at(place))
     } else {
         first_edge(event)
     }
@@ -143,7 +143,7 @@ fn beyond_before(unit: &Pending, place: usize) -> Option<char>
     if place == 0 {
         None
     } else {
-        before_starts(&events[place - 1], unit.run_at(place - 1))
+        before_starts(&events[place - 1], unit, place - 1)
     }
 }
 
@@ -153,7 +153,7 @@ fn beyond_starts(unit: &Pending, place: usize) -> Option<char>
 {
     let events = unit.events();
     if place < events.len().saturating_sub(1) {
-        behind_starts(&events[place + 1], unit.run_at(place + 1))
+        behind_starts(&events[place + 1], unit, place + 1)
     } else {
         None
     }
@@ -165,7 +165,7 @@ fn beyond_ends(unit: &Pending, place: usize) -> Option<char>
 {
     let events = unit.events();
     if place < events.len().saturating_sub(1) {
-        behind_ends(&events[place + 1], unit.run_at(place + 1))
+        behind_ends(&events[place + 1], unit, place + 1)
     } else {
         None
     }

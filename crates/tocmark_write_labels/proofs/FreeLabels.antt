@@ -17,6 +17,7 @@ use Rattle.std.proofs.lemmas.Str.Parse.{digit_from_value}
 use Rattle.caseless.specs.Caseless.{default_case_fold}
 use Rattle.caseless.proofs.CaselessLemmas.{default_case_fold-ascii}
 use Rattle.tocmark_event.specs.View.{SourcedEvent}
+use Rattle.tocmark_spelling.specs.Plan.{Setting}
 use Rattle.tocmark_write_labels.specs.Document.{DocumentView, folded, is_among}
 use Rattle.tocmark_write_labels.specs.Reserved.{free_label, numbered_label, reserved_label, used_labels}
 
@@ -173,18 +174,18 @@ search-finds used (suc tries) n = by (search-finds used tries (suc n)) (is_among
 
 -- ---- the reserved label
 
-pub reserved-least : (d : DocumentView) (pending : List SourcedEvent) → (n : ℕ) × (1 ≤ n) × (reserved_label d pending ≡ numbered_label n) × ((m : ℕ) → 1 ≤ m → m < n → is_among (used_labels d pending) (numbered_label m) ≡ true)
+pub reserved-least : (s : Setting) (d : DocumentView) (pending : List SourcedEvent) → (n : ℕ) × (1 ≤ n) × (reserved_label s d pending ≡ numbered_label n) × ((m : ℕ) → 1 ≤ m → m < n → is_among (used_labels s d pending) (numbered_label m) ≡ true)
 unfolding reserved_label AllUsed
-reserved-least d pending =
-    let found = search-finds (used_labels d pending) (length (used_labels d pending)) 1 in
+reserved-least s d pending =
+    let found = search-finds (used_labels s d pending) (length (used_labels s d pending)) 1 in
     (1 + found.passed, omega arith, found.label, found.all)
 
-pub reserved-free : (d : DocumentView) (pending : List SourcedEvent) → length (used_labels d pending) < 2 ^ 64 → is_among (used_labels d pending) (reserved_label d pending) ≡ false
+pub reserved-free : (s : Setting) (d : DocumentView) (pending : List SourcedEvent) → length (used_labels s d pending) < 2 ^ 64 → is_among (used_labels s d pending) (reserved_label s d pending) ≡ false
 unfolding reserved_label AllUsed
-reserved-free d pending small = ap (is_among used) found.label ∙ elim found.free [ inl t ↦ last (is_among used (numbered_label (1 + found.passed))) t refl | inr f ↦ f ]
+reserved-free s d pending small = ap (is_among used) found.label ∙ elim found.free [ inl t ↦ last (is_among used (numbered_label (1 + found.passed))) t refl | inr f ↦ f ]
   where
     used : List (List ℕ)
-    used = used_labels d pending
+    used = used_labels s d pending
 
     found : Found used (length used) 1
     found = search-finds used (length used) 1

@@ -6,7 +6,8 @@ use Rattle.std.proofs.lemmas.List.{drop_more, length-append, length-map}
 use Rattle.std.proofs.lemmas.List.Folds.{list_any-append}
 use Rattle.std.proofs.lemmas.Slice.Eq.{bytes_eq-Decides}
 use Rattle.tocmark_event.specs.View.{SourcedEvent}
-use Rattle.tocmark_write_labels.specs.Document.{DocumentView, folded, is_among, with_label}
+use Rattle.tocmark_spelling.specs.Plan.{Setting}
+use Rattle.tocmark_write_labels.specs.Document.{DocumentView, folded, is_among, with_label, literal_in}
 use Rattle.tocmark_write_labels.specs.LabelsOf.{folded_ids}
 use Rattle.tocmark_write_labels.specs.Reserved.{free_label, ids_of, numbered_label, reserved_label}
 
@@ -95,15 +96,15 @@ module _ (count n : ℕ) (used : List (List ℕ)) where
       ap (λ m. numbered_label (m + 1)) (sym e) ∙ sym (ap (λ tries. sought tries (n + 1)) none)
 
 -- what is sought among the sets is the reserved label
-pub reserved-is : (d : DocumentView) (known literal set : List (List ℕ)) (ids : List (Bor (List ℕ))) (pending : List SourcedEvent) (count : ℕ) → d.known ≡ known → d.literal ≡ literal → folded_ids ids ≡ ids_of pending → count ≡ length known + length literal + length ids
-    → ((label : List ℕ) → is_among set label ≡ is_among (folded_ids ids) label) → free_label count 1 (known ++ literal ++ set) ≡ reserved_label d pending
+pub reserved-is : (s : Setting) (d : DocumentView) (known literal set : List (List ℕ)) (ids : List (Bor (List ℕ))) (pending : List SourcedEvent) (count : ℕ) → d.known ≡ known → literal_in s.reading s.flags d.bracketed ≡ literal → folded_ids ids ≡ ids_of pending → count ≡ length known + length literal + length ids
+    → ((label : List ℕ) → is_among set label ≡ is_among (folded_ids ids) label) → free_label count 1 (known ++ literal ++ set) ≡ reserved_label s d pending
 unfolding reserved_label
-reserved-is d known literal set ids pending count k l are is_count same =
+reserved-is s d known literal set ids pending count k l are is_count same =
     free-same count 1 (known ++ literal ++ set) used (λ label.
     among-append (known ++ literal) set label ∙ ap (λ b. is_among (known ++ literal) label || b) (same label) ∙ sym (among-append (known ++ literal) (folded_ids ids) label))
     ∙ ap (λ n. free_label n 1 used) (is_count ∙ lengths)
     ∙ ap (λ used. free_label (length used) 1 used)
-    (ap (λ xs. xs ++ literal ++ folded_ids ids) (sym k) ∙ ap (λ xs. d.known ++ xs ++ folded_ids ids) (sym l) ∙ ap (λ xs. d.known ++ d.literal ++ xs) are)
+    (ap (λ xs. xs ++ literal ++ folded_ids ids) (sym k) ∙ ap (λ xs. d.known ++ xs ++ folded_ids ids) (sym l) ∙ ap (λ xs. d.known ++ literal_in s.reading s.flags d.bracketed ++ xs) are)
   where
     used : List (List ℕ)
     used = known ++ literal ++ folded_ids ids

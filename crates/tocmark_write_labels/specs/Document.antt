@@ -7,18 +7,18 @@ use Rattle.tocmark_event.specs.declared.event.flags.ParserOptions.{ParserOptions
 use Rattle.tocmark_spelling.specs.Page.{Trail, first_trail, Reference}
 
 -- the trail, how many line feeds end what was written, the references so far, the folded labels that are defined by
--- earlier units and those that a reader takes literally, and whether a unit was flushed
+-- earlier units, the texts of earlier units with a bracket, and whether a unit was flushed
 pub record DocumentView : Type 0 where
   pub trail : Trail
   pub feeds : ℕ
   pub references : List Reference
   pub known : List (List ℕ)
-  pub literal : List (List ℕ)
+  pub bracketed : List (List ℕ)
   pub flushed : Bool
 
 -- nothing is written
 abbrev pub first_document : DocumentView
-first_document = record { trail = first_trail; feeds = 0; references = []; known = []; literal = []; flushed = false }
+first_document = record { trail = first_trail; feeds = 0; references = []; known = []; bracketed = []; flushed = false }
 
 -- a label as labels are compared (CommonMark, section 4.7): the whole text in Unicode's default case folding
 abbrev pub folded : List ℕ → List ℕ
@@ -47,6 +47,15 @@ abbrev pub known_in : (List ℕ → ParserOptions → ReadingView) → ParserOpt
 known_in reading flags known [] = known
 known_in reading flags known (b ∷ defs) = with_labels known (reading (b ∷ defs) flags).defined
 
--- the labels that a reader looks up in vain in a text with a bracket become literal
-abbrev pub literal_in : (List ℕ → ParserOptions → ReadingView) → ParserOptions → List (List ℕ) → List ℕ → List (List ℕ)
-literal_in reading flags literal text = if list_any (λ b. b == 91) text then with_labels literal (reading text flags).unresolved else literal
+-- these texts and one more, if that has a bracket: no other text can have a label
+abbrev pub bracketed_in : List (List ℕ) → List ℕ → List (List ℕ)
+bracketed_in texts text = if list_any (λ b. b == 91) text then texts ++ text ∷ [] else texts
+
+-- folded labels, and then those that a reader looks up in vain in each of these texts
+abbrev pub with_literal : (List ℕ → ParserOptions → ReadingView) → ParserOptions → List (List ℕ) → List (List ℕ) → List (List ℕ)
+with_literal reading flags labels [] = labels
+with_literal reading flags labels (t ∷ ts) = with_literal reading flags (with_labels labels (reading t flags).unresolved) ts
+
+-- the labels that a reader looks up in vain in texts are literal there
+abbrev pub literal_in : (List ℕ → ParserOptions → ReadingView) → ParserOptions → List (List ℕ) → List (List ℕ)
+literal_in reading flags texts = with_literal reading flags [] texts

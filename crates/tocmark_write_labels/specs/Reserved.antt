@@ -1,7 +1,8 @@
 -- The label that is reserved for lists that need a placeholder.
 use Rattle.std.specs.Prelude.{ℕ, zero, suc, true, false, List, [], ◌∷◌, ◌++◌, codes, decimal, length}
 use Rattle.tocmark_event.specs.View.{TagView, Link, Image, Start, SourcedEvent}
-use Rattle.tocmark_write_labels.specs.Document.{DocumentView, folded, is_among}
+use Rattle.tocmark_spelling.specs.Plan.{Setting}
+use Rattle.tocmark_write_labels.specs.Document.{DocumentView, folded, is_among, literal_in}
 
 -- the folded id of a link or image; nothing for other containers
 abbrev pub id_label : TagView → List (List ℕ)
@@ -16,8 +17,8 @@ ids_of (Start t ∷ es) = id_label t ++ ids_of es
 ids_of (e ∷ es) = ids_of es
 
 -- the folded labels that mean something else: those of definitions, those taken literally, and the ids of pending events
-abbrev pub used_labels : DocumentView → List SourcedEvent → List (List ℕ)
-used_labels d pending = d.known ++ d.literal ++ ids_of pending
+abbrev pub used_labels : Setting → DocumentView → List SourcedEvent → List (List ℕ)
+used_labels s d pending = d.known ++ literal_in s.reading s.flags d.bracketed ++ ids_of pending
 
 -- `cmark-loose-n` with this number
 abbrev pub numbered_label : ℕ → List ℕ
@@ -30,5 +31,5 @@ free_label (suc tries) n used =
     elim (is_among used (numbered_label n)) as (λ _. List ℕ) [ true ↦ free_label tries (suc n) used | false ↦ numbered_label n ]
 
 -- `cmark-loose-n` with the least n from 1 that isn't used; one of the first labels, one more than are used, is free
-unfoldable pub reserved_label : DocumentView → List SourcedEvent → List ℕ
-reserved_label d pending = free_label (length (used_labels d pending)) 1 (used_labels d pending)
+unfoldable pub reserved_label : Setting → DocumentView → List SourcedEvent → List ℕ
+reserved_label s d pending = free_label (length (used_labels s d pending)) 1 (used_labels s d pending)

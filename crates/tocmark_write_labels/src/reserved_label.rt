@@ -3,13 +3,15 @@
 ghost use Rattle.std.specs.Prelude.{◌≡◌, ◌+◌, ◌++◌, ◌∷◌, [], ℕ, List, map, string_bytes, IfOk};
 ghost use Rattle.tocmark_event.specs.View.{SourcedEvent};
 ghost use Rattle.tocmark_spelling.specs.Buffered.{buffered_view};
-ghost use Rattle.tocmark_write_labels.specs.Document.{DocumentView, is_among};
+ghost use Rattle.tocmark_spelling.specs.Plan.{Setting};
+ghost use Rattle.tocmark_write_labels.specs.Document.{DocumentView, is_among, literal_in};
 ghost use Rattle.tocmark_write_labels.specs.LabelsOf.{folded_ids, labels_of, started_label};
 ghost use Rattle.tocmark_write_labels.specs.Reserved.{free_label, ids_of, numbered_label, reserved_label};
 
 use crate::labels::Labels;
 use std::alloc::{AllocError, Global};
-use tocmark_event::event::{EventOf, TagOf};
+use tocmark_event::event::{EventOf, ParserOptions, TagOf};
+use tocmark_event::reader::Reader;
 use tocmark_spelling::buffered::BufferedEvent;
 
 /// The id of the link or image that an event starts.
@@ -44,6 +46,26 @@ fn label_set(alloc: Global, ids: &[&str]) -> Result<Labels, AllocError>
     let mut labels = Labels::new(alloc);
     for id in ids {
         labels.add(alloc, id)?;
+    }
+    Ok(labels)
+}
+
+/// The labels that a reader looks up in vain in these texts, read one by one: they are literal there. An
+/// `Err` says that memory ran out or the reader answered it.
+pub fn literal_labels<R: Reader>(
+    alloc: Global,
+    reader: &R,
+    flags: ParserOptions,
+    texts: &[String],
+) -> Result<Labels, AllocError>
+    ensures { IfOk result (λ labels.
+        labels_of labels
+        ≡ literal_in (R.reading reader.now) flags (map string_bytes texts.now)) }
+{
+    let mut labels = Labels::new(alloc);
+    for text in texts {
+        let found = reader.read(alloc, text.as_str(), flags)?;
+        labels.add_all(alloc, &found.unresolved)?;
     }
     Ok(labels)
 }
@@ -111,9 +133,9 @@ fn free_beside(
     ids: &[&str],
 ) -> Result<String, AllocError>
     ensures { IfOk result (λ label.
-        (d : DocumentView) → d.known ≡ labels_of known.now → d.literal ≡ labels_of literal.now
-        → (pending : List SourcedEvent) → folded_ids ids.now ≡ ids_of pending
-        → string_bytes label ≡ reserved_label d pending) }
+        (s : Setting) (d : DocumentView) → d.known ≡ labels_of known.now
+        → literal_in s.reading s.flags d.bracketed ≡ labels_of literal.now → (pending : List SourcedEvent) → folded_ids ids.now ≡ ids_of pending
+        → string_bytes label ≡ reserved_label s d pending) }
 {
     let count = sum_of(known.len(), literal.len(), ids.len())?;
     let set = label_set(alloc, ids)?;
@@ -130,8 +152,9 @@ pub fn reserve_list_label(
     pending: &[BufferedEvent],
 ) -> Result<String, AllocError>
     ensures { IfOk result (λ label.
-        (d : DocumentView) → d.known ≡ labels_of known.now → d.literal ≡ labels_of literal.now
-        → string_bytes label ≡ reserved_label d (map buffered_view pending.now)) }
+        (s : Setting) (d : DocumentView) → d.known ≡ labels_of known.now
+        → literal_in s.reading s.flags d.bracketed ≡ labels_of literal.now
+        → string_bytes label ≡ reserved_label s d (map buffered_view pending.now)) }
 {
     let ids = started_ids(alloc, pending)?;
     free_beside(alloc, known, literal, &ids)

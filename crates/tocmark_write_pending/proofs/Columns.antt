@@ -1,5 +1,5 @@
 -- A column that says something of each container that has ended, with one event more.
-use Rattle.std.proofs.Common.{◌≡◌, ◌≢◌, ℕ, zero, suc, ◌+◌, ◌≤◌, ◌<◌, Option, Some, None, List, [], ◌∷◌, ◌++◌, refl, sym, ap, ◌∙◌, subst, length, drop, arith, get_or, ⊎_elim, length-append, get_or-set_other, get_or-set_same, length-set}
+use Rattle.std.proofs.Common.{◌≡◌, ◌≢◌, ℕ, zero, suc, ◌+◌, ◌≤◌, ◌<◌, Option, Some, None, List, [], ◌∷◌, ◌++◌, refl, sym, ap, ◌∙◌, subst, length, drop, arith, get_or, ⊎_elim, length-append, get_or-set_other, get_or-set_same}
 use Rattle.std.proofs.Math.ListN.{set, get_or-append}
 use Rattle.std.proofs.Math.Seq.{get_or-append_seam}
 use Rattle.std.proofs.lemmas.Bool.{cases_lt}
@@ -9,63 +9,49 @@ use Rattle.tocmark_event.specs.declared.event.TagEnd.{TagEnd}
 use Rattle.tocmark_write_pending.specs.OpenContainers.{IsOpenAt, left_open}
 use Rattle.tocmark_write_pending.proofs.OpenContainers.{drop-last, drop-more, innermost, open-more, open_after, place-inside}
 
--- ---- a column with one place more
+-- ---- what is found at each place, with one event more
 
 module _ {V : Type 0} (f : ℕ → List SourcedEvent → V) (none : V) (nothing : (i : ℕ) → f i [] ≡ none) where
-  pub record IsColumn (es : List SourcedEvent) (col : List V) : Type 0 where
-    pub len : length col ≡ length es
-    pub at : (i : ℕ) → get_or col i none ≡ f i (drop i es)
+  -- this is found at each place
+  abbrev pub IsFound : List SourcedEvent → (ℕ → V) → Type 0
+  IsFound es at = (i : ℕ) → at i ≡ f i (drop i es)
 
   module _ (es : List SourcedEvent) (x : SourcedEvent) (last : f (length es) (x ∷ []) ≡ none) where
-    beyond : (cs : List V) (i : ℕ) → length cs ≡ length es → ((i : ℕ) → i < length es → get_or cs i none ≡ f i (drop i (es ++ x ∷ []))) → get_or (cs ++ none ∷ []) i none ≡ f i (drop i (es ++ x ∷ []))
-    beyond cs i len below =
-        ⊎_elim
-        (λ (lt : i < length es). get_or-append cs (none ∷ []) none i (omega (arith, len)) ∙ below i lt)
-        (λ (le : length es ≤ i).
-        ⊎_elim
-        (λ (lt : length es < i).
-        get_or_past (cs ++ none ∷ []) i none (omega (arith, length-append cs (none ∷ []), len))
-        ∙ sym (nothing i)
-        ∙ ap (f i) (sym (drop_all i (es ++ x ∷ []) (omega (arith, length-append es (x ∷ []))))))
+    -- behind the others there is nothing
+    behind : (i : ℕ) → length es ≤ i → f i (drop i es) ≡ f i (drop i (es ++ x ∷ []))
+    behind i le =
+        ap (f i) (drop_all i es le)
+        ∙ nothing i
+        ∙ ⊎_elim
+        (λ (lt : length es < i). sym (nothing i) ∙ ap (f i) (sym (drop_all i (es ++ x ∷ []) (omega (arith, length-append es (x ∷ []))))))
         (λ (ge : i ≤ length es).
         let same : length es ≡ i = omega arith in
-        let P : ℕ → Type 0 = λ i. get_or (cs ++ none ∷ []) i none ≡ f i (drop i (es ++ x ∷ [])) in
-        subst P same
-        (ap (λ n. get_or (cs ++ none ∷ []) n none) (sym len)
-        ∙ get_or-append_seam cs none [] none
-        ∙ sym last
-        ∙ ap (f (length es)) (sym (drop-last es x))))
-        (cases_lt (length es) i))
-        (cases_lt i (length es))
+        let P : ℕ → Type 0 = λ i. none ≡ f i (drop i (es ++ x ∷ [])) in
+        subst P same (sym last ∙ ap (f (length es)) (sym (drop-last es x))))
+        (cases_lt (length es) i)
 
     -- nothing else changes
-    pub column-grown : (col : List V) → IsColumn es col → ((i : ℕ) → i < length es → f i (drop i (es ++ x ∷ [])) ≡ f i (drop i es)) → IsColumn (es ++ x ∷ []) (col ++ none ∷ [])
-    column-grown col c same = record {
-      len = omega (arith, length-append col (none ∷ []), length-append es (x ∷ []), c.len);
-      at = λ i. beyond col i c.len (λ j lt. c.at j ∙ sym (same j lt));
-    }
+    pub found-grown : (at : ℕ → V) → IsFound es at → ((i : ℕ) → i < length es → f i (drop i (es ++ x ∷ [])) ≡ f i (drop i es)) → IsFound (es ++ x ∷ []) at
+    found-grown at c same i = c i ∙ ⊎_elim (λ (lt : i < length es). sym (same i lt)) (λ (le : length es ≤ i). behind i le) (cases_lt i (length es))
 
     -- one place changes
-    pub column-set : (col : List V) (p : ℕ) (v : V) → p < length es → IsColumn es col → ((i : ℕ) → i < length es → i ≢ p → f i (drop i (es ++ x ∷ [])) ≡ f i (drop i es)) → f p (drop p (es ++ x ∷ [])) ≡ v → IsColumn (es ++ x ∷ []) (set col p v ++ none ∷ [])
-    column-set col p v lt c same new = record {
-      len = omega (arith, length-append (set col p v) (none ∷ []), length-append es (x ∷ []), length-set {A = V}, c.len);
-      at = λ i. beyond (set col p v) i (omega (arith, length-set {A = V}, c.len)) at-place;
-    }
+    pub found-set : (at new : ℕ → V) (p : ℕ) (v : V) → IsFound es at → ((i : ℕ) → i < length es → i ≢ p → f i (drop i (es ++ x ∷ [])) ≡ f i (drop i es)) → f p (drop p (es ++ x ∷ [])) ≡ v
+        → ((i : ℕ) → i ≢ p → new i ≡ at i) → new p ≡ v → IsFound (es ++ x ∷ []) new
+    found-set at new p v c same is others here i =
+        ⊎_elim
+        (λ (before : i < p). other (omega arith))
+        (λ (le : p ≤ i).
+        ⊎_elim
+        (λ (after : p < i). other (omega arith))
+        (λ (ge : i ≤ p).
+        let equal : p ≡ i = omega arith in
+        let P : ℕ → Type 0 = λ i. new i ≡ f i (drop i (es ++ x ∷ [])) in
+        subst P equal (here ∙ sym is))
+        (cases_lt p i))
+        (cases_lt i p)
       where
-        at-place : (i : ℕ) → i < length es → get_or (set col p v) i none ≡ f i (drop i (es ++ x ∷ []))
-        at-place i less =
-            ⊎_elim
-            (λ (before : i < p). let ne : p ≢ i = omega arith in let other : i ≢ p = omega arith in rw get_or-set_other (c.at i ∙ sym (same i less other)))
-            (λ (le : p ≤ i).
-            ⊎_elim
-            (λ (after : p < i). let ne : p ≢ i = omega arith in let other : i ≢ p = omega arith in rw get_or-set_other (c.at i ∙ sym (same i less other)))
-            (λ (ge : i ≤ p).
-            let is : p ≡ i = omega arith in
-            let P : ℕ → Type 0 = λ i. get_or (set col p v) i none ≡ f i (drop i (es ++ x ∷ [])) in
-            let inside : p < length col = omega (arith, c.len) in
-            subst P is (rw get_or-set_same (sym new)))
-            (cases_lt p i))
-            (cases_lt i p)
+        other : i ≢ p → new i ≡ f i (drop i (es ++ x ∷ []))
+        other ne = others i ne ∙ c i ∙ ⊎_elim (λ (lt : i < length es). sym (same i lt ne)) (λ (le : length es ≤ i). behind i le) (cases_lt i (length es))
 
 -- what a column says of the container that starts at a place, of which it says nothing before that has ended
 pub record IsOfEnded {V : Type 0} (f : ℕ → List SourcedEvent → V) (none : V) : Type 0 where
@@ -101,17 +87,39 @@ pub rest-length : (es : List SourcedEvent) (p k : ℕ) (a : IsOpenAt es p k) →
 rest-length es p k a = let lt = place-inside es p k a in omega (arith, lt, length-drop p es, ap length a.starts)
 
 -- one event more, of whatever kind
-module _ {V : Type 0} (f : ℕ → List SourcedEvent → V) (none : V) (nothing : (i : ℕ) → f i [] ≡ none) (of : IsOfEnded f none) (es : List SourcedEvent) (col : List V) (held : IsColumn f none nothing es col) where
+module _ {V : Type 0} (f : ℕ → List SourcedEvent → V) (none : V) (nothing : (i : ℕ) → f i [] ≡ none) (of : IsOfEnded f none) (es : List SourcedEvent) (at : ℕ → V) (held : IsFound f none nothing es at) where
   -- a Start ends nothing
-  pub column-start : (t : TagView) → f (length es) (Start t ∷ []) ≡ none → IsColumn f none nothing (es ++ Start t ∷ []) (col ++ none ∷ [])
-  column-start t last = column-grown f none nothing es (Start t) last col held (λ i lt. place-same f none of es (Start t) i lt (λ k a. (suc k, refl)))
+  pub found-start : (t : TagView) → f (length es) (Start t ∷ []) ≡ none → IsFound f none nothing (es ++ Start t ∷ []) at
+  found-start t last = found-grown f none nothing es (Start t) last at held (λ i lt. place-same f none of es (Start t) i lt (λ k a. (suc k, refl)))
 
   -- nor does a leaf
-  pub column-leaf : (l : SourcedLeaf) → IsColumn f none nothing (es ++ Leaf l ∷ []) (col ++ none ∷ [])
-  column-leaf l = column-grown f none nothing es (Leaf l) (of.at_leaf (length es) l []) col held (λ i lt. place-same f none of es (Leaf l) i lt (λ k a. (k, refl)))
+  pub found-leaf : (l : SourcedLeaf) → IsFound f none nothing (es ++ Leaf l ∷ []) at
+  found-leaf l = found-grown f none nothing es (Leaf l) (of.at_leaf (length es) l []) at held (λ i lt. place-same f none of es (Leaf l) i lt (λ k a. (k, refl)))
 
   -- an End ends the innermost container
-  pub column-end : (k : TagEnd) (p : ℕ) (v : V) → IsOpenAt es p 0 → f p (drop p (es ++ End k ∷ [])) ≡ v → IsColumn f none nothing (es ++ End k ∷ []) (set col p v ++ none ∷ [])
-  column-end k p v a is =
-      column-set f none nothing es (End k) (of.at_end (length es) k []) col p v (place-inside es p 0 a) held
-      (λ i lt ne. place-same f none of es (End k) i lt (stays-open es k p i a ne)) is
+  pub found-end : (k : TagEnd) (p : ℕ) (v : V) (new : ℕ → V) → IsOpenAt es p 0 → f p (drop p (es ++ End k ∷ [])) ≡ v → ((i : ℕ) → i ≢ p → new i ≡ at i) → new p ≡ v → IsFound f none nothing (es ++ End k ∷ []) new
+  found-end k p v new a is others here =
+      found-set f none nothing es (End k) (of.at_end (length es) k []) at new p v held
+      (λ i lt ne. place-same f none of es (End k) i lt (stays-open es k p i a ne)) is others here
+
+-- ---- lists of which each place is asked
+
+-- one more that says nothing is as none
+pub got-grown : {V : Type 0} (col : List V) (none : V) (i : ℕ) → get_or (col ++ none ∷ []) i none ≡ get_or col i none
+got-grown col none i =
+    ⊎_elim
+    (λ (lt : i < length col). get_or-append col (none ∷ []) none i lt)
+    (λ (le : length col ≤ i).
+    ⊎_elim
+    (λ (lt : length col < i). get_or_past (col ++ none ∷ []) i none (omega (arith, length-append col (none ∷ []))) ∙ sym (get_or_past col i none le))
+    (λ (ge : i ≤ length col).
+    let same : length col ≡ i = omega arith in
+    ap (λ n. get_or (col ++ none ∷ []) n none) (sym same) ∙ get_or-append_seam col none [] none ∙ sym (get_or_past col i none le))
+    (cases_lt (length col) i))
+    (cases_lt i (length col))
+
+pub got-other : {V : Type 0} (col : List V) (none v : V) (p i : ℕ) → i ≢ p → get_or (set col p v) i none ≡ get_or col i none
+got-other col none v p i ne = let other : p ≢ i = λ e. ne (sym e) in rw get_or-set_other refl
+
+pub got-same : {V : Type 0} (col : List V) (none v : V) (p : ℕ) → p < length col → get_or (set col p v) p none ≡ v
+got-same col none v p lt = rw get_or-set_same refl

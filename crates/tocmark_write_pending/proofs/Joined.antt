@@ -1,7 +1,8 @@
 -- What one more event makes of those that wait.
-use Rattle.std.proofs.Common.{◌≡◌, ℕ, ◌<◌, map, Bool, true, false, if◌then◌else◌, Option, Some, Result, Ok, Err, List, [], ◌∷◌, ◌++◌, refl, sym, ap, ◌∙◌, subst, length, reverse, arith}
+use Rattle.std.proofs.Common.{◌≡◌, ℕ, ◌<◌, ◌≤◌, map, Bool, true, false, if◌then◌else◌, Option, Some, None, Result, Ok, Err, List, [], ◌∷◌, ◌++◌, refl, sym, ap, ◌∙◌, subst, drop, length, reverse, arith}
 use Rattle.std.proofs.lemmas.List.{drop_all, length-map, length-reverse, map-append, reverse-append}
-use Rattle.std.specs.Prelude.{is_ok}
+use Rattle.std.proofs.Math.ListN.{set}
+use Rattle.std.specs.Prelude.{IsOk, is_ok, slice_index_or}
 use Rattle.std.proofs.lemmas.Bool.{false≢true, true≢false}
 use Rattle.tocmark_event.specs.Ends.{same_end}
 use Rattle.tocmark_event.specs.View.{EventView, Start, End, Leaf, SourcedEvent, unsourced}
@@ -13,13 +14,16 @@ use Rattle.tocmark_spelling.specs.declared.buffered.BufferedEvent.{BufferedEvent
 use Rattle.tocmark_spelling.specs.Scans.{end_at}
 use Rattle.tocmark_write_pending.specs.OpenContainers.{AreOpenFrom, EndsAt, ended_by, ends_with, opened}
 use Rattle.tocmark_write_pending.specs.Pending.{PendingView, behind, closed, nested, one_more}
-use Rattle.tocmark_write_pending.specs.PendingOf.{AreIndexed, AreRunsOf, ends_awaited, places_of}
-use Rattle.tocmark_write_pending.specs.RunColumn.{HoldRuns, run_view}
+use Rattle.tocmark_write_pending.specs.DelimiterColumn.{AreNumbered, numbers_of, widths_of}
+use Rattle.tocmark_write_pending.specs.PendingOf.{AreDelimiters, AreIndexed, ends_awaited, places_of}
+use Rattle.tocmark_write_pending.specs.RunColumn.{HoldRuns, begins_in_run, run_view}
 use Rattle.tocmark_write_pending.specs.declared.runs.Run.{Run}
 use Rattle.tocmark_write_pending.specs.Waiting.{has_ambiguous_list}
-use Rattle.tocmark_write_pending.specs.WidthColumn.{AreWidths, width_at, width_ended, widths_with}
+use Rattle.tocmark_write_pending.specs.WidthColumn.{width_at, width_ended}
+use Rattle.tocmark_write_pending.specs.declared.delimiters.Delimiter.{Delimiter}
 use Rattle.tocmark_write_pending.specs.declared.nesting.OpenContainer.{OpenContainer}
 use Rattle.tocmark_write_pending.proofs.Balanced.{reading-more, reading-nothing}
+use Rattle.tocmark_write_pending.proofs.DelimiterColumn.{beyond-before}
 use Rattle.tocmark_write_pending.proofs.EndColumn.{ends-more}
 use Rattle.tocmark_write_pending.proofs.OpenContainers.{never, opens-more, place-inside, some-same}
 use Rattle.tocmark_write_pending.proofs.RunColumn.{runs-none}
@@ -56,6 +60,11 @@ module _ (p : PendingView) (e : EventView) (source : Option (List ℕ)) where
   pub event-joined : (os : List TagEnd) → nested p.open_tags e ≡ Ok os → one_more p (sourced e source) ≡ Ok (record { events = p.events ++ sourced e source ∷ []; open_tags = os })
   event-joined os h = ap (behind p (sourced e source)) (ap (nested p.open_tags) (unsourced-sourced e source) ∙ h)
 
+-- a call that succeeded has put an item behind the others
+pub put-one : {X E A : Type 0} (r : Result X E) (a b : A) {c : A} → IsOk r → c ≡ (if is_ok r then a else b) → c ≡ a
+put-one (Ok x) a b ok h = h
+put-one (Err e) a b ok h = absurd (false≢true ok)
+
 -- one event more that waits
 pub events-more : (es now : List BufferedEvent) (b : BufferedEvent) (e : SourcedEvent) → now ≡ es ++ b ∷ [] → buffered_view b ≡ e → map buffered_view now ≡ map buffered_view es ++ e ∷ []
 events-more es now b e h is =
@@ -67,8 +76,15 @@ events-more es now b e h is =
 pub index-nothing : AreIndexed [] [] [] [] false
 index-nothing = record { nested = reading-nothing; places_open = tt; ends_known = record { len = refl; at = λ i. ap (end_at i) (sym (drop_all i [] (omega arith))) }; ambiguity = refl }
 
-pub all-nothing : AreIndexed [] [] [] [] false × AreRunsOf [] [] [] × AreWidths [] []
-all-nothing = (index-nothing, runs-none, record { len = refl; at = λ i. ap width_at (sym (drop_all i [] (omega arith))) })
+delimiters-nothing : AreDelimiters [] [] []
+delimiters-nothing = record {
+  runs_held = runs-none;
+  numbered = record { len = omega arith; at = λ i h. absurd (true≢false (sym h ∙ ap begins_in_run (drop_all i [] (omega arith)))); beyond = λ i le. ap begins_in_run (drop_all i [] (omega arith)) };
+  widths = record { at = λ i. ap width_at (sym (drop_all i [] (omega arith))) };
+}
+
+pub all-nothing : AreIndexed [] [] [] [] false × AreDelimiters [] [] []
+all-nothing = (index-nothing, delimiters-nothing)
 
 -- as many Ends are awaited, and as many places kept, as containers are open
 pub awaited-count : (cs : List OpenContainer) → length (ends_awaited cs) ≡ length cs
@@ -129,29 +145,38 @@ ended-inside es os (q ∷ is) ends was (End k) o p held by h =
     omega (arith, same, inside, held.ends_known.len)
 ended-inside es os is ends was (Leaf l) o p held by h = absurd (never p (sym by ∙ h))
 
--- one event more among the runs
-pub runs-indexed : (events all : List BufferedEvent) (b : BufferedEvent) (runs : List Run) (numbers : List ℕ) → all ≡ events ++ b ∷ []
-    → HoldRuns (buffered_view b ∷ reverse (map buffered_view events)) (reverse (map run_view runs)) (reverse numbers)
-    → AreRunsOf (map buffered_view all) runs numbers
-runs-indexed events all b runs numbers more held =
-    let turned : reverse (map buffered_view all) ≡ buffered_view b ∷ reverse (map buffered_view events) =
-    ap reverse (ap (map buffered_view) more ∙ map-append buffered_view events (b ∷ [])) ∙ reverse-append (map buffered_view events) (buffered_view b ∷ []) in
-    subst (λ (es : List SourcedEvent). HoldRuns es (reverse (map run_view runs)) (reverse numbers)) (sym turned) held
+-- one event more among the delimiters
+pub delimiters-joined : (events all : List BufferedEvent) (b : BufferedEvent) (os now : List TagEnd) (is : List ℕ) (e : EventView) (source : Option (List ℕ)) (o : Option ℕ) (runs joined : List Run) (ds mid new : List Delimiter) (w : ℕ)
+    → AreOpenFrom (map buffered_view events) 0 is → AreDelimiters (map buffered_view events) runs ds → length os ≡ length is → o ≡ ended_by e is → nested os e ≡ Ok now
+    → all ≡ events ++ b ∷ [] → buffered_view b ≡ sourced e source
+    → HoldRuns (buffered_view b ∷ reverse (map buffered_view events)) (reverse (map run_view joined))
+    → AreNumbered (map buffered_view events ++ buffered_view b ∷ []) (numbers_of mid)
+    → ((i : ℕ) → slice_index_or (widths_of mid) i 0 ≡ slice_index_or (widths_of ds) i 0)
+    → ((e : SourcedEvent) → EndsAt (map buffered_view events) e o → w ≡ width_ended (map buffered_view events) o)
+    → numbers_of new ≡ numbers_of mid → (o ≡ None → new ≡ mid) → ((p : ℕ) → o ≡ Some p → widths_of new ≡ set (widths_of mid) p w)
+    → AreDelimiters (map buffered_view all) joined new
+delimiters-joined events all b os now is e source o runs joined ds mid new w opens held same by n more copy runs_held numbered widths width numbers none some =
+    subst (λ (es : List SourcedEvent). AreDelimiters es joined new) (sym grown)
+    (record {
+      runs_held = subst (λ (es : List SourcedEvent). HoldRuns es (reverse (map run_view joined))) (sym (reverse-append es (x ∷ []))) runs_held;
+      numbered = subst (AreNumbered (es ++ x ∷ [])) (sym numbers) numbered;
+      widths = widths-more es (widths_of ds) (widths_of mid) held.widths widths beyond x o (widths_of new) w at (width x at) (λ h. ap widths_of (none h)) some;
+    })
+  where
+    es : List SourcedEvent
+    es = map buffered_view events
 
-width-more : (es : List SourcedEvent) (os now : List TagEnd) (is : List ℕ) (e : SourcedEvent) (o : Option ℕ) (widths : List ℕ) (w : ℕ) → AreOpenFrom es 0 is → AreWidths es widths → length os ≡ length is → o ≡ ended_by (unsourced e) is
-    → nested os (unsourced e) ≡ Ok now → ((e : SourcedEvent) → EndsAt es e o → w ≡ width_ended es o)
-    → AreWidths (es ++ e ∷ []) (widths_with o w widths)
-width-more es os now is e o widths w opens held same by n a =
-    let at : EndsAt es e o = subst (EndsAt es e) (sym by) (ended-at es os is e same opens (ap is_ok n)) in
-    subst (λ v. AreWidths (es ++ e ∷ []) (widths_with o v widths)) (sym (a e at)) (widths-more es e o widths held at)
+    x : SourcedEvent
+    x = buffered_view b
 
--- one event more among the widths
-pub widths-indexed : (es all : List SourcedEvent) (os now : List TagEnd) (is : List ℕ) (e : EventView) (source : Option (List ℕ)) (o : Option ℕ) (widths new : List ℕ) (w : ℕ) → AreOpenFrom es 0 is → AreWidths es widths → length os ≡ length is
-    → o ≡ ended_by e is → all ≡ es ++ sourced e source ∷ [] → nested os e ≡ Ok now → new ≡ widths_with o w widths
-    → ((e : SourcedEvent) → EndsAt es e o → w ≡ width_ended es o)
-    → AreWidths all new
-widths-indexed es all os now is e source o widths new w opens held same by more n set a =
-    let event : unsourced (sourced e source) ≡ e = unsourced-sourced e source in
-    subst (λ (xs : List SourcedEvent). AreWidths xs new) (sym more)
-    (subst (λ (ws : List ℕ). AreWidths (es ++ sourced e source ∷ []) ws) (sym set)
-    (width-more es os now is (sourced e source) o widths w opens held same (by ∙ ap (λ x. ended_by x is) (sym event)) (ap (nested os) event ∙ n) a))
+    grown : map buffered_view all ≡ es ++ x ∷ []
+    grown = ap (map buffered_view) more ∙ map-append buffered_view events (b ∷ [])
+
+    event : unsourced x ≡ e
+    event = ap unsourced copy ∙ unsourced-sourced e source
+
+    at : EndsAt es x o
+    at = subst (EndsAt es x) (sym (by ∙ ap (λ y. ended_by y is) (sym event))) (ended-at es os is x same opens (ap is_ok (ap (nested os) event ∙ n)))
+
+    beyond : (i : ℕ) → length (widths_of mid) ≤ i → begins_in_run (drop i es) ≡ false
+    beyond i le = beyond-before es x (numbers_of mid) numbered i (omega (arith, le, length-map mid (λ (d : Delimiter). d.run), length-map mid (λ (d : Delimiter). d.width)))

@@ -9,5 +9,6 @@ pub mod LastCharacter
 pub mod RunColumn
 pub mod RunLists
 pub mod RunPlaces
+pub mod DelimiterColumn
 pub mod Joined
 pub mod Ambiguous

@@ -7,7 +7,7 @@ use Rattle.tocmark_event.specs.View.{SourcedEvent, EventView, Start, End, Leaf, 
 use Rattle.tocmark_spelling.specs.Edges.{edge_before, edge_after}
 use Rattle.tocmark_spelling.specs.Page.{front}
 use Rattle.tocmark_spelling.specs.Runs.{Run, behind_run, marker_only, run_at, run_before, literal_before, text_only, width_ahead}
-use Rattle.tocmark_write_pending.specs.RunColumn.{Counted, Starts, Ends, width_of, AreRuns, HoldRuns, IsRunAt, begun_by, bordered, ends_counted, ends_run, goes_on, in_run, is_counted, own_width, run_numbered, runs_begun, runs_changed, runs_with, wider, with_first}
+use Rattle.tocmark_write_pending.specs.RunColumn.{Counted, Starts, Ends, width_of, AreRuns, HoldRuns, IsRunAt, begun_by, bordered, ends_counted, ends_run, goes_on, in_run, is_counted, own_width, run_numbered, runs_begun, wider}
 
 -- ---- tests
 
@@ -216,51 +216,43 @@ closed-more e back after h d k = by (is_counted d e) refl
     by false i = absurd (filled e after (sym (behind-other d e after i) ∙ k))
 
 -- the runs of events that a further one doesn't touch
-keep : (runs : List Run) (x : SourcedEvent) (back after : List SourcedEvent) (ns : List ℕ) → Closed back after → AreRuns runs back after ns → AreRuns runs back (after ++ x ∷ []) ns
-keep runs x [] after ns h a = a
-keep runs x (e ∷ back) after [] h a = a
-keep runs x (e ∷ back) after (n ∷ ns) h a =
-    (record { number = a.0.number; run = λ c k. a.0.run c k ∙ ap Some (sym (same c k (behind_run (width_of c) after) refl)) }, keep runs x back (e ∷ after) ns (closed-more e back after h) a.1)
+keep : (runs : List Run) (x : SourcedEvent) (back after : List SourcedEvent) → Closed back after → AreRuns runs back after → AreRuns runs back (after ++ x ∷ [])
+keep runs x [] after h a = a
+keep runs x (e ∷ back) after h a =
+    (record { run = λ c k. a.0.run c k ∙ ap Some (sym (same c k (behind_run (width_of c) after) refl)) }, keep runs x back (e ∷ after) (closed-more e back after h) a.1)
   where
     same : (c : Counted) → is_counted c e ≡ true → (zs : List SourcedEvent) → behind_run (width_of c) after ≡ zs → run_at (width_of c) (width_of c e) back (after ++ x ∷ []) ≡ run_at (width_of c) (width_of c e) back after
     same c k [] z = absurd (true≢false (sym k ∙ h c z))
     same c k (y ∷ ys) z = run-keep c (width_of c e) back after (x ∷ []) y ys z
 
 -- a run that begins behind all of them
-deepen : (r : Run) (runs : List Run) (back after : List SourcedEvent) (ns : List ℕ) → runs_begun back ≤ length runs → AreRuns runs back after ns → AreRuns (r ∷ runs) back after ns
-deepen r runs [] after ns le a = a
-deepen r runs (e ∷ back) after [] le a = a
-deepen r runs (e ∷ back) after (n ∷ ns) le a =
-    (record { number = a.0.number; run = λ c k. inner-numbered n r runs (omega (arith, le, a.0.number)) ∙ a.0.run c k }, deepen r runs back (e ∷ after) ns (omega (arith, le, begun-least e back)) a.1)
+deepen : (r : Run) (runs : List Run) (back after : List SourcedEvent) → runs_begun back ≤ length runs → AreRuns runs back after → AreRuns (r ∷ runs) back after
+deepen r runs [] after le a = a
+deepen r runs (e ∷ back) after le a =
+    (record { run = λ c k. inner-numbered (runs_begun (e ∷ back)) r runs le ∙ a.0.run c k }, deepen r runs back (e ∷ after) (omega (arith, le, begun-least e back)) a.1)
 
 -- and without it
-shallow : (r : Run) (runs : List Run) (back after : List SourcedEvent) (ns : List ℕ) → runs_begun back ≤ length runs → AreRuns (r ∷ runs) back after ns → AreRuns runs back after ns
-shallow r runs [] after ns le a = a
-shallow r runs (e ∷ back) after [] le a = a
-shallow r runs (e ∷ back) after (n ∷ ns) le a =
-    (record { number = a.0.number; run = λ c k. sym (inner-numbered n r runs (omega (arith, le, a.0.number))) ∙ a.0.run c k }, shallow r runs back (e ∷ after) ns (omega (arith, le, begun-least e back)) a.1)
+shallow : (r : Run) (runs : List Run) (back after : List SourcedEvent) → runs_begun back ≤ length runs → AreRuns (r ∷ runs) back after → AreRuns runs back after
+shallow r runs [] after le a = a
+shallow r runs (e ∷ back) after le a =
+    (record { run = λ c k. sym (inner-numbered (runs_begun (e ∷ back)) r runs le) ∙ a.0.run c k }, shallow r runs back (e ∷ after) (omega (arith, le, begun-least e back)) a.1)
 
 -- the run that the events end with is mended
-trailing : (c : Counted) (x : SourcedEvent) (r : Run) (rs : List Run) (back after : List SourcedEvent) (ns : List ℕ)
+trailing : (c : Counted) (x : SourcedEvent) (r : Run) (rs : List Run) (back after : List SourcedEvent)
     → ends_counted c back ≡ true → behind_run (width_of c) after ≡ [] → runs_begun back ≡ suc (length rs)
-    → AreRuns (r ∷ rs) back after ns → AreRuns (mended c x r ∷ rs) back (after ++ x ∷ []) ns
-trailing c x r rs [] after ns h b g a = absurd (false≢true h)
-trailing c x r rs (e ∷ back) after [] h b g a = a
-trailing c x r rs (e ∷ back) after (n ∷ ns) h b g a = (at, rest (λ k. trailing c x r rs back (e ∷ after) ns k (behind-cons c e after h ∙ b)) (ends_counted c back) refl)
+    → AreRuns (r ∷ rs) back after → AreRuns (mended c x r ∷ rs) back (after ++ x ∷ [])
+trailing c x r rs [] after h b g a = absurd (false≢true h)
+trailing c x r rs (e ∷ back) after h b g a = (at, rest (λ k. trailing c x r rs back (e ∷ after) k (behind-cons c e after h ∙ b)) (ends_counted c back) refl)
   where
-    number : n ≡ suc (length rs)
-    number = a.0.number ∙ g
-
     run-is : r ≡ run_at (width_of c) (width_of c e) back after
-    run-is = some-same r (run_at (width_of c) (width_of c e) back after) (sym (last-numbered n r rs number) ∙ a.0.run c h)
+    run-is = some-same r (run_at (width_of c) (width_of c e) back after) (sym (last-numbered (runs_begun (e ∷ back)) r rs g) ∙ a.0.run c h)
 
-    changed : run_numbered n (mended c x r ∷ rs) ≡ Some (run_at (width_of c) (width_of c e) back (after ++ x ∷ []))
-    changed = last-numbered n (mended c x r) rs number ∙ ap Some (ap (mended c x) run-is ∙ sym (run-mend c (width_of c e) back after x b))
+    changed : run_numbered (runs_begun (e ∷ back)) (mended c x r ∷ rs) ≡ Some (run_at (width_of c) (width_of c e) back (after ++ x ∷ []))
+    changed = last-numbered (runs_begun (e ∷ back)) (mended c x r) rs g ∙ ap Some (ap (mended c x) run-is ∙ sym (run-mend c (width_of c e) back after x b))
 
-    at : IsRunAt (mended c x r ∷ rs) e back (after ++ x ∷ []) n
+    at : IsRunAt (mended c x r ∷ rs) e back (after ++ x ∷ [])
     at = record {
-      number = a.0.number;
-      run = λ d k. subst (λ d. run_numbered n (mended c x r ∷ rs) ≡ Some (run_at (width_of d) (width_of d e) back (after ++ x ∷ []))) (only c d e h k) changed;
+      run = λ d k. subst (λ d. run_numbered (runs_begun (e ∷ back)) (mended c x r ∷ rs) ≡ Some (run_at (width_of d) (width_of d e) back (after ++ x ∷ []))) (only c d e h k) changed;
     }
 
     closed : ends_counted c back ≡ false → Closed back (e ∷ after)
@@ -270,12 +262,12 @@ trailing c x r rs (e ∷ back) after (n ∷ ns) h b g a = (at, rest (λ k. trail
         by true j = subst (λ d. ends_counted d back ≡ false) (only c d e h j) k
         by false j = absurd (filled e after (sym (behind-other d e after j) ∙ i))
 
-    rest : (ends_counted c back ≡ true → runs_begun back ≡ suc (length rs) → AreRuns (r ∷ rs) back (e ∷ after) ns → AreRuns (mended c x r ∷ rs) back ((e ∷ after) ++ x ∷ []) ns)
-        → (t : Bool) → ends_counted c back ≡ t → AreRuns (mended c x r ∷ rs) back ((e ∷ after) ++ x ∷ []) ns
+    rest : (ends_counted c back ≡ true → runs_begun back ≡ suc (length rs) → AreRuns (r ∷ rs) back (e ∷ after) → AreRuns (mended c x r ∷ rs) back ((e ∷ after) ++ x ∷ []))
+        → (t : Bool) → ends_counted c back ≡ t → AreRuns (mended c x r ∷ rs) back ((e ∷ after) ++ x ∷ [])
     rest again true k = again k (sym (begun-on e back (on-of c e back k h)) ∙ g) a.1
     rest again false k =
         let fewer : runs_begun back ≤ length rs = omega (arith, g, begun-new e back (in-of c e h) (off-of c e back k h)) in
-        deepen (mended c x r) rs back ((e ∷ after) ++ x ∷ []) ns fewer (keep rs x back (e ∷ after) ns (closed k) (shallow r rs back (e ∷ after) ns fewer a.1))
+        deepen (mended c x r) rs back ((e ∷ after) ++ x ∷ []) fewer (keep rs x back (e ∷ after) (closed k) (shallow r rs back (e ∷ after) fewer a.1))
 
 -- a run behind which nothing stands, by the events before it
 abbrev open_run : List SourcedEvent → ℕ → Run
@@ -288,11 +280,12 @@ open_run zs n = record {
 }
 
 -- a run is the same from its next event
-run-next : (c : Counted) (e x : SourcedEvent) (back : List SourcedEvent) → is_counted c e ≡ true → is_counted c x ≡ true
-    → wider (width_of c x) (run_at (width_of c) (width_of c e) back []) ≡ run_at (width_of c) (width_of c x) (e ∷ back) []
-run-next c e x back h k =
-    let width : width_ahead (width_of c) back + width_of c e + 0 + width_of c x ≡ width_ahead (width_of c) (e ∷ back) + width_of c x + 0 = omega (arith, width-cons c e back h) in
-    ap (λ (zs : List SourcedEvent). open_run zs (width_ahead (width_of c) back + width_of c e + 0 + width_of c x)) (sym (behind-cons c e back h))
+run-two : (c : Counted) (e x : SourcedEvent) (back : List SourcedEvent) → is_counted c e ≡ true → is_counted c x ≡ true
+    → run_at (width_of c) (width_of c e) back (x ∷ []) ≡ run_at (width_of c) (width_of c x) (e ∷ back) []
+run-two c e x back h k =
+    let width : width_ahead (width_of c) back + width_of c e + width_ahead (width_of c) (x ∷ []) ≡ width_ahead (width_of c) (e ∷ back) + width_of c x + 0 = omega (arith, width-cons c e back h, width-cons c x [] k) in
+    ap (λ (zs : List SourcedEvent). run_from c back (front zs) (width_ahead (width_of c) back + width_of c e + width_ahead (width_of c) (x ∷ []))) (behind-cons c x [] k)
+    ∙ ap (λ (zs : List SourcedEvent). open_run zs (width_ahead (width_of c) back + width_of c e + width_ahead (width_of c) (x ∷ []))) (sym (behind-cons c e back h))
     ∙ ap (λ n. open_run (behind_run (width_of c) (e ∷ back)) n) width
 
 own-is : (c : Counted) (e : SourcedEvent) → is_counted c e ≡ true → own_width e ≡ width_of c e
@@ -344,32 +337,43 @@ no-end back h Ends = (or_parts (ends_counted Starts back) (ends_counted Ends bac
 none-some : {A B : Type 0} (a : A) → None ≡ Some a → B
 none-some a h = absurd (cc)
 
+-- ---- the runs with one event more
+
+-- the first of some runs is changed
+abbrev pub with_first : (Run → Run) → List Run → List Run
+with_first f [] = []
+with_first f (r ∷ rs) = f r ∷ rs
+
+-- the runs, the last one first, as an event behind these changes them
+abbrev pub runs_changed : SourcedEvent → List SourcedEvent → List Run → List Run
+runs_changed e back runs =
+    if goes_on e back then with_first (wider (own_width e)) runs else (if ends_run back then with_first (bordered e) runs else runs)
+
 first-length : (f : Run → Run) (runs : List Run) → length (with_first f runs) ≡ length runs
 first-length f [] = refl
 first-length f (r ∷ rs) = refl
 
-module _ (x : SourcedEvent) (back : List SourcedEvent) (runs : List Run) (ns : List ℕ) (h : HoldRuns back runs ns) where
+module _ (x : SourcedEvent) (back : List SourcedEvent) (runs : List Run) (h : HoldRuns back runs) where
   -- the last run is mended
-  mended-all : (c : Counted) → ends_counted c back ≡ true → AreRuns (with_first (mended c x) runs) back (x ∷ []) ns
-  mended-all c k = by runs back ns h.count h.are k
+  mended-all : (c : Counted) → ends_counted c back ≡ true → AreRuns (with_first (mended c x) runs) back (x ∷ [])
+  mended-all c k = by runs back h.count h.are k
     where
-      by : (rs : List Run) (back : List SourcedEvent) (ns : List ℕ) → length rs ≡ runs_begun back → AreRuns rs back [] ns → ends_counted c back ≡ true → AreRuns (with_first (mended c x) rs) back (x ∷ []) ns
-      by (r ∷ rs) back ns count are k = trailing c x r rs back [] ns k refl (sym count) are
-      by [] [] ns count are k = absurd (false≢true k)
-      by [] (e ∷ back) [] count are k = are
-      by [] (e ∷ back) (n ∷ ns) count are k = none-some (run_at (width_of c) (width_of c e) back []) (are.0.run c k)
+      by : (rs : List Run) (back : List SourcedEvent) → length rs ≡ runs_begun back → AreRuns rs back [] → ends_counted c back ≡ true → AreRuns (with_first (mended c x) rs) back (x ∷ [])
+      by (r ∷ rs) back count are k = trailing c x r rs back [] k refl (sym count) are
+      by [] [] count are k = absurd (false≢true k)
+      by [] (e ∷ back) count are k = none-some (run_at (width_of c) (width_of c e) back []) (are.0.run c k)
 
-  changed-on : goes_on x back ≡ true → AreRuns (with_first (wider (own_width x)) runs) back (x ∷ []) ns
+  changed-on : goes_on x back ≡ true → AreRuns (with_first (wider (own_width x)) runs) back (x ∷ [])
   changed-on k =
       let on = goes-on x back k in
-      subst (λ (rs : List Run). AreRuns rs back (x ∷ []) ns)
+      subst (λ (rs : List Run). AreRuns rs back (x ∷ []))
       ((λ j. with_first (λ r. if on.counted j then wider (width_of on.kind x) r else bordered x r) runs) ∙ ap (λ n. with_first (wider n) runs) (sym (own-is on.kind x on.counted)))
       (mended-all on.kind on.ends)
 
-  changed-off : goes_on x back ≡ false → ends_run back ≡ true → AreRuns (with_first (bordered x) runs) back (x ∷ []) ns
+  changed-off : goes_on x back ≡ false → ends_run back ≡ true → AreRuns (with_first (bordered x) runs) back (x ∷ [])
   changed-off k e =
       let end = run-end back e in
-      subst (λ (rs : List Run). AreRuns rs back (x ∷ []) ns) (λ j. with_first (λ r. if other end.kind end.ends j then wider (width_of end.kind x) r else bordered x r) runs) (mended-all end.kind end.ends)
+      subst (λ (rs : List Run). AreRuns rs back (x ∷ [])) (λ j. with_first (λ r. if other end.kind end.ends j then wider (width_of end.kind x) r else bordered x r) runs) (mended-all end.kind end.ends)
     where
       other : (c : Counted) → ends_counted c back ≡ true → is_counted c x ≡ false
       other c i = by (is_counted c x) refl
@@ -378,95 +382,83 @@ module _ (x : SourcedEvent) (back : List SourcedEvent) (runs : List Run) (ns : L
           by true t = absurd (true≢false (sym (on-of c x back i t) ∙ k))
           by false t = t
 
-  changed-not : ends_run back ≡ false → AreRuns runs back (x ∷ []) ns
-  changed-not e = keep runs x back [] ns (λ d i. no-end back e d) h.are
+  -- behind no run nothing changes
+  pub unchanged : ends_run back ≡ false → AreRuns runs back (x ∷ [])
+  unchanged e = keep runs x back [] (λ d i. no-end back e d) h.are
 
-  abbrev changed : List Run
-  changed = runs_changed x back runs
-
-  changed-is : AreRuns changed back (x ∷ []) ns
+  pub changed-is : AreRuns (runs_changed x back runs) back (x ∷ [])
   changed-is = by (goes_on x back) refl (ends_run back) refl
     where
-      by : (b : Bool) → goes_on x back ≡ b → (t : Bool) → ends_run back ≡ t → AreRuns (if b then with_first (wider (own_width x)) runs else (if t then with_first (bordered x) runs else runs)) back (x ∷ []) ns
+      by : (b : Bool) → goes_on x back ≡ b → (t : Bool) → ends_run back ≡ t → AreRuns (if b then with_first (wider (own_width x)) runs else (if t then with_first (bordered x) runs else runs)) back (x ∷ [])
       by true k t e = changed-on k
       by false k true e = changed-off k e
-      by false k false e = changed-not e
+      by false k false e = unchanged e
 
-  changed-count : length changed ≡ runs_begun back
-  changed-count = by (goes_on x back) (ends_run back) ∙ h.count
+  pub changed-count : length (runs_changed x back runs) ≡ length runs
+  changed-count = by (goes_on x back) (ends_run back)
     where
       by : (b t : Bool) → length (if b then with_first (wider (own_width x)) runs else (if t then with_first (bordered x) runs else runs)) ≡ length runs
       by true t = first-length (wider (own_width x)) runs
       by false true = first-length (bordered x) runs
       by false false = refl
 
-  abbrev all : List Run
-  all = runs_with x back runs
+-- an event in no run is noted by none
+pub runs-quiet : (x : SourcedEvent) (back : List SourcedEvent) (runs : List Run) → in_run x ≡ false → length runs ≡ runs_begun back → AreRuns runs back (x ∷ []) → HoldRuns (x ∷ back) runs
+runs-quiet x back runs out count are = record {
+  count = count ∙ sym (begun-out x back out);
+  are = (record { run = λ c k. absurd (true≢false (sym (in-of c x k) ∙ out)) }, are);
+}
 
-  -- a run that begins
-  new-run : (c : Counted) → is_counted c x ≡ true → ends_counted c back ≡ false → begun_by x back ≡ run_at (width_of c) (width_of c x) back []
-  new-run c k e =
-      let width : own_width x ≡ width_ahead (width_of c) back + width_of c x + 0 = omega (arith, own-is c x k, width-back c back e) in
-      ap (λ n. open_run back n) width ∙ ap (λ (zs : List SourcedEvent). open_run zs (width_ahead (width_of c) back + width_of c x + 0)) (sym (behind-back c back e))
+-- a run that begins
+new-run : (x : SourcedEvent) (back : List SourcedEvent) (c : Counted) → is_counted c x ≡ true → ends_counted c back ≡ false → begun_by x back ≡ run_at (width_of c) (width_of c x) back []
+new-run x back c k e =
+    let width : own_width x ≡ width_ahead (width_of c) back + width_of c x + 0 = omega (arith, own-is c x k, width-back c back e) in
+    ap (λ n. open_run back n) width ∙ ap (λ (zs : List SourcedEvent). open_run zs (width_ahead (width_of c) back + width_of c x + 0)) (sym (behind-back c back e))
 
-  -- a run that goes on
-  old-run : (c : Counted) → is_counted c x ≡ true → goes_on x back ≡ true → run_numbered (length (with_first (wider (own_width x)) runs)) (with_first (wider (own_width x)) runs) ≡ Some (run_at (width_of c) (width_of c x) back [])
-  old-run c k g =
-      let on = goes-on x back g in
-      let ends : ends_counted c back ≡ true = subst (λ d. ends_counted d back ≡ true) (only on.kind c x on.counted k) on.ends in
-      by runs back ns h.count h.are ends
-    where
-      by : (rs : List Run) (back : List SourcedEvent) (ns : List ℕ) → length rs ≡ runs_begun back → AreRuns rs back [] ns → ends_counted c back ≡ true
-          → run_numbered (length (with_first (wider (own_width x)) rs)) (with_first (wider (own_width x)) rs) ≡ Some (run_at (width_of c) (width_of c x) back [])
-      by rs [] ns count are i = absurd (false≢true i)
-      by rs (e ∷ back) [] count are i = absurd are
-      by [] (e ∷ back) (n ∷ ns) count are i = none-some (run_at (width_of c) (width_of c e) back []) (are.0.run c i)
-      by (r ∷ rs) (e ∷ back) (n ∷ ns) count are i =
-          let number : n ≡ suc (length rs) = are.0.number ∙ sym count in
-          let run_is : r ≡ run_at (width_of c) (width_of c e) back [] = some-same r (run_at (width_of c) (width_of c e) back []) (sym (last-numbered n r rs number) ∙ are.0.run c i) in
-          last-numbered (suc (length rs)) (wider (own_width x) r) rs refl
-          ∙ ap Some (ap (λ m. wider m r) (own-is c x k) ∙ ap (wider (width_of c x)) run_is ∙ run-next c e x back i k)
+not-ended : (x : SourcedEvent) (back : List SourcedEvent) (c : Counted) → is_counted c x ≡ true → goes_on x back ≡ false → (b : Bool) → ends_counted c back ≡ b → ends_counted c back ≡ false
+not-ended x back c k g true t = absurd (true≢false (sym (on-of c x back t k) ∙ g))
+not-ended x back c k g false t = t
 
-  abbrev all_by : Bool → List Run
-  all_by b = if b then begun_by x back ∷ changed else changed
+-- the run of the last event is that of one more that goes on with it
+last-on : (x : SourcedEvent) (back : List SourcedEvent) (runs : List Run) (c : Counted) → is_counted c x ≡ true → goes_on x back ≡ true → length runs ≡ runs_begun back → AreRuns runs back (x ∷ [])
+    → run_numbered (runs_begun (x ∷ back)) runs ≡ Some (run_at (width_of c) (width_of c x) back [])
+last-on x back runs c k g count are =
+    let on = goes-on x back g in
+    let ends : ends_counted c back ≡ true = subst (λ d. ends_counted d back ≡ true) (only on.kind c x on.counted k) on.ends in
+    ap (λ n. run_numbered n runs) (begun-on x back g) ∙ by back are ends
+  where
+    by : (back : List SourcedEvent) → AreRuns runs back (x ∷ []) → ends_counted c back ≡ true → run_numbered (runs_begun back) runs ≡ Some (run_at (width_of c) (width_of c x) back [])
+    by [] are i = absurd (false≢true i)
+    by (e ∷ back) are i = are.0.run c i ∙ ap Some (run-two c e x back i k)
 
+module _ (x : SourcedEvent) (back : List SourcedEvent) (changed : List Run) (count : length changed ≡ runs_begun back) (are : AreRuns changed back (x ∷ [])) where
   least : runs_begun back ≤ length changed
-  least = omega (arith, changed-count)
+  least = omega (arith, count)
 
-  count-by : (b : Bool) → length (all_by b) ≡ (if b then suc (runs_begun back) else runs_begun back)
-  count-by true = ap suc changed-count
-  count-by false = changed-count
-
-  rest-by : (b : Bool) → AreRuns (all_by b) back (x ∷ []) ns
-  rest-by true = deepen (begun_by x back) changed back (x ∷ []) ns least changed-is
-  rest-by false = changed-is
-
-  number : length all ≡ runs_begun (x ∷ back)
-  number = count-by (in_run x && not (goes_on x back))
-
-  not-ended : (c : Counted) → is_counted c x ≡ true → goes_on x back ≡ false → (b : Bool) → ends_counted c back ≡ b → ends_counted c back ≡ false
-  not-ended c k g true t = absurd (true≢false (sym (on-of c x back t k) ∙ g))
-  not-ended c k g false t = t
-
-  run-by : (c : Counted) → is_counted c x ≡ true → (g : Bool) → goes_on x back ≡ g → run_numbered (length all) all ≡ Some (run_at (width_of c) (width_of c x) back [])
-  run-by c k true g =
-      let none : (in_run x && not (goes_on x back)) ≡ false = ap (λ b. in_run x && not b) g ∙ and-false (in_run x) in
-      let is : all ≡ with_first (wider (own_width x)) runs = pick-false (in_run x && not (goes_on x back)) (begun_by x back ∷ changed) changed none ∙ pick-true (goes_on x back) (with_first (wider (own_width x)) runs) (if ends_run back then with_first (bordered x) runs else runs) g in
-      ap (λ (rs : List Run). run_numbered (length rs) rs) is ∙ old-run c k g
-  run-by c k false g =
-      let some : (in_run x && not (goes_on x back)) ≡ true = λ j. in-of c x k j && not (g j) in
-      let is : all ≡ begun_by x back ∷ changed = pick-true (in_run x && not (goes_on x back)) (begun_by x back ∷ changed) changed some in
-      ap (λ (rs : List Run). run_numbered (length rs) rs) is
-      ∙ last-numbered (suc (length changed)) (begun_by x back) changed refl
-      ∙ ap Some (new-run c k (not-ended c k g (ends_counted c back) refl))
-
-  -- the column with one event more
-  pub runs-joined : HoldRuns (x ∷ back) all (length all ∷ ns)
-  runs-joined = record {
-    count = number;
-    are = (record { number = number; run = λ c k. run-by c k (goes_on x back) refl }, rest-by (in_run x && not (goes_on x back)));
+  begun : goes_on x back ≡ false → in_run x ≡ true → HoldRuns (x ∷ back) (begun_by x back ∷ changed)
+  begun g i = record {
+    count = ap suc count ∙ sym (begun-new x back i g);
+    are = (record { run = λ c k. last-numbered (runs_begun (x ∷ back)) (begun_by x back) changed (begun-new x back i g ∙ ap suc (sym count)) ∙ ap Some (new-run x back c k (not-ended x back c k g (ends_counted c back) refl)) }, deepen (begun_by x back) changed back (x ∷ []) least are);
   }
 
+  on : goes_on x back ≡ true → HoldRuns (x ∷ back) changed
+  on g = record {
+    count = count ∙ sym (begun-on x back g);
+    are = (record { run = λ c k. last-on x back changed c k g count are }, are);
+  }
+
+  -- a delimiter goes on with the last run, or begins one
+  pub runs-joined : (runs : List Run) → in_run x ≡ true → runs ≡ (if in_run x && not (goes_on x back) then begun_by x back ∷ changed else changed) → HoldRuns (x ∷ back) runs
+  runs-joined runs i is = by (goes_on x back) refl
+    where
+      by : (g : Bool) → goes_on x back ≡ g → HoldRuns (x ∷ back) runs
+      by true g =
+          let none : (in_run x && not (goes_on x back)) ≡ false = ap (λ b. in_run x && not b) g ∙ and-false (in_run x) in
+          subst (λ (rs : List Run). HoldRuns (x ∷ back) rs) (sym (is ∙ pick-false (in_run x && not (goes_on x back)) (begun_by x back ∷ changed) changed none)) (on g)
+      by false g =
+          let some : (in_run x && not (goes_on x back)) ≡ true = λ j. i j && not (g j) in
+          subst (λ (rs : List Run). HoldRuns (x ∷ back) rs) (sym (is ∙ pick-true (in_run x && not (goes_on x back)) (begun_by x back ∷ changed) changed some)) (begun g i)
+
 -- over no events
-pub runs-none : HoldRuns [] [] []
-runs-none = record { count = refl; are = refl }
+pub runs-none : HoldRuns [] []
+runs-none = record { count = refl; are = tt }

@@ -1,12 +1,16 @@
 -- The column of runs as lists in memory.
-use Rattle.std.proofs.Common.{◌≡◌, ℕ, Bool, true, false, List, [], ◌∷◌, ◌++◌, refl, sym, ap, ◌∙◌, subst, length, map, reverse, if◌then◌else◌}
+use Rattle.std.proofs.Common.{◌≡◌, ℕ, zero, suc, Bool, true, false, List, [], ◌∷◌, ◌++◌, refl, sym, ap, ◌∙◌, subst, length, map, reverse, take, get_or, arith, if◌then◌else◌}
+use Rattle.std.proofs.Math.ListN.{set}
 use Rattle.std.specs.Prelude.{◌&&◌, not}
 use Rattle.std.proofs.lemmas.List.{length-map, length-reverse, map-append, reverse-append}
 use Rattle.tocmark_event.specs.View.{SourcedEvent}
 use Rattle.tocmark_write_pending.specs.declared.runs.Run as declared
 use Rattle.tocmark_spelling.specs.Runs.{Run}
-use Rattle.tocmark_write_pending.specs.RunColumn.{HoldRuns, begun_by, bordered, ends_run, goes_on, in_run, own_width, run_view, runs_changed, runs_with, wider, with_first}
-use Rattle.tocmark_write_pending.proofs.RunColumn.{runs-joined}
+use Rattle.tocmark_write_pending.specs.RunColumn.{AreRuns, HoldRuns, begun_by, bordered, ends_run, goes_on, in_run, own_width, run_view, wider}
+use Rattle.tocmark_write_pending.proofs.RunColumn.{changed-is, runs_changed, runs-joined, runs-quiet, with_first}
+
+pub turned-count : (rs : List declared.Run) → length (reverse (map run_view rs)) ≡ length rs
+turned-count rs = length-reverse (map run_view rs) ∙ length-map rs run_view
 
 -- the runs, the last one first, with one more
 pub last-turned : (xs : List declared.Run) (x : declared.Run) → reverse (map run_view (xs ++ x ∷ [])) ≡ run_view x ∷ reverse (map run_view xs)
@@ -18,11 +22,10 @@ first-by true t f h r rs = refl
 first-by false true f h r rs = refl
 first-by false false f h r rs = refl
 
--- the last one is changed
-pub last-changed : (e : SourcedEvent) (back : List SourcedEvent) (old xs new : List declared.Run) (run next : declared.Run) → old ≡ xs ++ run ∷ [] → new ≡ xs ++ next ∷ []
+changed-list : (e : SourcedEvent) (back : List SourcedEvent) (old xs new : List declared.Run) (run next : declared.Run) → old ≡ xs ++ run ∷ [] → new ≡ xs ++ next ∷ []
     → run_view next ≡ (if goes_on e back then wider (own_width e) (run_view run) else (if ends_run back then bordered e (run_view run) else run_view run))
     → reverse (map run_view new) ≡ runs_changed e back (reverse (map run_view old))
-last-changed e back old xs new run next o n h =
+changed-list e back old xs new run next o n h =
     let rs : List Run = reverse (map run_view xs) in
     ap (λ (ys : List declared.Run). reverse (map run_view ys)) n
     ∙ last-turned xs next
@@ -30,12 +33,38 @@ last-changed e back old xs new run next o n h =
     ∙ sym (first-by (goes_on e back) (ends_run back) (wider (own_width e)) (bordered e) (run_view run) rs)
     ∙ ap (runs_changed e back) (sym (last-turned xs run) ∙ ap (λ (ys : List declared.Run). reverse (map run_view ys)) (sym o))
 
+-- the last one is changed
+pub last-changed : (e : SourcedEvent) (back : List SourcedEvent) (old xs new : List declared.Run) (run next : declared.Run) → HoldRuns back (reverse (map run_view old)) → old ≡ xs ++ run ∷ [] → new ≡ xs ++ next ∷ []
+    → run_view next ≡ (if goes_on e back then wider (own_width e) (run_view run) else (if ends_run back then bordered e (run_view run) else run_view run))
+    → AreRuns (reverse (map run_view new)) back (e ∷ [])
+last-changed e back old xs new run next held o n h =
+    subst (λ (rs : List Run). AreRuns rs back (e ∷ [])) (sym (changed-list e back old xs new run next o n h)) (changed-is e back (reverse (map run_view old)) held)
+
+whole-split : (rs : List declared.Run) (i : ℕ) (run : declared.Run) → suc i ≡ length rs → run ≡ get_or rs i run → rs ≡ take i rs ++ run ∷ []
+whole-split [] i run e is = absurd (omega (arith, e))
+whole-split (x ∷ []) zero run e is = ap (λ (y : declared.Run). y ∷ []) (sym is)
+whole-split (x ∷ y ∷ rs) zero run e is = absurd (omega (arith, e))
+whole-split (x ∷ rs) (suc i) run e is = ap (λ (ys : List declared.Run). x ∷ ys) (whole-split rs i run (omega (arith, e)) is)
+
+set-split : (rs : List declared.Run) (i : ℕ) (next : declared.Run) → suc i ≡ length rs → set rs i next ≡ take i rs ++ next ∷ []
+set-split [] i next e = absurd (omega (arith, e))
+set-split (x ∷ []) zero next e = refl
+set-split (x ∷ y ∷ rs) zero next e = absurd (omega (arith, e))
+set-split (x ∷ rs) (suc i) next e = ap (λ (ys : List declared.Run). x ∷ ys) (set-split rs i next (omega (arith, e)))
+
+-- the same where the last one is set
+pub last-set : (e : SourcedEvent) (back : List SourcedEvent) (old new : List declared.Run) (i : ℕ) (run next : declared.Run) → HoldRuns back (reverse (map run_view old)) → suc i ≡ length old → run ≡ get_or old i run → new ≡ set old i next
+    → run_view next ≡ (if goes_on e back then wider (own_width e) (run_view run) else (if ends_run back then bordered e (run_view run) else run_view run))
+    → AreRuns (reverse (map run_view new)) back (e ∷ [])
+last-set e back old new i run next held last is n h =
+    last-changed e back old (take i old) new run next held (whole-split old i run last is) (n ∙ set-split old i next last) h
+
 -- none is there
-pub none-changed : (e : SourcedEvent) (back : List SourcedEvent) (old new : List declared.Run) → old ≡ [] → new ≡ [] → reverse (map run_view new) ≡ runs_changed e back (reverse (map run_view old))
-none-changed e back old new o n =
-    ap (λ (ys : List declared.Run). reverse (map run_view ys)) n
-    ∙ sym (by (goes_on e back) (ends_run back))
-    ∙ ap (λ (ys : List declared.Run). runs_changed e back (reverse (map run_view ys))) (sym o)
+pub none-changed : (e : SourcedEvent) (back : List SourcedEvent) (old new : List declared.Run) → HoldRuns back (reverse (map run_view old)) → old ≡ [] → new ≡ old → AreRuns (reverse (map run_view new)) back (e ∷ [])
+none-changed e back old new held o n =
+    subst (λ (rs : List Run). AreRuns rs back (e ∷ []))
+    (ap (runs_changed e back) (ap (λ (ys : List declared.Run). reverse (map run_view ys)) o) ∙ by (goes_on e back) (ends_run back) ∙ ap (λ (ys : List declared.Run). reverse (map run_view ys)) (sym o ∙ sym n))
+    (changed-is e back (reverse (map run_view old)) held)
   where
     by : (g t : Bool) → (if g then with_first (wider (own_width e)) [] else (if t then with_first (bordered e) [] else [])) ≡ []
     by true t = refl
@@ -54,13 +83,14 @@ last-begun b first old new run t n h =
 pub none-begun : (b : Bool) (first : Run) (rs : List Run) → b ≡ false → rs ≡ (if b then first ∷ rs else rs)
 none-begun b first rs f = ap (λ b. if b then first ∷ rs else rs) (sym f)
 
--- the column with one event more
-pub column-joined : (e : SourcedEvent) (back : List SourcedEvent) (old changed : List Run) (new : List declared.Run) (ns ms : List ℕ) (count : ℕ)
-    → HoldRuns back old (reverse ns) → changed ≡ runs_changed e back old
-    → reverse (map run_view new) ≡ (if in_run e && not (goes_on e back) then begun_by e back ∷ changed else changed)
-    → count ≡ length new → ms ≡ ns ++ count ∷ [] → HoldRuns (e ∷ back) (reverse (map run_view new)) (reverse ms)
-column-joined e back old changed new ns ms count h c n k m =
-    let is : reverse (map run_view new) ≡ runs_with e back old = n ∙ ap (λ (rs : List Run). if in_run e && not (goes_on e back) then begun_by e back ∷ rs else rs) c in
-    let len : length (runs_with e back old) ≡ count = ap (λ (rs : List Run). length rs) (sym is) ∙ length-reverse (map run_view new) ∙ length-map new run_view ∙ sym k in
-    let numbers : length (runs_with e back old) ∷ reverse ns ≡ reverse ms = ap (λ i. i ∷ reverse ns) len ∙ sym (ap (λ (xs : List ℕ). reverse xs) m ∙ reverse-append ns (count ∷ [])) in
-    subst (λ (rs : List Run). HoldRuns (e ∷ back) rs (reverse ms)) (sym is) (subst (λ (xs : List ℕ). HoldRuns (e ∷ back) (runs_with e back old) xs) numbers (runs-joined e back old (reverse ns) h))
+-- an event in no run, behind a run or behind none
+pub quiet-joined : (e : SourcedEvent) (back : List SourcedEvent) (old new : List declared.Run) → HoldRuns back (reverse (map run_view old)) → in_run e ≡ false → length new ≡ length old → AreRuns (reverse (map run_view new)) back (e ∷ [])
+    → HoldRuns (e ∷ back) (reverse (map run_view new))
+quiet-joined e back old new held out count are = runs-quiet e back (reverse (map run_view new)) out (turned-count new ∙ count ∙ sym (turned-count old) ∙ held.count) are
+
+-- a delimiter
+pub delimiter-joined : (e : SourcedEvent) (back : List SourcedEvent) (old changed new : List declared.Run) → HoldRuns back (reverse (map run_view old)) → in_run e ≡ true → length changed ≡ length old → AreRuns (reverse (map run_view changed)) back (e ∷ [])
+    → reverse (map run_view new) ≡ (if in_run e && not (goes_on e back) then begun_by e back ∷ reverse (map run_view changed) else reverse (map run_view changed))
+    → HoldRuns (e ∷ back) (reverse (map run_view new))
+delimiter-joined e back old changed new held i count are is =
+    runs-joined e back (reverse (map run_view changed)) (turned-count changed ∙ count ∙ sym (turned-count old) ∙ held.count) are (reverse (map run_view new)) i is

@@ -4,64 +4,54 @@ use Rattle.std.proofs.Math.ListN.{get_or-append}
 use Rattle.std.proofs.Math.Seq.{drop-cons, get_or-append_seam}
 use Rattle.std.proofs.lemmas.Bool.{cases_lt, false≢true, or_cases, or_parts}
 use Rattle.std.proofs.lemmas.Bool.Decides.{nat_tests}
-use Rattle.std.proofs.lemmas.List.{length-drop, length-reverse, reverse-append, reverse-reverse, take-append-drop}
+use Rattle.std.proofs.lemmas.List.{length-reverse, reverse-append, reverse-reverse, take-append-drop, take_more}
 use Rattle.std.proofs.lemmas.Option.{slice_get-get_or, slice_get-map, slice_get_past}
 use Rattle.std.specs.Prelude.{◌==◌, option_map, slice_get}
 use Rattle.tocmark_event.specs.View.{SourcedEvent, Start, End, Leaf}
 use Rattle.tocmark_spelling.specs.Runs.{Run, close_width, end_width, run_at, start_width, tag_width}
 use Rattle.tocmark_write_lookahead.proofs.Ahead.{place-within}
-use Rattle.tocmark_write_pending.specs.RunColumn.{Starts, Ends, AreRuns, HoldRuns, IsRunAt, begins_in_run, is_counted, run_here, run_numbered, run_view}
+use Rattle.tocmark_write_pending.specs.DelimiterColumn.{AreNumbered}
+use Rattle.tocmark_write_pending.specs.RunColumn.{Counted, Starts, Ends, AreRuns, HoldRuns, IsRunAt, begins_in_run, is_counted, run_here, run_numbered, run_view, runs_begun, width_of}
 use Rattle.tocmark_write_pending.specs.declared.runs.Run as declared
-use Rattle.tocmark_write_pending.proofs.RunColumn.{inner-numbered, last-numbered, pick-false, pick-true}
+use Rattle.tocmark_write_pending.proofs.RunColumn.{in-of, inner-numbered, last-numbered, pick-false, pick-true}
 
 reverse-cons : (e : SourcedEvent) (es after : List SourcedEvent) → reverse (e ∷ es) ++ after ≡ reverse es ++ e ∷ after
 reverse-cons e es after = ap (λ x. x ++ after) (reverse-append (e ∷ []) es) ∙ append_assoc (reverse es) (e ∷ []) after
 
 -- some of the last events aside
-run-behind : (runs : List Run) (zs : List SourcedEvent) (ms : List ℕ) (e : SourcedEvent) (n : ℕ) (back after : List SourcedEvent) (ns : List ℕ)
-    → length ms ≡ length zs → AreRuns runs (zs ++ e ∷ back) after (ms ++ n ∷ ns) → IsRunAt runs e back (reverse zs ++ after) n
-run-behind runs [] [] e n back after ns len a = a.0
-run-behind runs [] (m ∷ ms) e n back after ns len a = absurd (omega arith)
-run-behind runs (z ∷ zs) [] e n back after ns len a = absurd (omega arith)
-run-behind runs (z ∷ zs) (m ∷ ms) e n back after ns len a =
-    subst (λ (xs : List SourcedEvent). IsRunAt runs e back xs n) (sym (reverse-cons z zs after)) (run-behind runs zs ms e n back (z ∷ after) ns (omega (arith, len)) a.1)
+run-behind : (runs : List Run) (zs : List SourcedEvent) (e : SourcedEvent) (back after : List SourcedEvent) → AreRuns runs (zs ++ e ∷ back) after → IsRunAt runs e back (reverse zs ++ after)
+run-behind runs [] e back after a = a.0
+run-behind runs (z ∷ zs) e back after a =
+    subst (λ (xs : List SourcedEvent). IsRunAt runs e back xs) (sym (reverse-cons z zs after)) (run-behind runs zs e back (z ∷ after) a.1)
 
-turned : {A : Type 0} (fs : List A) (e : A) (bs : List A) → reverse (fs ++ e ∷ bs) ≡ reverse bs ++ e ∷ reverse fs
+turned : (fs : List SourcedEvent) (e : SourcedEvent) (bs : List SourcedEvent) → reverse (fs ++ e ∷ bs) ≡ reverse bs ++ e ∷ reverse fs
 turned fs e bs =
     reverse-append fs (e ∷ bs)
     ∙ ap (λ xs. xs ++ reverse fs) (reverse-append (e ∷ []) bs)
     ∙ append_assoc (reverse bs) (e ∷ []) (reverse fs)
 
--- at a place among the events in their order, with the numbers in theirs
-pub run-placed : (runs : List Run) (fs : List SourcedEvent) (e : SourcedEvent) (bs : List SourcedEvent) (ps : List ℕ) (n : ℕ) (qs : List ℕ)
-    → length qs ≡ length bs → AreRuns runs (reverse (fs ++ e ∷ bs)) [] (reverse (ps ++ n ∷ qs)) → IsRunAt runs e (reverse fs) bs n
-run-placed runs fs e bs ps n qs len a =
-    let b : AreRuns runs (reverse bs ++ e ∷ reverse fs) [] (reverse qs ++ n ∷ reverse ps) =
-    subst (λ (ns : List ℕ). AreRuns runs (reverse bs ++ e ∷ reverse fs) [] ns) (turned ps n qs) (subst (λ (es : List SourcedEvent). AreRuns runs es [] (reverse (ps ++ n ∷ qs))) (turned fs e bs) a)
-    in
-    subst (λ (xs : List SourcedEvent). IsRunAt runs e (reverse fs) xs n) (append-nil (reverse (reverse bs)) ∙ reverse-reverse bs)
-    (run-behind runs (reverse bs) (reverse qs) e n (reverse fs) [] (reverse ps) (length-reverse qs ∙ len ∙ sym (length-reverse bs)) b)
+-- at a place among the events in their order
+run-placed : (runs : List Run) (fs : List SourcedEvent) (e : SourcedEvent) (bs : List SourcedEvent) → AreRuns runs (reverse (fs ++ e ∷ bs)) [] → IsRunAt runs e (reverse fs) bs
+run-placed runs fs e bs a =
+    subst (λ (xs : List SourcedEvent). IsRunAt runs e (reverse fs) xs) (append-nil (reverse (reverse bs)) ∙ reverse-reverse bs)
+    (run-behind runs (reverse bs) e (reverse fs) [] (subst (λ (es : List SourcedEvent). AreRuns runs es []) (turned fs e bs) a))
 
--- as many numbers as events
-runs-length : (runs : List Run) (back after : List SourcedEvent) (ns : List ℕ) → AreRuns runs back after ns → length ns ≡ length back
-runs-length runs [] after ns a = ap length a
-runs-length runs (e ∷ back) after [] a = absurd a
-runs-length runs (e ∷ back) after (n ∷ ns) a = ap suc (runs-length runs back (e ∷ after) ns a.1)
+-- the events up to a place, the last one first
+pub up-to : (es : List SourcedEvent) (i : ℕ) (e : SourcedEvent) (rest : List SourcedEvent) → drop i es ≡ e ∷ rest → reverse (take (suc i) es) ≡ e ∷ reverse (take i es)
+up-to es i e rest at =
+    let lt = place-within es rest i e at in
+    let more : take (suc i) es ≡ take i es ++ get_or es i e ∷ [] = (let n : suc i ≡ i + 1 = omega arith in ap (λ n. take n es) n) ∙ take_more es i e lt in
+    let this : get_or es i e ≡ e = ap (λ (xs : List SourcedEvent). get_or xs 0 e) (sym (drop-cons es i e lt) ∙ at) in
+    ap reverse (more ∙ ap (λ (x : SourcedEvent). take i es ++ x ∷ []) this) ∙ reverse-append (take i es) (e ∷ [])
 
-module _ (es : List SourcedEvent) (runs : List Run) (ns : List ℕ) (i : ℕ) (held : HoldRuns (reverse es) runs (reverse ns)) where
-  count : length ns ≡ length es
-  count = sym (length-reverse ns) ∙ runs-length runs (reverse es) [] (reverse ns) held.are ∙ length-reverse es
-
-  -- the event at a place stands in the run with its number
-  run-there : (e : SourcedEvent) (rest : List SourcedEvent) → drop i es ≡ e ∷ rest → IsRunAt runs e (reverse (take i es)) rest (get_or ns i 0)
-  run-there e rest at =
-      let lt = place-within es rest i e at in
+module _ (es : List SourcedEvent) (runs : List Run) (ns : List ℕ) (i : ℕ) (held : HoldRuns (reverse es) runs) (numbered : AreNumbered es ns) where
+  -- the delimiter at a place stands in the run with its number
+  run-there : (c : Counted) (e : SourcedEvent) (rest : List SourcedEvent) → drop i es ≡ e ∷ rest → is_counted c e ≡ true → run_numbered (get_or ns i 0) runs ≡ Some (run_at (width_of c) (width_of c e) (reverse (take i es)) rest)
+  run-there c e rest at k =
       let events : take i es ++ e ∷ rest ≡ es = ap (λ (xs : List SourcedEvent). take i es ++ xs) (sym at) ∙ take-append-drop i es in
-      let numbers : take i ns ++ get_or ns i 0 ∷ drop (suc i) ns ≡ ns = ap (λ (xs : List ℕ). take i ns ++ xs) (sym (drop-cons ns i 0 (omega (arith, lt, count)))) ∙ take-append-drop i ns in
-      let len : length (drop (suc i) ns) ≡ length rest = omega (arith, length-drop (suc i) ns, length-drop i es, ap length at, count, lt) in
-      run-placed runs (take i es) e rest (take i ns) (get_or ns i 0) (drop (suc i) ns) len
-      (subst (λ (xs : List SourcedEvent). AreRuns runs (reverse xs) [] (reverse (take i ns ++ get_or ns i 0 ∷ drop (suc i) ns))) (sym events)
-      (subst (λ (ms : List ℕ). AreRuns runs (reverse es) [] (reverse ms)) (sym numbers) held.are))
+      let is : IsRunAt runs e (reverse (take i es)) rest = run-placed runs (take i es) e rest (subst (λ (xs : List SourcedEvent). AreRuns runs (reverse xs) []) (sym events) held.are) in
+      ap (λ n. run_numbered n runs) (numbered.at i (ap begins_in_run at ∙ in-of c e k) ∙ ap runs_begun (up-to es i e rest at))
+      ∙ is.run c k
 
   -- so its run is found by the number
   pub here-some : begins_in_run (drop i es) ≡ true → run_numbered (get_or ns i 0) runs ≡ run_here (reverse (take i es)) (drop i es)
@@ -71,11 +61,11 @@ module _ (es : List SourcedEvent) (runs : List Run) (ns : List ℕ) (i : ℕ) (h
       by [] at k = absurd (false≢true k)
       by (Start t ∷ rest) at k =
           let counted : is_counted Starts (Start t) ≡ true = ⊎_elim (λ (a : is_counted Starts (Start t) ≡ true). a) (λ (b : false ≡ true). absurd (false≢true b)) (or_cases (is_counted Starts (Start t)) false k) in
-          (run-there (Start t) rest at).run Starts counted
+          run-there Starts (Start t) rest at counted
           ∙ sym (pick-true (is_counted Starts (Start t)) (Some (run_at start_width (tag_width t) (reverse (take i es)) rest)) None counted)
       by (End x ∷ rest) at k =
           let counted : is_counted Ends (End x) ≡ true = ⊎_elim (λ (a : false ≡ true). absurd (false≢true a)) (λ (b : is_counted Ends (End x) ≡ true). b) (or_cases false (is_counted Ends (End x)) k) in
-          (run-there (End x) rest at).run Ends counted
+          run-there Ends (End x) rest at counted
           ∙ sym (pick-true (is_counted Ends (End x)) (Some (run_at close_width (end_width x) (reverse (take i es)) rest)) None counted)
       by (Leaf l ∷ rest) at k = absurd (false≢true k)
 

@@ -1,17 +1,20 @@
 -- One event more: how many markers the container opens with that it ends.
-use Rattle.std.proofs.Common.{◌≡◌, ℕ, zero, suc, ◌+◌, ◌-◌, Bool, true, false, Option, Some, None, List, [], ◌∷◌, ◌++◌, refl, sym, ap, ◌∙◌, length, drop, if◌then◌else◌, arith}
-use Rattle.std.specs.Prelude.{is_none, nat_lt, ◌==◌, ◌&&◌}
+use Rattle.std.proofs.Common.{◌≡◌, ℕ, zero, suc, ◌+◌, ◌-◌, ◌<◌, ◌≤◌, Bool, true, false, Option, Some, None, List, [], ◌∷◌, ◌++◌, refl, sym, ap, ◌∙◌, subst, length, drop, if◌then◌else◌, arith, ⊎_elim, length-set}
+use Rattle.std.proofs.Math.ListN.{set}
+use Rattle.std.specs.Prelude.{is_none, nat_lt, slice_index_or, ◌==◌, ◌&&◌}
+use Rattle.std.proofs.lemmas.Bool.{cases_lt, true≢false}
 use Rattle.std.proofs.lemmas.Bool.Decides.{nat_tests}
-use Rattle.std.proofs.lemmas.List.{length-drop}
+use Rattle.std.proofs.lemmas.List.{drop-drop, get_or_past, length-drop}
 use Rattle.tocmark_event.specs.View.{SourcedEvent, TagView, Emphasis, Strong, Start, End, Leaf}
 use Rattle.tocmark_event.specs.declared.event.TagEnd.{TagEnd}
 use Rattle.tocmark_spelling.specs.Kinds.{is_emphasis_or_strong}
-use Rattle.tocmark_spelling.specs.Runs.{tag_width}
+use Rattle.tocmark_spelling.specs.Runs.{start_width, tag_width}
 use Rattle.tocmark_spelling.specs.Scans.{end_at, span}
 use Rattle.tocmark_write_lookahead.specs.Ahead.{behind_body, ends_here, first_width, width_ahead_of, width_in}
 use Rattle.tocmark_write_pending.specs.OpenContainers.{EndsAt, IsOpenAt, left_open}
-use Rattle.tocmark_write_pending.specs.WidthColumn.{AreWidths, added_by, first_added, is_last, is_none_left, width_at, width_by, width_ended, width_now, widths_with}
-use Rattle.tocmark_write_pending.proofs.Columns.{IsColumn, IsOfEnded, column-end, column-leaf, column-start, rest-length}
+use Rattle.tocmark_write_pending.specs.RunColumn.{begins_in_run, in_run}
+use Rattle.tocmark_write_pending.specs.WidthColumn.{AreWidths, added_by, first_added, is_last, is_none_left, width_at, width_by, width_ended, width_now}
+use Rattle.tocmark_write_pending.proofs.Columns.{IsFound, IsOfEnded, found-end, found-leaf, found-start, got-other, got-same, rest-length}
 use Rattle.tocmark_write_pending.proofs.OpenContainers.{drop-behind, drop-more, ended, never, open-more, open_after, shifted, some-same}
 
 -- ---- what the first event of a body adds
@@ -115,29 +118,71 @@ widths-of = record {
   at_leaf = λ i l rest. refl;
 }
 
-column-widths : (es : List SourcedEvent) (widths : List ℕ) → AreWidths es widths → IsColumn widths_value 0 width-column es widths
-column-widths es widths h = record { len = h.len; at = h.at }
+-- ---- behind the last delimiter
 
-widths-column : (es : List SourcedEvent) (widths : List ℕ) → IsColumn widths_value 0 width-column es widths → AreWidths es widths
-widths-column es widths h = record { len = h.len; at = h.at }
+-- no width is added where no delimiter begins
+none-added : (x : SourcedEvent) (es : List SourcedEvent) → in_run x ≡ false → added_by x (is_none_left (behind_body es)) (width_at (x ∷ es)) ≡ 0
+none-added (Start Emphasis) es h = absurd (true≢false h)
+none-added (Start Strong) es h = absurd (true≢false h)
+none-added (Start t) es h = refl
+none-added (End k) es h = refl
+none-added (Leaf l) es h = refl
+
+none-first : (es : List SourcedEvent) → begins_in_run es ≡ false → first_added es ≡ 0
+none-first [] h = refl
+none-first (x ∷ es) h = none-added x es h
+
+none-started : (x : SourcedEvent) → in_run x ≡ false → start_width x ≡ 0
+none-started (Start Emphasis) h = absurd (true≢false h)
+none-started (Start Strong) h = absurd (true≢false h)
+none-started (Start t) h = refl
+none-started (End k) h = refl
+none-started (Leaf l) h = refl
+
+none-now : (es : List SourcedEvent) → begins_in_run es ≡ false → begins_in_run (drop 1 es) ≡ false → width_now es ≡ 0
+none-now [] h k = refl
+none-now (x ∷ rest) h k = omega (arith, none-started x h, none-first rest k)
+
+-- where no delimiter stands at a place, nor behind it, no container opens with one
+pub no-width : (es : List SourcedEvent) (p : ℕ) → begins_in_run (drop p es) ≡ false → begins_in_run (drop (p + 1) es) ≡ false → width_now (drop p es) ≡ 0
+no-width es p h k = none-now (drop p es) h (ap begins_in_run (drop-drop 1 p es) ∙ k)
+
+-- ---- one event more
+
+widths-found : (es : List SourcedEvent) (widths mid : List ℕ) → AreWidths es widths → ((i : ℕ) → slice_index_or mid i 0 ≡ slice_index_or widths i 0) → IsFound widths_value 0 width-column es (λ i. slice_index_or mid i 0)
+widths-found es widths mid held same i = same i ∙ held.at i
 
 -- one event more, of whatever kind
-pub widths-more : (es : List SourcedEvent) (e : SourcedEvent) (o : Option ℕ) (widths : List ℕ) → AreWidths es widths → EndsAt es e o → AreWidths (es ++ e ∷ []) (widths_with o (width_ended es o) widths)
-widths-more es (Start t) (Some p) widths held a = absurd a
-widths-more es (Start t) None widths held a = widths-column (es ++ Start t ∷ []) (widths ++ 0 ∷ []) (column-start widths_value 0 width-column widths-of es widths (column-widths es widths held) t refl)
-widths-more es (Leaf l) (Some p) widths held a = absurd a
-widths-more es (Leaf l) None widths held a = widths-column (es ++ Leaf l ∷ []) (widths ++ 0 ∷ []) (column-leaf widths_value 0 width-column widths-of es widths (column-widths es widths held) l)
-widths-more es (End k) None widths held a = absurd a
-widths-more es (End k) (Some p) widths held a =
-    widths-column (es ++ End k ∷ []) (widths_with (Some p) (width_ended es (Some p)) widths)
-    (column-end widths_value 0 width-column widths-of es widths (column-widths es widths held) k p (width_ended es (Some p)) a
-    (ap width_at (drop-more es p (Start a.tag) a.rest (End k ∷ []) a.starts)
-    ∙ (λ j. if is_none (shut j) then width_ahead_of a.tag (a.rest ++ End k ∷ []) else 0)
-    ∙ ap (λ n. tag_width a.tag + n) (body-now a.rest k a.within)
-    ∙ ap width_now (sym a.starts)))
-  where
-    shut : left_open 0 (a.rest ++ End k ∷ []) ≡ None
-    shut = open-more 0 a.rest (End k) ∙ ap (open_after (End k)) a.within
+module _ (es : List SourcedEvent) (widths mid : List ℕ) (held : AreWidths es widths) (same : (i : ℕ) → slice_index_or mid i 0 ≡ slice_index_or widths i 0) (beyond : (i : ℕ) → length mid ≤ i → begins_in_run (drop i es) ≡ false) where
+  widths-set : (k : TagEnd) (p : ℕ) (a : IsOpenAt es p 0) → AreWidths (es ++ End k ∷ []) (set mid p (width_now (drop p es)))
+  widths-set k p a = record {
+    at = found-end widths_value 0 width-column widths-of es (λ i. slice_index_or mid i 0) (widths-found es widths mid held same) k p (width_now (drop p es)) (λ i. slice_index_or (set mid p (width_now (drop p es))) i 0) a
+        (ap width_at (drop-more es p (Start a.tag) a.rest (End k ∷ []) a.starts)
+        ∙ (λ j. if is_none (shut j) then width_ahead_of a.tag (a.rest ++ End k ∷ []) else 0)
+        ∙ ap (λ n. tag_width a.tag + n) (body-now a.rest k a.within)
+        ∙ ap width_now (sym a.starts))
+        (λ i ne. got-other mid 0 (width_now (drop p es)) p i ne)
+        (⊎_elim
+        (λ (lt : p < length mid). got-same mid 0 (width_now (drop p es)) p lt)
+        (λ (le : length mid ≤ p).
+        get_or_past (set mid p (width_now (drop p es))) p 0 (omega (arith, length-set {A = ℕ}, le))
+        ∙ sym (no-width es p (beyond p le) (beyond (p + 1) (omega (arith, le)))))
+        (cases_lt p (length mid)));
+  }
+    where
+      shut : left_open 0 (a.rest ++ End k ∷ []) ≡ None
+      shut = open-more 0 a.rest (End k) ∙ ap (open_after (End k)) a.within
+
+  pub widths-more : (e : SourcedEvent) (o : Option ℕ) (new : List ℕ) (w : ℕ) → EndsAt es e o → w ≡ width_ended es o → (o ≡ None → new ≡ mid) → ((p : ℕ) → o ≡ Some p → new ≡ set mid p w) → AreWidths (es ++ e ∷ []) new
+  widths-more (Start t) (Some p) new w a is none some = absurd a
+  widths-more (Start t) None new w a is none some =
+      subst (AreWidths (es ++ Start t ∷ [])) (sym (none refl)) (record { at = found-start widths_value 0 width-column widths-of es (λ i. slice_index_or mid i 0) (widths-found es widths mid held same) t refl })
+  widths-more (Leaf l) (Some p) new w a is none some = absurd a
+  widths-more (Leaf l) None new w a is none some =
+      subst (AreWidths (es ++ Leaf l ∷ [])) (sym (none refl)) (record { at = found-leaf widths_value 0 width-column widths-of es (λ i. slice_index_or mid i 0) (widths-found es widths mid held same) l })
+  widths-more (End k) None new w a is none some = absurd a
+  widths-more (End k) (Some p) new w a is none some =
+      subst (AreWidths (es ++ End k ∷ [])) (sym (some p refl ∙ ap (λ n. set mid p n) is)) (widths-set k p a)
 
 -- ---- the container that ends now, as it is found
 

@@ -1,5 +1,6 @@
 pub mod Pending
 pub mod RunColumn
+pub mod DelimiterColumn
 pub mod WidthColumn
 pub mod PendingOf
 pub mod Placeholder

@@ -5,11 +5,13 @@ use Rattle.tocmark_event.specs.View.{SourcedEvent}
 use Rattle.tocmark_event.specs.declared.event.TagEnd.{TagEnd}
 use Rattle.tocmark_spelling.specs.Buffered.{buffered_view}
 use Rattle.tocmark_spelling.specs.Scans.{AreEnds}
+use Rattle.tocmark_write_pending.specs.DelimiterColumn.{AreNumbered, numbers_of, widths_of}
 use Rattle.tocmark_write_pending.specs.OpenContainers.{AreOpenFrom}
 use Rattle.tocmark_write_pending.specs.Pending.{PendingView}
 use Rattle.tocmark_write_pending.specs.RunColumn.{HoldRuns, run_view}
 use Rattle.tocmark_write_pending.specs.Waiting.{has_ambiguous_list}
 use Rattle.tocmark_write_pending.specs.WidthColumn.{AreWidths}
+use Rattle.tocmark_write_pending.specs.declared.delimiters.Delimiter.{Delimiter}
 use Rattle.tocmark_write_pending.specs.declared.nesting.OpenContainer.{OpenContainer}
 use Rattle.tocmark_write_pending.specs.declared.pending.Pending.TheInside.{Inside}
 use Rattle.tocmark_write_pending.specs.declared.runs.Run.{Run}
@@ -30,9 +32,11 @@ pub record AreIndexed (es : List SourcedEvent) (awaited : List TagEnd) (places :
   pub ends_known : AreEnds es ends
   pub ambiguity : ambiguous ≡ has_ambiguous_list false es
 
--- these are the runs of delimiters among the events, in order, and for each event the number of its run
-abbrev pub AreRunsOf : List SourcedEvent → List Run → List ℕ → Type 0
-AreRunsOf es runs numbers = HoldRuns (reverse es) (reverse (map run_view runs)) (reverse numbers)
+-- these are the runs of delimiters among the events, in order, and what is kept of each event up to the last delimiter
+pub record AreDelimiters (es : List SourcedEvent) (runs : List Run) (delimiters : List Delimiter) : Type 0 where
+  pub runs_held : HoldRuns (reverse es) (reverse (map run_view runs))
+  pub numbered : AreNumbered es (numbers_of delimiters)
+  pub widths : AreWidths es (widths_of delimiters)
 
 -- the events with their spellings, and the open containers, innermost first
 abbrev pub pending_of : Inside → PendingView
@@ -42,5 +46,4 @@ pending_of a = record { events = map buffered_view a.events.items; open_tags = e
 abbrev pub IsIndexed : Inside → Type 0
 IsIndexed a =
     AreIndexed (map buffered_view a.events.items) (ends_awaited a.containers.items) (places_of a.containers.items) a.ends.items a.is_ambiguous
-    × AreRunsOf (map buffered_view a.events.items) a.runs.items a.numbers.items
-    × AreWidths (map buffered_view a.events.items) a.widths.items
+    × AreDelimiters (map buffered_view a.events.items) a.runs.items a.delimiters.items

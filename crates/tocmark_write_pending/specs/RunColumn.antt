@@ -57,16 +57,14 @@ abbrev pub run_numbered : ℕ → List Run → Option Run
 run_numbered n [] = None
 run_numbered n (r ∷ rs) = if n == suc (length rs) then Some r else run_numbered n rs
 
--- an event's number is how many runs begin up to it, and the run with this number is the one in which it stands
-pub record IsRunAt (runs : List Run) (e : SourcedEvent) (back after : List SourcedEvent) (n : ℕ) : Type 0 where
-  pub number : n ≡ runs_begun (e ∷ back)
-  pub run : (c : Counted) → is_counted c e ≡ true → run_numbered n runs ≡ Some (run_at (width_of c) (width_of c e) back after)
+-- the run in which a delimiter stands is the one whose number is how many runs begin up to it
+pub record IsRunAt (runs : List Run) (e : SourcedEvent) (back after : List SourcedEvent) : Type 0 where
+  pub run : (c : Counted) → is_counted c e ≡ true → run_numbered (runs_begun (e ∷ back)) runs ≡ Some (run_at (width_of c) (width_of c e) back after)
 
--- so it is of each of these events, the last one first, of the numbers likewise
-abbrev pub AreRuns : List Run → List SourcedEvent → List SourcedEvent → List ℕ → Type 0
-AreRuns runs [] after ns = ns ≡ []
-AreRuns runs (e ∷ back) after [] = ⊥
-AreRuns runs (e ∷ back) after (n ∷ ns) = IsRunAt runs e back after n × AreRuns runs back (e ∷ after) ns
+-- so it is of each of these events, the last one first, behind which others come
+abbrev pub AreRuns : List Run → List SourcedEvent → List SourcedEvent → Type 0
+AreRuns runs [] after = Unit {0}
+AreRuns runs (e ∷ back) after = IsRunAt runs e back after × AreRuns runs back (e ∷ after)
 
 -- how many markers an event adds to a run
 abbrev pub own_width : SourcedEvent → ℕ
@@ -93,24 +91,10 @@ begun_by e back = record {
   width = own_width e;
 }
 
--- the first of some runs is changed
-abbrev pub with_first : (Run → Run) → List Run → List Run
-with_first f [] = []
-with_first f (r ∷ rs) = f r ∷ rs
-
--- the runs, the last one first, as an event behind these changes them
-abbrev pub runs_changed : SourcedEvent → List SourcedEvent → List Run → List Run
-runs_changed e back runs =
-    if goes_on e back then with_first (wider (own_width e)) runs else (if ends_run back then with_first (bordered e) runs else runs)
-
--- and with the one that it begins, if it begins one
-abbrev pub runs_with : SourcedEvent → List SourcedEvent → List Run → List Run
-runs_with e back runs = if in_run e && not (goes_on e back) then begun_by e back ∷ runs_changed e back runs else runs_changed e back runs
-
--- the runs among these events, the last one first, and for each event its number
-pub record HoldRuns (back : List SourcedEvent) (runs : List Run) (ns : List ℕ) : Type 0 where
+-- the runs among these events, the last one first
+pub record HoldRuns (back : List SourcedEvent) (runs : List Run) : Type 0 where
   pub count : length runs ≡ runs_begun back
-  pub are : AreRuns runs back [] ns
+  pub are : AreRuns runs back []
 
 -- whether the first of some events is a part of some run
 abbrev pub begins_in_run : List SourcedEvent → Bool

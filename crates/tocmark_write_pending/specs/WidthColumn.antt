@@ -1,5 +1,5 @@
 -- How many markers each container opens with that has ended, as one event more joins the others.
-use Rattle.std.specs.Prelude.{◌≡◌, ℕ, ◌+◌, ◌-◌, Bool, true, false, if◌then◌else◌, ◌==◌, ◌&&◌, nat_lt, is_none, Option, Some, None, List, [], ◌∷◌, ◌++◌, drop, length, set, slice_index_or}
+use Rattle.std.specs.Prelude.{◌≡◌, ℕ, ◌+◌, ◌-◌, Bool, true, false, if◌then◌else◌, ◌==◌, ◌&&◌, nat_lt, is_none, Option, Some, None, List, [], ◌∷◌, drop, slice_index_or}
 use Rattle.tocmark_event.specs.View.{SourcedEvent, Emphasis, Strong, Start}
 use Rattle.tocmark_spelling.specs.Runs.{start_width}
 use Rattle.tocmark_write_lookahead.specs.Ahead.{behind_body, width_ahead_of}
@@ -16,9 +16,8 @@ width_at [] = 0
 width_at (Start t ∷ rest) = if is_ended rest then width_ahead_of t rest else 0
 width_at (e ∷ rest) = 0
 
--- so it is at each place
+-- so it is at each place, and behind the last of these widths there are none
 pub record AreWidths (es : List SourcedEvent) (widths : List ℕ) : Type 0 where
-  pub len : length widths ≡ length es
   pub at : (i : ℕ) → slice_index_or widths i 0 ≡ width_at (drop i es)
 
 -- what a first child adds to the container that ends behind it, given whether it is its only child, and its own width
@@ -57,8 +56,3 @@ width_by (x ∷ y ∷ es) only width = start_width x + added_by y only width
 abbrev pub is_last : Option ℕ → ℕ → Bool
 is_last None n = false
 is_last (Some i) n = nat_lt i n && (n - i == 1)
-
--- the widths with one event more, which ends the container at this place, which opens with so many markers
-abbrev pub widths_with : Option ℕ → ℕ → List ℕ → List ℕ
-widths_with None width widths = widths ++ 0 ∷ []
-widths_with (Some p) width widths = set widths p width ++ 0 ∷ []

@@ -10,10 +10,12 @@ ghost use Rattle.tocmark_write_pending.specs.RunColumn.{run_here, run_view};
 ghost use Rattle.tocmark_write_pending.specs.Units.{trees_of, waits};
 ghost use Rattle.tocmark_write_pending.specs.WidthColumn.{width_at};
 
+use crate::delimiters::{Delimiter, note_width, width_at};
 use crate::nesting::{OpenContainer, can_come, ended_by, nest, note_end};
 use crate::placeholder::is_ambiguous_behind;
+use crate::room::make_room;
 use crate::runs::{Run, join_runs, run_at};
-use crate::widths::{ended_width, note_width, width_at};
+use crate::widths::ended_width;
 use std::alloc::{AllocError, Global};
 use std::marker::Model;
 use tocmark_event::event::Event;
@@ -34,11 +36,8 @@ pub struct Pending {
     ends: Vec<Option<usize>>,
     /// The runs of delimiters, in order.
     runs: Vec<Run>,
-    /// For each event how many runs begin up to it.
-    numbers: Vec<usize>,
-    /// For each event that starts a container how many markers that opens with, if it has ended; 0 for
-    /// others.
-    widths: Vec<usize>,
+    /// For each event up to the last delimiter its run, and how many markers it opens with.
+    delimiters: Vec<Delimiter>,
     /// Whether a list among the events needs a placeholder. That only goes from false to true.
     is_ambiguous: bool,
 }
@@ -100,14 +99,6 @@ fn copied_events(alloc: Global, events: &[BufferedEvent]) -> Result<Vec<Buffered
     Ok(copies)
 }
 
-/// Puts an event where there is room for it.
-fn put_event(events: &mut Vec<BufferedEvent>, event: BufferedEvent)
-    requires room { length events.old.items < vec_capacity events.old }
-    ensures items { events.new.items ≡ events.old.items ++ event ∷ [] }
-{
-    let _room = events.push(event);
-}
-
 impl Pending {
     /// No event waits.
     pub fn new(alloc: Global) -> Pending
@@ -118,8 +109,7 @@ impl Pending {
             containers: Vec::new(alloc),
             ends: Vec::new(alloc),
             runs: Vec::new(alloc),
-            numbers: Vec::new(alloc),
-            widths: Vec::new(alloc),
+            delimiters: Vec::new(alloc),
             is_ambiguous: false,
         }
     }
@@ -159,7 +149,7 @@ impl Pending {
         ensures { option_map run_view result
             ≡ run_here (reverse (take place self.now.events)) (drop place self.now.events) }
     {
-        run_at(&self.events, &self.runs, &self.numbers, place)
+        run_at(&self.events, &self.runs, &self.delimiters, place)
     }
 
     /// How many markers the container opens with that starts at a place, if it has ended: its own, and
@@ -176,7 +166,7 @@ impl Pending {
     pub fn width_at(&self, place: usize) -> usize
         ensures { result ≡ width_at (drop place self.now.events) }
     {
-        width_at(&self.widths, place)
+        width_at(&self.delimiters, place)
     }
 
     /// Whether no event waits.
@@ -225,18 +215,16 @@ impl Pending {
         let place = self.events.len();
         let ended = ended_by(&self.containers, event);
         let is_ambiguous = is_ambiguous_behind(self.is_ambiguous, &self.events, &self.ends, ended);
-        let width = ended_width(&self.events, &self.ends, &self.widths, ended)?;
-        self.containers.reserve(1)?;
-        self.ends.reserve(1)?;
-        self.numbers.reserve(1)?;
-        self.events.reserve(1)?;
-        self.widths.reserve(1)?;
+        let width = ended_width(&self.events, &self.ends, &self.delimiters, ended)?;
+        make_room(&mut self.containers)?;
+        make_room(&mut self.ends)?;
+        make_room(&mut self.events)?;
         let copy = buffered(alloc, event, source)?;
-        join_runs(&mut self.runs, &mut self.numbers, &copy, &self.events)?;
-        put_event(&mut self.events, copy);
+        join_runs(&mut self.runs, &mut self.delimiters, &copy, &self.events)?;
+        let _room = self.events.push(copy);
         self.is_ambiguous = is_ambiguous;
         note_end(&mut self.ends, ended);
-        note_width(&mut self.widths, ended, width);
+        note_width(&mut self.delimiters, ended, width);
         nest(&mut self.containers, event, place);
         Ok(())
     }
@@ -249,8 +237,7 @@ impl Pending {
         self.containers.clear();
         self.ends.clear();
         self.runs.clear();
-        self.numbers.clear();
-        self.widths.clear();
+        self.delimiters.clear();
         self.is_ambiguous = false;
     }
 
@@ -263,8 +250,7 @@ impl Pending {
             containers: Vec::from_slice(alloc, &self.containers)?,
             ends: Vec::from_slice(alloc, &self.ends)?,
             runs: Vec::from_slice(alloc, &self.runs)?,
-            numbers: Vec::from_slice(alloc, &self.numbers)?,
-            widths: Vec::from_slice(alloc, &self.widths)?,
+            delimiters: Vec::from_slice(alloc, &self.delimiters)?,
             is_ambiguous: self.is_ambiguous,
         })
     }

@@ -1,13 +1,16 @@
 //! The runs of delimiters in a unit, of which each event changes the last one alone.
 
-ghost use Rattle.std.specs.Prelude.{◌≡◌, ◌∷◌, ◌++◌, ◌+◌, ◌<◌, ◌≤◌, ◌&&◌, not, [], if◌then◌else◌, length, map, reverse, vec_capacity, IfOk, OnErr, OnOk, Some, drop, option_map, slice_get, slice_index_or, take};
+ghost use Rattle.std.specs.Prelude.{◌≡◌, ◌∷◌, ◌++◌, ◌+◌, ◌<◌, ◌≤◌, ◌&&◌, ◌||◌, ℕ, not, [], if◌then◌else◌, length, map, reverse, vec_capacity, IfOk, OnErr, OnOk, Some, drop, option_map, slice_get, slice_index_or, take, true};
 ghost use Rattle.tocmark_spelling.specs.Buffered.{buffered_view};
 ghost use Rattle.tocmark_spelling.specs.Edges.{edge_before};
 ghost use Rattle.tocmark_spelling.specs.Page.{front};
 ghost use Rattle.tocmark_spelling.specs.Runs.{marker_only, text_only};
-ghost use Rattle.tocmark_write_pending.specs.RunColumn.{Starts, Ends, HoldRuns, begins_in_run, begun_by, bordered, ends_counted, ends_run, goes_on, in_run, is_counted, own_width, run_here, run_numbered, run_view, runs_changed, wider};
+ghost use Rattle.tocmark_write_pending.specs.DelimiterColumn.{AreNumbered, numbers_of, widths_of};
+ghost use Rattle.tocmark_write_pending.specs.RunColumn.{Starts, Ends, AreRuns, HoldRuns, begins_in_run, begun_by, bordered, ends_counted, ends_run, goes_on, in_run, is_counted, own_width, run_here, run_numbered, run_view, wider};
 
+use crate::delimiters::{Delimiter, note_run, number_at};
 use crate::edges::{first_edge, first_literal, last_edge, last_literal};
+use crate::room::{make_room, make_room_up_to};
 use std::alloc::AllocError;
 use tocmark_event::event::{EventOf, TagEnd, TagOf};
 use tocmark_spelling::buffered::BufferedEvent;
@@ -160,13 +163,6 @@ fn put(runs: &mut Vec<Run>, run: Run)
     let _room = runs.push(run);
 }
 
-fn put_number(numbers: &mut Vec<usize>, number: usize)
-    requires room { length numbers.old.items < vec_capacity numbers.old }
-    ensures items { numbers.new.items ≡ numbers.old.items ++ number ∷ [] }
-{
-    let _room = numbers.push(number);
-}
-
 /// The last run, as an event behind others changes it. An `Err` says that it is as long as no text can
 /// be.
 fn changed(run: Run, event: &BufferedEvent, events: &[BufferedEvent]) -> Result<Run, AllocError>
@@ -185,32 +181,28 @@ fn changed(run: Run, event: &BufferedEvent, events: &[BufferedEvent]) -> Result<
     }
 }
 
-/// Changes the last run, if there is one. At an `Err` all is as it was.
+/// Changes the last run, if there is one, now that an event stands behind the others. At an `Err` all is
+/// as it was.
 fn change_last(
     runs: &mut Vec<Run>,
     event: &BufferedEvent,
     events: &[BufferedEvent],
 ) -> Result<(), AllocError>
-    ensures changed { OnOk result (reverse (map run_view runs.new.items)
-        ≡ runs_changed (buffered_view event.now) (reverse (map buffered_view events.now))
-        (reverse (map run_view runs.old.items))) }
+    requires { HoldRuns (reverse (map buffered_view events.now))
+        (reverse (map run_view runs.old.items)) }
+    ensures changed { OnOk result (AreRuns (reverse (map run_view runs.new.items))
+        (reverse (map buffered_view events.now)) (buffered_view event.now ∷ [])) }
+    ensures count { length runs.new.items ≡ length runs.old.items }
     ensures same { OnErr result (runs.new.items ≡ runs.old.items) }
     ensures room { length runs.old.items < vec_capacity runs.old
         → length runs.new.items < vec_capacity runs.new }
 {
-    match runs.pop() {
-        None => Ok(()),
-        Some(run) => match changed(run, event, events) {
-            Ok(new) => {
-                put(runs, new);
-                Ok(())
-            }
-            Err(error) => {
-                put(runs, run);
-                Err(error)
-            }
-        },
+    if runs.is_empty() {
+        return Ok(());
     }
+    let last = runs.len() - 1;
+    runs[last] = changed(runs[last], event, events)?;
+    Ok(())
 }
 
 fn begins_run(event: &BufferedEvent, events: &[BufferedEvent]) -> bool
@@ -220,7 +212,7 @@ fn begins_run(event: &BufferedEvent, events: &[BufferedEvent]) -> bool
     in_run(event) && !goes_on(event, events)
 }
 
-/// Begins a run with an event behind others, if it begins one.
+/// Begins a run with an event behind others, if it begins one. The last run has been changed.
 fn begin_run(runs: &mut Vec<Run>, event: &BufferedEvent, events: &[BufferedEvent])
     requires room { length runs.old.items < vec_capacity runs.old }
     ensures { let e = buffered_view event.now in
@@ -234,27 +226,75 @@ fn begin_run(runs: &mut Vec<Run>, event: &BufferedEvent, events: &[BufferedEvent
     }
 }
 
-/// Adds an event behind others to the column of runs. At an `Err` it is as it was.
-pub(crate) fn join_runs(
+/// Adds a delimiter behind other events to the runs. At an `Err` they are as they were.
+fn join_delimiter(
     runs: &mut Vec<Run>,
-    numbers: &mut Vec<usize>,
+    delimiters: &mut Vec<Delimiter>,
     event: &BufferedEvent,
     events: &[BufferedEvent],
 ) -> Result<(), AllocError>
     requires held { HoldRuns (reverse (map buffered_view events.now))
-        (reverse (map run_view runs.old.items)) (reverse numbers.old.items) }
-    requires room { length numbers.old.items < vec_capacity numbers.old }
-    ensures joined { OnOk result (HoldRuns
+        (reverse (map run_view runs.old.items)) }
+    requires numbered { AreNumbered (map buffered_view events.now)
+        (numbers_of delimiters.old.items) }
+    requires delimiter { in_run (buffered_view event.now) ≡ true }
+    ensures held { OnOk result (HoldRuns
         (buffered_view event.now ∷ reverse (map buffered_view events.now))
-        (reverse (map run_view runs.new.items)) (reverse numbers.new.items)) }
+        (reverse (map run_view runs.new.items))) }
+    ensures numbered { OnOk result (AreNumbered
+        (map buffered_view events.now ++ buffered_view event.now ∷ [])
+        (numbers_of delimiters.new.items)) }
+    ensures widths { OnOk result ((i : ℕ) → slice_index_or (widths_of delimiters.new.items) i 0
+        ≡ slice_index_or (widths_of delimiters.old.items) i 0) }
     ensures runs { OnErr result (runs.new.items ≡ runs.old.items) }
-    ensures numbers { OnErr result (numbers.new.items ≡ numbers.old.items) }
+    ensures delimiters { OnErr result (delimiters.new.items ≡ delimiters.old.items) }
 {
-    runs.reserve(1)?;
+    let place = events.len();
+    make_room_up_to(delimiters, place)?;
+    make_room(runs)?;
     change_last(runs, event, events)?;
     begin_run(runs, event, events);
-    put_number(numbers, runs.len());
+    note_run(delimiters, place, runs.len());
     Ok(())
+}
+
+/// Whether events end with a run. Where no delimiter is among them, that is known without a look.
+fn ends_known_run(delimiters: &[Delimiter], events: &[BufferedEvent]) -> bool
+    requires { AreNumbered (map buffered_view events.now) (numbers_of delimiters.now) }
+    ensures { result ≡ ends_run (reverse (map buffered_view events.now)) }
+{
+    !delimiters.is_empty() && ends_run(events)
+}
+
+/// Adds an event behind others to the runs, and what is kept of it. At an `Err` all is as it was.
+pub(crate) fn join_runs(
+    runs: &mut Vec<Run>,
+    delimiters: &mut Vec<Delimiter>,
+    event: &BufferedEvent,
+    events: &[BufferedEvent],
+) -> Result<(), AllocError>
+    requires held { HoldRuns (reverse (map buffered_view events.now))
+        (reverse (map run_view runs.old.items)) }
+    requires numbered { AreNumbered (map buffered_view events.now)
+        (numbers_of delimiters.old.items) }
+    ensures held { OnOk result (HoldRuns
+        (buffered_view event.now ∷ reverse (map buffered_view events.now))
+        (reverse (map run_view runs.new.items))) }
+    ensures numbered { OnOk result (AreNumbered
+        (map buffered_view events.now ++ buffered_view event.now ∷ [])
+        (numbers_of delimiters.new.items)) }
+    ensures widths { OnOk result ((i : ℕ) → slice_index_or (widths_of delimiters.new.items) i 0
+        ≡ slice_index_or (widths_of delimiters.old.items) i 0) }
+    ensures runs { OnErr result (runs.new.items ≡ runs.old.items) }
+    ensures delimiters { OnErr result (delimiters.new.items ≡ delimiters.old.items) }
+{
+    if in_run(event) {
+        join_delimiter(runs, delimiters, event, events)
+    } else if ends_known_run(delimiters, events) {
+        change_last(runs, event, events)
+    } else {
+        Ok(())
+    }
 }
 
 /// The run at a place among the runs.
@@ -275,16 +315,6 @@ fn run_numbered(runs: &[Run], number: usize) -> Option<Run>
     }
 }
 
-fn number_at(numbers: &[usize], place: usize) -> usize
-    ensures { result ≡ slice_index_or numbers.now place 0 }
-{
-    if place < numbers.len() {
-        numbers[place]
-    } else {
-        0
-    }
-}
-
 fn is_in_run(events: &[BufferedEvent], place: usize) -> bool
     ensures { result ≡ begins_in_run (drop place (map buffered_view events.now)) }
 {
@@ -299,16 +329,17 @@ fn is_in_run(events: &[BufferedEvent], place: usize) -> bool
 pub(crate) fn run_at(
     events: &[BufferedEvent],
     runs: &[Run],
-    numbers: &[usize],
+    delimiters: &[Delimiter],
     place: usize,
 ) -> Option<Run>
-    requires { HoldRuns (reverse (map buffered_view events.now)) (reverse (map run_view runs.now))
-        (reverse numbers.now) }
+    requires held { HoldRuns (reverse (map buffered_view events.now))
+        (reverse (map run_view runs.now)) }
+    requires numbered { AreNumbered (map buffered_view events.now) (numbers_of delimiters.now) }
     ensures { let es = map buffered_view events.now in
         option_map run_view result ≡ run_here (reverse (take place es)) (drop place es) }
 {
     if is_in_run(events, place) {
-        run_numbered(runs, number_at(numbers, place))
+        run_numbered(runs, number_at(delimiters, place))
     } else {
         None
     }

@@ -1,13 +1,15 @@
 //! How many markers the containers of a unit open with, found when they end.
 
-ghost use Rattle.std.specs.Prelude.{◌≡◌, ◌<◌, ℕ, drop, length, map, slice_index_or, vec_capacity, IfOk, Some};
+ghost use Rattle.std.specs.Prelude.{◌≡◌, drop, map, IfOk};
 ghost use Rattle.tocmark_event.specs.View.{SourcedEvent};
 ghost use Rattle.tocmark_spelling.specs.Buffered.{buffered_view};
 ghost use Rattle.tocmark_spelling.specs.Runs.{start_width};
 ghost use Rattle.tocmark_spelling.specs.Scans.{AreEnds};
+ghost use Rattle.tocmark_write_pending.specs.DelimiterColumn.{AreNumbered, numbers_of, widths_of};
 ghost use Rattle.tocmark_write_pending.specs.OpenContainers.{EndsAt, IsOpenAt};
-ghost use Rattle.tocmark_write_pending.specs.WidthColumn.{AreWidths, added_by, is_last, width_by, width_ended, width_now, widths_with};
+ghost use Rattle.tocmark_write_pending.specs.WidthColumn.{AreWidths, added_by, is_last, width_by, width_ended, width_now};
 
+use crate::delimiters::{Delimiter, width_at};
 use crate::placeholder::rest_of;
 use std::alloc::AllocError;
 use tocmark_event::event::{EventOf, TagOf};
@@ -61,33 +63,42 @@ fn width_by(events: &[BufferedEvent], is_only: bool, width: usize) -> Result<usi
     }
 }
 
-/// How many markers the container opens with that starts at a place, if it has ended; 0 for another event.
-pub(crate) fn width_at(widths: &[usize], place: usize) -> usize
-    ensures { result ≡ slice_index_or widths.now place 0 }
-{
-    if place < widths.len() {
-        widths[place]
-    } else {
-        0
-    }
-}
-
 /// How many markers the container opens with whose start is at a place, and which one more event ends.
 fn width_from(
     events: &[BufferedEvent],
     ends: &[Option<usize>],
-    widths: &[usize],
+    delimiters: &[Delimiter],
     start: usize,
 ) -> Result<usize, AllocError>
     requires ends { AreEnds (map buffered_view events.now) ends.now }
-    requires widths { AreWidths (map buffered_view events.now) widths.now }
+    requires widths { AreWidths (map buffered_view events.now) (widths_of delimiters.now) }
     ensures { let es = map buffered_view events.now in
         IsOpenAt es start 0 → IfOk result (λ all. all ≡ width_now (drop start es)) }
 {
     if start < events.len() {
         let first = start + 1;
         let is_only = is_last(end_at(ends, first), events.len());
-        width_by(rest_of(events, start), is_only, width_at(widths, first))
+        width_by(rest_of(events, start), is_only, width_at(delimiters, first))
+    } else {
+        Ok(0)
+    }
+}
+
+/// The same; where no delimiter stands at its start or behind that, it opens with none.
+fn width_of_start(
+    events: &[BufferedEvent],
+    ends: &[Option<usize>],
+    delimiters: &[Delimiter],
+    start: usize,
+) -> Result<usize, AllocError>
+    requires ends { AreEnds (map buffered_view events.now) ends.now }
+    requires numbers { AreNumbered (map buffered_view events.now) (numbers_of delimiters.now) }
+    requires widths { AreWidths (map buffered_view events.now) (widths_of delimiters.now) }
+    ensures { let es = map buffered_view events.now in
+        IsOpenAt es start 0 → IfOk result (λ all. all ≡ width_now (drop start es)) }
+{
+    if start < delimiters.len() {
+        width_from(events, ends, delimiters, start)
     } else {
         Ok(0)
     }
@@ -100,29 +111,17 @@ fn width_from(
 pub(crate) fn ended_width(
     events: &[BufferedEvent],
     ends: &[Option<usize>],
-    widths: &[usize],
+    delimiters: &[Delimiter],
     ended: Option<usize>,
 ) -> Result<usize, AllocError>
     requires ends { AreEnds (map buffered_view events.now) ends.now }
-    requires widths { AreWidths (map buffered_view events.now) widths.now }
+    requires numbers { AreNumbered (map buffered_view events.now) (numbers_of delimiters.now) }
+    requires widths { AreWidths (map buffered_view events.now) (widths_of delimiters.now) }
     ensures { let es = map buffered_view events.now in
         (e : SourcedEvent) → EndsAt es e ended → IfOk result (λ all. all ≡ width_ended es ended) }
 {
     match ended {
-        Some(start) => width_from(events, ends, widths, start),
+        Some(start) => width_of_start(events, ends, delimiters, start),
         None => Ok(0),
     }
-}
-
-/// Notes how many markers a container opens with whose start is at a place, if one more event ends one.
-/// There is room for one more.
-pub(crate) fn note_width(widths: &mut Vec<usize>, ended: Option<usize>, width: usize)
-    requires room { length widths.old.items < vec_capacity widths.old }
-    requires inside { (p : ℕ) → ended ≡ Some p → p < length widths.old.items }
-    ensures { widths.new.items ≡ widths_with ended width widths.old.items }
-{
-    if let Some(start) = ended {
-        widths[start] = width;
-    }
-    let _room = widths.push(0);
 }

@@ -4,7 +4,6 @@ use Rattle.tocmark_spelling.specs.Buffered.{buffered_view}
 use Rattle.tocmark_spelling.specs.Runs.{run_before, start_width}
 use Rattle.tocmark_spelling.proofs.Turns.{drop-event, length-events}
 use Rattle.tocmark_write_lookahead.proofs.Ahead.{place-before}
-use Rattle.tocmark_write_pending.specs.RunColumn.{run_here}
 use Rattle.tocmark_write_emphasis.proofs.preferences.beyond_before.Goals as goal
 
 pub returns-else-place-eq0 : goal.returns-else-place-eq0
@@ -17,5 +16,5 @@ returns-else-place-eq0 c =
     let at : drop k es ≡ buffered_view b ∷ drop (k + 1) es =
     subst (λ (xs : List SourcedEvent). drop k xs ≡ buffered_view b ∷ drop (k + 1) xs) c.events-events.ensures
     (drop-event c.events-events.result.now k b inside c.index-events-place.is) in
-    c.before_starts.ensures (reverse (take k es)) (drop (k + 1) es) (c.run_at.ensures ∙ ap (run_here (reverse (take k es))) at)
+    c.before_starts.ensures (drop (k + 1) es) at
     ∙ ap (run_before start_width) (sym (place-before es (drop (k + 1) es) k (buffered_view b) at) ∙ ap (λ n. reverse (take n es)) more)

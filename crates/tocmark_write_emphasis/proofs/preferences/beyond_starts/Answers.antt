@@ -4,7 +4,6 @@ use Rattle.tocmark_event.specs.View.{SourcedEvent}
 use Rattle.tocmark_spelling.specs.Buffered.{buffered_view}
 use Rattle.tocmark_spelling.specs.Runs.{start_width, run_after}
 use Rattle.tocmark_spelling.proofs.Turns.{drop-event, length-events}
-use Rattle.tocmark_write_pending.specs.RunColumn.{run_here}
 use Rattle.tocmark_write_emphasis.proofs.preferences.beyond_starts.Goals as goal
 
 pub returns-then-place-saturating_sub : goal.returns-then-place-saturating_sub
@@ -15,7 +14,7 @@ returns-then-place-saturating_sub c =
     let at : drop k es ≡ buffered_view b ∷ drop (k + 1) es =
     subst (λ (xs : List SourcedEvent). drop k xs ≡ buffered_view b ∷ drop (k + 1) xs) c.events-events.ensures
     (drop-event c.events-events.result.now k b (omega (arith, c.if-place-saturating_sub.true, c.saturating_sub.ensures)) c.index-events-place.is) in
-    c.behind_starts.ensures (reverse (take k es)) (drop (k + 1) es) (c.run_at.ensures ∙ ap (run_here (reverse (take k es))) at)
+    c.behind_starts.ensures (drop (k + 1) es) at
     ∙ ap (run_after start_width) (sym at)
 
 pub returns-else-place-saturating_sub : goal.returns-else-place-saturating_sub

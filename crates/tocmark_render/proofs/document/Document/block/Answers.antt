@@ -1,4 +1,4 @@
-use Rattle.std.proofs.Common.{◌∙◌, ℕ, List, sym, subst, None, Option}
+use Rattle.std.proofs.Common.{◌∙◌, ℕ, List, refl, sym, subst, None, Option}
 use Rattle.tocmark_event.specs.Options.{options_view}
 use Rattle.tocmark_spelling.specs.Buffered.{next_view}
 use Rattle.tocmark_spelling.specs.PlanOf.{setting_of}
@@ -26,4 +26,4 @@ returns-clause-chosen g c =
     let result = c.chosen_before-text.result in
     let Q : Option (List ℕ) → Type 0 = λ l. Spells new result (choice (record s { label = l }) d (or_no_trees (trees_of es)) next) in
     subst (Spells new result) (sym (balanced-chosen s d es next (sym c.if-not-is_whole.ensures.whole)))
-    (subst Q (c.lent_label.ensures ∙ c.in_ok-label.ensures) c.chosen_before-text.ensures.chosen)
+    (subst Q (c.lent_label.ensures ∙ c.in_ok-label.ensures s refl refl) c.chosen_before-text.ensures.chosen)

@@ -4,14 +4,15 @@ use Rattle.tocmark_event.specs.Text.{text_of}
 use Rattle.tocmark_event.specs.View.{SourcedEvent, event_view}
 use Rattle.tocmark_spelling.specs.Buffered.{buffered_view, sourced}
 use Rattle.tocmark_spelling.specs.declared.buffered.BufferedEvent.{BufferedEvent}
+use Rattle.tocmark_write_pending.specs.DelimiterColumn.{AreNumbered, numbers_of}
 use Rattle.tocmark_write_pending.specs.OpenContainers.{EndsAt, ended_by, ends_with, opened}
 use Rattle.tocmark_write_pending.specs.Pending.{PendingView, nested, one_more, text_now}
 use Rattle.tocmark_write_pending.specs.PendingOf.{ends_awaited, pending_of, places_of}
 use Rattle.tocmark_write_pending.specs.Waiting.{has_ambiguous_list}
 use Rattle.tocmark_write_pending.specs.RunColumn.{HoldRuns, run_view}
-use Rattle.tocmark_write_pending.specs.WidthColumn.{width_ended, widths_with}
+use Rattle.tocmark_write_pending.specs.WidthColumn.{width_ended}
 use Rattle.tocmark_write_pending.specs.declared.nesting.OpenContainer.{OpenContainer}
-use Rattle.tocmark_write_pending.proofs.Joined.{ended-inside, event-joined, events-more, index-joined, runs-indexed, same-count, widths-indexed}
+use Rattle.tocmark_write_pending.proofs.Joined.{delimiters-joined, ended-inside, event-joined, events-more, index-joined, put-one, same-count}
 use Rattle.tocmark_write_pending.proofs.pending.Pending.join.Goals as goal
 
 pub note_end-requires-clause-inside : goal.note_end-requires-clause-inside
@@ -20,15 +21,7 @@ note_end-requires-clause-inside c = λ p is.
     let event = event_view text_of c.args.event.now in
     let by = c.ended_by-ended.ensures ∙ ap (λ (cs : List OpenContainer). ended_by event (places_of cs)) c.deref-2.ensures.value in
     let inside = ended-inside (map buffered_view old.events.items) (ends_awaited old.containers.items) (places_of old.containers.items) old.ends.items old.is_ambiguous event c.ended_by-ended.result p c.self.invariant.0 by is in
-    omega (arith, inside, ap length c.in_ok-reserve-2.ensures.items)
-
-pub note_width-requires-clause-inside : goal.note_width-requires-clause-inside
-note_width-requires-clause-inside c = λ p is.
-    let old = c.self.inside in
-    let event = event_view text_of c.args.event.now in
-    let by = c.ended_by-ended.ensures ∙ ap (λ (cs : List OpenContainer). ended_by event (places_of cs)) c.deref-2.ensures.value in
-    let inside = ended-inside (map buffered_view old.events.items) (ends_awaited old.containers.items) (places_of old.containers.items) old.ends.items old.is_ambiguous event c.ended_by-ended.result p c.self.invariant.0 by is in
-    omega (arith, inside, c.self.invariant.0.ends_known.len, c.self.invariant.2.len, ap length c.in_ok-reserve-5.ensures.items)
+    omega (arith, inside, ap length c.in_ok-make_room-2.ensures.items)
 
 pub invariant_of-self-2 : goal.invariant_of-self-2
 invariant_of-self-2 c =
@@ -38,26 +31,35 @@ invariant_of-self-2 c =
     let es = map buffered_view old.events.items in
     let cs = old.containers.items in
     let ended = c.ended_by-ended.result in
-    let put : c.put_event.new.events.items ≡ old.events.items ++ c.in_ok-copy.copy ∷ [] = c.put_event.ensures.items ∙ ap (λ (xs : List BufferedEvent). xs ++ c.in_ok-copy.copy ∷ []) c.in_ok-reserve-4.ensures.items in
+    let put : c.push-room.new.self.items ≡ old.events.items ++ c.in_ok-copy.copy ∷ [] = put-one c.push-room.result _ _ (c.push-room.ensures.succeeds (omega (arith, c.in_ok-make_room-3.ensures.room, c.make_room-3.new.items.ok.0))) c.push-room.ensures.items ∙ ap (λ (xs : List BufferedEvent). xs ++ c.in_ok-copy.copy ∷ []) c.in_ok-make_room-3.ensures.items in
     let b = c.is_ambiguous_behind-is_ambiguous.result in
+    let by = c.ended_by-ended.ensures ∙ ap (λ (xs : List OpenContainer). ended_by event (places_of xs)) c.deref-2.ensures.value in
+    let nests = ap (λ (xs : List OpenContainer). nested (ends_awaited xs) event) (sym c.in_ok-make_room.ensures.items) ∙ c.nest.ensures.ends in
+    let waiting = c.deref-8.ensures.value ∙ c.in_ok-make_room-3.ensures.items in
     let place : c.len-place.result ≡ length es = omega (arith, c.len-place.ensures, old.events.ok.0, length-map old.events.items buffered_view) in (
-      index-joined es (map buffered_view c.put_event.new.events.items) (ends_awaited cs) (ends_awaited c.nest.new.containers.items) (places_of cs) (places_of c.nest.new.containers.items) old.ends.items c.note_end.new.ends.items old.is_ambiguous b event source ended c.self.invariant.0
+      index-joined es (map buffered_view c.push-room.new.self.items) (ends_awaited cs) (ends_awaited c.nest.new.containers.items) (places_of cs) (places_of c.nest.new.containers.items) old.ends.items c.note_end.new.ends.items old.is_ambiguous b event source ended c.self.invariant.0
           (same-count cs)
-          (c.ended_by-ended.ensures ∙ ap (λ (xs : List OpenContainer). ended_by event (places_of xs)) c.deref-2.ensures.value)
-          (events-more old.events.items c.put_event.new.events.items c.in_ok-copy.copy (sourced event source) put c.in_ok-copy.ensures)
-          (ap (λ (xs : List OpenContainer). nested (ends_awaited xs) event) (sym c.in_ok-reserve.ensures.items) ∙ c.nest.ensures.ends)
-          (c.nest.ensures.places ∙ (λ j. opened event (place j) (places_of (c.in_ok-reserve.ensures.items j))))
-          (c.note_end.ensures ∙ ap (ends_with ended) c.in_ok-reserve-2.ensures.items)
+          by
+          (events-more old.events.items c.push-room.new.self.items c.in_ok-copy.copy (sourced event source) put c.in_ok-copy.ensures)
+          nests
+          (c.nest.ensures.places ∙ (λ j. opened event (place j) (places_of (c.in_ok-make_room.ensures.items j))))
+          (c.note_end.ensures ∙ ap (ends_with ended) c.in_ok-make_room-2.ensures.items)
           (subst (λ (xs : List BufferedEvent). (e : SourcedEvent) → EndsAt (map buffered_view xs) e ended → b ≡ has_ambiguous_list false (map buffered_view xs ++ e ∷ [])) c.deref-3.ensures.value c.is_ambiguous_behind-is_ambiguous.ensures),
-      runs-indexed old.events.items c.put_event.new.events.items c.in_ok-copy.copy c.join_runs.new.runs.items c.join_runs.new.numbers.items put
-          (subst (λ (xs : List BufferedEvent). HoldRuns (buffered_view c.in_ok-copy.copy ∷ reverse (map buffered_view xs)) (reverse (map run_view c.join_runs.new.runs.items)) (reverse c.join_runs.new.numbers.items)) (c.deref-8.ensures.value ∙ c.in_ok-reserve-4.ensures.items) c.in_ok-join_runs.ensures.joined),
-      widths-indexed es (map buffered_view c.put_event.new.events.items) (ends_awaited cs) (ends_awaited c.nest.new.containers.items) (places_of cs) event source ended old.widths.items c.note_width.new.widths.items c.in_ok-width.width c.self.invariant.0.places_open c.self.invariant.2
+      delimiters-joined old.events.items c.push-room.new.self.items c.in_ok-copy.copy (ends_awaited cs) (ends_awaited c.nest.new.containers.items) (places_of cs) event source ended old.runs.items c.join_runs.new.runs.items old.delimiters.items c.join_runs.new.delimiters.items c.note_width.new.delimiters.items c.in_ok-width.width
+          c.self.invariant.0.places_open
+          c.self.invariant.1
           (same-count cs)
-          (c.ended_by-ended.ensures ∙ ap (λ (xs : List OpenContainer). ended_by event (places_of xs)) c.deref-2.ensures.value)
-          (events-more old.events.items c.put_event.new.events.items c.in_ok-copy.copy (sourced event source) put c.in_ok-copy.ensures)
-          (ap (λ (xs : List OpenContainer). nested (ends_awaited xs) event) (sym c.in_ok-reserve.ensures.items) ∙ c.nest.ensures.ends)
-          (c.note_width.ensures ∙ ap (widths_with ended c.in_ok-width.width) c.in_ok-reserve-5.ensures.items)
-          (subst (λ (xs : List BufferedEvent). (e : SourcedEvent) → EndsAt (map buffered_view xs) e ended → c.in_ok-width.width ≡ width_ended (map buffered_view xs) ended) c.deref-5.ensures.value c.in_ok-width.ensures),
+          by
+          nests
+          put
+          c.in_ok-copy.ensures
+          (subst (λ (xs : List BufferedEvent). HoldRuns (buffered_view c.in_ok-copy.copy ∷ reverse (map buffered_view xs)) (reverse (map run_view c.join_runs.new.runs.items))) waiting c.in_ok-join_runs.ensures.held)
+          (subst (λ (xs : List BufferedEvent). AreNumbered (map buffered_view xs ++ buffered_view c.in_ok-copy.copy ∷ []) (numbers_of c.join_runs.new.delimiters.items)) waiting c.in_ok-join_runs.ensures.numbered)
+          c.in_ok-join_runs.ensures.widths
+          (subst (λ (xs : List BufferedEvent). (e : SourcedEvent) → EndsAt (map buffered_view xs) e ended → c.in_ok-width.width ≡ width_ended (map buffered_view xs) ended) c.deref-5.ensures.value c.in_ok-width.ensures)
+          c.note_width.ensures.numbers
+          c.note_width.ensures.same
+          c.note_width.ensures.widths,
     )
 
 pub returns : goal.returns
@@ -66,9 +68,9 @@ returns c =
     let event = event_view text_of c.args.event.now in
     let source = text_now c.args.source in
     let opened = ends_awaited c.nest.new.containers.items in
-    let put : c.put_event.new.events.items ≡ old.events.items ++ c.in_ok-copy.copy ∷ [] = c.put_event.ensures.items ∙ ap (λ (xs : List BufferedEvent). xs ++ c.in_ok-copy.copy ∷ []) c.in_ok-reserve-4.ensures.items in
-    let new : PendingView = record { events = map buffered_view c.put_event.new.events.items; open_tags = opened } in
-    let nests = ap (λ (xs : List OpenContainer). nested (ends_awaited xs) event) (sym c.in_ok-reserve.ensures.items) ∙ c.nest.ensures.ends in
+    let put : c.push-room.new.self.items ≡ old.events.items ++ c.in_ok-copy.copy ∷ [] = put-one c.push-room.result _ _ (c.push-room.ensures.succeeds (omega (arith, c.in_ok-make_room-3.ensures.room, c.make_room-3.new.items.ok.0))) c.push-room.ensures.items ∙ ap (λ (xs : List BufferedEvent). xs ++ c.in_ok-copy.copy ∷ []) c.in_ok-make_room-3.ensures.items in
+    let new : PendingView = record { events = map buffered_view c.push-room.new.self.items; open_tags = opened } in
+    let nests = ap (λ (xs : List OpenContainer). nested (ends_awaited xs) event) (sym c.in_ok-make_room.ensures.items) ∙ c.nest.ensures.ends in
     subst (λ (p : PendingView). one_more p (sourced event source) ≡ Ok new) c.self.view_is
     (event-joined (pending_of old) event source opened nests
-    ∙ ap (λ (es : List SourcedEvent). Ok (record { events = es; open_tags = opened })) (sym (events-more old.events.items c.put_event.new.events.items c.in_ok-copy.copy (sourced event source) put c.in_ok-copy.ensures)))
+    ∙ ap (λ (es : List SourcedEvent). Ok (record { events = es; open_tags = opened })) (sym (events-more old.events.items c.push-room.new.self.items c.in_ok-copy.copy (sourced event source) put c.in_ok-copy.ensures)))
