@@ -1,6 +1,7 @@
-//! Runs of one script again: with a clone of the state behind each event, and with a writer or a reader that fails.
+//! Runs of one script again: with events that are given away one by one and a clone of the state behind each, and with a
+//! writer or a reader that fails.
 
-use crate::runs::{Refusals, RunAnswer, refusals_of, run_with};
+use crate::runs::{Conduct, RunAnswer, conduct_of, run_with};
 use crate::tally::Tally;
 use std::alloc::{AllocError, Global};
 use std::io::{self, Write};
@@ -38,13 +39,17 @@ fn push_cloned(calls: &mut Vec<Call>, call: Call) -> Result<(), AllocError> {
     Ok(())
 }
 
-/// The answer where the state is cloned behind each event and each finish, and the clone goes on.
+/// The answer where each event is given away, the state is cloned behind it and behind each finish, and the clone goes on.
 fn cloned(alloc: Global, script: &Script<'static>) -> Result<String, AllocError> {
     let mut calls = Vec::new(alloc);
     for call in &script.calls {
         push_cloned(&mut calls, *call)?;
     }
-    Ok(run_with(alloc, script, &calls, refusals_of(script))?.answer)
+    let conduct = Conduct {
+        gives_away: true,
+        ..conduct_of(script)
+    };
+    Ok(run_with(alloc, script, &calls, conduct)?.answer)
 }
 
 /// The answer where the writer refuses this text.
@@ -53,11 +58,11 @@ fn with_text_refused(
     script: &Script<'static>,
     text: usize,
 ) -> Result<String, AllocError> {
-    let refusals = Refusals {
-        text: Some(text),
-        reading: script.refused_reading,
+    let conduct = Conduct {
+        refused_text: Some(text),
+        ..conduct_of(script)
     };
-    Ok(run_with(alloc, script, &script.calls, refusals)?.answer)
+    Ok(run_with(alloc, script, &script.calls, conduct)?.answer)
 }
 
 /// The answer where there is no memory for this reading.
@@ -66,11 +71,11 @@ fn with_reading_refused(
     script: &Script<'static>,
     reading: usize,
 ) -> Result<String, AllocError> {
-    let refusals = Refusals {
-        text: script.refused_text,
-        reading: Some(reading),
+    let conduct = Conduct {
+        refused_reading: Some(reading),
+        ..conduct_of(script)
     };
-    Ok(run_with(alloc, script, &script.calls, refusals)?.answer)
+    Ok(run_with(alloc, script, &script.calls, conduct)?.answer)
 }
 
 /// How many lines a text has.
@@ -114,7 +119,7 @@ impl Again {
         readers: Tally::NONE,
     };
 
-    /// With clones the answer is that of the whole run.
+    /// With events that are given away and clones the answer is that of the whole run.
     fn run_cloned(
         &mut self,
         alloc: Global,
@@ -176,7 +181,7 @@ impl Again {
         if !script.questions.is_empty() || script.events.len() > MOST_EVENTS {
             return Ok(());
         }
-        let whole = run_with(alloc, script, &script.calls, refusals_of(script))?;
+        let whole = run_with(alloc, script, &script.calls, conduct_of(script))?;
         self.scripts = self.scripts.saturating_add(1);
         self.run_cloned(alloc, script, &whole, answer)?;
         self.run_writers(alloc, script, &whole, answer)?;

@@ -9,8 +9,11 @@ use Rattle.tocmark_event.specs.Text.{ParserEvent}
 use Rattle.tocmark_event.specs.declared.reader.Events.{Events}
 use Rattle.tocmark_event.specs.declared.reader.Pairs.{Pairs}
 use Rattle.tocmark_laws.specs.Paragraphs.{Keeps}
+use Rattle.tocmark_state.specs.Owned.{into_events_left, into_pairs_left, owned_event, owned_pair, owned_pairs, owned_ranged_pairs}
 use Rattle.tocmark_state.specs.Ranges.{Range, unranged}
 use Rattle.tocmark_state.specs.WorkView.{pairs, ranged_pairs}
+use Rattle.tocmark_state.specs.declared.owned.IntoEvents.{IntoEvents}
+use Rattle.tocmark_state.specs.declared.owned.IntoPairs.{IntoPairs}
 
 module _ {S A B : Type 0} (view : A → B) (rest : S → List B) where
   -- what was given, and then what is left, is all
@@ -30,6 +33,14 @@ pairs_of_events xs it h = sym (map-map unranged lent_event xs) ∙ ap (map unran
 -- the pairs of a call that took all events of a reading with their ranges
 pub pairs_of_pairs : (xs : List (Bor ParserEvent × Option Range)) (it : Pairs) → DrainsIf (YieldsFirstBy lent_pair pairs_left) (Unit {0}) it xs → ranged_pairs xs ≡ pairs_left it
 pairs_of_pairs xs it h = drained lent_pair pairs_left xs it h
+
+-- the pairs of a call that took all events of a reading that is given away
+pub pairs_of_owned_events : (xs : List ParserEvent) (it : IntoEvents) → DrainsIf (YieldsFirstBy owned_event into_events_left) (Unit {0}) it xs → owned_pairs xs ≡ map unranged (into_events_left it)
+pairs_of_owned_events xs it h = sym (map-map unranged owned_event xs) ∙ ap (map unranged) (drained owned_event into_events_left xs it h)
+
+-- the same with their ranges
+pub pairs_of_owned_pairs : (xs : List (ParserEvent × Option Range)) (it : IntoPairs) → DrainsIf (YieldsFirstBy owned_pair into_pairs_left) (Unit {0}) it xs → owned_ranged_pairs xs ≡ into_pairs_left it
+pairs_of_owned_pairs xs it h = drained owned_pair into_pairs_left xs it h
 
 -- texts that a writer keeps one after the other
 pub kept_in_parts : {W : Type 0} {takes : W → List ℕ → W → Type 0} (bytes : W → List ℕ) (keeps : Keeps takes bytes) (texts : List (List ℕ)) (w v : W) → FoldsTo takes w texts v → bytes v ≡ bytes w ++ concat texts

@@ -21,24 +21,26 @@ use std::{env, io};
 use tocmark::core_reader::{BlockReading, CoreReader};
 use tocmark::event::ParserOptions;
 use tocmark::reader::Reading;
-use tocmark::{Error, Options, Progress, State};
+use tocmark::{Error, Options, Progress, State, into_events, into_pairs};
 
 /// Writes the events of one block.
 fn write_block(
     state: &mut State<CoreReader>,
     spelling: Spelling,
     text: &str,
-    block: &Reading,
+    block: Reading,
     output: &mut String,
 ) -> Result<Progress, Error>
     ensures { (done : List Pair) → IsWritten text.now done state.old (string_bytes output.old)
         → OnOk result (IsWritten text.now
-        (done ++ as_pairs spelling (reading_view block.now).events)
+        (done ++ as_pairs spelling (reading_view block).events)
         state.new (string_bytes output.new)) }
 {
     match spelling {
-        Spelling::Escaped => state.process(block.events(), output),
-        Spelling::FromSource => state.process_with_source_range(block.pairs(), text, output),
+        Spelling::Escaped => state.process_owned(into_events(block), output),
+        Spelling::FromSource => {
+            state.process_owned_with_source_range(into_pairs(block), text, output)
+        }
     }
 }
 
@@ -56,9 +58,7 @@ fn write_blocks(
         → OnOk result (IsWritten text.now all state.new (string_bytes output.new)) }
 {
     while let Some(block) = blocks.next()? {
-        let written = write_block(state, spelling, text, &block, output);
-        drop(block);
-        written?;
+        write_block(state, spelling, text, block, output)?;
     }
     Ok(())
 }

@@ -356,7 +356,8 @@ impl Document {
         reader: &R,
         unit: &Pending,
     ) -> Result<Option<String>, AllocError>
-        ensures { (s : Setting) → s.reading ≡ R.reading reader.now → s.flags ≡ document_flags self.now
+        ensures { (s : Setting) → s.reading ≡ R.reading reader.now
+            → s.flags ≡ document_flags self.now
             → IfOk result (λ label. option_map string_bytes label ≡
             label_for s (document_view self.now) unit.now.events None) }
     {
@@ -378,7 +379,8 @@ impl Document {
         unit: &Pending,
         next: Option<&Event<'_>>,
     ) -> Result<Option<String>, AllocError>
-        ensures { (s : Setting) → s.reading ≡ R.reading reader.now → s.flags ≡ document_flags self.now
+        ensures { (s : Setting) → s.reading ≡ R.reading reader.now
+            → s.flags ≡ document_flags self.now
             → IfOk result (λ label. option_map string_bytes label ≡
             label_for s (document_view self.now) unit.now.events (next_view next.entry)) }
     {

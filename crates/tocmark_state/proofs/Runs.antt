@@ -1,5 +1,5 @@
 -- What a loop over events, and a call after others, add to a walk.
-use Rattle.std.proofs.Common.{◌≡◌, ℕ, ◌+◌, ◌-◌, List, [], ◌++◌, length, sum_by, Result, Ok, Err, ap, ◌∙◌, sym, subst, IsOk}
+use Rattle.std.proofs.Common.{◌≡◌, ℕ, List, [], ◌++◌, length, sum_by, Result, Ok, Err, ap, ◌∙◌, sym, subst, IsOk}
 use Rattle.std.specs.List.{FoldsTo}
 use Rattle.std.specs.Result.{IfOk}
 use Rattle.tocmark_event.specs.Options.{OptionsView}
@@ -36,7 +36,7 @@ Ends-from gives refuses w v how flags source r p s h m k =
       counts = k;
     }
 
-behind-same : (d d' : List Reference) (o o' : OptionsView) (reading : List ℕ → ParserOptions → ReadingView) → d' ≡ d → o' ≡ o → rendering_behind d' o' reading ≡ rendering_behind d o reading
+pub behind-same : (d d' : List Reference) (o o' : OptionsView) (reading : List ℕ → ParserOptions → ReadingView) → d' ≡ d → o' ≡ o → rendering_behind d' o' reading ≡ rendering_behind d o reading
 behind-same d d' o o' reading h e = ap (λ x. rendering_behind x o' reading) h ∙ ap (λ x. rendering_behind d x reading) e
 
 pub Adds-with : {W : Type 0} (gives refuses : W → List ℕ → W → Type 0) (w v : W) (d d' : List Reference) (o o' : OptionsView) (reading : List ℕ → ParserOptions → ReadingView) (flags : ParserOptions) (source : List ℕ) (r : Result Progress Error) (place : Standing) (p q : List Pair) (s : Standing) → d' ≡ d → o' ≡ o → (walk (rendering_behind d o reading) source (nothing_yet flags) p).outcome ≡ Ok s → Makes gives refuses w v r place (walk (rendering_behind d' o' reading) source s q) → IfOk r (λ n. Counts n (length q) (sum_by length (walk (rendering_behind d' o' reading) source s q).texts)) → Adds gives refuses w v (rendering_behind d o reading) flags source r place p q

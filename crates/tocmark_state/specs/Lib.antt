@@ -1,4 +1,5 @@
 pub mod Ranges
+pub mod Owned
 pub mod Walk
 pub mod StringWriters
 pub mod Writes

@@ -1,5 +1,5 @@
 -- What a state holds, as plain values.
-use Rattle.std.specs.Prelude.{◌≡◌, ℕ, ◌-◌, ◌++◌, List, length, map, Result, Ok}
+use Rattle.std.specs.Prelude.{◌≡◌, ℕ, ◌++◌, List, length, map, Result, Ok}
 use Rattle.std.specs.List.{sum_by}
 use Rattle.std.specs.Result.{IfOk}
 use Rattle.tocmark_event.specs.Options.{owned_options_view}
@@ -15,7 +15,7 @@ use Rattle.tocmark_state.specs.declared.state.Status.TheVariants.{Active, Finish
 use Rattle.tocmark_state.specs.Ranges.{Pair}
 use Rattle.tocmark_state.specs.Walk.{done, Rendering, Standing, walk, nothing_yet, script}
 use Rattle.tocmark_state.specs.Writes.{Makes}
-use Rattle.tocmark_state.specs.WorkView.{Counts, flags_of, pairs, rendering_behind, standing_of}
+use Rattle.tocmark_state.specs.WorkView.{Counts, flags_of, rendering_behind, standing_of}
 
 -- where the events that a state took stand
 abbrev pub place_of : {R : Type 0} → State R → Standing

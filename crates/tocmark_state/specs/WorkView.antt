@@ -98,6 +98,10 @@ ranged_pair x = (event_view text_of x.0.now, x.1)
 abbrev pub ranged_pairs : List (Bor ParserEvent × Option Range) → List Pair
 ranged_pairs xs = map ranged_pair xs
 
+-- events in any form that they come in, with their ranges
+abbrev pub incoming_pairs : {E : Type 0} → (E → EventView) → List (E × Option Range) → List Pair
+incoming_pairs event xs = map (λ x. (event x.0, x.1)) xs
+
 -- an event with this spelling in the source, and the end of the last range
 abbrev pub ResolvedAs : EventView → Result (Option (Bor (List ℕ)) × ℕ) Error → Result (SourcedEvent × ℕ) Error → Type 0
 ResolvedAs e (Ok x) answer = answer ≡ Ok (sourced e (text_now x.0), x.1)

@@ -1,6 +1,6 @@
 //! A state that takes events.
 
-ghost use Rattle.std.specs.Prelude.{◌+◌, Option, ◌≡◌, IfOk, OnOk, OnErr, List, ℕ, IsOk, Some, [], map};
+ghost use Rattle.std.specs.Prelude.{◌+◌, Option, ◌≡◌, IfOk, OnOk, OnErr, List, ℕ, IsOk, Some, [], length, map, sum_by};
 ghost use Rattle.std.specs.Borrow.{Bor};
 ghost use Rattle.std.specs.Iterator.{IsFinite, DrainsIf};
 ghost use Rattle.tocmark_event.specs.Options.{options_view, owned_options_view};
@@ -8,11 +8,15 @@ ghost use Rattle.tocmark_event.specs.Text.{ParserEvent};
 ghost use Rattle.tocmark_write_labels.specs.Defined.{defined_view};
 ghost use Rattle.tocmark_write_renderer.specs.WriterOf.{reference_view};
 ghost use Rattle.tocmark_state.specs.Ranges.{Range};
+ghost use Rattle.tocmark_state.specs.Owned.{owned_pairs, owned_ranged_pairs};
 ghost use Rattle.tocmark_state.specs.StateView.{Adds, Ends, rendering_of};
-ghost use Rattle.tocmark_state.specs.WorkView.{pairs, ranged_pairs, rendering, rendering_behind};
+ghost use Rattle.tocmark_state.specs.Walk.{walk};
+ghost use Rattle.tocmark_state.specs.Writes.{Makes};
+ghost use Rattle.tocmark_state.specs.WorkView.{Counts, incoming_pairs, pairs, ranged_pairs, rendering, rendering_behind};
 
+use crate::ranges::Unranged;
 use crate::taker::Taker;
-use crate::work::{Progress, Tools, Work, end, take_all, take_all_ranged};
+use crate::work::{Progress, Tools, Work, end, take_all};
 use std::alloc::{AllocError, Global};
 use std::fmt;
 use tocmark_event::event::{Event, ParserOptions};
@@ -21,6 +25,7 @@ use tocmark_event::reader::Reader;
 pub use tocmark_write_labels::defined::DefinedLabel;
 use tocmark_write_labels::defined::copied_labels;
 use tocmark_write_labels::definitions::copied_references;
+use tocmark_write_pending::incoming::Incoming;
 use tocmark_write_renderer::parts::Reference;
 
 /// Whether a state takes events.
@@ -200,6 +205,57 @@ impl<R: Reader + Drop> State<R> {
         error
     }
 
+    /// Takes events with their ranges, in any form that they come in. An `Err` is as in
+    /// `process_with_source_range`.
+    fn process_pairs<E, I, W>(
+        &mut self,
+        pairs: I,
+        source: &str,
+        writer: &mut W,
+    ) -> Result<Progress, Error>
+    where
+        E: Incoming + Drop,
+        I: Iterator<Item = (E, Option<(usize, usize)>)>,
+        W: Taker,
+        requires can { I.can_next pairs }
+        requires ends { IsFinite (I.remaining pairs) }
+        ensures active { IsActive self.old → (xs : List (E × Option Range))
+            × DrainsIf I.next_gives (IsOk result) pairs xs
+            × Makes W.takes W.refuses writer.old writer.new result (place_of self.new)
+            (walk (rendering_of R.reading self.old) source.now (place_of self.old)
+            (incoming_pairs E.event xs))
+            × IfOk result (λ p.
+            Counts p (length xs)
+            (sum_by length
+            (walk (rendering_of R.reading self.old) source.now (place_of self.old)
+            (incoming_pairs E.event xs)).texts)) }
+        ensures same { rendering_of R.reading self.new ≡ rendering_of R.reading self.old }
+        ensures flags { state_flags self.new ≡ state_flags self.old }
+        ensures stands { OnOk result (status_of self.new ≡ status_of self.old) }
+        ensures refused { OnErr result (IsFailed self.new) }
+        ensures finished { IsFinished self.old
+            → (result ≡ Err Error.Finished) × (writer.new ≡ writer.old) }
+        ensures failed { IsFailed self.old
+            → (result ≡ Err Error.Failed) × (writer.new ≡ writer.old) }
+    {
+        match self.status {
+            Status::Active => {
+                let tools = Tools {
+                    alloc: self.alloc,
+                    reader: &self.reader,
+                    options: lent_options(&self.options),
+                    defined: &self.defined,
+                };
+                match take_all(&tools, &mut self.work, pairs, source, writer) {
+                    Ok(progress) => Ok(progress),
+                    Err(error) => Err(self.failed(error)),
+                }
+            }
+            Status::Finished => Err(self.failed(Error::Finished)),
+            Status::Failed => Err(Error::Failed),
+        }
+    }
+
     /// Takes events, and hands the text of each unit to the writer, once the event behind the unit has
     /// come. The events needn't outlive the call; the writer is to be the same in all calls.
     ///
@@ -236,23 +292,10 @@ impl<R: Reader + Drop> State<R> {
         ensures failed { IsFailed self.old
             → (result ≡ Err Error.Failed) × (writer.new ≡ writer.old) }
     {
-        let events = events.into_iter();
-        match self.status {
-            Status::Active => {
-                let tools = Tools {
-                    alloc: self.alloc,
-                    reader: &self.reader,
-                    options: lent_options(&self.options),
-                    defined: &self.defined,
-                };
-                match take_all(&tools, &mut self.work, events, writer) {
-                    Ok(progress) => Ok(progress),
-                    Err(error) => Err(self.failed(error)),
-                }
-            }
-            Status::Finished => Err(self.failed(Error::Finished)),
-            Status::Failed => Err(Error::Failed),
-        }
+        let pairs = Unranged {
+            events: events.into_iter(),
+        };
+        self.process_pairs(pairs, "", writer)
     }
 
     /// Takes events with their byte ranges in a source, as `process` does. A unit in which some text has
@@ -306,23 +349,84 @@ impl<R: Reader + Drop> State<R> {
         ensures failed { IsFailed self.old
             → (result ≡ Err Error.Failed) × (writer.new ≡ writer.old) }
     {
+        self.process_pairs(pairs.into_iter(), source, writer)
+    }
+
+    /// Takes events that are given away, as `process` takes those that are lent: their texts are moved into
+    /// what is pending, where `process` copies them.
+    ///
+    /// An `Err` is as in `process`; the events are let go of all the same.
+    ///
+    /// ```
+    /// let events = vec![
+    ///     Event::Start(Tag::Paragraph),
+    ///     Event::Text("# a".into()),
+    ///     Event::End(TagEnd::Paragraph),
+    /// ];
+    /// let mut output = String::new(alloc);
+    /// let mut state = State::new(alloc, CoreReader, ParserOptions::empty(), Options::default())?;
+    /// state.process_owned(events, &mut output)?;
+    /// state.finish(&mut output)?;
+    /// assert_eq!(rt; output.as_str(), "\\# a");
+    /// ```
+    pub fn process_owned<I, W>(&mut self, events: I, writer: &mut W) -> Result<Progress, Error>
+    where
+        I: IntoIterator<Item = Event<'static>>,
+        W: Taker,
+        requires { (it : I.IntoIter) → I.into_iter_gives events it
+            → I.IntoIter.can_next it × IsFinite (I.IntoIter.remaining it) }
+        ensures active { IsActive self.old → (it : I.IntoIter) × (xs : List ParserEvent)
+            × I.into_iter_gives events it × DrainsIf I.IntoIter.next_gives (IsOk result) it xs
+            × ((flags : ParserOptions) (source : List ℕ) (p : List Pair)
+            → Stands R.reading flags source self.old p
+            → Adds W.takes W.refuses writer.old writer.new (rendering_of R.reading self.old)
+            flags source result (place_of self.new) p (owned_pairs xs)) }
+        ensures same { rendering_of R.reading self.new ≡ rendering_of R.reading self.old }
+        ensures flags { state_flags self.new ≡ state_flags self.old }
+        ensures stands { OnOk result (status_of self.new ≡ status_of self.old) }
+        ensures refused { OnErr result (IsFailed self.new) }
+        ensures finished { IsFinished self.old
+            → (result ≡ Err Error.Finished) × (writer.new ≡ writer.old) }
+        ensures failed { IsFailed self.old
+            → (result ≡ Err Error.Failed) × (writer.new ≡ writer.old) }
+    {
+        let events = events.into_iter();
+        self.process_pairs(Unranged { events }, "", writer)
+    }
+
+    /// Takes events that are given away with their byte ranges in a source, as `process_with_source_range`
+    /// takes those that are lent.
+    ///
+    /// An `Err` is as there; the events are let go of all the same.
+    pub fn process_owned_with_source_range<I, W>(
+        &mut self,
+        pairs: I,
+        source: &str,
+        writer: &mut W,
+    ) -> Result<Progress, Error>
+    where
+        I: IntoIterator<Item = (Event<'static>, Option<(usize, usize)>)>,
+        W: Taker,
+        requires { (it : I.IntoIter) → I.into_iter_gives pairs it
+            → I.IntoIter.can_next it × IsFinite (I.IntoIter.remaining it) }
+        ensures active { IsActive self.old
+            → (it : I.IntoIter) × (xs : List (ParserEvent × Option Range))
+            × I.into_iter_gives pairs it × DrainsIf I.IntoIter.next_gives (IsOk result) it xs
+            × ((flags : ParserOptions) (p : List Pair)
+            → Stands R.reading flags source.now self.old p
+            → Adds W.takes W.refuses writer.old writer.new (rendering_of R.reading self.old)
+            flags source.now result (place_of self.new) p (owned_ranged_pairs xs)) }
+        ensures same { rendering_of R.reading self.new ≡ rendering_of R.reading self.old }
+        ensures flags { state_flags self.new ≡ state_flags self.old }
+        ensures stands { OnOk result (status_of self.new ≡ status_of self.old) }
+        ensures refused { OnErr result (IsFailed self.new) }
+        ensures finished { IsFinished self.old
+            → (result ≡ Err Error.Finished) × (writer.new ≡ writer.old) }
+        ensures failed { IsFailed self.old
+            → (result ≡ Err Error.Failed) × (writer.new ≡ writer.old) }
+    {
         let pairs = pairs.into_iter();
-        match self.status {
-            Status::Active => {
-                let tools = Tools {
-                    alloc: self.alloc,
-                    reader: &self.reader,
-                    options: lent_options(&self.options),
-                    defined: &self.defined,
-                };
-                match take_all_ranged(&tools, &mut self.work, pairs, source, writer) {
-                    Ok(progress) => Ok(progress),
-                    Err(cause) => Err(self.failed(cause)),
-                }
-            }
-            Status::Finished => Err(self.failed(Error::Finished)),
-            Status::Failed => Err(Error::Failed),
-        }
+        self.process_pairs(pairs, source, writer)
     }
 
     /// Takes the end of the events: hands the text of what is pending, and then the definitions that

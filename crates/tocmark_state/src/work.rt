@@ -1,19 +1,18 @@
 //! What a state makes of the events that it takes.
 
 ghost use Rattle.std.specs.Prelude.{◌+◌, ◌&&◌, Option, true, ◌≡◌, length, IfOk, List, ℕ, IsOk, Some, None, [], sum_by};
-ghost use Rattle.std.specs.Borrow.{Bor};
 ghost use Rattle.std.specs.Iterator.{IsFinite, DrainsIf};
-ghost use Rattle.tocmark_event.specs.Text.{ParserEvent, text_of};
+ghost use Rattle.tocmark_event.specs.Text.{text_of};
 ghost use Rattle.tocmark_event.specs.View.{event_view};
 ghost use Rattle.tocmark_spelling.specs.Buffered.{next_view, sourced};
 ghost use Rattle.tocmark_state.specs.Ranges.{Range};
 ghost use Rattle.tocmark_state.specs.Walk.{step, done, is_due, flushed, flushed_before, advance, joins, walk, nothing_yet, last_choice, ended};
 ghost use Rattle.tocmark_state.specs.Writes.{Makes};
-ghost use Rattle.tocmark_state.specs.WorkView.{Answers, Chooses, Counts, at_most, flags_of, kept_of, pairs, ranged_pairs, rendering_with, standing_of};
+ghost use Rattle.tocmark_state.specs.WorkView.{Answers, Chooses, Counts, at_most, flags_of, incoming_pairs, kept_of, rendering_with, standing_of};
 ghost use Rattle.tocmark_write_pending.specs.Pending.{text_now};
 
 use crate::hand::{hand, hand_last};
-use crate::ranges::{Unranged, resolve};
+use crate::ranges::resolve;
 use crate::taker::Taker;
 use std::alloc::{AllocError, Global};
 use tocmark_event::event::{Event, ParserOptions};
@@ -21,6 +20,7 @@ use tocmark_event::options::{Error, Options};
 use tocmark_event::reader::Reader;
 use tocmark_render::document::Document;
 use tocmark_write_labels::ending::holds_raw_block;
+use tocmark_write_pending::incoming::Incoming;
 use tocmark_write_pending::pending::Pending;
 use tocmark_write_renderer::parts::Reference;
 
@@ -114,15 +114,14 @@ fn flush<R: Reader, W: Taker>(
 }
 
 /// Adds an event to what is pending.
-fn join(
+fn join<E: Incoming + Drop>(
     alloc: Global,
     work: &mut Work,
-    event: &Event<'_>,
+    event: E,
     source: Option<&str>,
 ) -> Result<(), Error>
     ensures made { Answers result (standing_of work.new)
-        (joins (sourced (event_view text_of event.now) (text_now source.entry))
-        (standing_of work.old)).outcome }
+        (joins (sourced (E.event event) (text_now source.entry)) (standing_of work.old)).outcome }
     ensures flags { flags_of work.new ≡ flags_of work.old }
 {
     work.pending.join(alloc, event, source)
@@ -165,24 +164,23 @@ fn flush_before<R: Reader, W: Taker>(
 
 /// Takes one event, with its spelling in the source where that is known. Returns how many bytes it
 /// handed.
-fn take<R: Reader, W: Taker>(
+fn take<E: Incoming + Drop, R: Reader, W: Taker>(
     tools: &Tools<'_, R>,
     work: &mut Work,
-    event: &Event<'_>,
+    event: E,
     source: Option<&str>,
     writer: &mut W,
 ) -> Result<usize, Error>
     ensures made { Makes W.takes W.refuses writer.old writer.new result (standing_of work.new)
         (advance (rendering_with R.reading tools.now)
-        (sourced (event_view text_of event.now) (text_now source.entry)) (standing_of work.old)) }
+        (sourced (E.event event) (text_now source.entry)) (standing_of work.old)) }
     ensures count { IfOk result (λ n.
         n ≡ sum_by length
         (advance (rendering_with R.reading tools.now)
-        (sourced (event_view text_of event.now) (text_now source.entry))
-        (standing_of work.old)).texts) }
+        (sourced (E.event event) (text_now source.entry)) (standing_of work.old)).texts) }
     ensures flags { flags_of work.new ≡ flags_of work.old }
 {
-    let written = flush_before(tools, work, event, writer)?;
+    let written = flush_before(tools, work, event.lent(), writer)?;
     join(tools.alloc, work, event, source)?;
     Ok(written)
 }
@@ -198,59 +196,31 @@ fn counted(progress: Progress, written: usize) -> Progress
     }
 }
 
-/// Takes the events of an iterator, which have no ranges.
-pub fn take_all<'a, I, R, W>(
-    tools: &Tools<'_, R>,
-    work: &mut Work,
-    events: I,
-    writer: &mut W,
-) -> Result<Progress, Error>
-where
-    I: Iterator<Item = &'a Event<'a>>,
-    R: Reader,
-    W: Taker,
-    requires can { I.can_next events }
-    requires ends { IsFinite (I.remaining events) }
-    ensures made { (xs : List (Bor ParserEvent)) × DrainsIf I.next_gives (IsOk result) events xs
-        × ((source : List ℕ)
-        → Makes W.takes W.refuses writer.old writer.new result (standing_of work.new)
-        (walk (rendering_with R.reading tools.now) source (standing_of work.old) (pairs xs)))
-        × ((source : List ℕ)
-        → IfOk result (λ p.
-        Counts p (length xs)
-        (sum_by length
-        (walk (rendering_with R.reading tools.now) source (standing_of work.old)
-        (pairs xs)).texts))) }
-    ensures flags { flags_of work.new ≡ flags_of work.old }
-{
-    take_all_ranged(tools, work, Unranged { events }, "", writer)
-}
-
 /// Takes one event with its range, if it has one. Returns how many bytes it handed.
-fn take_ranged<R: Reader, W: Taker>(
+fn take_ranged<E: Incoming + Drop, R: Reader, W: Taker>(
     tools: &Tools<'_, R>,
     work: &mut Work,
-    event: &Event<'_>,
+    event: E,
     range: Option<(usize, usize)>,
     source: &str,
     writer: &mut W,
 ) -> Result<usize, Error>
     ensures made { Makes W.takes W.refuses writer.old writer.new result (standing_of work.new)
-        (step (rendering_with R.reading tools.now) source.now (event_view text_of event.now, range)
+        (step (rendering_with R.reading tools.now) source.now (E.event event, range)
         (standing_of work.old)) }
     ensures count { IfOk result (λ n.
         n ≡ sum_by length
-        (step (rendering_with R.reading tools.now) source.now (event_view text_of event.now, range)
+        (step (rendering_with R.reading tools.now) source.now (E.event event, range)
         (standing_of work.old)).texts) }
     ensures flags { flags_of work.new ≡ flags_of work.old }
 {
-    let (spelling, range_end) = resolve(source, work.range_end, event, range)?;
+    let (spelling, range_end) = resolve(source, work.range_end, event.lent(), range)?;
     work.range_end = range_end;
     take(tools, work, event, spelling, writer)
 }
 
 /// Takes the events of an iterator, with their ranges.
-pub fn take_all_ranged<'a, I, R, W>(
+pub fn take_all<E, I, R, W>(
     tools: &Tools<'_, R>,
     work: &mut Work,
     pairs: I,
@@ -258,21 +228,21 @@ pub fn take_all_ranged<'a, I, R, W>(
     writer: &mut W,
 ) -> Result<Progress, Error>
 where
-    I: Iterator<Item = (&'a Event<'a>, Option<(usize, usize)>)>,
+    I: Iterator<Item = (E, Option<(usize, usize)>)>,
+    E: Incoming + Drop,
     R: Reader,
     W: Taker,
     requires can { I.can_next pairs }
     requires ends { IsFinite (I.remaining pairs) }
-    ensures made { (xs : List (Bor ParserEvent × Option Range))
-        × DrainsIf I.next_gives (IsOk result) pairs xs
+    ensures made { (xs : List (E × Option Range)) × DrainsIf I.next_gives (IsOk result) pairs xs
         × Makes W.takes W.refuses writer.old writer.new result (standing_of work.new)
         (walk (rendering_with R.reading tools.now) source.now (standing_of work.old)
-        (ranged_pairs xs))
+        (incoming_pairs E.event xs))
         × IfOk result (λ p.
         Counts p (length xs)
         (sum_by length
         (walk (rendering_with R.reading tools.now) source.now (standing_of work.old)
-        (ranged_pairs xs)).texts)) }
+        (incoming_pairs E.event xs)).texts)) }
     ensures flags { flags_of work.new ≡ flags_of work.old }
 {
     let mut progress = Progress::default();

@@ -47,7 +47,7 @@ abbrev pub known_in : (List ℕ → ParserOptions → ReadingView) → ParserOpt
 known_in reading flags known [] = known
 known_in reading flags known (b ∷ defs) = with_labels known (reading (b ∷ defs) flags).defined
 
--- these texts and one more, if that has a bracket: no other text can have a label
+-- these texts and one more, if that has a bracket, as each text with a label has
 abbrev pub bracketed_in : List (List ℕ) → List ℕ → List (List ℕ)
 bracketed_in texts text = if list_any (λ b. b == 91) text then texts ++ text ∷ [] else texts
 

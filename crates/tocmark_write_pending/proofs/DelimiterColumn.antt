@@ -1,5 +1,5 @@
 -- One event more: what is kept of each event up to the last delimiter.
-use Rattle.std.proofs.Common.{◌≡◌, ℕ, zero, suc, ◌+◌, ◌-◌, ◌<◌, ◌≤◌, Bool, true, false, List, [], ◌∷◌, ◌++◌, refl, sym, ap, ◌∙◌, subst, length, map, reverse, take, drop, get_or, arith, ⊎_elim, length-append}
+use Rattle.std.proofs.Common.{◌≡◌, ℕ, zero, suc, ◌+◌, ◌-◌, ◌<◌, ◌≤◌, true, false, List, [], ◌∷◌, ◌++◌, refl, sym, ap, ◌∙◌, subst, length, map, reverse, take, drop, get_or, arith, ⊎_elim, length-append}
 use Rattle.std.specs.Prelude.{replicate}
 use Rattle.std.proofs.Math.ListN.{get_or-append, get_or-replicate, length-replicate, set}
 use Rattle.std.proofs.lemmas.Bool.{cases_lt, false≢true, true≢false}

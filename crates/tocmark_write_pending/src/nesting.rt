@@ -1,13 +1,13 @@
 //! Which containers are open behind the events that wait, and where the others end.
 
-ghost use Rattle.std.specs.Prelude.{◌≡◌, ◌<◌, ℕ, is_ok, length, true, vec_capacity, Ok, Some};
+ghost use Rattle.std.specs.Prelude.{◌≡◌, ◌<◌, ℕ, is_ok, length, string_bytes, true, vec_capacity, Ok, Some};
 ghost use Rattle.tocmark_event.specs.Text.{text_of};
 ghost use Rattle.tocmark_event.specs.View.{event_view};
 ghost use Rattle.tocmark_write_pending.specs.OpenContainers.{ended_by, ends_with, innermost_of, opened};
 ghost use Rattle.tocmark_write_pending.specs.Pending.{closed, nested};
 ghost use Rattle.tocmark_write_pending.specs.PendingOf.{ends_awaited, places_of};
 
-use tocmark_event::event::{Event, EventOf, TagEnd};
+use tocmark_event::event::{Event, EventOf, OwnedEvent, TagEnd};
 use tocmark_write_read_back::number::end_number;
 
 /// A container that is open.
@@ -42,14 +42,14 @@ pub(crate) fn can_come(containers: &[OpenContainer], event: &Event<'_>) -> bool
 
 /// Opens or ends a container, with an event that can come, and that stands at a place. There is room
 /// for one more.
-pub(crate) fn nest(containers: &mut Vec<OpenContainer>, event: &Event<'_>, place: usize)
+pub(crate) fn nest(containers: &mut Vec<OpenContainer>, event: &OwnedEvent, place: usize)
     requires room { length containers.old.items < vec_capacity containers.old }
     requires fits { let ends = ends_awaited containers.old.items in
-        is_ok (nested ends (event_view text_of event.now)) ≡ true }
-    ensures ends { nested (ends_awaited containers.old.items) (event_view text_of event.now)
+        is_ok (nested ends (event_view string_bytes event.now)) ≡ true }
+    ensures ends { nested (ends_awaited containers.old.items) (event_view string_bytes event.now)
         ≡ Ok (ends_awaited containers.new.items) }
     ensures places { places_of containers.new.items
-        ≡ opened (event_view text_of event.now) place (places_of containers.old.items) }
+        ≡ opened (event_view string_bytes event.now) place (places_of containers.old.items) }
 {
     match event {
         EventOf::Start(tag) => {

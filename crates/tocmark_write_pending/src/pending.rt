@@ -1,7 +1,6 @@
 //! The events that wait for their unit, with what is found out of them as they come.
 
 ghost use Rattle.std.specs.Prelude.{◌≡◌, ◌<◌, ◌==◌, ◌∷◌, ◌++◌, [], drop, length, map, option_map, reverse, string_bytes, take, vec_capacity, IfOk, is_some};
-ghost use Rattle.tocmark_event.specs.Text.{text_of};
 ghost use Rattle.tocmark_event.specs.View.{event_view};
 ghost use Rattle.tocmark_spelling.specs.Buffered.{buffered_view, sourced};
 ghost use Rattle.tocmark_spelling.specs.Scans.{AreEnds};
@@ -11,6 +10,7 @@ ghost use Rattle.tocmark_write_pending.specs.Units.{trees_of, waits};
 ghost use Rattle.tocmark_write_pending.specs.WidthColumn.{width_at};
 
 use crate::delimiters::{Delimiter, note_width, width_at};
+use crate::incoming::Incoming;
 use crate::nesting::{OpenContainer, can_come, ended_by, nest, note_end};
 use crate::placeholder::is_ambiguous_behind;
 use crate::room::make_room;
@@ -18,14 +18,14 @@ use crate::runs::{Run, join_runs, run_at};
 use crate::widths::ended_width;
 use std::alloc::{AllocError, Global};
 use std::marker::Model;
-use tocmark_event::event::Event;
 use tocmark_event::options::Error;
 use tocmark_spelling::buffered::BufferedEvent;
 
 /// Events that wait for their unit. Each End among them is the innermost open container's.
 ///
 /// Where no container is open the events are those of whole trees: that needn't be found out again.
-/// Nor need what is kept beside them, to which each event adds in a constant number of steps.
+/// Nor need what is kept beside them, to which each event adds in a constant number of steps, but for
+/// the room that it takes at times.
 #[derive(Drop)]
 pub struct Pending {
     events: Vec<BufferedEvent>,
@@ -63,16 +63,17 @@ fn copied_source(alloc: Global, source: Option<&str>) -> Result<Option<String>, 
     }
 }
 
-/// A copy of an event, and of its spelling in the source where that is known.
-fn buffered(
+/// An event with texts of its own, and a copy of its spelling in the source where that is known.
+fn buffered<E: Incoming>(
     alloc: Global,
-    event: &Event<'_>,
+    event: E,
     source: Option<&str>,
 ) -> Result<BufferedEvent, AllocError>
-    ensures { IfOk result (λ copy. buffered_view copy
-        ≡ sourced (event_view text_of event.now) (text_now source.entry)) }
+    ensures event { IfOk result (λ copy. event_view string_bytes copy.event ≡ E.event event) }
+    ensures sourced { IfOk result (λ copy. buffered_view copy
+        ≡ sourced (E.event event) (text_now source.entry)) }
 {
-    let event = event.copied(alloc)?;
+    let event = event.into_owned(alloc)?;
     let source = copied_source(alloc, source)?;
     Ok(BufferedEvent { event, source })
 }
@@ -196,24 +197,25 @@ impl Pending {
         self.is_whole() && self.is_ambiguous
     }
 
-    /// Adds a copy of an event, with what stands for it in the source where that is known.
+    /// Adds an event, with a copy of what stands for it in the source where that is known. A lent event
+    /// is copied, and of one that is given away the texts are moved.
     ///
     /// An `Err` is `UnexpectedEvent` for an End that isn't the innermost open container's, or
     /// `OutOfMemory`; all is then as it was.
-    pub fn join(
+    pub fn join<E: Incoming + Drop>(
         &mut self,
         alloc: Global,
-        event: &Event<'_>,
+        event: E,
         source: Option<&str>,
     ) -> Result<(), Error>
         ensures { Joins self.old
-            (sourced (event_view text_of event.now) (text_now source.entry)) result self.new }
+            (sourced (E.event event) (text_now source.entry)) result self.new }
     {
-        if !can_come(&self.containers, event) {
+        if !can_come(&self.containers, event.lent()) {
             return Err(Error::UnexpectedEvent);
         }
         let place = self.events.len();
-        let ended = ended_by(&self.containers, event);
+        let ended = ended_by(&self.containers, event.lent());
         let is_ambiguous = is_ambiguous_behind(self.is_ambiguous, &self.events, &self.ends, ended);
         let width = ended_width(&self.events, &self.ends, &self.delimiters, ended)?;
         make_room(&mut self.containers)?;
@@ -221,11 +223,11 @@ impl Pending {
         make_room(&mut self.events)?;
         let copy = buffered(alloc, event, source)?;
         join_runs(&mut self.runs, &mut self.delimiters, &copy, &self.events)?;
+        nest(&mut self.containers, &copy.event, place);
         let _room = self.events.push(copy);
         self.is_ambiguous = is_ambiguous;
         note_end(&mut self.ends, ended);
         note_width(&mut self.delimiters, ended, width);
-        nest(&mut self.containers, event, place);
         Ok(())
     }
 

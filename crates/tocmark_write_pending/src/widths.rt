@@ -63,28 +63,8 @@ fn width_by(events: &[BufferedEvent], is_only: bool, width: usize) -> Result<usi
     }
 }
 
-/// How many markers the container opens with whose start is at a place, and which one more event ends.
-fn width_from(
-    events: &[BufferedEvent],
-    ends: &[Option<usize>],
-    delimiters: &[Delimiter],
-    start: usize,
-) -> Result<usize, AllocError>
-    requires ends { AreEnds (map buffered_view events.now) ends.now }
-    requires widths { AreWidths (map buffered_view events.now) (widths_of delimiters.now) }
-    ensures { let es = map buffered_view events.now in
-        IsOpenAt es start 0 → IfOk result (λ all. all ≡ width_now (drop start es)) }
-{
-    if start < events.len() {
-        let first = start + 1;
-        let is_only = is_last(end_at(ends, first), events.len());
-        width_by(rest_of(events, start), is_only, width_at(delimiters, first))
-    } else {
-        Ok(0)
-    }
-}
-
-/// The same; where no delimiter stands at its start or behind that, it opens with none.
+/// How many markers the container opens with whose start is at a place, and which one more event ends;
+/// none where no delimiter stands at its start or behind that.
 fn width_of_start(
     events: &[BufferedEvent],
     ends: &[Option<usize>],
@@ -98,7 +78,9 @@ fn width_of_start(
         IsOpenAt es start 0 → IfOk result (λ all. all ≡ width_now (drop start es)) }
 {
     if start < delimiters.len() {
-        width_from(events, ends, delimiters, start)
+        let first = start + 1;
+        let is_only = is_last(end_at(ends, first), events.len());
+        width_by(rest_of(events, start), is_only, width_at(delimiters, first))
     } else {
         Ok(0)
     }

@@ -1,4 +1,4 @@
-use Rattle.std.proofs.Common.{◌-◌, ◌∙◌, arith, map, refl, reverse}
+use Rattle.std.proofs.Common.{◌-◌, arith, map, refl, reverse}
 use Rattle.std.proofs.lemmas.Bool.Decides.{nat_tests}
 use Rattle.std.proofs.lemmas.List.{nil_from_length}
 use Rattle.tocmark_spelling.specs.Buffered.{buffered_view}

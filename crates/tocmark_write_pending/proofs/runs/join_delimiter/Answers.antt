@@ -1,8 +1,8 @@
-use Rattle.std.proofs.Common.{◌≡◌, ◌∷◌, ◌∙◌, ap, arith, length, map, reverse, subst, sym}
+use Rattle.std.proofs.Common.{◌≡◌, ◌∷◌, ◌∙◌, ap, arith, length, map, reverse, sym}
 use Rattle.std.proofs.lemmas.List.{length-map}
 use Rattle.tocmark_spelling.specs.Buffered.{buffered_view}
-use Rattle.tocmark_write_pending.specs.DelimiterColumn.{noted, numbers_of}
-use Rattle.tocmark_write_pending.specs.RunColumn.{run_view, runs_begun}
+use Rattle.tocmark_write_pending.specs.DelimiterColumn.{noted}
+use Rattle.tocmark_write_pending.specs.RunColumn.{runs_begun}
 use Rattle.tocmark_write_pending.proofs.DelimiterColumn.{numbered-more, widths-noted}
 use Rattle.tocmark_write_pending.proofs.RunLists.{delimiter-joined, turned-count}
 use Rattle.tocmark_write_pending.proofs.runs.join_delimiter.Goals as goal

@@ -1,4 +1,4 @@
-use Rattle.std.proofs.Common.{map, reverse, refl, sym, length}
+use Rattle.std.proofs.Common.{map, reverse, refl, sym}
 use Rattle.tocmark_spelling.specs.Buffered.{buffered_view}
 use Rattle.tocmark_write_pending.specs.DelimiterColumn.{numbers_of}
 use Rattle.tocmark_write_pending.specs.RunColumn.{run_view}

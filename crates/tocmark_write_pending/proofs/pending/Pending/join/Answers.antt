@@ -1,7 +1,6 @@
 use Rattle.std.proofs.Common.{◌≡◌, ◌++◌, ◌∷◌, ◌∙◌, [], List, Ok, ap, arith, false, length, map, reverse, subst, sym}
 use Rattle.std.proofs.lemmas.List.{length-map}
-use Rattle.tocmark_event.specs.Text.{text_of}
-use Rattle.tocmark_event.specs.View.{SourcedEvent, event_view}
+use Rattle.tocmark_event.specs.View.{EventView, SourcedEvent}
 use Rattle.tocmark_spelling.specs.Buffered.{buffered_view, sourced}
 use Rattle.tocmark_spelling.specs.declared.buffered.BufferedEvent.{BufferedEvent}
 use Rattle.tocmark_write_pending.specs.DelimiterColumn.{AreNumbered, numbers_of}
@@ -16,33 +15,33 @@ use Rattle.tocmark_write_pending.proofs.Joined.{delimiters-joined, ended-inside,
 use Rattle.tocmark_write_pending.proofs.pending.Pending.join.Goals as goal
 
 pub note_end-requires-clause-inside : goal.note_end-requires-clause-inside
-note_end-requires-clause-inside c = λ p is.
+note_end-requires-clause-inside g c = λ p is.
     let old = c.self.inside in
-    let event = event_view text_of c.args.event.now in
-    let by = c.ended_by-ended.ensures ∙ ap (λ (cs : List OpenContainer). ended_by event (places_of cs)) c.deref-2.ensures.value in
+    let event = g.E.Incoming.event c.args.event in
+    let by = c.ended_by-ended.ensures ∙ ap (λ (e : EventView). ended_by e (places_of c.deref-2.result.now)) c.lent-2.ensures ∙ ap (λ (cs : List OpenContainer). ended_by event (places_of cs)) c.deref-2.ensures.value in
     let inside = ended-inside (map buffered_view old.events.items) (ends_awaited old.containers.items) (places_of old.containers.items) old.ends.items old.is_ambiguous event c.ended_by-ended.result p c.self.invariant.0 by is in
     omega (arith, inside, ap length c.in_ok-make_room-2.ensures.items)
 
 pub invariant_of-self-2 : goal.invariant_of-self-2
-invariant_of-self-2 c =
+invariant_of-self-2 g c =
     let old = c.self.inside in
-    let event = event_view text_of c.args.event.now in
+    let event = g.E.Incoming.event c.args.event in
     let source = text_now c.args.source in
     let es = map buffered_view old.events.items in
     let cs = old.containers.items in
     let ended = c.ended_by-ended.result in
     let put : c.push-room.new.self.items ≡ old.events.items ++ c.in_ok-copy.copy ∷ [] = put-one c.push-room.result _ _ (c.push-room.ensures.succeeds (omega (arith, c.in_ok-make_room-3.ensures.room, c.make_room-3.new.items.ok.0))) c.push-room.ensures.items ∙ ap (λ (xs : List BufferedEvent). xs ++ c.in_ok-copy.copy ∷ []) c.in_ok-make_room-3.ensures.items in
     let b = c.is_ambiguous_behind-is_ambiguous.result in
-    let by = c.ended_by-ended.ensures ∙ ap (λ (xs : List OpenContainer). ended_by event (places_of xs)) c.deref-2.ensures.value in
-    let nests = ap (λ (xs : List OpenContainer). nested (ends_awaited xs) event) (sym c.in_ok-make_room.ensures.items) ∙ c.nest.ensures.ends in
+    let by = c.ended_by-ended.ensures ∙ ap (λ (e : EventView). ended_by e (places_of c.deref-2.result.now)) c.lent-2.ensures ∙ ap (λ (xs : List OpenContainer). ended_by event (places_of xs)) c.deref-2.ensures.value in
+    let nests = ap (λ (xs : List OpenContainer). nested (ends_awaited xs) event) (sym c.in_ok-make_room.ensures.items) ∙ ap (λ (e : EventView). nested (ends_awaited c.make_room.new.items.items) e) (sym c.in_ok-copy.ensures.event) ∙ c.nest.ensures.ends in
     let waiting = c.deref-8.ensures.value ∙ c.in_ok-make_room-3.ensures.items in
     let place : c.len-place.result ≡ length es = omega (arith, c.len-place.ensures, old.events.ok.0, length-map old.events.items buffered_view) in (
       index-joined es (map buffered_view c.push-room.new.self.items) (ends_awaited cs) (ends_awaited c.nest.new.containers.items) (places_of cs) (places_of c.nest.new.containers.items) old.ends.items c.note_end.new.ends.items old.is_ambiguous b event source ended c.self.invariant.0
           (same-count cs)
           by
-          (events-more old.events.items c.push-room.new.self.items c.in_ok-copy.copy (sourced event source) put c.in_ok-copy.ensures)
+          (events-more old.events.items c.push-room.new.self.items c.in_ok-copy.copy (sourced event source) put c.in_ok-copy.ensures.sourced)
           nests
-          (c.nest.ensures.places ∙ (λ j. opened event (place j) (places_of (c.in_ok-make_room.ensures.items j))))
+          (c.nest.ensures.places ∙ ap (λ (e : EventView). opened e c.len-place.result (places_of c.make_room.new.items.items)) c.in_ok-copy.ensures.event ∙ (λ j. opened event (place j) (places_of (c.in_ok-make_room.ensures.items j))))
           (c.note_end.ensures ∙ ap (ends_with ended) c.in_ok-make_room-2.ensures.items)
           (subst (λ (xs : List BufferedEvent). (e : SourcedEvent) → EndsAt (map buffered_view xs) e ended → b ≡ has_ambiguous_list false (map buffered_view xs ++ e ∷ [])) c.deref-3.ensures.value c.is_ambiguous_behind-is_ambiguous.ensures),
       delimiters-joined old.events.items c.push-room.new.self.items c.in_ok-copy.copy (ends_awaited cs) (ends_awaited c.nest.new.containers.items) (places_of cs) event source ended old.runs.items c.join_runs.new.runs.items old.delimiters.items c.join_runs.new.delimiters.items c.note_width.new.delimiters.items c.in_ok-width.width
@@ -52,7 +51,7 @@ invariant_of-self-2 c =
           by
           nests
           put
-          c.in_ok-copy.ensures
+          c.in_ok-copy.ensures.sourced
           (subst (λ (xs : List BufferedEvent). HoldRuns (buffered_view c.in_ok-copy.copy ∷ reverse (map buffered_view xs)) (reverse (map run_view c.join_runs.new.runs.items))) waiting c.in_ok-join_runs.ensures.held)
           (subst (λ (xs : List BufferedEvent). AreNumbered (map buffered_view xs ++ buffered_view c.in_ok-copy.copy ∷ []) (numbers_of c.join_runs.new.delimiters.items)) waiting c.in_ok-join_runs.ensures.numbered)
           c.in_ok-join_runs.ensures.widths
@@ -63,14 +62,14 @@ invariant_of-self-2 c =
     )
 
 pub returns : goal.returns
-returns c =
+returns g c =
     let old = c.self.inside in
-    let event = event_view text_of c.args.event.now in
+    let event = g.E.Incoming.event c.args.event in
     let source = text_now c.args.source in
     let opened = ends_awaited c.nest.new.containers.items in
     let put : c.push-room.new.self.items ≡ old.events.items ++ c.in_ok-copy.copy ∷ [] = put-one c.push-room.result _ _ (c.push-room.ensures.succeeds (omega (arith, c.in_ok-make_room-3.ensures.room, c.make_room-3.new.items.ok.0))) c.push-room.ensures.items ∙ ap (λ (xs : List BufferedEvent). xs ++ c.in_ok-copy.copy ∷ []) c.in_ok-make_room-3.ensures.items in
     let new : PendingView = record { events = map buffered_view c.push-room.new.self.items; open_tags = opened } in
-    let nests = ap (λ (xs : List OpenContainer). nested (ends_awaited xs) event) (sym c.in_ok-make_room.ensures.items) ∙ c.nest.ensures.ends in
+    let nests = ap (λ (xs : List OpenContainer). nested (ends_awaited xs) event) (sym c.in_ok-make_room.ensures.items) ∙ ap (λ (e : EventView). nested (ends_awaited c.make_room.new.items.items) e) (sym c.in_ok-copy.ensures.event) ∙ c.nest.ensures.ends in
     subst (λ (p : PendingView). one_more p (sourced event source) ≡ Ok new) c.self.view_is
     (event-joined (pending_of old) event source opened nests
-    ∙ ap (λ (es : List SourcedEvent). Ok (record { events = es; open_tags = opened })) (sym (events-more old.events.items c.push-room.new.self.items c.in_ok-copy.copy (sourced event source) put c.in_ok-copy.ensures)))
+    ∙ ap (λ (es : List SourcedEvent). Ok (record { events = es; open_tags = opened })) (sym (events-more old.events.items c.push-room.new.self.items c.in_ok-copy.copy (sourced event source) put c.in_ok-copy.ensures.sourced)))
