@@ -6,8 +6,8 @@ ghost use Rattle.tocmark_event.specs.Text.{text_of};
 ghost use Rattle.tocmark_event.specs.View.{tag_view};
 ghost use Rattle.tocmark_read_spans.specs.Definitions.{entry_of};
 ghost use Rattle.tocmark_read_inlines.specs.Inlines.{inlines_view};
-ghost use Rattle.tocmark_core_reader.specs.Emitted.{item_view, emission_view, step};
-ghost use Rattle.tocmark_core_reader.specs.Pages.{pieces_of, content_line, space_nodes, line_item, line_nodes, lines_nodes, block_tag, is_unwrapped, block_node, assembly_view, task_nodes, leaf_inlines_in, with_block, with_inlines, with_task, bare_in, with_lines, with_rule, wrapped_in, paragraph_taken_in, fence_node_in, with_fence_in, block_taken_in, nothing_written, written_by, cell_inlines_in, cell_taken_in};
+ghost use Rattle.tocmark_core_reader.specs.Emitted.{emission_view, step};
+ghost use Rattle.tocmark_core_reader.specs.Pages.{pieces_of, content_line, node, space_nodes, line_item, line_nodes, lines_nodes, block_tag, is_unwrapped, block_node, assembly_view, task_nodes, leaf_inlines_in, with_block, with_inlines, with_task, bare_in, with_lines, with_rule, wrapped_in, paragraph_taken_in, fence_node_in, with_fence_in, block_taken_in, nothing_written, written_by, cell_inlines_in, cell_taken_in};
 
 use crate::attributes::heading_tag;
 use crate::emit::{Emission, Node, NodeKind};
@@ -72,29 +72,43 @@ fn write_spaces(
         ≡ fold (step text.now) (emission_view out.old) (space_nodes depth line)) }
 {
     if 0 < line.spaces {
-        let spaces = CowStr::Owned(spaces_text(alloc, line.spaces)?);
-        let node = Node {
+        let spaces = spaces_text(alloc, line.spaces)?;
+        out.write_text(
+            text,
             depth,
-            item: NodeKind::Text(spaces),
-            start: line.start.saturating_sub(1),
-            end: line.start,
-        };
-        out.write(alloc, text, node)?;
+            spaces,
+            line.start.saturating_sub(1),
+            line.start,
+        )?;
     }
     Ok(())
 }
 
+/// Writes what a line of code or HTML says.
 #[tactic(auto, unfolding(crate::specs::Pages::line_item))]
-fn line_item(alloc: Global, text: &str, html: bool, line: Piece) -> Result<NodeKind, AllocError>
-    ensures { IfOk result (λ i. item_view i ≡ line_item text.now html line) }
+fn write_words(
+    alloc: Global,
+    out: &mut Emission,
+    text: &str,
+    html: bool,
+    depth: usize,
+    line: Piece,
+) -> Result<(), AllocError>
+    ensures { OnOk result (emission_view out.new ≡ step text.now (emission_view out.old)
+        (node depth (line_item text.now html line) line.start line.next)) }
 {
     let feed = line.end < line.next;
-    let words = CowStr::Owned(cleaned_part(alloc, text, line.start, line.end, feed)?);
-    if html {
-        Ok(NodeKind::Html(words))
-    } else {
-        Ok(NodeKind::Text(words))
+    let words = cleaned_part(alloc, text, line.start, line.end, feed)?;
+    if !html {
+        return out.write_text(text, depth, words, line.start, line.next);
     }
+    let node = Node {
+        depth,
+        item: NodeKind::Html(CowStr::Owned(words)),
+        start: line.start,
+        end: line.next,
+    };
+    out.write(alloc, text, node)
 }
 
 /// Writes a line of code or HTML.
@@ -112,13 +126,7 @@ fn write_line(
 {
     write_spaces(alloc, out, text, depth, line)?;
     if line.start < line.next {
-        let node = Node {
-            depth,
-            item: line_item(alloc, text, html, line)?,
-            start: line.start,
-            end: line.next,
-        };
-        out.write(alloc, text, node)?;
+        write_words(alloc, out, text, html, depth, line)?;
     }
     Ok(())
 }
@@ -200,13 +208,8 @@ fn write_block(
     ensures { OnOk result (emission_view out.new
         ≡ step text.now (emission_view out.old) (block_node text.now block)) }
 {
-    let node = Node {
-        depth: block.depth,
-        item: NodeKind::Container(block_tag(alloc, text, block.kind)?),
-        start: block.start,
-        end: block.end,
-    };
-    out.write(alloc, text, node)
+    let tag = block_tag(alloc, text, block.kind)?;
+    out.open(text, block.depth, tag, block.start, block.end)
 }
 
 /// Writes the node of a fenced code block, whose info string stands between two places.

@@ -1,10 +1,11 @@
 //! From nodes to events.
 
-ghost use Rattle.std.specs.Prelude.{◌≡◌, ◌++◌, ◌∷◌, [], map, IfOk, OnOk};
+ghost use Rattle.std.specs.Prelude.{◌≡◌, ◌++◌, ◌∷◌, [], map, string_bytes, IfOk, OnOk};
 ghost use Rattle.tocmark_event.specs.Text.{text_of};
-ghost use Rattle.tocmark_event.specs.View.{event_view, tag_view};
+ghost use Rattle.tocmark_event.specs.View.{Text, event_view, tag_view};
 ghost use Rattle.tocmark_core_reader.specs.Range.{is_cut, snapped, IsGoodRange};
-ghost use Rattle.tocmark_core_reader.specs.Emitted.{Container, item_view, node_view, emission_view, shown, closed, source_text, put, step};
+ghost use Rattle.tocmark_core_reader.specs.Emitted.{Container, Given, Source, item_view, node_view, emission_view, shown, closed, source_text, put, step};
+ghost use Rattle.tocmark_core_reader.specs.Pages.{node};
 
 use crate::words::cleaned_part;
 use std::alloc::{AllocError, Global};
@@ -166,6 +167,61 @@ impl Emission {
             NodeKind::InlineMath(words) => Event::InlineMath(words),
             NodeKind::DisplayMath(words) => Event::DisplayMath(words),
         };
+        push(&mut self.events, event, range)
+    }
+
+    /// Writes the node of a container.
+    pub fn open(
+        &mut self,
+        text: &str,
+        depth: usize,
+        tag: Tag<'static>,
+        start: usize,
+        end: usize,
+    ) -> Result<(), AllocError>
+        ensures { OnOk result (emission_view self.new ≡ step text.now (emission_view self.old)
+            (node depth (Container (tag_view text_of tag.entry)) start end)) }
+    {
+        let closed = self.close_to(depth);
+        if closed.is_err() {
+            drop(tag);
+            return closed;
+        }
+        self.begin(text, tag, snapped(text, start, end))
+    }
+
+    /// Writes the node of a text that differs from its source.
+    pub fn write_text(
+        &mut self,
+        text: &str,
+        depth: usize,
+        words: String,
+        start: usize,
+        end: usize,
+    ) -> Result<(), AllocError>
+        ensures { OnOk result (emission_view self.new ≡ step text.now (emission_view self.old)
+            (node depth (Given (Text (string_bytes words))) start end)) }
+    {
+        self.close_to(depth)?;
+        let event = Event::Text(CowStr::Owned(words));
+        push(&mut self.events, event, snapped(text, start, end))
+    }
+
+    /// Writes the node of a text that is its source.
+    pub fn write_source(
+        &mut self,
+        alloc: Global,
+        text: &str,
+        depth: usize,
+        start: usize,
+        end: usize,
+    ) -> Result<(), AllocError>
+        ensures { OnOk result (emission_view self.new ≡ step text.now (emission_view self.old)
+            (node depth Source start end)) }
+    {
+        self.close_to(depth)?;
+        let range = snapped(text, start, end);
+        let event = Event::Text(source_text(alloc, text, range)?);
         push(&mut self.events, event, range)
     }
 

@@ -136,6 +136,27 @@ fn inline_node(
     })
 }
 
+/// Writes the node of an inline.
+#[tactic(auto, unfolding(crate::specs::Inlines::inline_node, crate::specs::Inlines::inline_item))]
+fn write_inline(
+    alloc: Global,
+    out: &mut Emission,
+    text: &str,
+    texts: &[u8],
+    targets: &[Target],
+    node: inline::Node,
+) -> Result<(), AllocError>
+    ensures { OnOk result (emission_view out.new ≡ step text.now (emission_view out.old)
+        (inline_node texts.now targets.now node)) }
+{
+    match node.item {
+        inline::InlineKind::Text => {
+            out.write_source(alloc, text, node.depth, node.start, node.end)
+        }
+        _ => out.write(alloc, text, inline_node(alloc, texts, targets, node)?),
+    }
+}
+
 /// Writes the nodes of inlines behind what is written.
 pub fn write_inlines(
     alloc: Global,
@@ -150,7 +171,7 @@ pub fn write_inlines(
         (map (inline_node texts.now targets.now) nodes.now)) }
 {
     for node in nodes {
-        out.write(alloc, text, inline_node(alloc, texts, targets, *node)?)?;
+        write_inline(alloc, out, text, texts, targets, *node)?;
     }
     Ok(())
 }
