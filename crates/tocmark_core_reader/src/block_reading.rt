@@ -147,6 +147,21 @@ impl BlockReading<'_> {
         self.assembly.emission.close_to(0)
     }
 
+    /// Gives back the room of the blocks where none is left: whoever takes the last events may need it.
+    /// One stays: where a large list is let go of whole, the C library takes room for such lists from
+    /// its heap from then on, and copies each as it grows.
+    fn let_go_of_blocks(&mut self)
+        ensures left { reading_left self.new ≡ reading_left self.old }
+        ensures whole { IsHandable self.old → IsHandable self.new }
+    {
+        if self.blocks.len() <= self.place {
+            self.blocks.truncate(1);
+            self.blocks.shrink_to_fit();
+            self.pieces.truncate(1);
+            self.pieces.shrink_to_fit();
+        }
+    }
+
     /// Gives away the events that are made, if there are any.
     fn hand_out(&mut self) -> Option<Reading>
         ensures some { IsHandable self.old → IfSome result (λ block.
@@ -207,7 +222,10 @@ impl BlockReading<'_> {
             return Err(AllocError);
         }
         match self.take_tree() {
-            Ok(()) => Ok(self.hand_out()),
+            Ok(()) => {
+                self.let_go_of_blocks();
+                Ok(self.hand_out())
+            }
             Err(error) => {
                 self.failed = true;
                 Err(error)
