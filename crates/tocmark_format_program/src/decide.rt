@@ -3,9 +3,9 @@
 ghost use Rattle.std.specs.Prelude.{◌≡◌, ◌≢◌, IfOk, IfSome, string_bytes};
 ghost use Rattle.tocmark_format_program.specs.Formats.{SaysTheSame};
 
-use crate::settings::Settings;
 use std::alloc::{AllocError, Global};
 use tocmark_format::{Formatted, Left, PartReader, formatted};
+use tocmark_format_settings::settings::Settings;
 
 /// What becomes of a text.
 #[derive(Drop)]

@@ -2,37 +2,33 @@
 //! compared, so a document never says anything else afterwards (the clause `same` of `decided`). `docs/FORMAT.md` has the
 //! options.
 //!
-//! It stands on `tocmark_format`. Enter at `main`. `arguments` has the command line, `settings` what its options and a
-//! configuration file's keys name, `configuration` such a file, `lookup` which of them is a file's, `walk` which files are meant, `decide` what is written for
-//! a text, `diff` what is shown of it, `replace` how a file is replaced, and `report` and `fault` what is said.
+//! It stands on `tocmark_format` and on `tocmark_format_settings`, which has the command line, configuration files and what
+//! both name. Enter at `main`. `walk` has which files are meant, `decide` what is written for a text, `stream` how standard
+//! input is answered, `diff` what is shown of a text, `replace` how a file is replaced, and `report` and `fault` what is said.
 #![tactic(auto)]
 
-mod arguments;
-mod configuration;
 mod decide;
 mod diff;
 mod fault;
-mod lookup;
 mod replace;
 mod report;
-mod settings;
 mod stream;
 mod walk;
 
-use arguments::{Color, Help, Task, color_of, command, task_of, voice_of};
 use clap::ArgMatches;
 use decide::{Decision, decided};
 use diff::{Look, unified_diff};
 use fault::Fault;
-use lookup::{Refused, settings_of_files};
 use replace::{Change, replace_text};
 use report::Report;
-use settings::{Settings, extension_help, syntax_help};
 use std::alloc::Global;
 use std::io::{IsTerminal, Stderr, Write};
 use std::process::ExitCode;
 use std::{env, fs, io};
 use stream::{Passed, READER, format_stream, text_in, write_out};
+use tocmark_format_settings::arguments::{Color, Help, Task, color_of, command, task_of, voice_of};
+use tocmark_format_settings::lookup::{Refused, settings_of_files};
+use tocmark_format_settings::settings::{Settings, extension_help, syntax_help};
 use walk::{Found, files_of};
 
 /// From how many files on a terminal is shown how far a call is.

@@ -1,11 +1,11 @@
 //! What is said on standard error.
 
-use crate::arguments::Voice;
 use crate::fault::Fault;
 use crate::stream::Passed;
 use std::fmt;
 use std::io::Write;
 use tocmark_format::Left;
+use tocmark_format_settings::arguments::Voice;
 
 /// How many files there were, and what became of them.
 #[derive(Clone, Copy, Drop)]

@@ -6,11 +6,11 @@ ghost use Rattle.tocmark_format_program.specs.Formats.{IsFormatted, IsOutputFaul
 
 use crate::decide::{Decision, decided};
 use crate::fault::Fault;
-use crate::settings::Settings;
 use std::alloc::Global;
 use std::io::{Read, Write};
 use tocmark_extended_reader::{ExtendedReader, Names};
 use tocmark_format::{Left, PartReader};
+use tocmark_format_settings::settings::Settings;
 
 /// The reader of all documents.
 pub const READER: ExtendedReader = ExtendedReader { names: Names::All };

@@ -23,13 +23,16 @@ impl Task {
 /// How much is said.
 #[derive(Clone, Copy, Drop)]
 pub struct Voice {
+    /// No count is said at the end.
     pub is_quiet: bool,
+    /// Each file that is changed is named, too.
     pub is_verbose: bool,
 }
 
 /// Whether a diff is coloured.
 #[derive(Clone, Copy, Drop)]
 pub enum Color {
+    /// On a terminal, unless the environment has `NO_COLOR`.
     Auto,
     Always,
     Never,
@@ -38,14 +41,18 @@ pub enum Color {
 /// What `--help` says of the options whose values it lists.
 #[derive(Clone, Copy)]
 pub struct Help<'a> {
+    /// Of `--syntax`.
     pub syntax: &'a str,
+    /// Of `--extension`.
     pub extension: &'a str,
 }
 
 /// A value on the command line that its option doesn't take.
 #[derive(Clone, Copy, Drop)]
 pub struct Refusal {
+    /// The option's name, without `--`.
     pub option: &'static str,
+    /// What it takes.
     pub wanted: &'static str,
 }
 
@@ -136,7 +143,7 @@ fn with_task<'a>(alloc: Global, command: Command<'a>) -> Result<Command<'a>, All
     command.arg(quiet)?.arg(verbose)?.arg(color)
 }
 
-/// The command line. `docs/FORMAT.md` says what its parts mean.
+/// The command line, with this help of the options whose values it lists. `docs/FORMAT.md` says what its parts mean.
 pub fn command<'a>(alloc: Global, help: Help<'a>) -> Result<Command<'a>, AllocError> {
     let paths = Arg::new(alloc, "path")
         .value_name("FILE|FOLDER|-")
@@ -162,7 +169,7 @@ pub fn command<'a>(alloc: Global, help: Help<'a>) -> Result<Command<'a>, AllocEr
     with_style(alloc, command.arg(syntax)?.arg(extension)?)
 }
 
-/// What is to be done.
+/// What is to be done, as a command line says it.
 pub fn task_of(matches: &ArgMatches<'_>) -> Task {
     Task {
         checks: matches.get_flag("check"),
@@ -170,7 +177,7 @@ pub fn task_of(matches: &ArgMatches<'_>) -> Task {
     }
 }
 
-/// How much is to be said.
+/// How much is to be said, as a command line says it.
 pub fn voice_of(matches: &ArgMatches<'_>) -> Voice {
     Voice {
         is_quiet: matches.get_flag("quiet"),
@@ -178,7 +185,7 @@ pub fn voice_of(matches: &ArgMatches<'_>) -> Voice {
     }
 }
 
-/// When a diff is coloured.
+/// When a diff is coloured, as a command line says it, or that it says it by another word than `--color` takes.
 pub fn color_of(matches: &ArgMatches<'_>) -> Result<Color, Refusal> {
     let Some(word) = matches.get_str("color") else {
         return Ok(Color::Auto);
@@ -205,7 +212,7 @@ fn set_all(settings: &mut Settings, key: Key, words: &[&str]) -> bool {
 }
 
 /// The settings with what the command line says.
-pub fn settings_of(matches: &ArgMatches<'_>, given: Settings) -> Result<Settings, Refusal> {
+pub(crate) fn settings_of(matches: &ArgMatches<'_>, given: Settings) -> Result<Settings, Refusal> {
     let mut settings = given;
     for (option, key, wanted) in &KEYS {
         if let Some(words) = matches.get_strs(option)

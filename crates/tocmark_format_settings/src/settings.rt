@@ -10,13 +10,15 @@ use tocmark_format::{Bullet, Delimiter, Escapes, Fence, Marker, Numbering, Style
 /// What a text is read as, and how it is to look.
 #[derive(Clone, Copy)]
 pub struct Settings {
+    /// Which extensions of CommonMark are read.
     pub flags: ParserOptions,
+    /// How it is to look.
     pub style: Style,
 }
 
 /// An option of formatting.
 #[derive(Clone, Copy, Drop)]
-pub enum Key {
+pub(crate) enum Key {
     Syntax,
     Extension,
     Bullet,
@@ -30,7 +32,7 @@ pub enum Key {
 }
 
 /// The options by their names, with what each takes.
-pub const KEYS: [(&str, Key, &str); 10] = [
+pub(crate) const KEYS: [(&str, Key, &str); 10] = [
     ("syntax", Key::Syntax, "commonmark, gfm or all"),
     (
         "extension",
@@ -98,7 +100,7 @@ const ESCAPES: [(&str, Escapes); 2] = [("minimal", Escapes::Minimal), ("all", Es
 
 impl Settings {
     /// GFM with front matter, in the style that changes least.
-    pub fn new() -> Settings {
+    pub(crate) fn new() -> Settings {
         Settings {
             flags: GFM,
             style: Style::new(),
@@ -117,7 +119,7 @@ fn named<T: Copy>(table: &[(&str, T)], name: &str) -> Option<T> {
 }
 
 /// The option with this name, the name, and what it takes.
-pub fn key_named(name: &str) -> Option<(Key, &'static str, &'static str)> {
+pub(crate) fn key_named(name: &str) -> Option<(Key, &'static str, &'static str)> {
     for (known, key, wanted) in &KEYS {
         if *known == name {
             return Some((*key, *known, *wanted));
@@ -161,7 +163,7 @@ fn length_of(word: &str) -> Option<usize> {
 }
 
 /// Sets an option to what a word says. `false`: it takes no such word, and nothing is changed.
-pub fn set(settings: &mut Settings, key: Key, word: &str) -> bool {
+pub(crate) fn set(settings: &mut Settings, key: Key, word: &str) -> bool {
     let Settings { flags, style } = settings;
     match key {
         Key::Syntax => put(flags, named(&SYNTAXES, word)),

@@ -111,7 +111,8 @@ fn nearest_settings(rt: &HostRuntime, folder: &str) -> Result<Settings, Refused>
     Ok(Settings::new())
 }
 
-/// The settings of each of these files, in their order. Nothing but configuration files is read.
+/// The settings of each of these files, in their order, or why the call is refused. Nothing but configuration files is
+/// read.
 pub fn settings_of_files(
     rt: &HostRuntime,
     matches: &ArgMatches<'_>,

@@ -158,7 +158,11 @@ fn table_of(alloc: Global, text: &str) -> Result<Table, ConfigError> {
 }
 
 /// The settings with what the text of a configuration file says.
-pub fn configured(alloc: Global, text: &str, given: Settings) -> Result<Settings, ConfigError> {
+pub(crate) fn configured(
+    alloc: Global,
+    text: &str,
+    given: Settings,
+) -> Result<Settings, ConfigError> {
     let table = table_of(alloc, text)?;
     let mut settings = given;
     // A syntax comes before the extensions that are added to it, wherever it stands.
