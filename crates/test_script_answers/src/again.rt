@@ -1,7 +1,6 @@
-//! Runs of one script again: with events that are given away one by one and a clone of the state behind each, and with a
-//! writer or a reader that fails.
+//! Runs of one script again: with a clone of the state behind each event, and with a writer or a reader that fails.
 
-use crate::runs::{Conduct, RunAnswer, conduct_of, run_with};
+use crate::runs::{Refusals, RunAnswer, refusals_of, run_with};
 use crate::tally::Tally;
 use std::alloc::{AllocError, Global};
 use std::io::{self, Write};
@@ -39,43 +38,22 @@ fn push_cloned(calls: &mut Vec<Call>, call: Call) -> Result<(), AllocError> {
     Ok(())
 }
 
-/// The answer where each event is given away, the state is cloned behind it and behind each finish, and the clone goes on.
+/// The answer where the state is cloned behind each event and each finish, and the clone goes on.
 fn cloned(alloc: Global, script: &Script<'static>) -> Result<String, AllocError> {
     let mut calls = Vec::new(alloc);
     for call in &script.calls {
         push_cloned(&mut calls, *call)?;
     }
-    let conduct = Conduct {
-        gives_away: true,
-        ..conduct_of(script)
-    };
-    Ok(run_with(alloc, script, &calls, conduct)?.answer)
+    Ok(run_with(alloc, script, &calls, refusals_of(script))?.answer)
 }
 
-/// The answer where the writer refuses this text.
-fn with_text_refused(
+/// The answer where this text and this reading are refused.
+fn answer_with(
     alloc: Global,
     script: &Script<'static>,
-    text: usize,
+    refusals: Refusals,
 ) -> Result<String, AllocError> {
-    let conduct = Conduct {
-        refused_text: Some(text),
-        ..conduct_of(script)
-    };
-    Ok(run_with(alloc, script, &script.calls, conduct)?.answer)
-}
-
-/// The answer where there is no memory for this reading.
-fn with_reading_refused(
-    alloc: Global,
-    script: &Script<'static>,
-    reading: usize,
-) -> Result<String, AllocError> {
-    let conduct = Conduct {
-        refused_reading: Some(reading),
-        ..conduct_of(script)
-    };
-    Ok(run_with(alloc, script, &script.calls, conduct)?.answer)
+    Ok(run_with(alloc, script, &script.calls, refusals)?.answer)
 }
 
 /// How many lines a text has.
@@ -119,7 +97,7 @@ impl Again {
         readers: Tally::NONE,
     };
 
-    /// With events that are given away and clones the answer is that of the whole run.
+    /// With clones the answer is that of the whole run.
     fn run_cloned(
         &mut self,
         alloc: Global,
@@ -142,7 +120,11 @@ impl Again {
     ) -> Result<(), AllocError> {
         for taken in 0..whole.texts {
             let number = taken.saturating_add(1);
-            let refused = with_text_refused(alloc, script, number)?;
+            let refusals = Refusals {
+                text: Some(number),
+                reading: script.refused_reading,
+            };
+            let refused = answer_with(alloc, script, refusals)?;
             let texts = texts_before(refused.as_str(), "Err FormatFailed\n", whole);
             let is_right = texts == Some(taken);
             self.writers.count(is_right);
@@ -161,7 +143,11 @@ impl Again {
     ) -> Result<(), AllocError> {
         for earlier in 0..whole.readings {
             let number = earlier.saturating_add(1);
-            let refused = with_reading_refused(alloc, script, number)?;
+            let refusals = Refusals {
+                text: script.refused_text,
+                reading: Some(number),
+            };
+            let refused = answer_with(alloc, script, refusals)?;
             let texts = texts_before(refused.as_str(), "Err OutOfMemory\n", whole);
             let is_right = texts.is_some();
             self.readers.count(is_right);
@@ -181,7 +167,7 @@ impl Again {
         if !script.questions.is_empty() || script.events.len() > MOST_EVENTS {
             return Ok(());
         }
-        let whole = run_with(alloc, script, &script.calls, conduct_of(script))?;
+        let whole = run_with(alloc, script, &script.calls, refusals_of(script))?;
         self.scripts = self.scripts.saturating_add(1);
         self.run_cloned(alloc, script, &whole, answer)?;
         self.run_writers(alloc, script, &whole, answer)?;

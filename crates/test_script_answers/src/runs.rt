@@ -8,21 +8,16 @@ use test_script_events::event::{Events, RangedEvent, RangedEvents};
 use test_script_events::string::Quoted;
 use test_script_lines::readers::CountedReader;
 use test_script_lines::script::{Call, Script};
-use tocmark::event::Event;
 use tocmark::{Error, Progress, State};
 
 /// The reader of one run.
 type RunReader<'r> = CountedReader<'r, CountingReader<'r>>;
 
-/// How a run goes.
+/// Which text and which reading are refused, each counted from 1.
 #[derive(Clone, Copy)]
-pub struct Conduct {
-    /// The number of the text that is refused, counted from 1.
-    pub refused_text: Option<usize>,
-    /// The number of the reading that is refused, counted from 1.
-    pub refused_reading: Option<usize>,
-    /// Whether the events are copied, and the copies given away.
-    pub gives_away: bool,
+pub struct Refusals {
+    pub text: Option<usize>,
+    pub reading: Option<usize>,
 }
 
 /// What a run came to.
@@ -70,47 +65,6 @@ fn call_name(call: Call) -> &'static str {
     }
 }
 
-/// Copies of these events, with their ranges.
-fn copies(
-    alloc: Global,
-    events: &[RangedEvent<'static>],
-) -> Result<Vec<RangedEvent<'static>>, AllocError> {
-    let mut copies = Vec::new(alloc);
-    for (event, range) in events {
-        copies.push((event.to_static(alloc)?, *range))?;
-    }
-    Ok(copies)
-}
-
-/// Copies of these events, without their ranges.
-fn plain_copies(
-    alloc: Global,
-    events: &[RangedEvent<'static>],
-) -> Result<Vec<Event<'static>>, AllocError> {
-    let mut copies = Vec::new(alloc);
-    for (event, _) in events {
-        copies.push(event.to_static(alloc)?)?;
-    }
-    Ok(copies)
-}
-
-/// Takes copies of these events, which are given away, with their ranges where there is a source.
-fn process_copies(
-    alloc: Global,
-    state: &mut State<&RunReader<'_>>,
-    events: &[RangedEvent<'static>],
-    source: &Option<String>,
-    tape: &mut Tape,
-) -> Result<Progress, Error> {
-    match source {
-        Some(source) => {
-            let pairs = copies(alloc, events)?;
-            state.process_owned_with_source_range(pairs, source.as_str(), tape)
-        }
-        None => state.process_owned(plain_copies(alloc, events)?, tape),
-    }
-}
-
 /// Takes these events, with their ranges where there is a source.
 fn process(
     state: &mut State<&RunReader<'_>>,
@@ -141,21 +95,17 @@ fn go_on_with_clone(state: &mut State<&RunReader<'_>>) -> Result<Progress, Error
     }
 }
 
-/// Makes one call, whose events are lent, or copied with this memory and given away.
+/// Makes one call.
 fn make(
     state: &mut State<&RunReader<'_>>,
     script: &Script<'static>,
     call: Call,
-    copying: Option<Global>,
     tape: &mut Tape,
 ) -> Result<Progress, Error> {
     match call {
         Call::Process { start, end } => {
             let events = script.events.get(start..end).unwrap_or(&[]);
-            match copying {
-                Some(alloc) => process_copies(alloc, state, events, &script.source, tape),
-                None => process(state, events, &script.source, tape),
-            }
+            process(state, events, &script.source, tape)
         }
         Call::Finish => state.finish(tape),
         Call::Clone => go_on_with_clone(state),
@@ -181,11 +131,10 @@ fn run_in_calls(
     state: &mut State<&RunReader<'_>>,
     script: &Script<'static>,
     calls: &[Call],
-    copying: Option<Global>,
     tape: &mut Tape,
 ) -> Result<(), AllocError> {
     for call in calls {
-        let outcome = make(state, script, *call, copying, tape);
+        let outcome = make(state, script, *call, tape);
         let name = call_name(*call);
         write!(tape.answer, "{name} ")?;
         write_outcome(&mut tape.answer, &outcome)?;
@@ -198,12 +147,11 @@ fn run_whole(
     state: &mut State<&RunReader<'_>>,
     script: &Script<'static>,
     calls: &[Call],
-    copying: Option<Global>,
     tape: &mut Tape,
 ) -> Result<Progress, Error> {
     let mut total = Progress::default();
     for call in calls {
-        let progress = make(state, script, *call, copying, tape)?;
+        let progress = make(state, script, *call, tape)?;
         total.events_consumed = total
             .events_consumed
             .saturating_add(progress.events_consumed);
@@ -218,13 +166,12 @@ fn answer_calls(
     script: &Script<'static>,
     calls: &[Call],
     shows_calls: bool,
-    copying: Option<Global>,
     tape: &mut Tape,
 ) -> Result<(), AllocError> {
     if shows_calls {
-        run_in_calls(state, script, calls, copying, tape)
+        run_in_calls(state, script, calls, tape)
     } else {
-        let outcome = run_whole(state, script, calls, copying, tape);
+        let outcome = run_whole(state, script, calls, tape);
         write_outcome(&mut tape.answer, &outcome)
     }
 }
@@ -235,39 +182,41 @@ fn answer_script(
     script: &Script<'static>,
     calls: &[Call],
     shows_calls: bool,
-    conduct: Conduct,
+    refused_reading: Option<usize>,
     tape: &mut Tape,
 ) -> Result<usize, AllocError> {
     let counting = CountingReader::new(&script.reader);
-    let reader = CountedReader::new(&counting, conduct.refused_reading);
-    let copying = if conduct.gives_away {
-        Some(alloc)
-    } else {
-        None
-    };
+    let reader = CountedReader::new(&counting, refused_reading);
     match State::new(alloc, &reader, script.flags, script.options()) {
-        Ok(mut state) => answer_calls(&mut state, script, calls, shows_calls, copying, tape)?,
+        Ok(mut state) => answer_calls(&mut state, script, calls, shows_calls, tape)?,
         Err(error) => write_outcome(&mut tape.answer, &Err(error))?,
     }
     Ok(counting.readings())
 }
 
-/// What these calls come to where a run goes so, with a line for each call or one at the end. An `Err` says that memory
-/// ran out for the answer.
-fn run_calls(
+/// What these calls come to where a text and a reading are refused, with a line for each call or one at the end. An
+/// `Err` says that memory ran out for the answer.
+fn run_refused(
     alloc: Global,
     script: &Script<'static>,
     calls: &[Call],
     shows_calls: bool,
-    conduct: Conduct,
+    refusals: Refusals,
 ) -> Result<RunAnswer, AllocError> {
     let mut tape = Tape {
         answer: String::new(alloc),
         texts: 0,
-        refused_text: conduct.refused_text,
+        refused_text: refusals.text,
         is_full: false,
     };
-    let readings = answer_script(alloc, script, calls, shows_calls, conduct, &mut tape)?;
+    let readings = answer_script(
+        alloc,
+        script,
+        calls,
+        shows_calls,
+        refusals.reading,
+        &mut tape,
+    )?;
     if tape.is_full {
         return Err(AllocError);
     }
@@ -278,24 +227,23 @@ fn run_calls(
     })
 }
 
-/// How a script's own run goes: it refuses a text and a reading, and lends its events.
-pub fn conduct_of(script: &Script<'_>) -> Conduct {
-    Conduct {
-        refused_text: script.refused_text,
-        refused_reading: script.refused_reading,
-        gives_away: false,
+/// The text and the reading that a script refuses.
+pub fn refusals_of(script: &Script<'_>) -> Refusals {
+    Refusals {
+        text: script.refused_text,
+        reading: script.refused_reading,
     }
 }
 
-/// What these calls come to where a run goes so, with one line at the end. An `Err` says that memory ran out for the
-/// answer.
+/// What these calls come to where a text and a reading are refused, with one line at the end. An `Err` says that memory
+/// ran out for the answer.
 pub fn run_with(
     alloc: Global,
     script: &Script<'static>,
     calls: &[Call],
-    conduct: Conduct,
+    refusals: Refusals,
 ) -> Result<RunAnswer, AllocError> {
-    run_calls(alloc, script, calls, false, conduct)
+    run_refused(alloc, script, calls, false, refusals)
 }
 
 /// What a script without questions is answered where these calls are made, with a line for each call or
@@ -306,5 +254,5 @@ pub fn run(
     calls: &[Call],
     shows_calls: bool,
 ) -> Result<String, AllocError> {
-    Ok(run_calls(alloc, script, calls, shows_calls, conduct_of(script))?.answer)
+    Ok(run_refused(alloc, script, calls, shows_calls, refusals_of(script))?.answer)
 }

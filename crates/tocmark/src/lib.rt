@@ -47,7 +47,6 @@ pub use tocmark_event::options::{
 };
 use tocmark_event::reader::Reader;
 pub use tocmark_event::{event, reader};
-pub use tocmark_state::owned::{IntoEvents, IntoPairs, into_events, into_pairs};
 pub use tocmark_state::state::{DefinedLabel, State};
 pub use tocmark_state::string_writer::StringWriter;
 pub use tocmark_state::taker::Taker;

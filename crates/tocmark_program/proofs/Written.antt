@@ -48,19 +48,18 @@ handed_on before after first all more h is folds =
     ∙ ap concat (sym is)
 
 -- one more block
-pub one_more : {refuses : Text → List ℕ → Text → Type 0} (text : List ℕ) (old new : State CoreReader) (before after : Text) (r : Result Progress Error) (taken given more : List Pair) → (IsOk r → given ≡ more) → IsWritten text taken old (string_bytes before) → OnOk r (status_of new ≡ status_of old) → rendering_of core new ≡ rendering_of core old → Adds takes refuses before after (rendering_of core old) (record { 0 = 0 }) text r (place_of new) taken given → OnOk r (IsWritten text (taken ++ more) new (string_bytes after))
-one_more text old new before after (Err e) taken given more all h active same a = tt
-one_more text old new before after (Ok n) taken given more all h active same a =
-    subst (λ (q : List Pair). IsWritten text (taken ++ q) new (string_bytes after)) (all refl)
-    (record {
+pub one_more : {refuses : Text → List ℕ → Text → Type 0} (text : List ℕ) (old new : State CoreReader) (before after : Text) (r : Result Progress Error) (taken more : List Pair) → IsWritten text taken old (string_bytes before) → OnOk r (status_of new ≡ status_of old) → rendering_of core new ≡ rendering_of core old → Adds takes refuses before after (rendering_of core old) (record { 0 = 0 }) text r (place_of new) taken more → OnOk r (IsWritten text (taken ++ more) new (string_bytes after))
+one_more text old new before after (Err e) taken more h active same a = tt
+one_more text old new before after (Ok n) taken more h active same a =
+    record {
       stands = record {
         active = active ∙ h.stands.active;
-        standing = subst (λ (how : Rendering). (walk how text (nothing_yet (record { 0 = 0 })) (taken ++ given)).outcome ≡ Ok (place_of new)) (sym same) a.made.0;
+        standing = subst (λ (how : Rendering). (walk how text (nothing_yet (record { 0 = 0 })) (taken ++ more)).outcome ≡ Ok (place_of new)) (sym same) a.made.0;
       };
       same = same ∙ h.same;
-      handed = handed_on before after (walk plain_rendering text (nothing_yet (record { 0 = 0 })) taken).texts (walk plain_rendering text (nothing_yet (record { 0 = 0 })) (taken ++ given)).texts a.more h.handed
-          (subst (λ (how : Rendering). (walk how text (nothing_yet (record { 0 = 0 })) (taken ++ given)).texts ≡ (walk how text (nothing_yet (record { 0 = 0 })) taken).texts ++ a.more) h.same a.added) a.made.1;
-    })
+      handed = handed_on before after (walk plain_rendering text (nothing_yet (record { 0 = 0 })) taken).texts (walk plain_rendering text (nothing_yet (record { 0 = 0 })) (taken ++ more)).texts a.more h.handed
+          (subst (λ (how : Rendering). (walk how text (nothing_yet (record { 0 = 0 })) (taken ++ more)).texts ≡ (walk how text (nothing_yet (record { 0 = 0 })) taken).texts ++ a.more) h.same a.added) a.made.1;
+    }
 
 -- the end of all blocks
 pub all_ended : {refuses : Text → List ℕ → Text → Type 0} (text : List ℕ) (old : State CoreReader) (before after : Text) (n : Progress) (all : List Pair) → IsWritten text all old (string_bytes before) → Ends takes refuses before after (rendering_of core old) (record { 0 = 0 }) text (Ok n) all → ((script plain_rendering text (nothing_yet (record { 0 = 0 })) all).outcome ≡ Ok done) × (string_bytes after ≡ concat (script plain_rendering text (nothing_yet (record { 0 = 0 })) all).texts)

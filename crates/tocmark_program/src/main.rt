@@ -21,7 +21,7 @@ use std::{env, io};
 use tocmark::core_reader::{BlockReading, CoreReader};
 use tocmark::event::ParserOptions;
 use tocmark::reader::Reading;
-use tocmark::{Error, Options, Progress, State, into_events, into_pairs};
+use tocmark::{Error, Options, Progress, State};
 
 /// Writes the events of one block.
 fn write_block(
@@ -37,10 +37,8 @@ fn write_block(
         state.new (string_bytes output.new)) }
 {
     match spelling {
-        Spelling::Escaped => state.process_owned(into_events(block), output),
-        Spelling::FromSource => {
-            state.process_owned_with_source_range(into_pairs(block), text, output)
-        }
+        Spelling::Escaped => state.process_reading(block, output),
+        Spelling::FromSource => { state.process_reading_with_source_range(block, text, output) }
     }
 }
 

@@ -1,6 +1,7 @@
 pub mod Walks
 pub mod Steps
 pub mod Unranged
+pub mod Readings
 pub mod Runs
 pub mod Statuses
 pub mod Behind

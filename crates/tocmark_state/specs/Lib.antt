@@ -1,5 +1,5 @@
 pub mod Ranges
-pub mod Owned
+pub mod Taken
 pub mod Walk
 pub mod StringWriters
 pub mod Writes

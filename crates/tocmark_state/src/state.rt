@@ -4,24 +4,26 @@ ghost use Rattle.std.specs.Prelude.{◌+◌, Option, ◌≡◌, IfOk, OnOk, OnEr
 ghost use Rattle.std.specs.Borrow.{Bor};
 ghost use Rattle.std.specs.Iterator.{IsFinite, DrainsIf};
 ghost use Rattle.tocmark_event.specs.Options.{options_view, owned_options_view};
+ghost use Rattle.tocmark_event.specs.Reading.{reading_view};
 ghost use Rattle.tocmark_event.specs.Text.{ParserEvent};
 ghost use Rattle.tocmark_write_labels.specs.Defined.{defined_view};
 ghost use Rattle.tocmark_write_renderer.specs.WriterOf.{reference_view};
 ghost use Rattle.tocmark_state.specs.Ranges.{Range};
-ghost use Rattle.tocmark_state.specs.Owned.{owned_pairs, owned_ranged_pairs};
+ghost use Rattle.tocmark_state.specs.Taken.{ranged_reading, unranged_reading};
 ghost use Rattle.tocmark_state.specs.StateView.{Adds, Ends, rendering_of};
 ghost use Rattle.tocmark_state.specs.Walk.{walk};
 ghost use Rattle.tocmark_state.specs.Writes.{Makes};
 ghost use Rattle.tocmark_state.specs.WorkView.{Counts, incoming_pairs, pairs, ranged_pairs, rendering, rendering_behind};
 
 use crate::ranges::Unranged;
+use crate::taken::{TakenEvents, TakenPairs, listed};
 use crate::taker::Taker;
 use crate::work::{Progress, Tools, Work, end, take_all};
 use std::alloc::{AllocError, Global};
 use std::fmt;
 use tocmark_event::event::{Event, ParserOptions};
 use tocmark_event::options::{Error, Options, OptionsOf};
-use tocmark_event::reader::Reader;
+use tocmark_event::reader::{Reader, Reading};
 pub use tocmark_write_labels::defined::DefinedLabel;
 use tocmark_write_labels::defined::copied_labels;
 use tocmark_write_labels::definitions::copied_references;
@@ -352,35 +354,28 @@ impl<R: Reader + Drop> State<R> {
         self.process_pairs(pairs.into_iter(), source, writer)
     }
 
-    /// Takes events that are given away, as `process` takes those that are lent: their texts are moved into
-    /// what is pending, where `process` copies them.
+    /// Takes the events of a reading that is given away, as `process` takes events that are lent: their
+    /// texts are moved into what is pending, where `process` copies them.
     ///
-    /// An `Err` is as in `process`; the events are let go of all the same.
+    /// An `Err` is as in `process`; the reading is let go of all the same.
     ///
     /// ```
-    /// let events = vec![
-    ///     Event::Start(Tag::Paragraph),
-    ///     Event::Text("# a".into()),
-    ///     Event::End(TagEnd::Paragraph),
-    /// ];
+    /// let reading = CoreReader.read(alloc, "_a_", ParserOptions::empty())?;
     /// let mut output = String::new(alloc);
     /// let mut state = State::new(alloc, CoreReader, ParserOptions::empty(), Options::default())?;
-    /// state.process_owned(events, &mut output)?;
+    /// state.process_reading(reading, &mut output)?;
     /// state.finish(&mut output)?;
-    /// assert_eq!(rt; output.as_str(), "\\# a");
+    /// assert_eq!(rt; output.as_str(), "*a*");
     /// ```
-    pub fn process_owned<I, W>(&mut self, events: I, writer: &mut W) -> Result<Progress, Error>
-    where
-        I: IntoIterator<Item = Event<'static>>,
-        W: Taker,
-        requires { (it : I.IntoIter) → I.into_iter_gives events it
-            → I.IntoIter.can_next it × IsFinite (I.IntoIter.remaining it) }
-        ensures active { IsActive self.old → (it : I.IntoIter) × (xs : List ParserEvent)
-            × I.into_iter_gives events it × DrainsIf I.IntoIter.next_gives (IsOk result) it xs
-            × ((flags : ParserOptions) (source : List ℕ) (p : List Pair)
+    pub fn process_reading<W: Taker>(
+        &mut self,
+        reading: Reading,
+        writer: &mut W,
+    ) -> Result<Progress, Error>
+        ensures active { (flags : ParserOptions) (source : List ℕ) (p : List Pair)
             → Stands R.reading flags source self.old p
             → Adds W.takes W.refuses writer.old writer.new (rendering_of R.reading self.old)
-            flags source result (place_of self.new) p (owned_pairs xs)) }
+            flags source result (place_of self.new) p (unranged_reading (reading_view reading)) }
         ensures same { rendering_of R.reading self.new ≡ rendering_of R.reading self.old }
         ensures flags { state_flags self.new ≡ state_flags self.old }
         ensures stands { OnOk result (status_of self.new ≡ status_of self.old) }
@@ -390,32 +385,35 @@ impl<R: Reader + Drop> State<R> {
         ensures failed { IsFailed self.old
             → (result ≡ Err Error.Failed) × (writer.new ≡ writer.old) }
     {
-        let events = events.into_iter();
+        let mut events = listed(reading);
+        let events = TakenEvents(events.iter_mut());
         self.process_pairs(Unranged { events }, "", writer)
     }
 
-    /// Takes events that are given away with their byte ranges in a source, as `process_with_source_range`
-    /// takes those that are lent.
+    /// Takes the events of a reading that is given away with their byte ranges in a source, as
+    /// `process_with_source_range` takes those that are lent.
     ///
-    /// An `Err` is as there; the events are let go of all the same.
-    pub fn process_owned_with_source_range<I, W>(
+    /// An `Err` is as there; the reading is let go of all the same.
+    ///
+    /// ```
+    /// let source = "_a &gt; b_";
+    /// let reading = CoreReader.read(alloc, source, ParserOptions::empty())?;
+    /// let mut output = String::new(alloc);
+    /// let mut state = State::new(alloc, CoreReader, ParserOptions::empty(), Options::default())?;
+    /// state.process_reading_with_source_range(reading, source, &mut output)?;
+    /// state.finish(&mut output)?;
+    /// assert_eq!(rt; output.as_str(), "*a &gt; b*");
+    /// ```
+    pub fn process_reading_with_source_range<W: Taker>(
         &mut self,
-        pairs: I,
+        reading: Reading,
         source: &str,
         writer: &mut W,
     ) -> Result<Progress, Error>
-    where
-        I: IntoIterator<Item = (Event<'static>, Option<(usize, usize)>)>,
-        W: Taker,
-        requires { (it : I.IntoIter) → I.into_iter_gives pairs it
-            → I.IntoIter.can_next it × IsFinite (I.IntoIter.remaining it) }
-        ensures active { IsActive self.old
-            → (it : I.IntoIter) × (xs : List (ParserEvent × Option Range))
-            × I.into_iter_gives pairs it × DrainsIf I.IntoIter.next_gives (IsOk result) it xs
-            × ((flags : ParserOptions) (p : List Pair)
+        ensures active { (flags : ParserOptions) (p : List Pair)
             → Stands R.reading flags source.now self.old p
             → Adds W.takes W.refuses writer.old writer.new (rendering_of R.reading self.old)
-            flags source.now result (place_of self.new) p (owned_ranged_pairs xs)) }
+            flags source.now result (place_of self.new) p (ranged_reading (reading_view reading)) }
         ensures same { rendering_of R.reading self.new ≡ rendering_of R.reading self.old }
         ensures flags { state_flags self.new ≡ state_flags self.old }
         ensures stands { OnOk result (status_of self.new ≡ status_of self.old) }
@@ -425,8 +423,8 @@ impl<R: Reader + Drop> State<R> {
         ensures failed { IsFailed self.old
             → (result ≡ Err Error.Failed) × (writer.new ≡ writer.old) }
     {
-        let pairs = pairs.into_iter();
-        self.process_pairs(pairs, source, writer)
+        let mut events = listed(reading);
+        self.process_pairs(TakenPairs(events.iter_mut()), source, writer)
     }
 
     /// Takes the end of the events: hands the text of what is pending, and then the definitions that

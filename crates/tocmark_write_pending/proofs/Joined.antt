@@ -2,7 +2,8 @@
 use Rattle.std.proofs.Common.{◌≡◌, ℕ, ◌<◌, ◌≤◌, map, Bool, true, false, if◌then◌else◌, Option, Some, None, Result, Ok, Err, List, [], ◌∷◌, ◌++◌, refl, sym, ap, ◌∙◌, subst, drop, length, reverse, arith}
 use Rattle.std.proofs.lemmas.List.{drop_all, length-map, length-reverse, map-append, reverse-append}
 use Rattle.std.proofs.Math.ListN.{set}
-use Rattle.std.specs.Prelude.{IsOk, is_ok, slice_index_or}
+use Rattle.std.proofs.Math.Seq.{get_or-append_seam}
+use Rattle.std.specs.Prelude.{is_ok, slice_index_or}
 use Rattle.std.proofs.lemmas.Bool.{false≢true, true≢false}
 use Rattle.tocmark_event.specs.Ends.{same_end}
 use Rattle.tocmark_event.specs.View.{EventView, Start, End, Leaf, SourcedEvent, unsourced}
@@ -60,10 +61,13 @@ module _ (p : PendingView) (e : EventView) (source : Option (List ℕ)) where
   pub event-joined : (os : List TagEnd) → nested p.open_tags e ≡ Ok os → one_more p (sourced e source) ≡ Ok (record { events = p.events ++ sourced e source ∷ []; open_tags = os })
   event-joined os h = ap (behind p (sourced e source)) (ap (nested p.open_tags) (unsourced-sourced e source) ∙ h)
 
--- a call that succeeded has put an item behind the others
-pub put-one : {X E A : Type 0} (r : Result X E) (a b : A) {c : A} → IsOk r → c ≡ (if is_ok r then a else b) → c ≡ a
-put-one (Ok x) a b ok h = h
-put-one (Err e) a b ok h = absurd (false≢true ok)
+-- the item behind others is found at their count
+pub put-there : {A : Type 0} (xs all : List A) (b d : A) (n : ℕ) → all ≡ xs ++ b ∷ [] → n ≡ length xs → d ≡ slice_index_or all n d → d ≡ b
+put-there xs all b d n is at h =
+    h
+    ∙ ap (λ l. slice_index_or l n d) is
+    ∙ ap (λ i. slice_index_or (xs ++ b ∷ []) i d) at
+    ∙ get_or-append_seam xs b [] d
 
 -- one event more that waits
 pub events-more : (es now : List BufferedEvent) (b : BufferedEvent) (e : SourcedEvent) → now ≡ es ++ b ∷ [] → buffered_view b ≡ e → map buffered_view now ≡ map buffered_view es ++ e ∷ []

@@ -1,11 +1,12 @@
 //! The events that wait for their unit, with what is found out of them as they come.
 
-ghost use Rattle.std.specs.Prelude.{◌≡◌, ◌<◌, ◌==◌, ◌∷◌, ◌++◌, [], drop, length, map, option_map, reverse, string_bytes, take, vec_capacity, IfOk, is_some};
+ghost use Rattle.std.specs.Prelude.{◌≡◌, ◌<◌, ◌==◌, ◌∷◌, ◌++◌, [], drop, length, map, option_map, reverse, string_bytes, take, vec_capacity, IfOk, OnErr, OnOk, ℕ, is_some, slice_index_or};
 ghost use Rattle.tocmark_event.specs.View.{event_view};
 ghost use Rattle.tocmark_spelling.specs.Buffered.{buffered_view, sourced};
 ghost use Rattle.tocmark_spelling.specs.Scans.{AreEnds};
 ghost use Rattle.tocmark_write_pending.specs.Pending.{Joins, nothing_pending, text_now};
-ghost use Rattle.tocmark_write_pending.specs.RunColumn.{run_here, run_view};
+ghost use Rattle.tocmark_write_pending.specs.DelimiterColumn.{AreNumbered, numbers_of, widths_of};
+ghost use Rattle.tocmark_write_pending.specs.RunColumn.{HoldRuns, run_here, run_view};
 ghost use Rattle.tocmark_write_pending.specs.Units.{trees_of, waits};
 ghost use Rattle.tocmark_write_pending.specs.WidthColumn.{width_at};
 
@@ -63,19 +64,60 @@ fn copied_source(alloc: Global, source: Option<&str>) -> Result<Option<String>, 
     }
 }
 
-/// An event with texts of its own, and a copy of its spelling in the source where that is known.
-fn buffered<E: Incoming>(
+/// Puts an event with texts of its own behind others, with a copy of its spelling in the source where
+/// that is known. There is room for it.
+fn push_event<E: Incoming + Drop>(
+    events: &mut Vec<BufferedEvent>,
     alloc: Global,
     event: E,
     source: Option<&str>,
-) -> Result<BufferedEvent, AllocError>
-    ensures event { IfOk result (λ copy. event_view string_bytes copy.event ≡ E.event event) }
-    ensures sourced { IfOk result (λ copy. buffered_view copy
-        ≡ sourced (E.event event) (text_now source.entry)) }
+) -> Result<(), AllocError>
+    requires room { length events.old.items < vec_capacity events.old }
+    ensures put { OnOk result ((b : BufferedEvent) × (events.new.items ≡ events.old.items ++ b ∷ [])
+        × (event_view string_bytes b.event ≡ E.event event)
+        × (buffered_view b ≡ sourced (E.event event) (text_now source.entry))) }
+    ensures same { OnErr result (events.new.items ≡ events.old.items) }
 {
-    let event = event.into_owned(alloc)?;
     let source = copied_source(alloc, source)?;
-    Ok(BufferedEvent { event, source })
+    let event = event.into_owned(alloc)?;
+    let _room = events.push(BufferedEvent { event, source });
+    Ok(())
+}
+
+/// Adds an event behind others, and to their runs. There is room for it. At an `Err` all is as it was.
+fn add<E: Incoming + Drop>(
+    events: &mut Vec<BufferedEvent>,
+    runs: &mut Vec<Run>,
+    delimiters: &mut Vec<Delimiter>,
+    alloc: Global,
+    event: E,
+    source: Option<&str>,
+) -> Result<(), AllocError>
+    requires room { length events.old.items < vec_capacity events.old }
+    requires held { HoldRuns (reverse (map buffered_view events.old.items))
+        (reverse (map run_view runs.old.items)) }
+    requires numbered { AreNumbered (map buffered_view events.old.items)
+        (numbers_of delimiters.old.items) }
+    ensures put { OnOk result ((b : BufferedEvent) × (events.new.items ≡ events.old.items ++ b ∷ [])
+        × (event_view string_bytes b.event ≡ E.event event)
+        × (buffered_view b ≡ sourced (E.event event) (text_now source.entry))
+        × HoldRuns (buffered_view b ∷ reverse (map buffered_view events.old.items))
+        (reverse (map run_view runs.new.items))
+        × AreNumbered (map buffered_view events.old.items ++ buffered_view b ∷ [])
+        (numbers_of delimiters.new.items)) }
+    ensures widths { OnOk result ((i : ℕ) → slice_index_or (widths_of delimiters.new.items) i 0
+        ≡ slice_index_or (widths_of delimiters.old.items) i 0) }
+    ensures events { OnErr result (events.new.items ≡ events.old.items) }
+    ensures runs { OnErr result (runs.new.items ≡ runs.old.items) }
+    ensures delimiters { OnErr result (delimiters.new.items ≡ delimiters.old.items) }
+{
+    let place = events.len();
+    push_event(events, alloc, event, source)?;
+    let joined = join_runs(runs, delimiters, &events[place], &events[..place]);
+    if joined.is_err() {
+        events.truncate(place);
+    }
+    joined
 }
 
 fn copied_event(alloc: Global, buffered: &BufferedEvent) -> Result<BufferedEvent, AllocError>
@@ -221,10 +263,15 @@ impl Pending {
         make_room(&mut self.containers)?;
         make_room(&mut self.ends)?;
         make_room(&mut self.events)?;
-        let copy = buffered(alloc, event, source)?;
-        join_runs(&mut self.runs, &mut self.delimiters, &copy, &self.events)?;
-        nest(&mut self.containers, &copy.event, place);
-        let _room = self.events.push(copy);
+        add(
+            &mut self.events,
+            &mut self.runs,
+            &mut self.delimiters,
+            alloc,
+            event,
+            source,
+        )?;
+        nest(&mut self.containers, &self.events[place].event, place);
         self.is_ambiguous = is_ambiguous;
         note_end(&mut self.ends, ended);
         note_width(&mut self.delimiters, ended, width);
