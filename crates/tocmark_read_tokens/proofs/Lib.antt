@@ -1,3 +1,4 @@
+mod Folded
 pub mod Places
 pub mod PlainReferences
 pub mod Unmarked

@@ -1,5 +1,5 @@
 -- A text without a backslash and an ampersand is left as it is where escapes and references are resolved.
-use Rattle.std.proofs.Common.{◌≡◌, ℕ, ◌+◌, ◌^◌, ◌<◌, ◌≤◌, true, false, ◌==◌, nat_le, List, [], ◌∷◌, ◌++◌, length, drop, refl, ap, sym, ◌∙◌, arith, append_assoc, append-nil, length-append, None, Option}
+use Rattle.std.proofs.Common.{◌≡◌, ℕ, ◌+◌, ◌^◌, ◌<◌, ◌≤◌, true, false, ◌==◌, nat_le, List, [], ◌∷◌, ◌++◌, length, drop, refl, ap, sym, ◌∙◌, arith, append_assoc, append-nil, length-append, None}
 use Rattle.std.proofs.lemmas.Bool.Decides.{nat_tests}
 use Rattle.std.specs.List.{fold, list_any}
 use Rattle.tocmark_read_scan.specs.Basic.{plus, byte_at, starts_at}
@@ -8,8 +8,7 @@ use Rattle.tocmark_read_scan.proofs.PlainTests.{both_false}
 use Rattle.tocmark_read_syntax.specs.declared.Names.{Names}
 use Rattle.tocmark_read_syntax.specs.declared.Names.TheVariants.{Four, All}
 use Rattle.tocmark_read_tokens.specs.Name as name
-use Rattle.tocmark_read_tokens.specs.Reference.{State, is_escape, reference_at, named, unescape_at, unescape_at_in, unescape_step_in, unescape_start, unescaped_in}
-use Rattle.tocmark_read_tokens.specs.declared.reference.Reference.{Reference}
+use Rattle.tocmark_read_tokens.specs.Reference.{State, is_escape, reference_at, named, unescape_at, unescape_at_in, unescape_step_in, unescaped_in}
 
 -- no name is referred to where no ampersand stands
 nothing_named : (names : Names) (all : List ℕ) (p : ℕ) → (byte_at all p == 38) ≡ false → name.named_in names all p ≡ None

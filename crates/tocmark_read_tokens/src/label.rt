@@ -1,6 +1,8 @@
 //! Link labels: how they are matched, and what they are defined as.
 
-ghost use Rattle.std.specs.Prelude.{◌≡◌, ◌++◌, ℕ, List, OnOk, IfOk, map, string_bytes};
+ghost use Rattle.std.specs.Prelude.{◌≡◌, ◌++◌, ℕ, List, OnOk, IfOk, chars, encode_utf8_all, map, string_bytes};
+ghost use Rattle.std.specs.Str.Lossy.{utf8_lossy};
+ghost use Rattle.caseless.specs.Caseless.{default_case_fold};
 ghost use Rattle.std.specs.HashMap.{get_by_text};
 ghost use Rattle.tocmark_read_tokens.specs.Label.{collapsing, is_blank_due, collapse_step, collapsed, key_of, first_place, is_at, place_if, distinct_from};
 
@@ -47,13 +49,37 @@ pub fn collapsed(alloc: Global, label: &[u8]) -> Result<Vec<u8>, AllocError>
     ensures { IfOk result (λ v. v.items ≡ collapsed label.now) }
 {
     let mut machine = Collapsing {
-        out: Vec::new(alloc),
+        out: Vec::with_capacity(alloc, label.len())?,
         blank: false,
     };
     for byte in label {
         machine.step(*byte)?;
     }
     Ok(machine.out)
+}
+
+/// The bytes as a text, with U+FFFD for each sequence that is no UTF-8. An `Err` says that memory ran out.
+fn text_of(alloc: Global, bytes: Vec<u8>) -> Result<String, AllocError>
+    ensures { IfOk result (λ t. string_bytes t ≡ utf8_lossy bytes.items) }
+{
+    match String::from_utf8(bytes) {
+        Ok(text) => Ok(text),
+        Err(error) => String::from_utf8_lossy(alloc, error.as_bytes()),
+    }
+}
+
+/// The text with its letters' case folded: one of ASCII in its own place. An `Err` says that memory ran
+/// out.
+#[tactic(auto, using(crate::proofs::Folded::ascii_folded))]
+fn folded(alloc: Global, mut text: String) -> Result<String, AllocError>
+    ensures { IfOk result (λ t.
+        string_bytes t ≡ encode_utf8_all (default_case_fold (chars (string_bytes text)))) }
+{
+    if text.is_ascii() {
+        text.make_ascii_lowercase();
+        return Ok(text);
+    }
+    default_case_fold_str(alloc, text.as_str())
 }
 
 /// What two labels that match have in common: the collapsed label with its letters' case folded. An
@@ -63,8 +89,8 @@ pub fn key_of(alloc: Global, label: &[u8]) -> Result<String, AllocError>
     ensures { IfOk result (λ t. string_bytes t ≡ key_of label.now) }
 {
     let bytes = collapsed(alloc, label)?;
-    let text = String::from_utf8_lossy(alloc, &bytes)?;
-    default_case_fold_str(alloc, text.as_str())
+    let text = text_of(alloc, bytes)?;
+    folded(alloc, text)
 }
 
 /// For each key of a list its first place there: of two definitions of a label the first counts. An
