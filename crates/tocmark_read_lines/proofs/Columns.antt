@@ -40,6 +40,30 @@ cells_more cells at (b ∷ bs) h =
 pub plain_cells : (at : ℕ) (bytes : List ℕ) → list_any (λ b. b == 9) bytes ≡ false → cells_of [] at bytes ≡ cells_at at [] bytes
 plain_cells at bytes h = cells_more [] at bytes h
 
+-- a part of bytes without a tab has none
+none_behind : (n : ℕ) (bytes : List ℕ) → list_any (λ b. b == 9) bytes ≡ false → list_any (λ b. b == 9) (drop n bytes) ≡ false
+none_behind zero bytes h = h
+none_behind (suc n) [] h = refl
+none_behind (suc n) (b ∷ bs) h = none_behind n bs ((both_false (b == 9) (list_any (λ x. x == 9) bs) h).1)
+
+none_before : (n : ℕ) (bytes : List ℕ) → list_any (λ b. b == 9) bytes ≡ false → list_any (λ b. b == 9) (take n bytes) ≡ false
+none_before zero bytes h = refl
+none_before (suc n) [] h = refl
+none_before (suc n) (b ∷ bs) h =
+    let both = both_false (b == 9) (list_any (λ x. x == 9) bs) h in
+    rw (both.0) (none_before n bs (both.1))
+
+none_between : (text : List ℕ) (start end : ℕ) → list_any (λ b. b == 9) text ≡ false → list_any (λ b. b == 9) (bytes_between text start end) ≡ false
+none_between text start end h = by_test (nat_le start end && nat_le end (length text))
+  where
+    by_test : (k : Bool) → list_any (λ b. b == 9) (if k then take (end - start) (drop start text) else []) ≡ false
+    by_test true = none_before (end - start) (drop start text) (none_behind start text h)
+    by_test false = refl
+
+-- a part of bytes without a tab is its columns
+pub plain_part : (text : List ℕ) (start end : ℕ) → false ≡ list_any (λ b. b == 9) text → cells_of [] start (bytes_between text start end) ≡ cells_at start [] (bytes_between text start end)
+plain_part text start end h = plain_cells start (bytes_between text start end) (none_between text start end (sym h))
+
 -- an empty range has no columns
 pub no_cells : (text : List ℕ) (start end : ℕ) → end ≤ start → cells_of [] start (bytes_between text start end) ≡ []
 no_cells text start end h = by_test (nat_le start end && nat_le end (length text))

@@ -1,6 +1,7 @@
 //! The columns of a line.
 
 ghost use Rattle.std.specs.Prelude.{◌≡◌, ◌==◌, ◌++◌, [], List, OnOk, length, filter, reverse, take_while, replicate, slice_get, unwrap_or};
+ghost use Rattle.std.specs.List.{list_any};
 ghost use Rattle.tocmark_read_scan.specs.Basic.{bytes_between, plus};
 ghost use Rattle.tocmark_read_lines.specs.Cells.{cells_at, bytes_of, places_of, filled, cells_of, cell_byte, cell_place, run_of, ink_from, count_of, trailing, trimmed, moved, indent_of, is_blank_at, first_cursor};
 ghost use Rattle.tocmark_read_lines.specs.declared.cell.Cell.{Cell};
@@ -153,6 +154,23 @@ impl Cells {
             Ok(())
         } else {
             self.read_inked(bytes_between(text, line.start, line.end), line.start)
+        }
+    }
+
+    /// Takes the columns of a line as `read` does. `has_tabs` tells whether a tab stands in the text, so
+    /// that a line of a text without tabs isn't searched for them.
+    #[tactic(auto, using(crate::proofs::Columns::no_cells, crate::proofs::Columns::plain_part))]
+    pub fn read_in(&mut self, text: &[u8], line: Line, has_tabs: bool) -> Result<(), AllocError>
+        ensures { has_tabs ≡ list_any (λ b. b == 9) text.now → OnOk result (self.new
+            ≡ cells_of [] line.start (bytes_between text.now line.start line.end)) }
+    {
+        if has_tabs {
+            self.read(text, line)
+        } else if line.end <= line.start {
+            self.clear();
+            Ok(())
+        } else {
+            self.read_plain(bytes_between(text, line.start, line.end), line.start)
         }
     }
 

@@ -1,7 +1,7 @@
 //! Block quotes, lists and their items: which of them go on in a line, and which a line begins.
 
 ghost use Rattle.std.specs.Prelude.{◌≡◌};
-ghost use Rattle.tocmark_read_lines.specs.Containers.{raised, raised_at, after_quote, item_goes_on, going_on, is_empty_item, is_empty, blank_depth, quote_from, stopped, passed, matched_from, matched, touched_from, item_gap, may_interrupt, item_at, container_at, container_in};
+ghost use Rattle.tocmark_read_lines.specs.Containers.{raised_at, after_quote, item_goes_on, going_on, is_empty_item, is_empty, blank_depth, quote_from, stopped, passed, matched_from, matched, touched_from, item_gap, may_interrupt, item_at, container_at, container_in};
 
 use crate::beginnings::{Marker, Tail, is_rule, marker_at};
 use crate::cell::{
@@ -9,7 +9,6 @@ use crate::cell::{
 };
 use crate::definition_list::{DefinitionStart, definition_start};
 use crate::note::{NoteStart, note_start};
-use tocmark_read_scan::basic::set;
 use tocmark_read_syntax::Syntax;
 
 /// What other blocks stand in.
@@ -70,28 +69,15 @@ pub enum ContainerStart {
     Definition(DefinitionStart),
 }
 
-/// A container that reaches at least to a line.
-#[tactic(auto, unfolding(crate::specs::Containers::raised))]
-fn raised(one: Opened, end: usize, line: usize) -> Opened
-    ensures { result ≡ raised one end line }
-{
-    Opened {
-        container: one.container,
-        block: one.block,
-        end: one.end.max(end),
-        line: one.line.max(line),
-        had: one.had,
-    }
-}
-
 /// Lets the container at a place of the list reach at least to the line of this number, which ends at
 /// this byte.
-#[tactic(auto, unfolding(crate::specs::Containers::raised_at))]
+#[tactic(auto, unfolding(crate::specs::Containers::raised_at, crate::specs::Containers::raised))]
 pub fn raise_at(opened: &mut Vec<Opened>, place: usize, end: usize, line: usize)
     ensures { opened.new.items ≡ raised_at opened.old.items place end line }
 {
-    if let Some(one) = opened.get(place).copied() {
-        set(opened, place, raised(one, end, line));
+    if let Some(one) = opened.get_mut(place) {
+        one.end = one.end.max(end);
+        one.line = one.line.max(line);
     }
 }
 

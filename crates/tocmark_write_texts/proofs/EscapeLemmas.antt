@@ -15,9 +15,6 @@ use Rattle.tocmark_write_texts.specs.declared.escape.Spot.{Spot}
 pub encoded_one : (c : ℕ) → encode_utf8_all (c ∷ []) ≡ encode_utf8 c
 encoded_one c = append-nil (encode_utf8 c)
 
-pub encoded_two : (c : ℕ) → encode_utf8_all (92 ∷ c ∷ []) ≡ encode_utf8 92 ++ encode_utf8 c
-encoded_two c = ap (λ x. encode_utf8 92 ++ x) (encoded_one c)
-
 pub encoded_code : (c : ℕ) → c < 2 ^ 32 → encode_utf8_all (coded c) ≡ codes "&#" ++ (decimal c ++ codes ";")
 unfolding coded
 encoded_code c small =

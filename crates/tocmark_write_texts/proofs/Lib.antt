@@ -6,4 +6,5 @@ pub mod SpanLemmas
 pub mod ReadBack
 pub mod SpanReads
 pub mod TextLaws
+pub mod Fronts
 mod Rows

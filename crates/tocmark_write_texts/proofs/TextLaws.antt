@@ -56,7 +56,7 @@ scalars-written p s v =
     (λ _. pick_some P (c == 9 && is_first s && p.at_front) (codes "&#9;") _ _ (λ _. refl)
     (λ _. pick P (needs_backslash p s) (92 ∷ c ∷ []) (c ∷ []) (λ _. scalars_one c v) (λ _. scalars_one c v))))))))
 
-scalars-escape_after : (p : Surroundings) (before cs : List ℕ) → AreScalars cs → AreScalars (escape_after p before cs)
+pub scalars-escape_after : (p : Surroundings) (before cs : List ℕ) → AreScalars cs → AreScalars (escape_after p before cs)
 scalars-escape_after p before [] a = refl
 scalars-escape_after p before (c ∷ cs) a =
     let parts = and_parts (scalar c) (all_scalars cs) a in

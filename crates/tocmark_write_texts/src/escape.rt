@@ -1,17 +1,17 @@
 //! How a stretch of text is written, so that it is read back as that text.
 
-ghost use Rattle.std.specs.Prelude.{◌≡◌, ◌++◌, ◌&&◌, chars, drop, encode_utf8_all, string_bytes, take, false, IfOk, OnOk};
+ghost use Rattle.std.specs.Prelude.{◌≡◌, ◌++◌, ◌∷◌, [], ◌&&◌, if◌then◌else◌, is_ok, chars, drop, encode_utf8_all, string_bytes, take, false, IfOk, OnOk};
 ghost use Rattle.std.specs.Char.{is_ascii_digit};
 ghost use Rattle.std.specs.List.{prefix_len};
 ghost use Rattle.tocmark_event.specs.View.{event_view};
 ghost use Rattle.std.specs.Option.{option_map, option_map_or};
 ghost use Rattle.tocmark_write_texts.specs.Bare.{is_mark, is_bare, bare_size, last_of};
-ghost use Rattle.tocmark_write_texts.specs.Characters.{is_alphanumeric};
+ghost use Rattle.tocmark_write_texts.specs.Characters.{backslash, is_alphanumeric};
+ghost use Rattle.tocmark_write_texts.specs.Texts.{Begins, Pushes};
 ghost use Rattle.tocmark_write_texts.specs.Escape.{place_of, has, spot_from, escaped, written, reference, coded, with_backslash, needs_backslash, is_read_as_marker, is_literal, is_encoded, is_marker, is_alone, ends_line, goes_on_marker, doubles_backslash, opens_superscript, opens_emphasis, opens_cell, opens_heading, opens_label, is_own_token};
 
 use bitflags::Flags;
 use std::alloc::{AllocError, Global};
-use std::fmt::Write;
 use tocmark_event::event::{EventOf, OwnedEvent, ParserOptions, TagOf};
 use ucd_category::{GeneralCategory, GeneralCategoryGroup};
 use ucd_derived::is_alphabetic;
@@ -228,25 +228,47 @@ fn is_digits(only_digits: bool, c: char) -> bool
     c.is_ascii_digit() && only_digits
 }
 
+/// The reference that stands for a character by its code.
 #[tactic(auto, using(crate::proofs::EscapeLemmas::encoded_code), unfolding(crate::specs::Escape::coded))]
-fn push_code(to: &mut String, c: char) -> Result<(), AllocError>
-    ensures { OnOk result (string_bytes to.new ≡ string_bytes to.old ++ encode_utf8_all (coded c)) }
+fn code_reference(alloc: Global, c: char) -> Result<String, AllocError>
+    ensures { IfOk result (λ reference. string_bytes reference ≡ encode_utf8_all (coded c)) }
 {
     let code = u32::from(c);
-    write!(to, "&#{code};")
+    format!(in alloc; "&#{code};")
 }
 
-#[tactic(auto, using(crate::proofs::EscapeLemmas::encoded_one, crate::proofs::EscapeLemmas::encoded_two), unfolding(crate::specs::Escape::with_backslash))]
+fn push_code(to: &mut String, c: char) -> Result<(), AllocError>
+    ensures { Pushes result (string_bytes to.old) (encode_utf8_all (coded c)) (string_bytes to.new) }
+{
+    let reference = code_reference(*to.allocator(), c)?;
+    to.push_str(reference.as_str())
+}
+
+/// Writes a character behind a backslash.
+fn push_behind_backslash(to: &mut String, c: char) -> Result<(), AllocError>
+    ensures { Pushes result (string_bytes to.old)
+        (encode_utf8_all (backslash ∷ c ∷ [])) (string_bytes to.new) }
+{
+    let length = to.len();
+    to.push('\\')?;
+    let pushed = to.push(c);
+    if pushed.is_err() {
+        to.truncate(length);
+    }
+    pushed
+}
+
+#[tactic(auto, using(crate::proofs::EscapeLemmas::encoded_one), unfolding(crate::specs::Escape::with_backslash))]
 fn push_with_backslash(
     to: &mut String,
     place: &EscapeSurroundings<'_>,
     spot: Spot,
 ) -> Result<(), AllocError>
-    ensures { OnOk result (string_bytes to.new
-        ≡ string_bytes to.old ++ encode_utf8_all (with_backslash (place_of place.now) spot)) }
+    ensures { Pushes result (string_bytes to.old)
+        (encode_utf8_all (with_backslash (place_of place.now) spot)) (string_bytes to.new) }
 {
     if needs_backslash(place, spot) {
-        to.push('\\')?;
+        return push_behind_backslash(to, spot.character);
     }
     to.push(spot.character)
 }
@@ -258,8 +280,8 @@ fn push_character(
     place: &EscapeSurroundings<'_>,
     spot: Spot,
 ) -> Result<(), AllocError>
-    ensures { OnOk result (string_bytes to.new
-        ≡ string_bytes to.old ++ encode_utf8_all (written (place_of place.now) spot)) }
+    ensures { Pushes result (string_bytes to.old)
+        (encode_utf8_all (written (place_of place.now) spot)) (string_bytes to.new) }
 {
     if is_literal(place, spot.character) {
         return to.push(spot.character);
@@ -326,7 +348,7 @@ fn cut_bare<'a>(
 
 /// Writes a run as it is; behind most marks there is none.
 fn push_run(to: &mut String, run: &str) -> Result<(), AllocError>
-    ensures { OnOk result (string_bytes to.new ≡ string_bytes to.old ++ run.now) }
+    ensures { Pushes result (string_bytes to.old) run.now (string_bytes to.new) }
 {
     if run.is_empty() {
         return Ok(());
@@ -344,16 +366,16 @@ fn last_of(character: char, text: &str) -> char
     }
 }
 
-/// Replaces what a `String` holds by a stretch of text as `escape_text` gives it, in the room that it has.
-/// An `Err` says that memory ran out.
-pub fn escape_into(
+/// Writes the characters of a stretch, or a front of how they are written.
+fn push_characters(
     to: &mut String,
     text: &str,
     place: &EscapeSurroundings<'_>,
 ) -> Result<(), AllocError>
-    ensures { OnOk result (string_bytes to.new ≡ escaped (place_of place.now) text.now) }
+    ensures bytes { OnOk result (string_bytes to.new
+        ≡ string_bytes to.old ++ escaped (place_of place.now) text.now) }
+    ensures front { Begins (string_bytes to.old) (string_bytes to.new) }
 {
-    to.clear();
     to.reserve(text.len())?;
     let mut before = None;
     let mut only_digits = true;
@@ -371,6 +393,25 @@ pub fn escape_into(
     Ok(())
 }
 
+/// Adds a stretch of text as `escape_text` gives it to what a `String` holds. An `Err` says that memory
+/// ran out; then the `String` holds what it held.
+pub fn push_escaped(
+    to: &mut String,
+    text: &str,
+    place: &EscapeSurroundings<'_>,
+) -> Result<(), AllocError>
+    ensures bytes { string_bytes to.new ≡ (if is_ok result
+        then string_bytes to.old ++ escaped (place_of place.now) text.now
+        else string_bytes to.old) }
+{
+    let length = to.len();
+    let pushed = push_characters(to, text, place);
+    if pushed.is_err() {
+        to.truncate(length);
+    }
+    pushed
+}
+
 /// A stretch of text as it is written at its place, so that it is read back as that text.
 ///
 /// Line endings and ampersands become references, and so do a blank at the front and, where the place
@@ -384,6 +425,6 @@ pub fn escape_text(
     ensures { IfOk result (λ s. string_bytes s ≡ escaped (place_of place.now) text.now) }
 {
     let mut escaped = String::new(alloc);
-    escape_into(&mut escaped, text, place)?;
+    push_escaped(&mut escaped, text, place)?;
     Ok(escaped)
 }

@@ -1,11 +1,11 @@
 //! Destinations, titles, code spans and runs of characters, as they are written.
 
-ghost use Rattle.std.specs.Prelude.{◌≡◌, ◌==◌, ◌++◌, chars, encode_utf8_all, replicate, string_bytes, IfOk, OnOk, Some};
+ghost use Rattle.std.specs.Prelude.{◌≡◌, ◌==◌, ◌++◌, ◌≤◌, ◌↔◌, chars, encode_utf8_all, replicate, string_bytes, IfOk, IfSome, IsSome, OnOk, Some};
 ghost use Rattle.std.specs.List.{list_any};
 ghost use Rattle.std.specs.Fmt.{WritesOnOk, WritesInCalls};
 ghost use Rattle.tocmark_write_texts.specs.Destination.{destination, destination_text, destination_character, is_escaped_in_destination, is_escaped_in_title, needs_brackets, ends_destination, is_unbalanced, title, title_text, title_character, link_closing};
 ghost use Rattle.tocmark_write_texts.specs.Characters.{backtick};
-ghost use Rattle.tocmark_write_texts.specs.Leaves.{longest_run, in_cell, cell_character, is_blank, first_is, last_is, needs_spaces, padding, enclosed, span, code_span, math_text};
+ghost use Rattle.tocmark_write_texts.specs.Leaves.{longest_run, in_cell, cell_character, is_blank, first_is, last_is, needs_spaces, padding, enclosed, span, math_text};
 
 use std::alloc::{AllocError, Global};
 use std::fmt;
@@ -311,56 +311,48 @@ fn longest_ticks(text: &str) -> usize
     max_consecutive_chars(text, '`')
 }
 
-/// How many bytes most spans have round their texts, at most.
-const ROOM_FOR_ENDS: usize = 4;
+/// Backticks, as many as a run of them has in most texts.
+const TICKS: &str = "````````";
 
-fn push_ticks(span: &mut String, count: usize) -> Result<(), AllocError>
-    ensures { OnOk result
-        (string_bytes span.new ≡ string_bytes span.old ++ replicate count backtick) }
+/// So many backticks, if they are eight at most.
+pub fn few_ticks(count: usize) -> Option<&'static str>
+    ensures ticks { IfSome result (λ ticks. ticks.now ≡ replicate count backtick) }
+    ensures few { IsSome result ↔ (count ≤ 8) }
 {
-    for _i in 0..count {
-        span.push_str("`")?;
+    if count > TICKS.len() {
+        return None;
     }
-    Ok(())
+    Some(&TICKS[..count])
 }
 
-/// A text between two runs of so many backticks, with this text inside of each.
-fn enclosed(alloc: Global, ticks: usize, padding: &str, text: &str) -> Result<String, AllocError>
-    ensures { IfOk result (λ s.
-        string_bytes s ≡ enclosed (replicate ticks backtick) padding.now text.now) }
-{
-    let mut span = String::with_capacity(alloc, text.len() + ROOM_FOR_ENDS)?;
-    push_ticks(&mut span, ticks)?;
-    span.push_str(padding)?;
-    span.push_str(text)?;
-    span.push_str(padding)?;
-    push_ticks(&mut span, ticks)?;
-    Ok(span)
+/// What stands at each end of a code span.
+#[derive(Clone, Copy)]
+pub struct SpanEnds {
+    /// How many backticks stand in the run at each end.
+    pub ticks: usize,
+    /// The space between each run and the text, or nothing.
+    pub padding: &'static str,
 }
 
 #[tactic(auto, unfolding(crate::specs::Leaves::span))]
-fn span(alloc: Global, text: &str) -> Result<String, AllocError>
-    ensures { IfOk result (λ s. string_bytes s ≡ span text.now) }
+/// The ends of a code span with this text. The run of backticks is one longer than the longest run in the
+/// text, but one where that holds spaces alone; a space stands at each end where it begins or ends with a
+/// backtick or begins and ends with a space.
+pub fn span_ends(text: &str) -> SpanEnds
+    ensures { enclosed (replicate result.ticks backtick) result.padding.now text.now
+        ≡ span text.now }
 {
     if is_blank(text) {
-        return enclosed(alloc, 1, "", text);
+        return SpanEnds {
+            ticks: 1,
+            padding: "",
+        };
     }
     let ticks = longest_ticks(text) + 1;
-    enclosed(alloc, ticks, padding(text), text)
-}
-
-#[tactic(auto, unfolding(crate::specs::Leaves::code_span))]
-/// A code span, in a table or not. The run of backticks round it is one longer than the longest run in
-/// it, but one where it holds spaces alone; a space stands at each end where it begins or ends with a
-/// backtick or begins and ends with a space. An `Err` says that memory ran out.
-pub fn code_span(alloc: Global, text: &str, in_table: bool) -> Result<String, AllocError>
-    ensures { IfOk result (λ s. string_bytes s ≡ code_span in_table text.now) }
-{
-    if !in_table {
-        return span(alloc, text);
+    SpanEnds {
+        ticks,
+        padding: padding(text),
     }
-    let inside = in_cell(alloc, text, in_table)?;
-    span(alloc, inside.as_str())
 }
 
 /// Mathematics between two of these delimiters, in a table or not. An `Err` says that memory ran out.
