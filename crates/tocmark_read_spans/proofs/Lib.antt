@@ -1,3 +1,4 @@
+mod OneLabel
 pub mod Search
 pub mod Marks
 pub mod NotedRuns

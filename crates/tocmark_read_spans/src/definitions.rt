@@ -1,6 +1,7 @@
 //! The link reference definitions of a document, and lists of labels.
 
 ghost use Rattle.std.specs.Prelude.{◌≡◌, IfOk, OnOk, map, string_bytes};
+ghost use Rattle.tocmark_read_tokens.specs.Reference.{unescaped_in};
 ghost use Rattle.tocmark_read_spans.specs.Definitions.{entry_of, label_key, collected_view, collected_none, kept, defined_with_in, defined_in, label_at, distinct_labels, noted_with};
 
 use crate::note::note_key;
@@ -67,6 +68,25 @@ fn keep(texts: &mut Vec<u8>, text: &[u8]) -> Result<Stretch, AllocError>
     })
 }
 
+/// Writes a text without its escapes and references behind others, by the names that are known, and gives
+/// its stretch. One in which neither a backslash nor an ampersand stands is written as it is.
+#[tactic(auto, using(tocmark_read_tokens::proofs::Unmarked::left_alone))]
+fn keep_unescaped(
+    alloc: Global,
+    names: Names,
+    texts: &mut Vec<u8>,
+    text: &[u8],
+) -> Result<Stretch, AllocError>
+    ensures { IfOk result (λ s.
+        (texts.new.items, s) ≡ kept (unescaped_in names text.now) texts.old.items) }
+{
+    if text.contains(&b'\\') || text.contains(&b'&') {
+        keep(texts, &unescaped(alloc, names, text)?)
+    } else {
+        keep(texts, text)
+    }
+}
+
 impl Collected {
     /// No definitions.
     pub fn new(alloc: Global) -> Self
@@ -97,10 +117,8 @@ impl Collected {
         self.keys.push(key_of(alloc, label)?)?;
         let label = collapsed(alloc, label)?;
         let label = keep(&mut self.texts, &label)?;
-        let destination = unescaped(alloc, names, destination)?;
-        let destination = keep(&mut self.texts, &destination)?;
-        let title = unescaped(alloc, names, title)?;
-        let title = keep(&mut self.texts, &title)?;
+        let destination = keep_unescaped(alloc, names, &mut self.texts, destination)?;
+        let title = keep_unescaped(alloc, names, &mut self.texts, title)?;
         self.labels.push(label)?;
         self.entries.push(Entry { destination, title })?;
         Ok(())
@@ -166,8 +184,9 @@ fn label_text(
     String::from_utf8_lossy(alloc, bytes_between(texts, label.start, label.end))
 }
 
-/// The labels of a list, each of several that match once, as it is spelled first. An `Err` says that
-/// memory ran out.
+/// The labels of a list, each of several that match once, as it is spelled first: one alone without a look
+/// at its key. An `Err` says that memory ran out.
+#[tactic(auto, using(crate::proofs::OneLabel::no_label, crate::proofs::OneLabel::one_label))]
 pub fn distinct_labels(
     alloc: Global,
     texts: &[u8],
@@ -175,6 +194,14 @@ pub fn distinct_labels(
 ) -> Result<Vec<String>, AllocError>
     ensures { IfOk result (λ v. map string_bytes v.items ≡ distinct_labels texts.now labels.now) }
 {
+    if labels.is_empty() {
+        return Ok(Vec::new(alloc));
+    }
+    if labels.len() == 1 {
+        let mut only = Vec::with_capacity(alloc, 1)?;
+        only.push(label_text(alloc, texts, labels, 0)?)?;
+        return Ok(only);
+    }
     let keys = keys(alloc, texts, labels)?;
     let places = distinct(alloc, &keys)?;
     let mut out = Vec::new(alloc);

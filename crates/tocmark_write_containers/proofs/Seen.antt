@@ -1,5 +1,5 @@
 -- What is seen of the open containers.
-use Rattle.std.proofs.Common.{◌≡◌, ℕ, zero, suc, ◌+◌, ◌-◌, ◌<◌, ◌≤◌, List, [], ◌∷◌, ◌++◌, refl, sym, ap, ◌∙◌, take, drop, length, length-append, map, reverse, get_or, arith, string_bytes, set, Some, None, unwrap_or}
+use Rattle.std.proofs.Common.{◌≡◌, ℕ, zero, suc, ◌+◌, ◌-◌, ◌<◌, ◌≤◌, List, [], ◌∷◌, ◌++◌, refl, sym, ap, ◌∙◌, take, drop, length, length-append, map, reverse, get_or, arith, set, Some, None, unwrap_or}
 use Rattle.std.specs.Prelude.{is_some}
 use Rattle.std.proofs.lemmas.Bool.{false≢true, true≢false}
 use Rattle.std.proofs.lemmas.List.{append_assoc, append-nil, length-map, length-reverse, map-append, reverse-append, take_more, take_all, take-append-drop, get_or-append-add}
@@ -8,6 +8,7 @@ use Rattle.tocmark_write_containers.specs.FrameOf.{level_of}
 use Rattle.tocmark_write_containers.specs.KeptOf.{outside_at, present, seen}
 use Rattle.tocmark_write_containers.specs.Nesting.{changed, changed_level, head_of}
 use Rattle.tocmark_write_containers.specs.Outside.{outside_of, outsides}
+use Rattle.tocmark_write_containers.specs.PrefixOf.{prefix_bytes}
 use Rattle.tocmark_write_containers.specs.declared.frame.Frame.{Frame}
 use Rattle.tocmark_write_containers.specs.declared.kept.Kept.{Kept}
 use Rattle.tocmark_write_containers.specs.declared.outside.Outside.{Outside}
@@ -62,8 +63,8 @@ pub joined-last : (ks rest : List Kept) (k : Kept) → ks ≡ rest ++ k ∷ [] �
 joined-last ks rest k e = ap prefix_of (seen-last present ks rest k e)
 
 -- the same, told of a frame that looks like the last
-pub closed-by : (ks rest : List Kept) (k : Kept) (f : Frame) (px end : List ℕ) → ks ≡ rest ++ k ∷ [] → level_of f ≡ present k → px ≡ prefix_of (seen present ks) → end ≡ string_bytes f.prefix → px ≡ prefix_of (seen present rest) ++ end
-closed-by ks rest k f px end e same joined at = joined ∙ joined-last ks rest k e ∙ ap (λ l. prefix_of (seen present rest) ++ l.prefix) (sym same) ∙ ap (λ t. prefix_of (seen present rest) ++ t) (sym at)
+pub closed-by : (ks rest : List Kept) (k : Kept) (f : Frame) (px : List ℕ) → ks ≡ rest ++ k ∷ [] → level_of f ≡ present k → px ≡ prefix_of (seen present ks) → px ≡ prefix_of (seen present rest) ++ prefix_bytes f.prefix
+closed-by ks rest k f px e same joined = joined ∙ joined-last ks rest k e ∙ ap (λ l. prefix_of (seen present rest) ++ l.prefix) (sym same)
 
 -- the joined prefixes, one more container of a list
 pub joined-more : (ks : List Kept) (i : ℕ) (k : Kept) → i < length ks → k ≡ get_or ks i k → prefix_of (seen present (take (i + 1) ks)) ≡ prefix_of (seen present (take i ks)) ++ (present k).prefix

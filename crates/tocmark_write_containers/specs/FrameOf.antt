@@ -3,6 +3,7 @@ use Rattle.std.specs.Prelude.{string_bytes}
 use Rattle.tocmark_event.specs.View.{tag_view}
 use Rattle.tocmark_spelling.specs.Page as page
 use Rattle.tocmark_spelling.specs.Page.{Plain, Underlined, Fence, HtmlEnds, Listed, Defined, Headers, Width, Delimited, Named, Level}
+use Rattle.tocmark_write_containers.specs.PrefixOf.{prefix_bytes}
 use Rattle.tocmark_write_containers.specs.declared.content.OpeningChoice.{OpeningChoice}
 use Rattle.tocmark_write_containers.specs.declared.content.OpeningChoice.TheVariants as content
 use Rattle.tocmark_write_containers.specs.declared.frame.Frame.{Frame}
@@ -22,4 +23,4 @@ content_view (content.Named b) = Named b
 
 -- an open container, as a level
 abbrev pub level_of : Frame → Level
-level_of f = record { tag = tag_view string_bytes f.tag.now; prefix = string_bytes f.prefix; start = f.start; content = content_view f.content }
+level_of f = record { tag = tag_view string_bytes f.tag.now; prefix = prefix_bytes f.prefix; start = f.start; content = content_view f.content }

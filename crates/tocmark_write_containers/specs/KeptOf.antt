@@ -4,6 +4,7 @@ use Rattle.std.specs.Option.{option_map}
 use Rattle.tocmark_event.specs.View.{tag_view}
 use Rattle.tocmark_spelling.specs.Page.{Level}
 use Rattle.tocmark_write_containers.specs.FrameOf.{content_view, level_of}
+use Rattle.tocmark_write_containers.specs.PrefixOf.{prefix_bytes}
 use Rattle.tocmark_write_containers.specs.declared.kept.Kept.{Kept}
 use Rattle.tocmark_write_containers.specs.declared.outside.Outside.{Outside}
 
@@ -15,7 +16,7 @@ present k = level_of k.frame
 abbrev pub original : Kept → Level
 original k = record {
   tag = tag_view string_bytes k.frame.tag.now;
-  prefix = string_bytes k.frame.prefix;
+  prefix = prefix_bytes k.frame.prefix;
   start = k.frame.start;
   content = unwrap_or (option_map content_view k.before) (content_view k.frame.content);
 }

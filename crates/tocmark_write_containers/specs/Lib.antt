@@ -1,3 +1,4 @@
+pub mod PrefixOf
 pub mod FrameOf
 pub mod Outside
 pub mod Nesting

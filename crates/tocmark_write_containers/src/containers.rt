@@ -10,12 +10,14 @@ ghost use Rattle.tocmark_write_containers.specs.FrameOf.{content_view, level_of}
 ghost use Rattle.tocmark_write_containers.specs.KeptOf.{present, seen};
 ghost use Rattle.tocmark_write_containers.specs.Nesting.{entered, head_of, is_counted, renumbered, starts_at};
 ghost use Rattle.tocmark_write_containers.specs.Outside.{outside_of};
+ghost use Rattle.tocmark_write_containers.specs.PrefixOf.{prefix_bytes};
 ghost use Rattle.tocmark_write_containers.specs.declared.kept.Kept.{Kept};
 
 use crate::content::OpeningChoice;
 use crate::frame::Frame;
 use crate::kept::{Kept, add_header, forget_all, put, put_back, restore_all, set_number, widen};
 use crate::outside::Outside;
+use crate::prefix::Prefix;
 use std::alloc::{AllocError, Global};
 use std::marker::Model;
 use tocmark_event::event::TagOf;
@@ -171,12 +173,12 @@ impl<'a> Containers<'a> {
     pub fn push(
         &mut self,
         tag: &'a TagOf<String>,
-        prefix: String,
+        prefix: Prefix,
         start: usize,
         content: OpeningChoice,
     ) -> Result<(), AllocError>
         ensures path { OnOk result (self.new.path
-            ≡ entered (tag_view string_bytes tag.entry.now) (string_bytes prefix) start
+            ≡ entered (tag_view string_bytes tag.entry.now) (prefix_bytes prefix) start
             (content_view content) self.old.path) }
         ensures stays { OnErr result (self.new.path ≡ self.old.path) }
         ensures mark { self.new.at_mark ≡ self.old.at_mark }
@@ -185,7 +187,7 @@ impl<'a> Containers<'a> {
             .outside()
             .within(tag, start, &content, self.frames.len());
         self.frames.reserve(1)?;
-        self.prefix.push_str(prefix.as_str())?;
+        prefix.add(&mut self.prefix)?;
         let frame = Frame {
             tag,
             prefix,
@@ -341,7 +343,7 @@ fn move_last<'a>(
     closed.reserve(1)?;
     let copy = frames[frames.len() - 1].frame.copied(alloc)?;
     shift(frames, closed);
-    shorten(prefix, copy.prefix.as_str());
+    copy.prefix.cut(prefix);
     Ok(copy)
 }
 
@@ -357,18 +359,8 @@ fn take_last<'a>(frames: &mut Vec<Kept<'a>>, prefix: &mut String) -> Option<Fram
     ensures room { string_capacity prefix.new ≡ string_capacity prefix.old }
 {
     let kept = frames.pop()?;
-    shorten(prefix, kept.frame.prefix.as_str());
+    kept.frame.prefix.cut(prefix);
     Some(kept.frame)
-}
-
-/// Cuts off the end of a text.
-fn shorten(text: &mut String, end: &str)
-    requires { (rest : List ℕ) × (string_bytes text.old ≡ rest ++ end.now) }
-    ensures cut { (rest : List ℕ) → string_bytes text.old ≡ rest ++ end.now
-        → string_bytes text.new ≡ rest }
-    ensures capacity { string_capacity text.new ≡ string_capacity text.old }
-{
-    text.truncate(text.len() - end.len());
 }
 
 /// Joins the prefixes. There is room for them.
@@ -378,15 +370,6 @@ fn join(prefix: &mut String, frames: &[Kept<'_>])
 {
     prefix.clear();
     for kept in frames {
-        add(prefix, kept.frame.prefix.as_str());
+        kept.frame.prefix.put(prefix);
     }
-}
-
-/// Adds a text where there is room for it.
-fn add(text: &mut String, more: &str)
-    requires { length (string_bytes text.old) + length more.now ≤ string_capacity text.old }
-    ensures bytes { string_bytes text.new ≡ string_bytes text.old ++ more.now }
-    ensures capacity { string_capacity text.old ≤ string_capacity text.new }
-{
-    let _room = text.push_str(more);
 }

@@ -5,6 +5,7 @@ ghost use Rattle.tocmark_write_containers.specs.FrameOf.{level_of};
 
 use crate::content::OpeningChoice;
 use crate::outside::Outside;
+use crate::prefix::Prefix;
 use std::alloc::{AllocError, Global};
 use tocmark_event::event::TagOf;
 
@@ -12,8 +13,8 @@ use tocmark_event::event::TagOf;
 #[derive(Drop)]
 pub struct Frame<'a> {
     pub tag: &'a TagOf<String>,
-    /// What stands before each of its lines.
-    pub prefix: String,
+    /// What stands before each of its lines, behind the prefixes of the containers around it.
+    pub prefix: Prefix,
     /// Where its opening ended in the unit's text, in bytes.
     pub start: usize,
     /// What it and the containers around it say of a place.
@@ -26,11 +27,10 @@ impl<'a> Frame<'a> {
     pub fn copied(&self, alloc: Global) -> Result<Frame<'a>, AllocError>
         ensures { IfOk result (λ copy. level_of copy ≡ level_of self.now) }
     {
-        let prefix = String::from_str(alloc, self.prefix.as_str())?;
         let content = self.content.copied(alloc)?;
         Ok(Frame {
             tag: self.tag,
-            prefix,
+            prefix: self.prefix,
             start: self.start,
             outside: self.outside,
             content,

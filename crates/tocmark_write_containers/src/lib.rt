@@ -2,8 +2,8 @@
 //!
 //! Below it stands `tocmark_spelling`, above it `tocmark_write_renderer`. Enter at `containers`: the stack of them
 //! with the joined prefix of its lines; it can be marked, and be made again what it was at the mark, by what `kept`
-//! notes of each. `frame` is one of them: its tag, and what its opening chose (`content`). `outside` is what it and
-//! those around it say of a place.
+//! notes of each. `frame` is one of them: its tag, what stands before its lines (`prefix`), and what its opening chose
+//! (`content`). `outside` is what it and those around it say of a place.
 #![tactic(auto)]
 
 pub mod containers;
@@ -11,3 +11,4 @@ pub mod content;
 pub mod frame;
 mod kept;
 pub mod outside;
+pub mod prefix;

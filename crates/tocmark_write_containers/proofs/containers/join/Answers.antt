@@ -4,8 +4,8 @@ use Rattle.tocmark_spelling.specs.Page.{prefix_of}
 use Rattle.tocmark_write_containers.proofs.Seen.{joined-more, joined-bound}
 use Rattle.tocmark_write_containers.proofs.containers.join.Goals as goal
 
-pub add-requires : goal.add-requires
-add-requires c =
+pub put-requires : goal.put-requires
+put-requires c =
     let i = c.loop-kept.kept-index in
     let before = prefix_of (seen present (take i c.args.frames.now)) in
     omega (
@@ -13,7 +13,6 @@ add-requires c =
       ap length c.loop-kept.invariant.done,
       ap length (joined-more c.args.frames.now i c.kept-item.result c.loop-kept-test.true c.kept-item.is),
       length-append before (present c.kept-item.result).prefix,
-      ap length c.as_str.ensures.value,
       joined-bound c.args.frames.now (i + 1),
       c.loop-kept.invariant.room,
     )
@@ -23,9 +22,8 @@ loop-kept-preserved c =
     let i = c.loop-kept.kept-index in
     record {
       done =
-          c.add.ensures.bytes
-          ∙ ap (λ l. l ++ c.as_str.result.now) c.loop-kept.invariant.done
-          ∙ ap (λ t. prefix_of (seen present (take i c.args.frames.now)) ++ t) c.as_str.ensures.value
+          c.put.ensures.bytes
+          ∙ ap (λ l. l ++ (present c.kept-item.result).prefix) c.loop-kept.invariant.done
           ∙ sym (joined-more c.args.frames.now i c.kept-item.result c.loop-kept-test.true c.kept-item.is);
-      room = omega (arith, c.loop-kept.invariant.room, c.add.ensures.capacity);
+      room = omega (arith, c.loop-kept.invariant.room, c.put.ensures.capacity);
     }

@@ -5,13 +5,13 @@ use Rattle.tocmark_spelling.specs.Page.{prefix_of}
 use Rattle.tocmark_write_containers.specs.FrameOf.{level_of}
 use Rattle.tocmark_write_containers.proofs.containers.move_last.Goals as goal
 
-pub shorten-requires : goal.shorten-requires
-shorten-requires c =
+pub cut-requires : goal.cut-requires
+cut-requires c =
     let m = c.shift.ensures.moved in
     let n : c.len.result ≡ length c.args.frames.now.items = grind arith in
     let same : level_of c.in_ok-copy.copy ≡ present m.0 = c.in_ok-copy.ensures ∙ ap present (last-is c.args.frames.now.items c.shift.new.frames.items c.len.result m.0 c.index.result.now n c.index.ensures m.1) in (
       prefix_of (seen present c.shift.new.frames.items),
-      closed-by c.args.frames.now.items c.shift.new.frames.items m.0 c.in_ok-copy.copy _ _ m.1 same c.requires.joined c.as_str.ensures.value,
+      closed-by c.args.frames.now.items c.shift.new.frames.items m.0 c.in_ok-copy.copy _ m.1 same c.requires.joined,
     )
 
 pub returns-clause-joined : goal.returns-clause-joined
@@ -19,9 +19,9 @@ returns-clause-joined c =
     let m = c.shift.ensures.moved in
     let n : c.len.result ≡ length c.args.frames.now.items = grind arith in
     let same : level_of c.in_ok-copy.copy ≡ present m.0 = c.in_ok-copy.ensures ∙ ap present (last-is c.args.frames.now.items c.shift.new.frames.items c.len.result m.0 c.index.result.now n c.index.ensures m.1) in
-    c.shorten.ensures.cut
+    c.cut.ensures.cut
     (prefix_of (seen present c.shift.new.frames.items))
-    (closed-by c.args.frames.now.items c.shift.new.frames.items m.0 c.in_ok-copy.copy _ _ m.1 same c.requires.joined c.as_str.ensures.value)
+    (closed-by c.args.frames.now.items c.shift.new.frames.items m.0 c.in_ok-copy.copy _ m.1 same c.requires.joined)
 
 pub returns-clause-moved : goal.returns-clause-moved
 returns-clause-moved c =

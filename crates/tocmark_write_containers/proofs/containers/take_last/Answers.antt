@@ -4,10 +4,10 @@ use Rattle.tocmark_write_containers.specs.KeptOf.{present, seen}
 use Rattle.tocmark_spelling.specs.Page.{prefix_of}
 use Rattle.tocmark_write_containers.proofs.containers.take_last.Goals as goal
 
-pub shorten-requires : goal.shorten-requires
-shorten-requires c = (
+pub cut-requires : goal.cut-requires
+cut-requires c = (
   prefix_of (seen present c.pop.new.self.items),
-  closed-by c.args.frames.now.items c.pop.new.self.items c.in_ok-kept.kept c.in_ok-kept.kept.frame _ _ c.in_ok-kept.ensures.items refl c.requires.joined c.as_str.ensures.value,
+  closed-by c.args.frames.now.items c.pop.new.self.items c.in_ok-kept.kept c.in_ok-kept.kept.frame _ c.in_ok-kept.ensures.items refl c.requires.joined,
 )
 
 pub returns-clause-taken : goal.returns-clause-taken
@@ -15,6 +15,6 @@ returns-clause-taken c = (c.in_ok-kept.kept, c.in_ok-kept.ensures.items, refl)
 
 pub returns-clause-joined : goal.returns-clause-joined
 returns-clause-joined c =
-    c.shorten.ensures.cut
+    c.cut.ensures.cut
     (prefix_of (seen present c.pop.new.self.items))
-    (closed-by c.args.frames.now.items c.pop.new.self.items c.in_ok-kept.kept c.in_ok-kept.kept.frame _ _ c.in_ok-kept.ensures.items refl c.requires.joined c.as_str.ensures.value)
+    (closed-by c.args.frames.now.items c.pop.new.self.items c.in_ok-kept.kept c.in_ok-kept.kept.frame _ c.in_ok-kept.ensures.items refl c.requires.joined)

@@ -6,8 +6,8 @@ use Rattle.tocmark_write_containers.specs.FrameOf.{content_view}
 use Rattle.tocmark_write_containers.specs.KeptOf.{present, seen}
 use Rattle.tocmark_write_containers.specs.Nesting.{Nesting}
 use Rattle.tocmark_write_containers.specs.Outside.{outside_of, within}
+use Rattle.tocmark_write_containers.specs.PrefixOf.{prefix_bytes}
 use Rattle.tocmark_event.specs.View.{tag_view}
-use Rattle.tocmark_spelling.specs.Page.{prefix_of}
 use Rattle.tocmark_write_containers.specs.declared.kept.Kept.{Kept}
 use Rattle.tocmark_write_containers.proofs.containers.Containers.push.Goals as goal
 
@@ -24,7 +24,7 @@ invariant_of-self-2 c =
     ∙ ap (within t c.args.start (content_view c.args.content) (length path)) (c.outside.ensures ∙ ap (λ (r : Nesting). outside_of r.path) (sym c.self.view_is))
     ∙ sym (outside-step (present k) path) in
     record {
-      prefix_is = c.in_ok-push_str.ensures.bytes ∙ ap (λ l. l ++ c.as_str.result.now) c.self.invariant.prefix_is ∙ ap (λ t. prefix_of (seen present c.self.inside.frames.items) ++ t) c.as_str.ensures.value ∙ sym (joined-last c.put.new.frames.items c.self.inside.frames.items k items);
+      prefix_is = c.in_ok-add.ensures.bytes ∙ ap (λ l. l ++ prefix_bytes c.args.prefix) c.self.invariant.prefix_is ∙ sym (joined-last c.put.new.frames.items c.self.inside.frames.items k items);
       told = told-more present c.put.new.frames.items c.self.inside.frames.items k items says c.self.invariant.told;
-      fits = refit c.self.inside c.put.new.frames c.push_str.new.self c.self.inside.kept (λ n less. stayed-more c.put.new.frames.items c.self.inside.frames.items k n items less) (omega (arith, c.put.ensures.capacity, c.in_ok-reserve.ensures.capacity)) (c.in_ok-push_str.ensures.capacity) c.self.invariant.fits;
+      fits = refit c.self.inside c.put.new.frames c.add.new.text c.self.inside.kept (λ n less. stayed-more c.put.new.frames.items c.self.inside.frames.items k n items less) (omega (arith, c.put.ensures.capacity, c.in_ok-reserve.ensures.capacity)) (c.in_ok-add.ensures.capacity) c.self.invariant.fits;
     }
