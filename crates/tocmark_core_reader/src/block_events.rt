@@ -16,7 +16,7 @@ use crate::words::{cleaned_part, info_text, name_text, spaces_text};
 use std::alloc::{AllocError, Global};
 use std::mem;
 use tocmark_event::event::{CodeBlockKind, CowStr, Tag};
-use tocmark_read_inlines::inlines::{Inlines, read_cell, read_inlines};
+use tocmark_read_inlines::inlines::{Inlines, SpareLists, read_cell, read_inlines};
 use tocmark_read_leaves::definition::Piece;
 use tocmark_read_leaves::row::alignments;
 use tocmark_read_open_blocks::page::{Block, BlockKind, Task};
@@ -270,6 +270,7 @@ fn no_inlines(alloc: Global, texts: Vec<u8>) -> Inlines
         targets: Vec::new(alloc),
         texts,
         missed: Vec::new(alloc),
+        spare: SpareLists::new(alloc),
     }
 }
 

@@ -6,3 +6,4 @@ pub mod PlainPages
 pub mod PlainTexts
 pub mod PlainFronts
 pub mod CoreStarts
+mod FencedLines

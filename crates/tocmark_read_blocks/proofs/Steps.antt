@@ -18,7 +18,7 @@ use Rattle.tocmark_read_open_blocks.specs.Pages.{State, closed_to}
 use Rattle.tocmark_read_open_blocks.specs.declared.line_start.LineStart.{LineStart}
 
 -- no extension begins where a test is false
-never : (flag : Bool) → flag && false ≡ false
+pub never : (flag : Bool) → flag && false ≡ false
 never true = refl
 never false = refl
 

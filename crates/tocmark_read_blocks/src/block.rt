@@ -1,8 +1,9 @@
 //! How a line changes the blocks so far, and the blocks of a whole text.
 
-ghost use Rattle.std.specs.Prelude.{◌≡◌, IfOk, OnOk};
-ghost use Rattle.std.specs.List.{fold};
-ghost use Rattle.tocmark_read_open_blocks.specs.Pages.{page};
+ghost use Rattle.std.specs.Prelude.{◌≡◌, ◌==◌, ◌&&◌, not, true, IfOk, OnOk};
+ghost use Rattle.std.specs.List.{find, fold, list_any};
+ghost use Rattle.tocmark_read_leaves.specs.Codes.{piece_of};
+ghost use Rattle.tocmark_read_open_blocks.specs.Pages.{page, piece_taken};
 ghost use Rattle.tocmark_read_blocks.specs.Blocks.{extends_starts, start_or, underline_taken_in, started_in, leaf_started_in, turn_of, is_ended_by_note, turn_in, leaf_ended, touched, cells_taken_in, line_taken_in, page_in, blocks_view, blocks_in, passed_in, tabled_in};
 
 use crate::container::{goes_directly, open_all};
@@ -15,7 +16,7 @@ use std::alloc::{AllocError, Global};
 use tocmark_event::event::HeadingLevel;
 use tocmark_read_leaves::definition::{LinkDefinition, Piece};
 use tocmark_read_leaves::leaf::{
-    LeafStart, Turn, is_paragraph, is_table, leaf_at, leaf_turn, rule_at,
+    Leaf, LeafStart, Turn, is_paragraph, is_table, leaf_at, leaf_turn, rule_at,
 };
 use tocmark_read_leaves::metadata::{Known, known_of};
 use tocmark_read_leaves::row::header_of;
@@ -27,6 +28,7 @@ use tocmark_read_lines::note::note_at;
 use tocmark_read_open_blocks::line_start::{LineStart, Row};
 use tocmark_read_open_blocks::page::{Block, BlocksSoFar};
 use tocmark_read_scan::basic::bytes_between;
+use tocmark_read_scan::class::has_byte;
 use tocmark_read_syntax::Syntax;
 
 /// What a text is made of, but for the inlines of paragraphs and headings.
@@ -300,41 +302,126 @@ fn take_cells(so_far: &mut BlocksSoFar, alloc: Global, row: &Row<'_, '_>) -> Res
     }
 }
 
-/// Takes a line. Its columns are written over those of the line before.
+/// A text, what is known of it, and whether a tab stands in it.
+#[derive(Clone, Copy)]
+struct Source<'t> {
+    known: Known,
+    text: &'t [u8],
+    has_tabs: bool,
+}
+
+fn source_of(known: Known, text: &[u8]) -> Source<'_>
+    ensures known { result.known ≡ known }
+    ensures text { result.text.now ≡ text.now }
+    ensures tabs { result.has_tabs ≡ list_any (λ b. b == 9) text.now }
+{
+    Source {
+        known,
+        text,
+        has_tabs: has_byte(text, b'\t'),
+    }
+}
+
+/// The first byte that is neither a space nor a tab.
+fn first_ink(bytes: &[u8]) -> Option<u8>
+    ensures { result ≡ find (λ b. not (b == 32) && not (b == 9)) bytes.now }
+{
+    bytes
+        .iter()
+        .copied()
+        .find(|byte| *byte != b' ' && *byte != b'\t')
+}
+
+/// A whole line.
+fn whole_piece(line: Line) -> Piece
+    ensures { result ≡ piece_of 0 line.start line.end line.next }
+{
+    Piece {
+        spaces: 0,
+        start: line.start,
+        end: line.end,
+        next: line.next,
+    }
+}
+
+/// Whether a line is one of open fenced code at the top, as its first bytes tell: it isn't blank, and
+/// begins with another byte than the fence, behind spaces and tabs.
+fn is_fenced(so_far: &BlocksSoFar, source: &Source<'_>, line: Line) -> bool
+    ensures { result ≡ true →
+        line_taken_in source.now.known source.now.text.now (page so_far.now) line
+        ≡ piece_taken (piece_of 0 line.start line.end line.next) line true (page so_far.now) }
+{
+    let Leaf::Fenced(fence) = so_far.leaf else {
+        return false;
+    };
+    if so_far.opened.len() != 0 {
+        return false;
+    }
+    if fence.indent != 0 {
+        return false;
+    }
+    match first_ink(bytes_between(source.text, line.start, line.end)) {
+        None => false,
+        Some(byte) => byte != fence.byte,
+    }
+}
+
+/// Takes a line by its columns, which are written over those of a line before.
 #[tactic(auto, unfolding(crate::specs::Blocks::line_taken_in))]
-fn take_line(
+fn take_columns(
     so_far: &mut BlocksSoFar,
     alloc: Global,
-    known: Known,
-    text: &[u8],
+    source: &Source<'_>,
     cells: &mut Cells,
     line: Line,
 ) -> Result<(), AllocError>
-    ensures { OnOk result (page so_far.new ≡ line_taken_in known text.now (page so_far.old) line) }
+    requires tabs { source.now.has_tabs ≡ list_any (λ b. b == 9) source.now.text.now }
+    ensures { OnOk result (page so_far.new
+        ≡ line_taken_in source.now.known source.now.text.now (page so_far.old) line) }
 {
-    cells.read(text, line)?;
+    cells.read_in(source.text, line, source.has_tabs)?;
     let row = Row {
-        known,
-        text,
+        known: source.known,
+        text: source.text,
         cells,
         line,
     };
     take_cells(so_far, alloc, &row)
 }
 
+/// Takes a line. The columns of a line of open fenced code aren't asked for.
+fn take_line(
+    so_far: &mut BlocksSoFar,
+    alloc: Global,
+    source: &Source<'_>,
+    cells: &mut Cells,
+    line: Line,
+) -> Result<(), AllocError>
+    requires tabs { source.now.has_tabs ≡ list_any (λ b. b == 9) source.now.text.now }
+    ensures { OnOk result (page so_far.new
+        ≡ line_taken_in source.now.known source.now.text.now (page so_far.old) line) }
+{
+    if is_fenced(so_far, source, line) {
+        so_far.take_piece(whole_piece(line), line, true)
+    } else {
+        take_columns(so_far, alloc, source, cells, line)
+    }
+}
+
 fn take_lines(
     so_far: &mut BlocksSoFar,
     alloc: Global,
-    known: Known,
-    text: &[u8],
+    source: &Source<'_>,
     lines: &[Line],
 ) -> Result<(), AllocError>
+    requires tabs { source.now.has_tabs ≡ list_any (λ b. b == 9) source.now.text.now }
     ensures { OnOk result (page so_far.new
-        ≡ fold (line_taken_in known text.now) (page so_far.old) lines.now) }
+        ≡ fold (line_taken_in source.now.known source.now.text.now) (page so_far.old)
+        lines.now) }
 {
     let mut cells = Cells::new(alloc);
     for line in lines {
-        take_line(so_far, alloc, known, text, &mut cells, *line)?;
+        take_line(so_far, alloc, source, &mut cells, *line)?;
     }
     Ok(())
 }
@@ -352,9 +439,9 @@ fn read_page(alloc: Global, syntax: Syntax, text: &[u8]) -> Result<BlocksSoFar, 
     ensures { IfOk result (λ found. page found ≡ page_in syntax text.now) }
 {
     let lines = lines(alloc, text)?;
-    let known = known_of(syntax, text, &lines);
+    let source = source_of(known_of(syntax, text, &lines), text);
     let mut page = BlocksSoFar::new(alloc);
-    take_lines(&mut page, alloc, known, text, &lines)?;
+    take_lines(&mut page, alloc, &source, &lines)?;
     page.close_to(alloc, text, 0)?;
     Ok(page)
 }

@@ -5,5 +5,7 @@ pub mod PlainParts
 pub mod PlainLeaf
 pub mod PlainNeighbours
 pub mod Sparse
+mod Behind
+mod Fronts
 pub mod CoreRuns
 mod Quiet

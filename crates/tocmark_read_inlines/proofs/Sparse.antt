@@ -8,7 +8,7 @@ use Rattle.std.specs.List.{fold}
 use Rattle.std.proofs.lemmas.List.Sums.{fold-append}
 use Rattle.tocmark_read_scan.specs.Basic.{plus}
 use Rattle.tocmark_read_spans.specs.Role.{roles_of, with_mark}
-use Rattle.tocmark_read_inlines.specs.Write.{State, pushed, flushed_from, flushed, opened, closed, single, gone_on, texted, shown, next_place, role_step, begun_at, passed, mark_step, is_between, ascend, write_start}
+use Rattle.tocmark_read_inlines.specs.Write.{State, pushed, flushed_from, flushed, opened, closed, single, gone_on, texted, shown, next_place, role_step, begun_at, passed, mark_step, is_between, ascend}
 use Rattle.tocmark_read_spans.specs.declared.role.MarkedByte.{MarkedByte}
 use Rattle.tocmark_read_spans.specs.declared.role.Role.{Role}
 use Rattle.tocmark_read_spans.specs.declared.role.Role.TheVariants.{Plain, Fresh, Hidden, Open, Close, Single}
@@ -250,8 +250,8 @@ marks_fold (m ∷ ms) from end rs s t h fits within n e at =
         omega (arith, a, b, c, q)
 
 -- the pass over marks in order
-pub in_order : (r : Roles) (depth : ℕ) → ascend 0 r.length r.marks.items ≡ true → r.length < 2 ^ 64 → passed r.length (fold mark_step (write_start depth) r.marks.items) ≡ fold role_step (write_start depth) (roles_of r)
-in_order r depth h fits =
+pub in_order : (r : Roles) (s : State) → s.place ≡ 0 → ascend 0 r.length r.marks.items ≡ true → r.length < 2 ^ 64 → passed r.length (fold mark_step s r.marks.items) ≡ fold role_step s (roles_of r)
+in_order r s front h fits =
     let all : r.length - 0 ≡ r.length = omega arith in
-    sym (ap (λ i. fold role_step (write_start depth) (fold with_mark (replicate i Plain) r.marks.items)) (sym all)
-    ∙ marks_fold r.marks.items 0 r.length [] (write_start depth) (write_start depth) h fits (omega arith) refl refl refl)
+    sym (ap (λ i. fold role_step s (fold with_mark (replicate i Plain) r.marks.items)) (sym all)
+    ∙ marks_fold r.marks.items 0 r.length [] s s h fits (omega arith) refl refl front)

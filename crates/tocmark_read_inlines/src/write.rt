@@ -249,15 +249,20 @@ fn ascend(marks: &[MarkedByte], end: usize) -> bool
     true
 }
 
-/// The nodes of the roles of a text's bytes, at a depth. There is room for a text and a node for each mark
-/// from the start. An `Err` says that memory ran out.
-#[tactic(auto, unfolding(crate::specs::Write::written), using(crate::proofs::Sparse::in_order))]
-pub fn write(alloc: Global, roles: &Roles, depth: usize) -> Result<Vec<Node>, AllocError>
-    ensures { IfOk result (λ v. v.items ≡ written (roles_of roles.now) depth) }
+/// Writes the nodes of the roles of a text's bytes behind others, at a depth. There is room for a text and a
+/// node for each mark from the start. An `Err` says that memory ran out.
+#[tactic(auto, using(crate::proofs::Sparse::in_order, crate::proofs::Behind::written_behind))]
+fn write(
+    alloc: Global,
+    roles: &Roles,
+    depth: usize,
+    mut nodes: Vec<Node>,
+) -> Result<Vec<Node>, AllocError>
+    ensures { IfOk result (λ v. v.items ≡ nodes.items ++ written (roles_of roles.now) depth) }
 {
-    let nodes = roles.marks.len().saturating_mul(2).saturating_add(1);
+    nodes.reserve(roles.marks.len().saturating_mul(2).saturating_add(1))?;
     let mut writer = Writer {
-        nodes: Vec::with_capacity(alloc, nodes)?,
+        nodes,
         depth,
         text: None,
         place: 0,
@@ -286,14 +291,30 @@ fn moved(content: &Content, node: Node) -> Node
     }
 }
 
-/// Writes nodes with their ranges in the source behind others. An `Err` says that memory ran out.
-pub fn push_moved(out: &mut Vec<Node>, content: &Content, nodes: &[Node]) -> Result<(), AllocError>
-    ensures { OnOk result (out.new.items
-        ≡ out.old.items ++ map (moved (content_view content.now).places) nodes.now) }
+/// Gives nodes their ranges in the source.
+fn move_all(content: &Content, nodes: &mut [Node])
+    ensures { nodes.new ≡ map (moved (content_view content.now).places) nodes.old }
 {
-    out.reserve(nodes.len())?;
-    for node in nodes {
-        out.push(moved(content, *node))?;
+    for node in nodes.iter_mut() {
+        *node = moved(content, *node);
     }
-    Ok(())
+}
+
+/// Writes the nodes of the roles of a text's bytes behind others, at a depth and with their ranges in the
+/// source. An `Err` says that memory ran out.
+pub fn write_behind(
+    alloc: Global,
+    roles: &Roles,
+    depth: usize,
+    content: &Content,
+    nodes: Vec<Node>,
+) -> Result<Vec<Node>, AllocError>
+    ensures { IfOk result (λ v. v.items
+        ≡ nodes.items
+        ++ map (moved (content_view content.now).places) (written (roles_of roles.now) depth)) }
+{
+    let count = nodes.len();
+    let mut nodes = write(alloc, roles, depth, nodes)?;
+    move_all(content, &mut nodes[count..]);
+    Ok(nodes)
 }

@@ -147,13 +147,14 @@ fn number_marks(numbers: &mut Vec<usize>, marks: &[MarkedByte])
 }
 
 impl Roles {
-    /// So many plain bytes.
-    pub fn new(alloc: Global, length: usize) -> Roles
+    /// So many plain bytes. The list is emptied, and kept for its room.
+    pub fn new(length: usize, mut marks: Vec<MarkedByte>) -> Roles
         ensures { roles_of result ≡ replicate length Plain }
     {
+        marks.clear();
         Roles {
             length,
-            marks: Vec::new(alloc),
+            marks,
             scattered: false,
         }
     }

@@ -5,4 +5,4 @@ use Rattle.tocmark_read_blocks.specs.Blocks.{line_taken_in}
 use Rattle.tocmark_read_blocks.proofs.block.take_lines.Given as goal
 
 abbrev pub invariant-loop-line : goal.invariant-loop-line
-invariant-loop-line l = page l.so_far ≡ fold (line_taken_in l.known l.text) (page l.fn.so_far) (take l.line-index l.lines)
+invariant-loop-line l = page l.so_far ≡ fold (line_taken_in l.source.known l.source.text.now) (page l.fn.so_far) (take l.line-index l.lines)
