@@ -1,6 +1,8 @@
 //! The blocks of a page as its lines come in.
 
-ghost use Rattle.std.specs.Prelude.{◌≡◌, drop, OnOk};
+ghost use Rattle.std.specs.Prelude.{◌≡◌, drop, map, slice_get, slice_set, IfOk, OnOk};
+ghost use Rattle.std.specs.Option.{option_map_or};
+ghost use Rattle.tocmark_read_leaves.specs.Definitions.{begins_definition, definition_view, definitions_from};
 ghost use Rattle.tocmark_read_open_blocks.specs.Pages.{page, first_page, raised_last, shortened, is_list, is_quote, is_note, quote_left, quote_entered, piece_pushed, ended, finished, leaf_finished, settled, leaf_closed, one_closed, times, closed_to, list_left, left_noted, is_definitions, is_loose, note_left, list_of, is_apart, loosened, had_marked, begun, opened_with, leaf_opened, piece_taken, table_finished, has_text};
 
 use std::alloc::{AllocError, Global};
@@ -11,7 +13,7 @@ use tocmark_read_leaves::leaf::Leaf;
 use tocmark_read_leaves::row::{HeaderLine, Table};
 use tocmark_read_lines::container::{Container, Opened, raise_at};
 use tocmark_read_lines::line::Line;
-use tocmark_read_scan::basic::set;
+use tocmark_read_scan::basic::byte_at;
 
 /// What a block is.
 #[derive(Clone, Copy)]
@@ -103,8 +105,8 @@ pub struct BlocksSoFar {
 fn end_block(blocks: &mut Vec<Block>, index: usize, end: usize)
     ensures { blocks.new.items ≡ ended blocks.old.items index end }
 {
-    if let Some(block) = blocks.get(index).copied() {
-        set(blocks, index, Block { end, ..block });
+    if let Some(block) = blocks.get_mut(index) {
+        block.end = end;
     }
 }
 
@@ -112,8 +114,9 @@ fn end_block(blocks: &mut Vec<Block>, index: usize, end: usize)
 fn finish_block(blocks: &mut Vec<Block>, index: usize, end: usize, last: usize)
     ensures { blocks.new.items ≡ finished blocks.old.items index end last }
 {
-    if let Some(block) = blocks.get(index).copied() {
-        set(blocks, index, Block { end, last, ..block });
+    if let Some(block) = blocks.get_mut(index) {
+        block.end = end;
+        block.last = last;
     }
 }
 
@@ -158,15 +161,8 @@ fn loosen(blocks: &mut Vec<Block>, list: Option<usize>, apart: bool)
         return;
     }
     if let Some(index) = list {
-        if let Some(block) = blocks.get(index).copied() {
-            set(
-                blocks,
-                index,
-                Block {
-                    loose: true,
-                    ..block
-                },
-            );
+        if let Some(block) = blocks.get_mut(index) {
+            block.loose = true;
         }
     }
 }
@@ -177,8 +173,8 @@ fn mark_had(opened: &mut Vec<Opened>)
     ensures { opened.new.items ≡ had_marked opened.old.items }
 {
     let last = opened.len().saturating_sub(1);
-    if let Some(one) = opened.get(last).copied() {
-        set(opened, last, Opened { had: true, ..one });
+    if let Some(one) = opened.get_mut(last) {
+        one.had = true;
     }
 }
 
@@ -259,17 +255,48 @@ fn pieces_from(pieces: &[Piece], first: usize) -> &[Piece]
     }
 }
 
-/// A paragraph without its first lines.
-#[tactic(auto, unfolding(crate::specs::Pages::shortened))]
-fn shortened(block: Block, pieces: &[Piece], count: usize) -> Block
-    ensures { result ≡ shortened block pieces.now count }
+/// Whether lines may begin with a definition.
+#[tactic(auto, unfolding(tocmark_read_leaves::specs::Definitions::begins_definition))]
+fn may_define(text: &[u8], lines: &[Piece]) -> bool
+    ensures { result ≡ begins_definition text.now lines.now }
 {
-    let first = block.first.saturating_add(count);
-    let start = pieces.get(first).map_or(block.start, |line| line.start);
-    Block {
-        first,
-        start,
-        ..block
+    match lines.first() {
+        None => false,
+        Some(line) => byte_at(text, line.start) == b'[',
+    }
+}
+
+/// Takes the definitions at the front of lines, and answers how many lines they are.
+#[tactic(auto, unfolding(tocmark_read_leaves::specs::Definitions::definitions_from))]
+fn take_front(
+    alloc: Global,
+    text: &[u8],
+    lines: &[Piece],
+    definitions: &mut Vec<LinkDefinition>,
+) -> Result<usize, AllocError>
+    ensures { IfOk result (λ count.
+        (map definition_view definitions.new.items, count)
+        ≡ definitions_from text.now lines.now (map definition_view definitions.old.items)) }
+{
+    if may_define(text, lines) {
+        take_definitions(alloc, text, lines, definitions)
+    } else {
+        Ok(0)
+    }
+}
+
+/// Takes the first lines of a paragraph from it.
+#[tactic(auto, unfolding(crate::specs::Pages::shortened))]
+fn shorten(blocks: &mut Vec<Block>, index: usize, pieces: &[Piece], count: usize)
+    ensures { blocks.new.items ≡ option_map_or
+        (λ b. slice_set blocks.old.items index (shortened b pieces.now count))
+        (slice_get blocks.old.items index) blocks.old.items }
+{
+    if let Some(block) = blocks.get_mut(index) {
+        block.first = block.first.saturating_add(count);
+        if let Some(line) = pieces.get(block.first) {
+            block.start = line.start;
+        }
     }
 }
 
@@ -330,14 +357,13 @@ impl BlocksSoFar {
         ensures { OnOk result (page self.new ≡ settled text.now (page self.old)) }
     {
         let index = self.blocks.len().saturating_sub(1);
-        if let Some(block) = self.blocks.get(index).copied() {
+        if let Some(block) = self.blocks.get(index) {
             if block.task.is_some() {
                 return Ok(());
             }
             let lines = pieces_from(&self.pieces, block.first);
-            let count = take_definitions(alloc, text, lines, &mut self.definitions)?;
-            let rest = shortened(block, &self.pieces, count);
-            set(&mut self.blocks, index, rest);
+            let count = take_front(alloc, text, lines, &mut self.definitions)?;
+            shorten(&mut self.blocks, index, &self.pieces, count);
         }
         Ok(())
     }
