@@ -8,6 +8,7 @@ ghost use Rattle.tocmark_write_texts.specs.Escape.{escaped, place_of};
 ghost use Rattle.tocmark_write_containers.specs.FrameOf.{content_view, level_of};
 ghost use Rattle.tocmark_write_containers.specs.Nesting.{entered, head_of, is_counted, renumbered};
 ghost use Rattle.tocmark_write_containers.specs.Outside.{outside_of};
+ghost use Rattle.tocmark_write_containers.specs.PrefixOf.{prefix_bytes};
 ghost use Rattle.tocmark_spelling.specs.Gap.{forget_quote};
 ghost use Rattle.tocmark_spelling.specs.Page.{lead, prefix_of};
 ghost use Rattle.tocmark_spelling.specs.Kinds.{is_emphasis, is_emphasis_or_strong};
@@ -29,6 +30,7 @@ use tocmark_write_containers::containers::Containers;
 use tocmark_write_containers::content::OpeningChoice;
 use tocmark_write_containers::frame::Frame;
 use tocmark_write_containers::outside::Outside;
+use tocmark_write_containers::prefix::Prefix;
 use tocmark_write_texts::escape::{EscapeSurroundings, escape_into};
 
 /// What was at the mark and owns no memory.
@@ -412,16 +414,16 @@ impl<'a> Renderer<'a> {
         Ok(())
     }
 
-    /// Opens a container here. An `Err` says that memory ran out.
+    /// Opens a container here, with this prefix before its lines. An `Err` says that memory ran out.
     pub fn push_frame(
         &mut self,
         tag: &'a TagOf<String>,
-        prefix: String,
+        prefix: Prefix,
         content: OpeningChoice,
     ) -> Result<(), AllocError>
         ensures site { OnOk result (site_of self.new
             ≡ on_path
-            (entered (tag_view string_bytes tag.entry.now) (string_bytes prefix)
+            (entered (tag_view string_bytes tag.entry.now) (prefix_bytes prefix)
             (length (sheet_of self.old).text) (content_view content)) (site_of self.old)) }
         ensures mark { self.new.at_mark ≡ self.old.at_mark }
     {
