@@ -1,3 +1,4 @@
+pub mod FeedsOf
 pub mod RunsOf
 pub mod JobOf
 pub mod WriterOf
