@@ -1,3 +1,4 @@
+pub mod LineOf
 pub mod FeedsOf
 pub mod RunsOf
 pub mod JobOf
