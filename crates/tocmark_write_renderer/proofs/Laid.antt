@@ -1,12 +1,16 @@
 -- How text is laid in parts.
-use Rattle.std.proofs.Common.{◌≡◌, ℕ, zero, suc, ◌+◌, ◌<◌, Bool, true, false, cond, List, [], ◌∷◌, ◌++◌, refl, sym, ap, ◌∙◌, arith, append_assoc, replicate, nat_eq, nat_lt, length, add-one, take, subst, get_or}
-use Rattle.std.specs.List.{before_first, after_first, position_or_len}
+use Rattle.std.proofs.Common.{◌≡◌, ℕ, zero, suc, ◌+◌, ◌<◌, ◌≤◌, Bool, true, false, cond, List, [], ◌∷◌, ◌++◌, refl, sym, ap, ◌∙◌, arith, append_assoc, replicate, nat_eq, nat_lt, length, add-one, take, subst, get_or, reverse}
+use Rattle.std.specs.List.{before_first, after_first, position_or_len, prefix_len}
 use Rattle.std.proofs.lemmas.Bool.{eqb-true}
-use Rattle.std.proofs.lemmas.List.{append-nil, take_all}
+use Rattle.std.proofs.lemmas.Bool.Decides.{nat_tests}
+use Rattle.std.proofs.lemmas.List.{append-nil, length-reverse, reverse-append, take_all}
+use Rattle.std.proofs.lemmas.List.Folds.{prefix_len-append}
+use Rattle.std.proofs.lemmas.List.Sums.{suffix_len-le-length}
 use Rattle.std.proofs.lemmas.Str.{IsUtf8-drop, IsCharBoundary-after_ascii}
 use Rattle.std.specs.Str.{IsUtf8}
 use Rattle.tocmark_write_renderer.specs.Changes.{on_sheet, with_feeds, with_more}
 use Rattle.tocmark_spelling.specs.Page.{Sheet, Site, feeds_after, lead, put_byte, laid}
+use Rattle.tocmark_write_renderer.specs.FeedsOf.{ending_feeds, feeds_behind}
 use Rattle.tocmark_write_renderer.specs.WriterOf.{HasNoFeed}
 
 pub laid-append : (prefix a b : List ℕ) (s : Sheet) → laid prefix (a ++ b) s ≡ laid prefix b (laid prefix a s)
@@ -121,7 +125,7 @@ laid-more prefix n s = ap (λ m. laid prefix (replicate m 10) s) (add-one n) ∙
     go zero s = refl
     go (suc n) s = go n (put_byte prefix 10 s)
 
--- ---- where a unit stands
+-- ---- a text whose lines have no prefix
 
 abbrev no_bytes : List ℕ
 no_bytes = []
@@ -133,11 +137,51 @@ either-none false = refl
 lead-none : (n : ℕ) → lead no_bytes n ≡ no_bytes
 lead-none n = either-none (nat_lt 0 n)
 
--- a line that begins with no prefix
-pub unled : (here : Site) → here ≡ on_sheet (with_more (lead [] here.page.sheet.feeds)) here
-unled here =
-    let text = here.page.sheet.text in
-    ap (λ t. on_sheet (λ s. record { text = t; feeds = s.feeds }) here) (sym (append-nil text) ∙ ap (λ x. text ++ x) (sym (lead-none here.page.sheet.feeds)))
+-- the line feeds at the end, with one byte in front
+ending-more : (b : ℕ) (bs : List ℕ) → ending_feeds (b ∷ bs) ≡ cond (nat_eq (ending_feeds bs) (length bs)) (length bs + cond (is_feed b) 1 0) (ending_feeds bs)
+ending-more b bs =
+    ap (prefix_len is_feed) (reverse-append (b ∷ []) bs)
+    ∙ prefix_len-append is_feed (reverse bs) (b ∷ [])
+    ∙ ap (λ n. cond (nat_eq (ending_feeds bs) n) (n + prefix_len is_feed (b ∷ [])) (ending_feeds bs)) (length-reverse bs)
+
+abbrev over : ℕ → ℕ → ℕ → ℕ
+over end len n = cond (nat_eq end len) (n + end) end
+
+over-more : (k m n : ℕ) (f : Bool) → k ≤ m → over (cond (nat_eq k m) (m + cond f 1 0) k) (suc m) n ≡ over k m (cond f (n + 1) 0)
+over-more k m n true h = grind (arith, nat_tests, h)
+over-more k m n false h = grind (arith, nat_tests, h)
+
+feeds-more : (b : ℕ) (bs : List ℕ) (n : ℕ) → feeds_behind bs (feeds_after b n) ≡ feeds_behind (b ∷ bs) n
+feeds-more b bs n =
+    sym (over-more (ending_feeds bs) (length bs) n (is_feed b) (suffix_len-le-length is_feed bs))
+    ∙ sym (ap (λ e. over e (suc (length bs)) n) (ending-more b bs))
+
+-- such a text is laid as it is
+laid-bare : (text : List ℕ) (s : Sheet) → laid [] text s ≡ sheet (s.text ++ text) (feeds_behind text s.feeds)
+laid-bare [] s = ap (λ t. sheet t s.feeds) (sym (append-nil s.text)) ∙ ap (λ n. sheet (s.text ++ []) n) (omega arith)
+laid-bare (b ∷ bs) s =
+    laid-bare bs (put_byte [] b s)
+    ∙ ap (λ t. sheet (((s.text ++ t) ++ b ∷ []) ++ bs) (feeds_behind bs (feeds_after b s.feeds))) (lead-none s.feeds)
+    ∙ ap (λ t. sheet t (feeds_behind bs (feeds_after b s.feeds))) (append_assoc (s.text ++ []) (b ∷ []) bs ∙ ap (λ t. t ++ b ∷ bs) (append-nil s.text))
+    ∙ ap (λ n. sheet (s.text ++ b ∷ bs) n) (feeds-more b bs s.feeds)
+
+-- ---- where a unit stands
+
+-- such a text was laid
+pub bare-laid : (text : List ℕ) (n : ℕ) (here one two : Site) → n ≡ feeds_behind text here.page.sheet.feeds → one ≡ on_sheet (with_more text) here → two ≡ on_sheet (with_feeds n) one → two ≡ on_sheet (laid [] text) here
+bare-laid text n here one two e put set =
+    set
+    ∙ ap (λ k. on_sheet (with_feeds k) one) e
+    ∙ ap (λ x. on_sheet (with_feeds (feeds_behind text here.page.sheet.feeds)) x) put
+    ∙ ap (λ x. on_sheet (λ _. x) here) (sym (laid-bare text here.page.sheet))
+
+pub nothing : (bs : List ℕ) → length bs ≡ 0 → bs ≡ []
+nothing [] e = refl
+nothing (b ∷ bs) e = absurd (omega arith)
+
+-- a text was laid where the prefix is empty
+pub unprefixed : (prefix shown text : List ℕ) (here new : Site) → shown ≡ prefix → length shown ≡ 0 → new ≡ on_sheet (laid [] text) here → new ≡ on_sheet (laid prefix text) here
+unprefixed prefix shown text here new e none h = h ∙ ap (λ p. on_sheet (laid p text) here) (sym (nothing shown none) ∙ e)
 
 pub laid-nothing : (prefix bs : List ℕ) (here : Site) → length bs ≡ 0 → here ≡ on_sheet (laid prefix bs) here
 laid-nothing prefix [] here e = refl

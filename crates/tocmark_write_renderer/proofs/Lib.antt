@@ -11,3 +11,4 @@ pub mod Laid
 pub mod Gaps
 pub mod Starts
 pub mod Escapes
+mod NoGaps

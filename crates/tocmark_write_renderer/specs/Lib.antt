@@ -1,3 +1,5 @@
+pub mod LineOf
+pub mod FeedsOf
 pub mod RunsOf
 pub mod JobOf
 pub mod WriterOf

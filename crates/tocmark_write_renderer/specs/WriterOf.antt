@@ -1,5 +1,5 @@
 -- What is written of a unit: words of a renderer's value, and of its parts.
-use Rattle.std.specs.Prelude.{◌≡◌, ℕ, Bool, false, List, [], ◌∷◌, string_bytes, ◌==◌, if◌then◌else◌, Option, Some, None, Result, Ok, Err, ◌++◌}
+use Rattle.std.specs.Prelude.{◌≡◌, ℕ, false, List, [], ◌∷◌, string_bytes, ◌==◌, Option, Some, None, Result, Ok, Err, ◌++◌}
 use Rattle.std.specs.Option.{option_map}
 use Rattle.tocmark_event.specs.View.{EventView}
 use Rattle.tocmark_spelling.specs.Marker.{ends_delimiter}
@@ -7,7 +7,7 @@ use Rattle.tocmark_spelling.specs.Stretch.{both}
 use Rattle.tocmark_event.specs.declared.options.Error.{Error}
 use Rattle.tocmark_event.specs.declared.options.Error.TheVariants as error
 use Rattle.tocmark_spelling.specs.Page as page
-use Rattle.tocmark_spelling.specs.Page.{Sheet, Trail, Path, Page, Site, prefix_of}
+use Rattle.tocmark_spelling.specs.Page.{Sheet, Trail, Path, Page, Site}
 use Rattle.tocmark_write_renderer.specs.declared.parts.Reference.{Reference}
 use Rattle.tocmark_write_renderer.specs.declared.parts.Held.{Held}
 
@@ -44,10 +44,6 @@ blank feeds trail = record { path = []; page = blank_page feeds trail }
 abbrev pub HasNoFeed : List ℕ → Type 0
 HasNoFeed [] = Unit {0}
 HasNoFeed (b ∷ bs) = (b == 10 ≡ false) × HasNoFeed bs
-
--- the prefix of the open containers, where it is asked for
-abbrev pub prefix_if : Bool → Path → List ℕ
-prefix_if prefixed path = if prefixed then prefix_of path else []
 
 -- a definition of a link that is still to be written, as a plain value (CommonMark, section 4.7)
 abbrev pub reference_view : Reference → page.Reference

@@ -5,13 +5,24 @@ ghost use Rattle.std.specs.Option.{option_map};
 ghost use Rattle.tocmark_event.specs.View.{event_view};
 ghost use Rattle.tocmark_spelling.specs.Page.{with_last, with_owed, with_trail};
 ghost use Rattle.tocmark_spelling.specs.Gap.{forget_quote, quote_line_for, resumed, raised_for_list, raised_for_title, raised_for_block, close_up, closed_up, before_event, raised_before, separated, gap};
+ghost use Rattle.tocmark_write_renderer.specs.LineOf.{is_in_line};
 ghost use Rattle.tocmark_write_renderer.specs.WriterOf.{levels_of, page_of, Stands};
 
 use crate::renderer::Renderer;
 use std::alloc::AllocError;
-use tocmark_event::event::OwnedEvent;
+use tocmark_event::event::{EventOf, OwnedEvent};
 use tocmark_spelling::kinds::is_break;
 use tocmark_spelling::trail::Last;
+
+/// Whether it is a leaf of those that lines are mostly made of.
+fn is_in_line(event: &OwnedEvent) -> bool
+    ensures { result ≡ is_in_line (event_view string_bytes event.now) }
+{
+    matches!(
+        event,
+        EventOf::Text(_) | EventOf::Code(_) | EventOf::InlineHtml(_) | EventOf::SoftBreak
+    )
+}
 
 impl<'a> Renderer<'a> {
     /// Raises what is owed, for a list, a title or a block.
@@ -147,8 +158,8 @@ impl<'a> Renderer<'a> {
         self.close_up_where_close(event)
     }
 
-    /// Writes the gap before an event that is neither an end nor HTML.
-    pub fn write_gap(&mut self, event: &OwnedEvent) -> Result<(), AllocError>
+    /// Writes the gap before an event, wherever it stands.
+    fn write_any_gap(&mut self, event: &OwnedEvent) -> Result<(), AllocError>
         ensures stands { OnOk result
             (Stands self.new (levels_of self.old)
             (gap (event_view string_bytes event.now) (levels_of self.old) (page_of self.old))) }
@@ -157,5 +168,18 @@ impl<'a> Renderer<'a> {
         self.before_event(event)?;
         self.raise(event);
         self.separate(event)
+    }
+    /// Writes the gap before an event that is neither an end nor HTML. Inside a line there is none.
+    pub fn write_gap(&mut self, event: &OwnedEvent) -> Result<(), AllocError>
+        ensures stands { OnOk result
+            (Stands self.new (levels_of self.old)
+            (gap (event_view string_bytes event.now) (levels_of self.old) (page_of self.old))) }
+        ensures mark { self.new.at_mark ≡ self.old.at_mark }
+    {
+        if is_in_line(event) && self.owes_nothing() {
+            self.go_on();
+            return Ok(());
+        }
+        self.write_any_gap(event)
     }
 }

@@ -8,6 +8,7 @@ ghost use Rattle.tocmark_write_texts.specs.Escape.{escaped, place_of};
 ghost use Rattle.tocmark_write_containers.specs.FrameOf.{content_view, level_of};
 ghost use Rattle.tocmark_write_containers.specs.Nesting.{entered, head_of, is_counted, renumbered};
 ghost use Rattle.tocmark_write_containers.specs.Outside.{outside_of};
+ghost use Rattle.tocmark_write_containers.specs.PrefixOf.{prefix_bytes};
 ghost use Rattle.tocmark_spelling.specs.Gap.{forget_quote};
 ghost use Rattle.tocmark_spelling.specs.Page.{lead, prefix_of};
 ghost use Rattle.tocmark_spelling.specs.Kinds.{is_emphasis, is_emphasis_or_strong};
@@ -15,6 +16,7 @@ ghost use Rattle.tocmark_spelling.specs.Places.{at_item_start, is_after_opening,
 ghost use Rattle.tocmark_spelling.specs.Runs.{last_run, run_around};
 ghost use Rattle.tocmark_spelling.specs.Stretch.{at_front};
 ghost use Rattle.tocmark_spelling.specs.TrailOf.{trail_of, trail_view};
+ghost use Rattle.tocmark_write_renderer.specs.LineOf.{going_on, owes_nothing};
 ghost use Rattle.tocmark_write_renderer.specs.Changes.{carrying, holding, on_page, on_path, on_sheet, quoting, referring, with_feeds, with_more};
 ghost use Rattle.tocmark_write_renderer.specs.WriterOf.{blank, held_view, levels_of, page_of, reference_view, sheet_of, site_of, unheld};
 
@@ -24,11 +26,12 @@ use std::alloc::{AllocError, Global};
 use std::marker::Model;
 use std::mem;
 use tocmark_event::event::TagOf;
-use tocmark_spelling::trail::{Carried, Trail, copied_text};
+use tocmark_spelling::trail::{Carried, Last, Trail, copied_text};
 use tocmark_write_containers::containers::Containers;
 use tocmark_write_containers::content::OpeningChoice;
 use tocmark_write_containers::frame::Frame;
 use tocmark_write_containers::outside::Outside;
+use tocmark_write_containers::prefix::Prefix;
 use tocmark_write_texts::escape::{EscapeSurroundings, escape_into};
 
 /// What was at the mark and owns no memory.
@@ -338,6 +341,25 @@ impl<'a> Renderer<'a> {
         self.newlines = newlines;
     }
 
+    /// Whether nothing is owed before a leaf that goes on with a line.
+    pub fn owes_nothing(&self) -> bool
+        ensures { result ≡ owes_nothing (page_of self.now).trail }
+    {
+        matches!(self.carried.last, Last::Inline | Last::Other)
+            && self.carried.owed == 0
+            && !self.carried.open_html
+            && self.quote_line.is_none()
+    }
+
+    /// Goes on with inline content: raw text has ended, and no list is the last one.
+    pub fn go_on(&mut self)
+        ensures site { site_of self.new ≡ on_page going_on (site_of self.old) }
+        ensures mark { self.new.at_mark ≡ self.old.at_mark }
+    {
+        self.carried.last_list = None;
+        self.carried.raw_end = false;
+    }
+
     /// Says what is carried along.
     pub fn set_carried(&mut self, carried: Carried)
         ensures site { site_of self.new ≡ on_page (carrying carried) (site_of self.old) }
@@ -352,6 +374,9 @@ impl<'a> Renderer<'a> {
             ≡ on_page (quoting (option_map string_bytes line)) (site_of self.old) }
         ensures mark { self.new.at_mark ≡ self.old.at_mark }
     {
+        if self.quote_line.is_none() && line.is_none() {
+            return;
+        }
         let old = mem::replace(&mut self.quote_line, line);
         if self.old_quote_line.is_none() {
             self.old_quote_line = Some(old);
@@ -365,6 +390,9 @@ impl<'a> Renderer<'a> {
             option_map string_bytes line ≡ (page_of self.old).trail.quote_line) }
         ensures mark { self.new.at_mark ≡ self.old.at_mark }
     {
+        if self.quote_line.is_none() {
+            return Ok(None);
+        }
         if self.mark.is_none() || self.old_quote_line.is_some() {
             return Ok(mem::replace(&mut self.quote_line, None));
         }
@@ -391,6 +419,9 @@ impl<'a> Renderer<'a> {
         ensures held { IfOk result (λ held. option_map held_view held ≡ (page_of self.old).held) }
         ensures mark { self.new.at_mark ≡ self.old.at_mark }
     {
+        if self.held.is_none() {
+            return Ok(None);
+        }
         if self.mark.is_none() || self.old_held.is_some() {
             return Ok(mem::replace(&mut self.held, None));
         }
@@ -412,16 +443,16 @@ impl<'a> Renderer<'a> {
         Ok(())
     }
 
-    /// Opens a container here. An `Err` says that memory ran out.
+    /// Opens a container here, with this prefix before its lines. An `Err` says that memory ran out.
     pub fn push_frame(
         &mut self,
         tag: &'a TagOf<String>,
-        prefix: String,
+        prefix: Prefix,
         content: OpeningChoice,
     ) -> Result<(), AllocError>
         ensures site { OnOk result (site_of self.new
             ≡ on_path
-            (entered (tag_view string_bytes tag.entry.now) (string_bytes prefix)
+            (entered (tag_view string_bytes tag.entry.now) (prefix_bytes prefix)
             (length (sheet_of self.old).text) (content_view content)) (site_of self.old)) }
         ensures mark { self.new.at_mark ≡ self.old.at_mark }
     {

@@ -2,7 +2,7 @@ use Rattle.std.proofs.Common.{◌∙◌, ap}
 use Rattle.tocmark_spelling.specs.Page.{Site, prefix_of}
 use Rattle.tocmark_write_renderer.specs.WriterOf.{levels_of, site_of}
 use Rattle.tocmark_write_renderer.proofs.Laid.{feeds-laid}
-use Rattle.tocmark_write_renderer.proofs.renderer.Renderer.fill.Goals as goal
+use Rattle.tocmark_write_renderer.proofs.renderer.Renderer.lay_feed_lines.Goals as goal
 
 pub loop-line-preserved : goal.loop-line-preserved
 loop-line-preserved c =

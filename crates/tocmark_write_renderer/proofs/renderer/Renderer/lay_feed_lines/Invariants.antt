@@ -2,7 +2,7 @@ use Rattle.std.proofs.Common.{◌≡◌, replicate}
 use Rattle.tocmark_spelling.specs.Page.{laid, prefix_of}
 use Rattle.tocmark_write_renderer.specs.Changes.{on_sheet}
 use Rattle.tocmark_write_renderer.specs.WriterOf.{levels_of, site_of}
-use Rattle.tocmark_write_renderer.proofs.renderer.Renderer.fill.Given as goal
+use Rattle.tocmark_write_renderer.proofs.renderer.Renderer.lay_feed_lines.Given as goal
 
 abbrev pub invariant-loop-line : goal.invariant-loop-line
 invariant-loop-line l =
