@@ -5,3 +5,4 @@ pub mod TrimLemmas
 pub mod PlaceLemmas
 pub mod HtmlLemmas
 pub mod RawLemmas
+pub mod Silent
