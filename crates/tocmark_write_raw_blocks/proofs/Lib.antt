@@ -6,3 +6,4 @@ pub mod PlaceLemmas
 pub mod HtmlLemmas
 pub mod RawLemmas
 pub mod Silent
+pub mod Parts
