@@ -19,8 +19,10 @@ ghost use Rattle.tocmark_write_renderer.specs.Changes.{on_path};
 ghost use Rattle.tocmark_write_renderer.specs.JobOf.{label_in, setting_in, Reading};
 ghost use Rattle.tocmark_write_renderer.specs.WriterOf.{levels_of, page_of, site_of, Arrives, Comes, Stands};
 ghost use Rattle.tocmark_write_texts.specs.Characters.{space};
+ghost use Rattle.tocmark_write_texts.specs.Texts.{Grows};
 
 use std::alloc::{AllocError, Global};
+use std::fmt::Write;
 use tocmark_event::event::TagOf;
 use tocmark_event::options::{Error, Options};
 use tocmark_spelling::list_choice::ListChoice;
@@ -239,12 +241,13 @@ pub fn close_item(renderer: &mut Renderer<'_>, options: &Options<'_>)
     end_quote_outside(renderer);
 }
 
-fn number_text(alloc: Global, number: Option<u64>) -> Result<String, AllocError>
-    ensures { IfOk result (λ text. string_bytes text ≡ number_text number) }
+/// Adds an item's number, if it has one.
+fn push_number(text: &mut String, number: Option<u64>) -> Result<(), AllocError>
+    ensures { Grows result text.old text.new (number_text number) }
 {
     match number {
-        None => Ok(String::new(alloc)),
-        Some(number) => format!(in alloc; "{number}"),
+        None => Ok(()),
+        Some(number) => write!(text, "{number}"),
     }
 }
 
@@ -260,8 +263,8 @@ fn marker_end(wide: bool) -> &'static str
     if wide { "    " } else { " " }
 }
 
-/// How many bytes most markers have beside the number, at most.
-const ROOM_FOR_TOKEN: usize = 8;
+/// How many bytes most markers have at most.
+const ROOM_FOR_MARKER: usize = 24;
 
 /// An item's marker: its number if it has one, the token and a space; if it is wide, three spaces
 /// before these and four behind.
@@ -271,10 +274,9 @@ pub fn item_marker(alloc: Global, marker: Marker) -> Result<String, AllocError>
     ensures { (c : ListChoice) → IsMarked marker c
         → IfOk result (λ text. string_bytes text ≡ item_marker c) }
 {
-    let number = number_text(alloc, marker.number)?;
-    let mut text = String::with_capacity(alloc, number.len().saturating_add(ROOM_FOR_TOKEN))?;
+    let mut text = String::with_capacity(alloc, ROOM_FOR_MARKER)?;
     text.push_str(marker_front(marker.wide))?;
-    text.push_str(number.as_str())?;
+    push_number(&mut text, marker.number)?;
     text.push(marker.token)?;
     text.push_str(marker_end(marker.wide))?;
     Ok(text)

@@ -5,3 +5,5 @@ pub mod TrimLemmas
 pub mod PlaceLemmas
 pub mod HtmlLemmas
 pub mod RawLemmas
+pub mod Silent
+pub mod Parts

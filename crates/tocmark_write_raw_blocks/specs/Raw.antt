@@ -1,10 +1,11 @@
 -- What the opening of a code or HTML block asks of the texts in it.
-use Rattle.std.specs.Prelude.{◌≡◌, ℕ, ◌==◌, Bool, false, not, if◌then◌else◌, List, ◌∷◌, chars, drop, slice_index_or}
-use Rattle.tocmark_write_lookahead.specs.TokenRuns.{no_runs}
+use Rattle.std.specs.Prelude.{◌≡◌, ℕ, ◌==◌, Bool, false, not, if◌then◌else◌, List, [], ◌∷◌, chars, drop, slice_index_or}
+use Rattle.std.specs.List.{list_any}
+use Rattle.tocmark_write_lookahead.specs.TokenRuns.{no_runs, IsText}
 use Rattle.tocmark_write_lookahead.specs.declared.token_runs.TokenRuns.{TokenRuns}
 use Rattle.tocmark_write_texts.specs.Leaves.{longest_run}
 use Rattle.tocmark_event.specs.Options.{OptionsView}
-use Rattle.tocmark_event.specs.View.{TagView, CodeBlock, HtmlBlock, Fenced, SourcedEvent, Start}
+use Rattle.tocmark_event.specs.View.{TagView, CodeBlock, HtmlBlock, Fenced, LeafView, Text, SourcedEvent, Start, Leaf}
 use Rattle.tocmark_spelling.specs.Body.{Trees, first_html, html_of_leaf, joined_by, text_of_leaf}
 use Rattle.tocmark_spelling.specs.Html.{is_blank_terminated, is_html_closed}
 use Rattle.tocmark_spelling.specs.Machine.{kids_of}
@@ -49,6 +50,21 @@ body_run token rest = longest_run token (chars (joined_by text_of_leaf (kids_of 
 pub record AreFenceRuns (token : ℕ) (es : List SourcedEvent) (runs : List TokenRuns) : Type 0 where
   pub at : (i : ℕ) (info : List ℕ) (rest : List SourcedEvent) → drop i es ≡ Start (CodeBlock (Fenced info)) ∷ rest
       → (slice_index_or runs i no_runs).longest ≡ body_run token rest
+
+-- whether a byte stands in a Text
+abbrev pub leaf_holds : ℕ → LeafView → Bool
+leaf_holds byte (Text t) = list_any (λ b. b == byte) t
+leaf_holds byte l = false
+
+-- the same of an event
+abbrev pub event_holds : ℕ → SourcedEvent → Bool
+event_holds byte (Leaf l) = leaf_holds byte l.leaf
+event_holds byte e = false
+
+-- a byte stands in no Text, and each Text is UTF-8
+abbrev pub AreWithout : ℕ → List SourcedEvent → Type 0
+AreWithout byte [] = Unit {0}
+AreWithout byte (e ∷ es) = (event_holds byte e ≡ false) × (IsText e × AreWithout byte es)
 
 -- whether this is the tag of code whose fence isn't made of the preferred token
 abbrev pub has_other_fence : OptionsView → TagView → Bool

@@ -1,6 +1,7 @@
 //! Code blocks: what opens and what closes them, with the texts of their fences and info strings.
 
-ghost use Rattle.std.specs.Prelude.{◌≡◌, codes, if◌then◌else◌, string_bytes, OnOk, ◌++◌, ◌<◌, ℕ, List, flat_map, encode_utf8_all, IfOk, OnErr};
+ghost use Rattle.std.specs.Prelude.{◌≡◌, ◌==◌, ◌||◌, codes, if◌then◌else◌, string_bytes, OnOk, ◌++◌, ◌<◌, ℕ, List, flat_map, encode_utf8, encode_utf8_all, replicate, IfOk, IfSome, OnErr};
+ghost use Rattle.std.specs.List.{list_any};
 ghost use Rattle.tocmark_event.specs.Options.{options_view};
 ghost use Rattle.tocmark_event.specs.View.{code_view, tag_view, CodeBlock, Fenced, Indented, CodeView};
 ghost use Rattle.tocmark_spelling.specs.Closing.{fence_closing, close_code};
@@ -13,6 +14,7 @@ ghost use Rattle.tocmark_write_blocks.specs.Leads.{Closes};
 ghost use Rattle.tocmark_write_containers.specs.FrameOf.{content_view};
 ghost use Rattle.tocmark_write_renderer.specs.JobOf.{options_in};
 ghost use Rattle.tocmark_write_renderer.specs.WriterOf.{levels_of, page_of, Arrives, Stands};
+ghost use Rattle.tocmark_write_texts.specs.Characters.{ampersand, backslash};
 ghost use Rattle.tocmark_write_texts.specs.Texts.{IsLongest, Grows};
 
 use crate::repeated::repeated;
@@ -24,6 +26,7 @@ use tocmark_write_blocks::trail::{end_block, note_raw_end};
 use tocmark_write_containers::content::OpeningChoice;
 use tocmark_write_renderer::job::Job;
 use tocmark_write_renderer::renderer::Renderer;
+use tocmark_write_texts::text_modifications::few_ticks;
 
 /// Four spaces behind an item's marker, and else a line of its own.
 fn begin_indented(renderer: &mut Renderer<'_>) -> Result<(), AllocError>
@@ -78,9 +81,8 @@ fn open_fenced<'a>(
     ensures mark { renderer.new.at_mark ≡ renderer.old.at_mark }
 {
     let fence = fence(alloc, options, info, longest)?;
-    let line = fence_line(alloc, fence.as_str(), info)?;
     begin_new_line(renderer)?;
-    renderer.write(line.as_str())?;
+    write_fence_line(renderer, alloc, fence.as_str(), info)?;
     renderer.push_frame(tag, String::new(alloc), OpeningChoice::Fence(fence))
 }
 
@@ -190,7 +192,22 @@ pub fn fence(
         → IfOk result (λ made. string_bytes made ≡ fence (options_view options.now) info.now text) }
 {
     let length = fence_length(options, longest)?;
-    repeated(alloc, fence_token(options, info), length)
+    let token = fence_token(options, info);
+    match common_fence(token, length) {
+        Some(fence) => String::from_str(alloc, fence),
+        None => repeated(alloc, token, length),
+    }
+}
+
+/// So many of this character, if they are a few backticks.
+fn common_fence(token: char, length: usize) -> Option<&'static str>
+    ensures { IfSome result (λ fence. fence.now ≡ flat_map encode_utf8 (replicate length token)) }
+{
+    if token == '`' {
+        few_ticks(length)
+    } else {
+        None
+    }
 }
 
 fn push_info(text: &mut String, c: char) -> Result<(), AllocError>
@@ -213,20 +230,60 @@ fn push_info_text(text: &mut String, info: &str) -> Result<(), AllocError>
     Ok(())
 }
 
-/// The line that opens a fenced block: its fence, the info string as it is written, and a line
-/// feed.
-///
-/// An `Err` says that memory ran out.
-pub fn fence_line(alloc: Global, fence: &str, info: &str) -> Result<String, AllocError>
-    ensures { IfOk result (λ line.
-        string_bytes line ≡ fence.now ++ flat_map info_byte info.now ++ codes "\n") }
+/// Whether an info string holds a character that isn't written as it is.
+fn holds_escaped(info: &str) -> bool
+    ensures { result ≡ (list_any (λ b. b == ampersand) info.now
+        || list_any (λ b. b == backslash) info.now) }
 {
-    let room = fence.len().saturating_add(info.len()).saturating_add(1);
-    let mut line = String::with_capacity(alloc, room)?;
-    line.push_str(fence)?;
-    push_info_text(&mut line, info)?;
-    line.push_str("\n")?;
-    Ok(line)
+    let bytes = info.as_bytes();
+    bytes.contains(&b'&') || bytes.contains(&b'\\')
+}
+
+/// Writes an info string as it is written: `&` as `&amp;`, a backslash twice.
+fn write_info(renderer: &mut Renderer<'_>, alloc: Global, info: &str) -> Result<(), AllocError>
+    ensures stands { OnOk result (Stands renderer.new (levels_of renderer.old)
+        (written (levels_of renderer.old) (flat_map info_byte info.now) (page_of renderer.old))) }
+    ensures mark { renderer.new.at_mark ≡ renderer.old.at_mark }
+{
+    if !holds_escaped(info) {
+        return renderer.write(info);
+    }
+    let mut text = String::new(alloc);
+    push_info_text(&mut text, info)?;
+    renderer.write(text.as_str())
+}
+
+/// Writes a fence and the info string behind it.
+fn write_fence(
+    renderer: &mut Renderer<'_>,
+    alloc: Global,
+    fence: &str,
+    info: &str,
+) -> Result<(), AllocError>
+    ensures stands { OnOk result (Stands renderer.new (levels_of renderer.old)
+        (written (levels_of renderer.old) (fence.now ++ flat_map info_byte info.now)
+        (page_of renderer.old))) }
+    ensures mark { renderer.new.at_mark ≡ renderer.old.at_mark }
+{
+    renderer.write(fence)?;
+    write_info(renderer, alloc, info)
+}
+
+/// Writes the line that opens a fenced block: its fence, the info string as it is written, and a line
+/// feed.
+fn write_fence_line(
+    renderer: &mut Renderer<'_>,
+    alloc: Global,
+    fence: &str,
+    info: &str,
+) -> Result<(), AllocError>
+    ensures stands { OnOk result (Stands renderer.new (levels_of renderer.old)
+        (written (levels_of renderer.old)
+        (fence.now ++ flat_map info_byte info.now ++ codes "\n") (page_of renderer.old))) }
+    ensures mark { renderer.new.at_mark ≡ renderer.old.at_mark }
+{
+    write_fence(renderer, alloc, fence, info)?;
+    renderer.write("\n")
 }
 
 /// The closing fence, if so many line feeds stand before it; nothing inside a line.

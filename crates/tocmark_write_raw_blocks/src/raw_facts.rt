@@ -1,13 +1,15 @@
 //! What the openings of code and HTML blocks ask of the texts in them.
 
-ghost use Rattle.std.specs.Prelude.{◌≡◌, IfOk, map, slice_index_or, string_bytes};
+ghost use Rattle.std.specs.Prelude.{◌≡◌, ◌==◌, [], true, IfOk, map, slice_index_or, string_bytes};
 ghost use Rattle.std.specs.List.{list_any};
+ghost use Rattle.std.specs.Str.{IsUtf8};
 ghost use Rattle.tocmark_event.specs.Options.{options_view};
 ghost use Rattle.tocmark_event.specs.View.{code_view, tag_view, CodeBlock};
 ghost use Rattle.tocmark_spelling.specs.Buffered.{buffered_view};
+ghost use Rattle.tocmark_write_lookahead.specs.TokenRuns.{AreRuns, IsText};
 ghost use Rattle.tocmark_write_raw_blocks.specs.Html.{AreHtml};
 ghost use Rattle.tocmark_write_raw_blocks.specs.Kinds.{is_fenced, opens};
-ghost use Rattle.tocmark_write_raw_blocks.specs.Raw.{no_raw, raw_of, raw_of_tag, has_other_fence, AreFenceRuns, AreOtherRuns, AreRaw};
+ghost use Rattle.tocmark_write_raw_blocks.specs.Raw.{no_raw, raw_of, raw_of_tag, has_other_fence, AreFenceRuns, AreOtherRuns, AreRaw, AreWithout, event_holds};
 
 use crate::code::fence_token;
 use crate::html_facts::{HtmlFacts, html_at, html_facts};
@@ -132,7 +134,51 @@ fn gathered(
     Ok(facts)
 }
 
-/// For each event that starts fenced code the runs of a token in it, if there is such an event.
+fn text_holds(text: &str, byte: u8) -> bool
+    ensures held { result ≡ list_any (λ b. b == byte) text.now }
+    ensures text { IsUtf8 text.now }
+{
+    text.as_bytes().contains(&byte)
+}
+
+/// Whether a byte stands in an event that is a text.
+fn event_holds(event: &BufferedEvent, byte: u8) -> bool
+    ensures held { result ≡ event_holds byte (buffered_view event.now) }
+    ensures text { IsText (buffered_view event.now) }
+{
+    match &event.event {
+        EventOf::Text(text) => text_holds(text.as_str(), byte),
+        _ => false,
+    }
+}
+
+/// Whether a byte stands in no event that is a text.
+fn are_without(events: &[BufferedEvent], byte: u8) -> bool
+    ensures { result ≡ true → AreWithout byte (map buffered_view events.now) }
+{
+    let mut i = events.len();
+    while i > 0 {
+        i -= 1;
+        if event_holds(&events[i], byte) {
+            return false;
+        }
+    }
+    true
+}
+
+/// Whether a token of ASCII stands in no text, so that no body has a run of it.
+fn has_no_runs(events: &[BufferedEvent], token: char) -> bool
+    ensures { result ≡ true → AreRuns token (map buffered_view events.now) [] }
+{
+    if token.is_ascii() {
+        are_without(events, token as u8)
+    } else {
+        false
+    }
+}
+
+/// For each event that starts fenced code the runs of a token in it, if there is such an event and the
+/// token stands in a text.
 fn fence_runs(
     alloc: Global,
     events: &[BufferedEvent],
@@ -142,11 +188,13 @@ fn fence_runs(
     requires fenced { fenced ≡ list_any (opens is_fenced) (map buffered_view events.now) }
     ensures { IfOk result (λ runs. AreFenceRuns token (map buffered_view events.now) runs.items) }
 {
-    if fenced {
-        token_runs(alloc, events, token)
-    } else {
-        Ok(Vec::new(alloc))
+    if !fenced {
+        return Ok(Vec::new(alloc));
     }
+    if has_no_runs(events, token) {
+        return Ok(Vec::new(alloc));
+    }
+    token_runs(alloc, events, token)
 }
 
 /// Whether it is the tag of code whose fence isn't made of the preferred token.
