@@ -1,6 +1,7 @@
 -- What is found at a place of a unit's events.
 use Rattle.std.proofs.Common.{◌≡◌, ℕ, zero, suc, Bool, true, false, List, [], ◌∷◌, refl, ap, ◌∙◌, subst, drop}
 use Rattle.std.specs.Prelude.{◌||◌}
+use Rattle.std.specs.List.{list_any}
 use Rattle.std.proofs.lemmas.Bool.{false≢true}
 use Rattle.tocmark_write_lookahead.proofs.Ahead.{nested-at}
 use Rattle.tocmark_write_lookahead.specs.Ahead.{AreNested}
@@ -13,20 +14,19 @@ use Rattle.tocmark_spelling.specs.Look.{Look}
 use Rattle.tocmark_spelling.specs.Opening.{open_emphasis, opening_of}
 use Rattle.tocmark_spelling.specs.Page.{Path, Page}
 use Rattle.tocmark_spelling.specs.Plan.{Setting, Manner}
-use Rattle.tocmark_write_unit.specs.FindingsOf.{has_emphasis}
 
 or-right : (a b : Bool) → b ≡ true → a || b ≡ true
 or-right true b e = refl
 or-right false b e = e
 
-has-behind : (es : List SourcedEvent) (i : ℕ) → has_emphasis (drop i es) ≡ true → has_emphasis es ≡ true
-has-behind es zero h = h
-has-behind [] (suc i) h = h
-has-behind (e ∷ es) (suc i) h = or-right _ (has_emphasis es) (has-behind es i h)
+some-behind : (test : SourcedEvent → Bool) (es : List SourcedEvent) (i : ℕ) → list_any test (drop i es) ≡ true → list_any test es ≡ true
+some-behind test es zero h = h
+some-behind test [] (suc i) h = h
+some-behind test (e ∷ es) (suc i) h = or-right _ (list_any test es) (some-behind test es i h)
 
--- there is emphasis where some starts
-pub has-start : (es : List SourcedEvent) (i : ℕ) (t : TagView) (rest : List SourcedEvent) → drop i es ≡ Start t ∷ rest → is_emphasis_or_strong t ≡ true → has_emphasis es ≡ true
-has-start es i t rest at delimits = has-behind es i (ap has_emphasis at ∙ ap (λ b. b || has_emphasis rest) delimits)
+-- some event passes a test where the one at a place does
+pub some-at : (test : SourcedEvent → Bool) (es : List SourcedEvent) (i : ℕ) (e : SourcedEvent) (rest : List SourcedEvent) → drop i es ≡ e ∷ rest → test e ≡ true → list_any test es ≡ true
+some-at test es i e rest at passes = some-behind test es i (ap (list_any test) at ∙ ap (λ b. b || list_any test rest) passes)
 
 -- a container of emphasis or strong emphasis that starts in a forest's list
 pub begins : (f : Trees) (es : List SourcedEvent) (i : ℕ) (t : TagView) (rest : List SourcedEvent) → flat f ≡ es → drop i es ≡ Start t ∷ rest → is_emphasis_or_strong t ≡ true → Begins es i t rest

@@ -5,3 +5,4 @@ pub mod Events
 pub mod Units
 pub mod Jumps
 pub mod Found
+pub mod Unasked

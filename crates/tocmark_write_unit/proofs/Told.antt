@@ -1,11 +1,13 @@
--- What an opening is told of its body's texts is what its look says of them.
-use Rattle.std.proofs.Common.{◌≡◌, ℕ, List, ◌∙◌, refl, subst, sym}
+-- What an opening is told of its body is what its look says of it.
+use Rattle.std.proofs.Common.{◌≡◌, ℕ, true, List, ◌∙◌, refl, subst, sym}
 use Rattle.std.specs.Prelude.{codes}
 use Rattle.tocmark_event.specs.declared.event.LinkType.{LinkType}
 use Rattle.tocmark_event.specs.Options.{OptionsView}
 use Rattle.tocmark_event.specs.View.{TagView, Paragraph, Heading, BlockQuote, Indented, Fenced, CodeBlock, HtmlBlock, ListOf, Item, FootnoteDefinition, DefinitionList, DefinitionListTitle, DefinitionListDefinition, Table, TableHead, TableRow, TableCell, Emphasis, Strong, Strikethrough, Superscript, Subscript, Link, Image, MetadataBlock}
 use Rattle.tocmark_write_blocks.specs.AheadOf.{IsTextAhead}
 use Rattle.tocmark_write_blocks.specs.declared.ahead.Ahead.{Ahead}
+use Rattle.tocmark_write_lookahead.specs.BodyFacts.{IsForeseen}
+use Rattle.tocmark_write_lookahead.specs.declared.body_facts.BodyFacts.{BodyFacts}
 use Rattle.tocmark_write_raw_blocks.specs.Raw.{IsRawTag}
 use Rattle.tocmark_write_raw_blocks.specs.declared.raw_facts.RawFacts.{RawFacts}
 use Rattle.tocmark_spelling.specs.Body.{Trees}
@@ -13,6 +15,16 @@ use Rattle.tocmark_spelling.specs.Look.{Look, look}
 use Rattle.tocmark_spelling.specs.Opening.{link_mark, open_named, opening_of}
 use Rattle.tocmark_spelling.specs.Page.{Around, Path, Page}
 use Rattle.tocmark_spelling.specs.Plan.{Setting, Manner}
+use Rattle.tocmark_write_unit.specs.CensusOf.{asks_body}
+use Rattle.tocmark_write_unit.specs.ToldOf.{IsBodyAhead}
+
+-- what is so of each body that is asked for is told of it
+pub body-told : (t : TagView) (l : Look) (x : BodyFacts) → (asks_body t ≡ true → IsForeseen l x) → IsBodyAhead t l x
+body-told (Heading level id classes attrs) l x h = h refl
+body-told (ListOf n) l x h = h refl
+body-told Item l x h = h refl
+body-told DefinitionListDefinition l x h = h refl
+body-told t l x h = tt
 
 module _ (s : Setting) (m : Manner) (o : OptionsView) (kids : Trees) (around : Around) (x : RawFacts) (a : Ahead) (longest : a.longest ≡ x.longest) (blank : a.blank ≡ x.blank) (closed : a.closed ≡ x.closed) where
   pub text-told : (t : TagView) → IsRawTag o t kids x → IsTextAhead o t (look s m t kids around) a

@@ -1,5 +1,7 @@
 -- Definitions.
+pub mod CensusOf
 pub mod FindingsOf
 pub mod NeighboursOf
+pub mod ToldOf
 pub mod Turn
 pub mod Rest

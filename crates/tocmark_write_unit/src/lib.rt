@@ -3,10 +3,11 @@
 //! Below it stand the crates that write openings, closings and leaves, above it the choice of a spelling
 //! (`tocmark_render`). Enter at `block`: it writes a whole unit and carries along what it leaves. `turn` takes one
 //! event: `open` and `close` choose the row of a container by its tag. `findings` is what is found out of a unit's
-//! events once.
+//! events once, and `census` which kinds of them there are.
 #![tactic(auto)]
 
 pub mod block;
+pub mod census;
 pub mod close;
 pub mod findings;
 pub mod laws;

@@ -2,12 +2,13 @@
 
 ghost use Rattle.std.specs.Prelude.{◌≡◌, string_bytes, true};
 ghost use Rattle.tocmark_event.specs.View.{tag_view};
-ghost use Rattle.tocmark_write_blocks.specs.AheadOf.{is_alone, is_opened, IsAhead};
+ghost use Rattle.tocmark_write_blocks.specs.AheadOf.{is_alone, is_opened};
 ghost use Rattle.tocmark_write_renderer.specs.JobOf.{manner_view, options_in, setting_in, Reading};
 ghost use Rattle.tocmark_write_renderer.specs.WriterOf.{levels_of, page_of, Comes};
 ghost use Rattle.tocmark_spelling.specs.Look.{Look};
 ghost use Rattle.tocmark_spelling.specs.Opening.{opening, opening_of};
 ghost use Rattle.tocmark_spelling.specs.Plan.{Manner as AnyManner, Setting};
+ghost use Rattle.tocmark_write_unit.specs.ToldOf.{IsTold};
 
 use std::alloc::Global;
 use tocmark_event::event::TagOf;
@@ -73,8 +74,8 @@ fn open_alone<'a>(
     }
 }
 
-/// Opens a container that is neither emphasis nor a link or image, given what its body is like and
-/// what follows it.
+/// Opens a container that is neither emphasis nor a link or image, given what follows it and, where its
+/// opening asks for it, what its body is like.
 ///
 /// An `Err` says that memory ran out, or that the container may not stand here: a heading in a
 /// heading, an item whose innermost container is no list, a table's head whose innermost container
@@ -90,7 +91,7 @@ pub fn open<'a>(
     requires opened { is_opened (tag_view string_bytes tag.now) ≡ true }
     ensures comes { (reading : Reading) (l : Look)
         → let t = tag_view string_bytes tag.entry.now in
-        IsAhead (options_in job.entry) t l ahead.entry
+        IsTold (options_in job.entry) t l ahead.entry
         → Comes result renderer.new
         (opening (setting_in job.entry reading) (manner_view manner.entry) t l
         (levels_of renderer.old) (page_of renderer.old)) }

@@ -8,7 +8,6 @@ ghost use Rattle.tocmark_write_emphasis.specs.Low.{AsksLow, OpensLow};
 ghost use Rattle.tocmark_event.specs.Options.{options_view, OptionsView};
 ghost use Rattle.tocmark_event.specs.View.{event_view, tag_view, Start, TagView};
 ghost use Rattle.tocmark_event.specs.declared.event.flags.ParserOptions.{ParserOptions};
-ghost use Rattle.tocmark_write_blocks.specs.AheadOf.{IsAhead};
 ghost use Rattle.tocmark_write_renderer.specs.JobOf.{Reading, manner_view, options_in, setting_in};
 ghost use Rattle.tocmark_write_renderer.specs.WriterOf.{levels_of, page_of, sheet_of, site_of, Arrives, Comes};
 ghost use Rattle.tocmark_spelling.specs.Body.{Trees};
@@ -21,6 +20,7 @@ ghost use Rattle.tocmark_spelling.specs.Page.{front};
 ghost use Rattle.tocmark_spelling.specs.Plan.{Setting, Manner as AnyManner};
 ghost use Rattle.tocmark_spelling.specs.Scans.{end_at, AreEnds};
 ghost use Rattle.tocmark_write_unit.specs.NeighboursOf.{is_leaf_event, look_in, opening_in, rest_in, unit_in, AreFound, IsForest};
+ghost use Rattle.tocmark_write_unit.specs.ToldOf.{IsTold};
 ghost use Rattle.tocmark_write_unit.specs.Turn.{Turns};
 
 use crate::close::close;
@@ -251,12 +251,12 @@ fn end(renderer: &mut Renderer<'_>, alloc: Global, options: &Options<'_>) -> Res
     }
 }
 
-/// What the opening of a container that starts here is told.
+/// What the opening of a container that starts here is told; of its body only where it asks.
 fn ahead_of<'e>(around: Neighbours<'e>) -> Ahead<'e>
     ensures { (reading : Reading) (o : OptionsView) (flags : ParserOptions)
         (s : Setting) (m : AnyManner) (t : TagView)
         → AreFound reading o flags (Start t) around.entry
-        → IsAhead o t (look_in s m t around.entry) result }
+        → IsTold o t (look_in s m t around.entry) result }
 {
     let Neighbours {
         unit,

@@ -2,13 +2,14 @@ use Rattle.std.proofs.Common.{List, ap, arith, length, sym, subst, Option, OnOk,
 use Rattle.tocmark_write_emphasis.specs.Low.{OpensLow}
 use Rattle.tocmark_write_emphasis.specs.ColumnsOf.{AreColumns}
 use Rattle.tocmark_write_emphasis.specs.NodeOf.{Begins, IsNodeOf}
-use Rattle.tocmark_event.specs.View.{SourcedEvent, tag_view}
+use Rattle.tocmark_event.specs.View.{SourcedEvent, Start, tag_view}
 use Rattle.tocmark_spelling.proofs.Turns.{length-events}
 use Rattle.tocmark_write_renderer.specs.JobOf.{label_in, manner_view, options_in, setting_in}
 use Rattle.tocmark_write_renderer.specs.WriterOf.{levels_of, page_of, Arrives}
 use Rattle.tocmark_spelling.specs.Opening.{opening, opening_of}
 use Rattle.tocmark_spelling.specs.Page.{Page, Path, Site}
-use Rattle.tocmark_write_unit.proofs.Found.{begins, emphasis-row, has-start}
+use Rattle.tocmark_write_unit.proofs.Found.{begins, emphasis-row, some-at}
+use Rattle.tocmark_write_unit.specs.CensusOf.{starts_emphasis}
 use Rattle.tocmark_write_unit.specs.NeighboursOf.{look_in, next_in, rest_in, unit_in}
 use Rattle.tocmark_write_unit.proofs.turn.start_emphasis.Goals as goal
 
@@ -29,7 +30,7 @@ returns-clause-stands g c = λ f forest opens.
     let m = manner_view a.manner in
     let l = look_in s m t n in
     let begun = begins f (unit_in n) n.place t (rest_in n) forest is.at c.requires.delimits in
-    let columns = is.found.emphasis (has-start (unit_in n) n.place t (rest_in n) is.at c.requires.delimits) in
+    let columns = is.found.emphasis (some-at starts_emphasis (unit_in n) n.place (Start t) (rest_in n) is.at c.requires.delimits) in
     let same = is.pending in
     let node = subst (λ (es : List SourcedEvent). Begins es n.place t (rest_in n) → IsNodeOf reading es n.place c.is_preferred-preferred.result t (rest_in n) (next_in n) c.node_at-node.result) same
     (c.node_at-node.ensures.node reading (subst (λ (es : List SourcedEvent). AreColumns reading es n.found.now.emphasis) (sym same) columns) t (rest_in n)) begun in
