@@ -30,8 +30,3 @@ text-grows a s more (Some m) u e f = record {
   references = f.references;
   starts = subst (λ t. AreCut t (unwrap_or a.containers.at_mark [])) (sym (ap (take m.text) e ∙ take-append-le m.text (string_bytes a.text) more f.cut.0)) f.starts;
 }
-
--- another text that is kept for its room
-pub spare-fits : (a : Inside) (s : String Global) (o : Option Snapshot) → IfSome o (λ m. Fits a m) → IfSome o (λ m. Fits (record a { spare = s }) m)
-spare-fits a s None f = f
-spare-fits a s (Some m) f = record { cut = f.cut; references = f.references; starts = f.starts }

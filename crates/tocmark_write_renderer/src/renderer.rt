@@ -32,7 +32,7 @@ use tocmark_write_containers::content::OpeningChoice;
 use tocmark_write_containers::frame::Frame;
 use tocmark_write_containers::outside::Outside;
 use tocmark_write_containers::prefix::Prefix;
-use tocmark_write_texts::escape::{EscapeSurroundings, escape_into};
+use tocmark_write_texts::escape::{EscapeSurroundings, push_escaped};
 
 /// What was at the mark and owns no memory.
 #[derive(Clone, Copy)]
@@ -68,8 +68,6 @@ pub struct Renderer<'a> {
     old_held: Option<Option<Held>>,
     /// The runs of markers in the text, as far as it was read for them.
     runs: MarkerRuns,
-    /// The last stretch that was escaped, kept for its room.
-    spare: String,
 }
 
 impl<'a> Model for Renderer<'a> {
@@ -103,7 +101,6 @@ impl<'a> Renderer<'a> {
             old_quote_line: None,
             old_held: None,
             runs: MarkerRuns::new(alloc),
-            spare: String::new(alloc),
         }
     }
 
@@ -314,8 +311,7 @@ impl<'a> Renderer<'a> {
             ≡ on_sheet (with_more (escaped (place_of place.now) text.now)) (site_of self.old)) }
         ensures mark { self.new.at_mark ≡ self.old.at_mark }
     {
-        escape_into(&mut self.spare, text, place)?;
-        self.text.push_str(self.spare.as_str())?;
+        push_escaped(&mut self.text, text, place)?;
         Ok(())
     }
 
