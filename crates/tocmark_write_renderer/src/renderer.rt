@@ -83,14 +83,16 @@ impl<'a> Model for Renderer<'a> {
 }
 
 impl<'a> Renderer<'a> {
-    /// An empty unit behind so many line feeds, which finds this trail.
-    pub fn resume(alloc: Global, newlines: usize, trail: Trail) -> Renderer<'a>
+    /// An empty unit behind so many line feeds, which finds this trail. What `room` holds is forgotten;
+    /// the unit's text is written in its memory.
+    pub fn resume(alloc: Global, mut room: String, newlines: usize, trail: Trail) -> Renderer<'a>
         ensures site { site_of result ≡ blank newlines (trail_view trail) }
         ensures mark { result.at_mark ≡ None }
     {
+        room.clear();
         Renderer {
             alloc,
-            text: String::new(alloc),
+            text: room,
             newlines,
             containers: Containers::new(alloc),
             references: Vec::new(alloc),
