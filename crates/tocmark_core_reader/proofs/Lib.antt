@@ -13,3 +13,7 @@ pub mod PlainTests
 pub mod PlainDecided
 pub mod PlainRanges
 pub mod PlainSearch
+pub mod PlacedParts
+pub mod QuietInlines
+pub mod QuietContent
+pub mod QuietLeaf

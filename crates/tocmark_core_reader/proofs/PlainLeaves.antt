@@ -26,7 +26,7 @@ use Rattle.tocmark_read_inlines.proofs.PlainPasses.{AreRead}
 use Rattle.tocmark_read_inlines.proofs.PlainLeaf.{known, parts_inlines}
 use Rattle.tocmark_read_inlines.proofs.PlainNodes.{nodes_of}
 use Rattle.tocmark_core_reader.specs.Emitted.{NodeView, Container, Writing, step, closed, emitted}
-use Rattle.tocmark_core_reader.specs.Pages.{State, start_state, pieces_of, assembled, is_unwrapped, block_taken, block_taken_in, paragraph_taken, paragraph_taken_in, wrapped_in, task_nodes, with_block, leaf_inlines_in, with_inlines, content_line, block_tag}
+use Rattle.tocmark_core_reader.specs.Pages.{State, start_state, pieces_of, assembled, is_unwrapped, block_taken_in, paragraph_taken, paragraph_taken_in, wrapped_in, task_nodes, with_block, leaf_inlines_in, with_inlines, content_line, block_tag}
 use Rattle.tocmark_core_reader.specs.Reading.{core_reading, found_in, found_under, reading_of, FoundView, collected, collected_from, first_entry}
 use Rattle.tocmark_core_reader.proofs.PlainEvents.{Marked, viewed, at, events_of, emit_parts}
 use Rattle.tocmark_core_reader.proofs.PlainSources.{IsClean, AreClean, snapped_clean, all_implied}

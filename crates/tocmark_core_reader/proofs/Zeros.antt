@@ -1,12 +1,14 @@
--- A text in which no U+0000 stands is left as it is.
-use Rattle.std.proofs.Common.{◌≡◌, ◌<◌, ℕ, zero, suc, true, false, ◌==◌, List, [], ◌∷◌, ◌++◌, refl, ap, ◌∙◌, append-nil, slice_index, arith}
+-- A text in which no U+0000 stands is left as it is, and so is an empty info string.
+use Rattle.std.proofs.Common.{◌≡◌, ◌<◌, ℕ, zero, suc, true, false, ◌==◌, List, [], ◌∷◌, ◌++◌, length, refl, ap, ◌∙◌, append-nil, slice_index, arith}
 use Rattle.std.specs.List.{flat_map, list_any}
 use Rattle.std.specs.Str.{IsUtf8}
 use Rattle.std.specs.Str.Lossy.{utf8_lossy}
-use Rattle.std.proofs.lemmas.Str.{IsUtf8-append, IsUtf8-from_ascii, utf8_lossy-IsUtf8}
+use Rattle.std.proofs.lemmas.Str.{IsUtf8-append, IsUtf8-from_ascii, utf8_lossy-IsUtf8, utf8_lossy_empty}
 use Rattle.tocmark_read_scan.proofs.PlainTests.{both_false}
 use Rattle.tocmark_read_leaves.specs.Definitions.{replaced}
-use Rattle.tocmark_core_reader.specs.Words.{cleaned, feed_if}
+use Rattle.tocmark_read_syntax.specs.declared.Names.{Names}
+use Rattle.tocmark_read_tokens.specs.Reference.{unescaped_in}
+use Rattle.tocmark_core_reader.specs.Words.{cleaned, feed_if, info_text_in}
 
 pub without_zeros : (bytes : List ℕ) → list_any (λ b. b == 0) bytes ≡ false → flat_map replaced bytes ≡ bytes
 unfolding replaced
@@ -29,3 +31,9 @@ unfolding cleaned
 line_kept bytes utf8 h =
     ap (λ (xs : List ℕ). utf8_lossy (xs ++ 10 ∷ [])) (without_zeros bytes h)
     ∙ utf8_lossy-IsUtf8 (bytes ++ 10 ∷ []) (IsUtf8-append bytes (10 ∷ []) utf8 (IsUtf8-from_ascii (10 ∷ []) feed_ascii))
+
+-- an empty info string is an empty text
+pub no_info : (names : Names) (bytes : List ℕ) → length bytes ≡ 0 → info_text_in names bytes ≡ []
+unfolding info_text_in unescaped_in
+no_info names [] h = utf8_lossy_empty [] refl
+no_info names (b ∷ bs) h = absurd (omega (arith, h))

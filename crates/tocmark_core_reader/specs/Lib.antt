@@ -8,3 +8,4 @@ pub mod Pages
 pub mod Reading
 pub mod Left
 pub mod PlainTexts
+pub mod QuietLines

@@ -12,6 +12,7 @@ ghost use Rattle.tocmark_core_reader.specs.Pages.{pieces_of, content_line, node,
 use crate::attributes::heading_tag;
 use crate::emit::{Emission, Node, NodeKind};
 use crate::inline::write_inlines;
+use crate::quiet::{are_quiet_lines, write_quiet_lines};
 use crate::words::{cleaned_part, info_text, name_text, spaces_text};
 use std::alloc::{AllocError, Global};
 use std::mem;
@@ -325,9 +326,9 @@ impl Assembly {
         Ok(())
     }
 
-    /// Reads the inlines of a leaf.
+    /// Reads the inlines of a leaf from its text, whatever stands in it.
     #[tactic(auto, unfolding(crate::specs::Pages::leaf_inlines_in))]
-    fn read_leaf(
+    fn read_marked_leaf(
         &mut self,
         alloc: Global,
         document: &Document<'_, '_>,
@@ -351,6 +352,27 @@ impl Assembly {
             document.definitions,
         )?;
         self.write_found(alloc, document.text, found)
+    }
+
+    /// Reads the inlines of a leaf. Where its lines have no mark in any reading, each of them is a text.
+    fn read_leaf(
+        &mut self,
+        alloc: Global,
+        document: &Document<'_, '_>,
+        pieces: &[Piece],
+        depth: usize,
+    ) -> Result<(), AllocError>
+        ensures { OnOk result (assembly_view self.new ≡ written_by document.now.text.now
+            (leaf_inlines_in document.now.syntax document.now.text.now
+            (entry_of document.now.definitions.now) pieces.now depth)
+            (assembly_view self.old)) }
+    {
+        let text = document.text;
+        if self.inlines.nodes.is_empty() && are_quiet_lines(text.as_bytes(), pieces) {
+            write_quiet_lines(alloc, &mut self.emission, text, depth, pieces)
+        } else {
+            self.read_marked_leaf(alloc, document, pieces, depth)
+        }
     }
 
     /// Reads the inlines of a cell.

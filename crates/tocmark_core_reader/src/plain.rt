@@ -116,7 +116,7 @@ fn are_printable(line: &[u8]) -> bool
 }
 
 #[tactic(auto, using(crate::proofs::PlainSearch::last_found))]
-fn last_byte(line: &[u8]) -> u8
+pub(crate) fn last_byte(line: &[u8]) -> u8
     ensures { result ≡ last_byte 10 line.now }
 {
     line.last().copied().unwrap_or(b'\n')

@@ -112,19 +112,28 @@ pub fn cleaned_part(
     }
 }
 
-/// A text without escapes and references, by the names that are known.
+/// A text without escapes and references, by the names that are known. One that has neither is copied.
+#[tactic(auto, using(tocmark_read_tokens::proofs::Unmarked::left_alone))]
 fn resolved_text(alloc: Global, names: Names, bytes: &[u8]) -> Result<String, AllocError>
     ensures { IfOk result (λ t. string_bytes t ≡ utf8_lossy (unescaped_in names bytes.now)) }
 {
-    let bytes = unescaped(alloc, names, bytes)?;
-    String::from_utf8_lossy(alloc, &bytes)
+    if has_byte(bytes, b'\\') || has_byte(bytes, b'&') {
+        let bytes = unescaped(alloc, names, bytes)?;
+        String::from_utf8_lossy(alloc, &bytes)
+    } else {
+        String::from_utf8_lossy(alloc, bytes)
+    }
 }
 
-/// An info string: without escapes and references, by the names that are known.
+/// An info string: without escapes and references, by the names that are known. For an empty one no
+/// memory is taken.
 #[tactic(auto, unfolding(crate::specs::Words::info_text_in), using(crate::proofs::Zeros::without_zeros))]
 pub fn info_text(alloc: Global, names: Names, bytes: &[u8]) -> Result<String, AllocError>
     ensures { IfOk result (λ t. string_bytes t ≡ info_text_in names bytes.now) }
 {
+    if bytes.is_empty() {
+        return Ok(String::new(alloc));
+    }
     if has_byte(bytes, 0) {
         let bytes = replaced_bytes(alloc, bytes)?;
         return resolved_text(alloc, names, &bytes);
