@@ -22,6 +22,7 @@ use tocmark_event::options::Options;
 use tocmark_write_blocks::new_line::begin_new_line;
 use tocmark_write_blocks::trail::{end_block, note_raw_end};
 use tocmark_write_containers::content::OpeningChoice;
+use tocmark_write_containers::prefix::Prefix;
 use tocmark_write_renderer::job::Job;
 use tocmark_write_renderer::renderer::Renderer;
 
@@ -53,9 +54,8 @@ fn open_indented<'a>(
         (open_indented (levels_of renderer.old) (page_of renderer.old))) }
     ensures mark { renderer.new.at_mark ≡ renderer.old.at_mark }
 {
-    let prefix = String::from_str(alloc, "    ")?;
     begin_indented(renderer)?;
-    renderer.push_frame(tag, prefix, OpeningChoice::Plain)
+    renderer.push_frame(tag, Prefix::Spaces(4), OpeningChoice::Plain)
 }
 
 /// Opens fenced code with this info string, in whose text the longest run of the fence's token has
@@ -81,7 +81,7 @@ fn open_fenced<'a>(
     let line = fence_line(alloc, fence.as_str(), info)?;
     begin_new_line(renderer)?;
     renderer.write(line.as_str())?;
-    renderer.push_frame(tag, String::new(alloc), OpeningChoice::Fence(fence))
+    renderer.push_frame(tag, Prefix::Empty, OpeningChoice::Fence(fence))
 }
 
 /// Opens a code block of this kind; for a fenced one it is said how long the longest run of its
