@@ -21,6 +21,7 @@ use tocmark_event::event::{HeadingLevel, TagEnd, TagOf};
 use tocmark_event::options::{Error, Options};
 use tocmark_write_containers::content::OpeningChoice;
 use tocmark_write_containers::frame::Frame;
+use tocmark_write_containers::prefix::Prefix;
 use tocmark_write_renderer::renderer::Renderer;
 
 fn heading_mark(level: HeadingLevel) -> &'static str
@@ -56,7 +57,7 @@ fn enter_heading<'a>(
     ensures mark { renderer.new.at_mark ≡ renderer.old.at_mark }
 {
     renderer.write(mark_of(level, broken))?;
-    renderer.push_frame(tag, String::new(alloc), OpeningChoice::Underlined(broken))
+    renderer.push_frame(tag, Prefix::Empty, OpeningChoice::Underlined(broken))
 }
 
 /// Opens a heading of this level; `broken` says whether it goes over more than one line.

@@ -13,6 +13,7 @@ use std::alloc::{AllocError, Global};
 use tocmark_event::event::{TagEnd, TagOf};
 use tocmark_event::options::Options;
 use tocmark_write_containers::content::OpeningChoice;
+use tocmark_write_containers::prefix::Prefix;
 use tocmark_write_renderer::renderer::Renderer;
 
 /// Opens a container that writes nothing and keeps nothing.
@@ -27,7 +28,7 @@ pub fn open_plain<'a>(
         (tag_view string_bytes tag.entry.now) (levels_of renderer.old) (page_of renderer.old))) }
     ensures mark { renderer.new.at_mark ≡ renderer.old.at_mark }
 {
-    renderer.push_frame(tag, String::new(alloc), OpeningChoice::Plain)
+    renderer.push_frame(tag, Prefix::Empty, OpeningChoice::Plain)
 }
 
 /// A paragraph's end.

@@ -15,6 +15,7 @@ use std::alloc::{AllocError, Global};
 use tocmark_event::event::{BlockQuoteKind, TagEnd, TagOf};
 use tocmark_event::options::Options;
 use tocmark_write_containers::content::OpeningChoice;
+use tocmark_write_containers::prefix::Prefix;
 use tocmark_write_renderer::renderer::Renderer;
 
 /// Writes a quote's marker, right behind an item's marker or not, and owes what stands behind it.
@@ -48,11 +49,10 @@ pub fn open_quote<'a>(
         (open_quote kind (levels_of renderer.old) (page_of renderer.old))) }
     ensures mark { renderer.new.at_mark ≡ renderer.old.at_mark }
 {
-    let prefix = String::from_str(alloc, " > ")?;
     let at_item = renderer.at_item_start();
     begin_new_line(renderer)?;
     write_mark(renderer, kind, at_item)?;
-    renderer.push_frame(tag, prefix, OpeningChoice::Plain)
+    renderer.push_frame(tag, Prefix::Quote, OpeningChoice::Plain)
 }
 
 /// Inside an item a quote leaves the line with which it can go on.

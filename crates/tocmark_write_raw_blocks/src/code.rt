@@ -24,6 +24,7 @@ use tocmark_event::options::Options;
 use tocmark_write_blocks::new_line::begin_new_line;
 use tocmark_write_blocks::trail::{end_block, note_raw_end};
 use tocmark_write_containers::content::OpeningChoice;
+use tocmark_write_containers::prefix::Prefix;
 use tocmark_write_renderer::job::Job;
 use tocmark_write_renderer::renderer::Renderer;
 use tocmark_write_texts::text_modifications::few_ticks;
@@ -56,9 +57,8 @@ fn open_indented<'a>(
         (open_indented (levels_of renderer.old) (page_of renderer.old))) }
     ensures mark { renderer.new.at_mark ≡ renderer.old.at_mark }
 {
-    let prefix = String::from_str(alloc, "    ")?;
     begin_indented(renderer)?;
-    renderer.push_frame(tag, prefix, OpeningChoice::Plain)
+    renderer.push_frame(tag, Prefix::Spaces(4), OpeningChoice::Plain)
 }
 
 /// Opens fenced code with this info string, in whose text the longest run of the fence's token has
@@ -83,7 +83,7 @@ fn open_fenced<'a>(
     let fence = fence(alloc, options, info, longest)?;
     begin_new_line(renderer)?;
     write_fence_line(renderer, alloc, fence.as_str(), info)?;
-    renderer.push_frame(tag, String::new(alloc), OpeningChoice::Fence(fence))
+    renderer.push_frame(tag, Prefix::Empty, OpeningChoice::Fence(fence))
 }
 
 /// Opens a code block of this kind; for a fenced one it is said how long the longest run of its

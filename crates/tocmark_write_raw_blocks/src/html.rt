@@ -23,6 +23,7 @@ use tocmark_event::options::Options;
 use tocmark_spelling::trail::Last;
 use tocmark_write_blocks::trail::{note_raw_end, set_open_html};
 use tocmark_write_containers::content::OpeningChoice;
+use tocmark_write_containers::prefix::Prefix;
 use tocmark_write_renderer::renderer::Renderer;
 
 /// Opens an HTML block, which writes nothing and keeps whether a blank line ends it and whether its
@@ -45,7 +46,7 @@ pub fn open_html<'a>(
 {
     renderer.push_frame(
         tag,
-        String::new(alloc),
+        Prefix::Empty,
         OpeningChoice::HtmlEnds { blank, closed },
     )
 }

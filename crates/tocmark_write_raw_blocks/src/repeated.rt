@@ -1,7 +1,6 @@
 //! A character many times, in one piece of memory.
 
 ghost use Rattle.std.specs.Prelude.{◌≡◌, string_bytes, IfOk, replicate, flat_map, encode_utf8};
-ghost use Rattle.tocmark_write_texts.specs.Characters.{space};
 
 use std::alloc::{AllocError, Global};
 
@@ -16,19 +15,6 @@ pub fn repeated(alloc: Global, character: char, count: usize) -> Result<String, 
     let mut text = String::with_capacity(alloc, size)?;
     for _place in 0..count {
         text.push(character)?;
-    }
-    Ok(text)
-}
-
-/// So many spaces. Room for all of them is made before the first is written.
-///
-/// An `Err` says that memory ran out.
-pub fn spaces(alloc: Global, count: usize) -> Result<String, AllocError>
-    ensures { IfOk result (λ text. string_bytes text ≡ replicate count space) }
-{
-    let mut text = String::with_capacity(alloc, count)?;
-    for _place in 0..count {
-        text.push_str(" ")?;
     }
     Ok(text)
 }
