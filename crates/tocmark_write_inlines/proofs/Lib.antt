@@ -3,3 +3,4 @@ pub mod Texts
 pub mod Reached
 pub mod Written
 pub mod Names
+pub mod Spans

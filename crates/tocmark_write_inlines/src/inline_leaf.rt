@@ -1,6 +1,6 @@
 //! Inline leaves with a text of their own: code, mathematics, inline HTML, references to footnotes, breaks and boxes.
 
-ghost use Rattle.std.specs.Prelude.{◌≡◌, ◌+◌, string_bytes, chars, length, IfOk, OnOk};
+ghost use Rattle.std.specs.Prelude.{◌≡◌, ◌+◌, ◌++◌, replicate, string_bytes, chars, length, IfOk, OnOk};
 ghost use Rattle.tocmark_event.specs.View.{event_view};
 ghost use Rattle.tocmark_spelling.specs.Kinds.{is_table};
 ghost use Rattle.tocmark_spelling.specs.Page.{with_last, written};
@@ -8,15 +8,16 @@ ghost use Rattle.tocmark_spelling.specs.Places.{is_in, widened};
 ghost use Rattle.tocmark_spelling.specs.declared.trail.Last.TheVariants.{Inline};
 ghost use Rattle.tocmark_write_inlines.specs.Led.{code_led, spelled_on, StandsAt};
 ghost use Rattle.tocmark_write_renderer.specs.WriterOf.{levels_of, page_of, Stands};
+ghost use Rattle.tocmark_write_texts.specs.Characters.{backtick};
 ghost use Rattle.tocmark_write_texts.specs.Escape.{escaped, place_of};
-ghost use Rattle.tocmark_write_texts.specs.Leaves.{code_span, inline_math, display_math, task_marker, footnote_reference};
+ghost use Rattle.tocmark_write_texts.specs.Leaves.{code_span, enclosed, span, inline_math, display_math, task_marker, footnote_reference};
 
 use std::alloc::{AllocError, Global};
 use tocmark_event::event::OwnedEvent;
 use tocmark_spelling::trail::Last;
 use tocmark_write_renderer::renderer::Renderer;
 use tocmark_write_texts::escape::EscapeSurroundings;
-use tocmark_write_texts::text_modifications::{code_span, math_text};
+use tocmark_write_texts::text_modifications::{SpanEnds, few_ticks, in_cell, math_text, span_ends};
 
 /// Writes inline content, which stands behind its gap. An `Err` says that memory ran out.
 pub fn write_inline(renderer: &mut Renderer<'_>, text: &str) -> Result<(), AllocError>
@@ -101,7 +102,101 @@ fn widen_by_code(renderer: &mut Renderer<'_>, text: &str) -> Result<(), AllocErr
     }
 }
 
-/// Writes a code span behind its gap. An `Err` says that memory ran out.
+/// Writes so many backticks.
+#[tactic(auto, using(crate::proofs::Spans::repeat_tick))]
+fn write_ticks(renderer: &mut Renderer<'_>, alloc: Global, count: usize) -> Result<(), AllocError>
+    ensures stands { OnOk result (Stands renderer.new (levels_of renderer.old)
+        (written (levels_of renderer.old) (replicate count backtick) (page_of renderer.old))) }
+    ensures mark { renderer.new.at_mark ≡ renderer.old.at_mark }
+{
+    if let Some(ticks) = few_ticks(count) {
+        return renderer.write(ticks);
+    }
+    let ticks = "`".repeat(alloc, count)?;
+    renderer.write(ticks.as_str())
+}
+
+/// Writes a text, which may be empty.
+fn write_some(renderer: &mut Renderer<'_>, text: &str) -> Result<(), AllocError>
+    ensures stands { OnOk result (Stands renderer.new (levels_of renderer.old)
+        (written (levels_of renderer.old) text.now (page_of renderer.old))) }
+    ensures mark { renderer.new.at_mark ≡ renderer.old.at_mark }
+{
+    if text.is_empty() {
+        return Ok(());
+    }
+    renderer.write(text)
+}
+
+/// Writes what stands before the text of a code span.
+fn write_opening(
+    renderer: &mut Renderer<'_>,
+    alloc: Global,
+    ends: SpanEnds,
+) -> Result<(), AllocError>
+    ensures stands { OnOk result (Stands renderer.new (levels_of renderer.old)
+        (written (levels_of renderer.old) (replicate ends.ticks backtick ++ ends.padding.now)
+        (page_of renderer.old))) }
+    ensures mark { renderer.new.at_mark ≡ renderer.old.at_mark }
+{
+    write_ticks(renderer, alloc, ends.ticks)?;
+    write_some(renderer, ends.padding)
+}
+
+/// Writes what stands behind the text of a code span.
+fn write_closing(
+    renderer: &mut Renderer<'_>,
+    alloc: Global,
+    ends: SpanEnds,
+) -> Result<(), AllocError>
+    ensures stands { OnOk result (Stands renderer.new (levels_of renderer.old)
+        (written (levels_of renderer.old) (ends.padding.now ++ replicate ends.ticks backtick)
+        (page_of renderer.old))) }
+    ensures mark { renderer.new.at_mark ≡ renderer.old.at_mark }
+{
+    write_some(renderer, ends.padding)?;
+    write_ticks(renderer, alloc, ends.ticks)
+}
+
+/// Writes a text between these ends.
+fn write_enclosed(
+    renderer: &mut Renderer<'_>,
+    alloc: Global,
+    ends: SpanEnds,
+    text: &str,
+) -> Result<(), AllocError>
+    ensures stands { OnOk result (Stands renderer.new (levels_of renderer.old)
+        (written (levels_of renderer.old)
+        (enclosed (replicate ends.ticks backtick) ends.padding.now text.now)
+        (page_of renderer.old))) }
+    ensures mark { renderer.new.at_mark ≡ renderer.old.at_mark }
+{
+    write_opening(renderer, alloc, ends)?;
+    renderer.write(text)?;
+    write_closing(renderer, alloc, ends)
+}
+
+/// Writes a text as a code span behind its gap.
+fn write_spanned(
+    renderer: &mut Renderer<'_>,
+    alloc: Global,
+    event: &OwnedEvent,
+    text: &str,
+) -> Result<(), AllocError>
+    ensures stands { OnOk result (StandsAt renderer.new
+        (spelled_on (event_view string_bytes event.now) (span text.now)
+        (levels_of renderer.old) (page_of renderer.old))) }
+    ensures mark { renderer.new.at_mark ≡ renderer.old.at_mark }
+{
+    let ends = span_ends(text);
+    renderer.write_gap(event)?;
+    write_enclosed(renderer, alloc, ends, text)?;
+    renderer.set_last(Last::Inline);
+    Ok(())
+}
+
+/// Writes a code span behind its gap, in a table or not. An `Err` says that memory ran out.
+#[tactic(auto, unfolding(tocmark_write_texts::specs::Leaves::code_span))]
 fn write_span(
     renderer: &mut Renderer<'_>,
     alloc: Global,
@@ -114,8 +209,11 @@ fn write_span(
         (levels_of renderer.old) (page_of renderer.old))) }
     ensures mark { renderer.new.at_mark ≡ renderer.old.at_mark }
 {
-    let span = code_span(alloc, text, renderer.outside().in_table)?;
-    write_spelled(renderer, event, span.as_str())
+    if !renderer.outside().in_table {
+        return write_spanned(renderer, alloc, event, text);
+    }
+    let inside = in_cell(alloc, text, true)?;
+    write_spanned(renderer, alloc, event, inside.as_str())
 }
 
 /// Writes a code span behind its gap, and makes the nearest cell wider by its text's characters and
