@@ -1,5 +1,5 @@
 -- What is written for a unit is what is chosen for it.
-use Rattle.std.proofs.Common.{◌≡◌, ℕ, Result, Ok, true, false, Option, Some, None, Err, List, refl}
+use Rattle.std.proofs.Common.{◌≡◌, true, false, Option, Some, None, Err, List, refl}
 use Rattle.std.specs.Prelude.{is_some}
 use Rattle.std.proofs.lemmas.Bool.{false≢true, true≢false}
 use Rattle.tocmark_event.specs.View.{EventView, SourcedEvent}

@@ -1,5 +1,5 @@
 -- The search answers the first spelling that reads back, and nothing where none does.
-use Rattle.std.proofs.Common.{◌≡◌, ◌≤◌, ◌∙◌, Bool, true, false, ◌&&◌, ◌||◌, if◌then◌else◌, Option, Some, None, Ok, Err, List, [], ◌∷◌, ◌++◌, length, refl, sym, ap, subst, arith}
+use Rattle.std.proofs.Common.{◌≡◌, ◌≤◌, ◌∙◌, Bool, true, false, ◌&&◌, ◌||◌, if◌then◌else◌, Option, Some, None, Err, List, [], ◌∷◌, ◌++◌, length, refl, sym, ap, subst, arith}
 use Rattle.std.specs.List.{AllByRecursion}
 use Rattle.std.proofs.lemmas.Bool.{true≢false}
 use Rattle.tocmark_event.specs.View.{EventView}
@@ -11,8 +11,8 @@ use Rattle.tocmark_spelling.specs.Plan.{Setting, Manner}
 use Rattle.tocmark_spelling.specs.Spelling.{is_misplaced}
 use Rattle.tocmark_write_labels.specs.Document.{DocumentView}
 use Rattle.tocmark_render.specs.Candidates.{candidates, escaped_manners, has_event, has_source, is_checked, is_delimiter_block, source_manners}
-use Rattle.tocmark_render.specs.Choice.{Chosen, accepted, by_markers, choice, definitions_of, first_or, first_that_reads_back, has_standard_markers, if_read_back, page_read_back, preferred, spelled, unless_misplaced, without_spelling}
-use Rattle.tocmark_render.specs.FirstReadBack.{First, IsChosenAmong, IsFirstReadBack, NoneReadsBack, Nothing, ReadsBackAs, ReadsBackIn}
+use Rattle.tocmark_render.specs.Choice.{Chosen, by_markers, choice, definitions_of, first_or, first_that_reads_back, has_standard_markers, if_read_back, page_read_back, preferred, spelled, unless_misplaced}
+use Rattle.tocmark_render.specs.FirstReadBack.{First, IsChosenAmong, IsFirstReadBack, NoneReadsBack, Nothing, ReadsBackIn}
 use Rattle.tocmark_render.specs.ReadsBack.{reads_back}
 use Rattle.tocmark_render.specs.Validates.{validates}
 

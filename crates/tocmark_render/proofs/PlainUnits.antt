@@ -16,6 +16,10 @@ unasked : (source markers : Bool) → markers ≡ true → (source && markers) �
 unasked true markers m h = sym m ∙ h
 unasked false markers m h = refl
 
+left-false : (a b : Bool) → (a || b) ≡ false → a ≡ false
+left-false true b h = h
+left-false false b h = refl
+
 -- a unit without delimiters isn't checked where the options don't ask for it
 pub unchecked : (o : OptionsView) (f : Trees) → is_delimiter_block f ≡ false → o.check_plain_blocks ≡ false → is_checked o f ≡ false
 unchecked o f plain off = λ j. plain j || (off j && has_event f)
@@ -28,11 +32,16 @@ module _ (s : Setting) (d : DocumentView) (f : Trees) (next : Option EventView) 
   none-tried plain off source =
       subst (λ ms. first q d ms ≡ None) (candidates-are s.options s.options f false false false refl (sym source) (sym plain) (sym off)) (first-none q d)
 
-  by-markers : (b : Bool) → has_standard_markers s.options ≡ b → is_delimiter_block f ≡ false → is_checked s.options f ≡ false → (has_source f && has_standard_markers s.options) ≡ false → choice s d f next ≡ preferred s d f next
-  by-markers false m plain off h = choice-unsearched q d m
-  by-markers true m plain off h =
-      choice-lost q d m (none-tried plain off (unasked (has_source f) (has_standard_markers s.options) m h)) (ap (λ b. b && validates s.options s.flags) off)
+  -- nothing is searched where the unit isn't checked and none of its texts has a source
+  pub choice-unread : has_standard_markers s.options ≡ true → is_checked s.options f ≡ false → has_source f ≡ false → choice s d f next ≡ preferred s d f next
+  choice-unread m off source =
+      choice-lost q d m (none-tried (left-false (is_delimiter_block f) (s.options.check_plain_blocks && has_event f) off) off source)
+      (ap (λ b. b && validates s.options s.flags) off)
+
+  by-markers : (b : Bool) → has_standard_markers s.options ≡ b → is_checked s.options f ≡ false → (has_source f && has_standard_markers s.options) ≡ false → choice s d f next ≡ preferred s d f next
+  by-markers false m off h = choice-unsearched q d m
+  by-markers true m off h = choice-unread m off (unasked (has_source f) (has_standard_markers s.options) m h)
 
   -- nothing is searched where the source isn't asked
   pub choice-unasked : is_delimiter_block f ≡ false → s.options.check_plain_blocks ≡ false → (has_source f && has_standard_markers s.options) ≡ false → choice s d f next ≡ preferred s d f next
-  choice-unasked plain off a = by-markers (has_standard_markers s.options) refl plain (unchecked s.options f plain off) a
+  choice-unasked plain off a = by-markers (has_standard_markers s.options) refl (unchecked s.options f plain off) a

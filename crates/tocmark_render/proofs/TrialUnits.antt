@@ -1,7 +1,6 @@
 -- What one trial of a unit comes to, and that its unit is that of the definitions.
 use Rattle.std.proofs.Common.{◌≡◌, ◌∙◌, sym, ap, refl, subst, ℕ, Bool, true, false, Option, Some, None, Result, Ok, Err, List, [], ◌∷◌, ◌++◌, arith, codes, length, map, unwrap_or}
 use Rattle.std.specs.Prelude.{◌==◌, ◌&&◌, ◌||◌, is_err, is_none, is_some, not}
-use Rattle.std.specs.List.{list_any}
 use Rattle.std.proofs.lemmas.Bool.{false≢true, true≢false}
 use Rattle.std.proofs.lemmas.Bool.Decides.{nat_tests}
 use Rattle.tocmark_event.specs.Forest.{flat}
@@ -28,7 +27,7 @@ use Rattle.tocmark_write_labels.specs.Document.{DocumentView}
 use Rattle.tocmark_write_pending.specs.Placeholder.{whole}
 use Rattle.tocmark_render.specs.ReadsBack.{flags_at, found_in, is_taken, reads_back, whole_text}
 use Rattle.tocmark_render.specs.TrialOf.{Came, ComesOrBack, IsLow, IsReady, Refuses, WentBack, Writes, asked_of, events_in, options_in, or_no_trees, read_of, reads_back_in, spelled_at}
-use Rattle.tocmark_render.specs.Tries.{Asked, Found, Lost, Stopped, StopsTrial, first, is_delimiter_event, is_sourced_event, misplaced}
+use Rattle.tocmark_render.specs.Tries.{Asked, Found, Lost, Stopped, StopsTrial, first, misplaced}
 use Rattle.tocmark_write_pending.specs.Units.{trees_of}
 use Rattle.tocmark_render.specs.declared.trial.Trial.{Trial}
 use Rattle.tocmark_write_pending.proofs.Balanced.{flat-of-trees}
@@ -52,20 +51,21 @@ module _ {R : Type 0} (reading : R → List ℕ → ParserOptions → ReadingVie
   pub trial-written : (P : Trees → Type 0) → ((f : Trees) → flat f ≡ events_in t → P f) → P trees
   trial-written P h = h trees trial-flat
 
+  -- what the census says of the unit's events is so of the unit
+  pub trial-source : t.found.now.census.sourced ≡ has_source trees
+  trial-source = ready.found.census.sourced ∙ sym (source-flat (events_in t) trees trial-flat)
+
+  pub trial-delimiters : t.found.now.census.delimiters ≡ is_delimiter_block trees
+  trial-delimiters = ready.found.census.delimiters ∙ sym (delimiters-flat (events_in t) trees trial-flat)
+
+  pub trial-checked : (b : Bool) → b ≡ (t.found.now.census.delimiters || ((options_in t).check_plain_blocks && not (length (events_in t) == 0))) → b ≡ is_checked (options_in t) trees
+  trial-checked b e =
+      e ∙ (λ j. trial-delimiters j || ((options_in t).check_plain_blocks && sym (event-flat (events_in t) trees trial-flat) j))
+
   -- what is found of a list of just these events is found of the unit
   module _ (es : List SourcedEvent) (same : es ≡ events_in t) where
     these-flat : flat trees ≡ es
     these-flat = trial-flat ∙ sym same
-
-    pub trial-source : (b : Bool) → b ≡ list_any is_sourced_event es → b ≡ has_source trees
-    trial-source b e = e ∙ sym (source-flat es trees these-flat)
-
-    pub trial-delimiters : (b : Bool) → b ≡ list_any is_delimiter_event es → b ≡ is_delimiter_block trees
-    trial-delimiters b e = e ∙ sym (delimiters-flat es trees these-flat)
-
-    pub trial-checked : (del b : Bool) → del ≡ list_any is_delimiter_event es → b ≡ (del || ((options_in t).check_plain_blocks && not (length es == 0))) → b ≡ is_checked (options_in t) trees
-    trial-checked del b d e =
-        e ∙ (λ j. trial-delimiters del d j || ((options_in t).check_plain_blocks && sym (event-flat es trees these-flat) j))
 
     module _ (d : DocumentView) where
       abbrev q : Asked

@@ -14,7 +14,7 @@ use Rattle.tocmark_spelling.specs.Body.{Trees}
 use Rattle.tocmark_spelling.specs.Page.{Site}
 use Rattle.tocmark_spelling.specs.Spelling.{spelling}
 use Rattle.tocmark_spelling.proofs.Refusals.{none-misplaced}
-use Rattle.tocmark_render.specs.Candidates.{candidates, escaped_manners, fallback_manners, fallbacks, has_source, is_checked, is_delimiter_block, preferred_manner, source_manners, delimiter_manners}
+use Rattle.tocmark_render.specs.Candidates.{candidates, escaped_manners, fallback_manners, fallbacks, has_source, is_checked, is_delimiter_block, preferred_manner, source_manners}
 use Rattle.tocmark_write_renderer.specs.WriterOf as renderer
 use Rattle.tocmark_write_renderer.specs.WriterOf.{Rendering, site_of}
 use Rattle.tocmark_render.specs.Choice.{Chosen, choice, preferred, accepted, accepted_if, page_of, page_in, by_markers, unless_misplaced, first_or, has_standard_markers, first_that_reads_back, page_read_back, spelled}

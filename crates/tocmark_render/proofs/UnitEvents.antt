@@ -7,7 +7,7 @@ use Rattle.tocmark_event.specs.Forest.{empty, leaf, node, flat, flat_onto}
 use Rattle.tocmark_event.specs.View.{SourcedEvent, End, end_of}
 use Rattle.tocmark_spelling.specs.Body.{Trees, some_leaf}
 use Rattle.tocmark_render.specs.Candidates.{has_event, has_source, is_delimiter_block, is_delimiter_tag, is_math, is_sourced, some_tag}
-use Rattle.tocmark_render.specs.Tries.{is_delimiter_event, is_sourced_event}
+use Rattle.tocmark_write_unit.specs.CensusOf.{is_delimiter_event, is_sourced_event}
 
 or-assoc : (a b c : Bool) → (a || b) || c ≡ a || (b || c)
 or-assoc true b c = refl

@@ -1,8 +1,8 @@
 -- A unit can't be represented just where it is checked and none of its candidates reads back.
-use Rattle.std.proofs.Common.{◌≡◌, ◌≤◌, Bool, true, false, ◌&&◌, if◌then◌else◌, Option, Some, None, Ok, Err, List, [], ◌++◌, length, refl, sym, subst, arith}
+use Rattle.std.proofs.Common.{◌≡◌, ◌≤◌, Bool, true, false, ◌&&◌, if◌then◌else◌, Option, Some, None, Err, [], ◌++◌, length, refl, sym, subst, arith}
 use Rattle.tocmark_event.specs.View.{EventView}
 use Rattle.tocmark_event.specs.Options.{OptionsView}
-use Rattle.tocmark_event.specs.declared.options.Error.TheVariants.{UnexpectedEvent, Unrepresentable}
+use Rattle.tocmark_event.specs.declared.options.Error.TheVariants.{Unrepresentable}
 use Rattle.tocmark_spelling.specs.Body.{Trees}
 use Rattle.tocmark_spelling.specs.Page.{Page}
 use Rattle.tocmark_spelling.specs.Plan.{Setting}

@@ -1,8 +1,8 @@
 -- The spellings that are tried for a unit, in order.
-use Rattle.std.specs.Prelude.{ℕ, Bool, true, false, ◌&&◌, ◌||◌, if◌then◌else◌, ◌==◌, is_some, List, [], ◌∷◌, ◌++◌, bytes_eq, codes, flat_map, map}
+use Rattle.std.specs.Prelude.{ℕ, Bool, true, false, ◌&&◌, ◌||◌, if◌then◌else◌, ◌==◌, List, [], ◌∷◌, ◌++◌, bytes_eq, codes, flat_map, map}
 use Rattle.tocmark_event.specs.Options.{OptionsView}
 use Rattle.tocmark_event.specs.Forest.{empty, leaf, node}
-use Rattle.tocmark_event.specs.View.{TagView, Emphasis, Strong, Strikethrough, Superscript, Subscript, LeafView, InlineMath, DisplayMath, SourcedLeaf}
+use Rattle.tocmark_event.specs.View.{TagView}
 use Rattle.tocmark_spelling.specs.Body.{Trees, some_leaf}
 use Rattle.tocmark_spelling.specs.Words.{asterisk}
 use Rattle.tocmark_spelling.specs.Plan.{Plan, Markers, Manner}
@@ -10,21 +10,8 @@ use Rattle.tocmark_spelling.specs.declared.plan.Layout.{Layout}
 use Rattle.tocmark_spelling.specs.declared.plan.Layout.TheVariants.{Preferred, Runs, Uniform, Shared, RuleThree}
 use Rattle.tocmark_spelling.specs.declared.plan.TextSpelling.{TextSpelling}
 use Rattle.tocmark_spelling.specs.declared.plan.TextSpelling.TheVariants.{Escaped, Literal, Entities, LiteralEntities}
-
--- emphasis, strong emphasis (CommonMark, section 6.2), strikethrough (GFM, section 6.5), super- or subscript
-abbrev pub is_delimiter_tag : TagView → Bool
-is_delimiter_tag Emphasis = true
-is_delimiter_tag Strong = true
-is_delimiter_tag Strikethrough = true
-is_delimiter_tag Superscript = true
-is_delimiter_tag Subscript = true
-is_delimiter_tag t = false
-
--- mathematics, in a line or by itself
-abbrev pub is_math : LeafView → Bool
-is_math (InlineMath t) = true
-is_math (DisplayMath t) = true
-is_math l = false
+-- what is written by delimiters, and what has a spelling in the source
+pub use Rattle.tocmark_write_unit.specs.CensusOf.{is_delimiter_tag, is_math, is_sourced}
 
 -- whether a container of such a tag stands at any depth
 abbrev pub some_tag : (TagView → Bool) → Trees → Bool
@@ -45,10 +32,6 @@ has_event (node t kids f) = true
 -- a unit that is written only as it reads back: one with delimiters, and where the options ask for it each that has an event
 abbrev pub is_checked : OptionsView → Trees → Bool
 is_checked o f = is_delimiter_block f || (o.check_plain_blocks && has_event f)
-
--- whether a leaf's spelling in the source is known
-abbrev pub is_sourced : SourcedLeaf → Bool
-is_sourced l = is_some l.source
 
 -- whether the source of some text is known
 abbrev pub has_source : Trees → Bool

@@ -1,5 +1,5 @@
 -- What a trial of a unit asks, as plain values.
-use Rattle.std.specs.Prelude.{◌≡◌, ◌<◌, ℕ, Bool, true, false, slice_index, List, Option, Some, None, Result, Ok, Err, IfOk, IfSome, is_some, map, string_bytes, String}
+use Rattle.std.specs.Prelude.{◌≡◌, ◌<◌, ℕ, Bool, true, false, slice_index, List, Option, Some, None, Result, Ok, Err, IfOk, IfSome, is_some, string_bytes, String}
 use Rattle.std.specs.Global.{Global}
 use Rattle.std.specs.List.{AllByRecursion}
 use Rattle.indexmap.specs.IndexSet.{IndexSet}

@@ -1,7 +1,7 @@
 -- What trying some spellings of a unit in order came to.
 use Rattle.std.specs.Prelude.{◌≡◌, Bool, true, false, Option, Some, None, Result, Ok, Err, List, [], ◌∷◌, ◌++◌, if◌then◌else◌, map}
 use Rattle.tocmark_event.specs.Options.{OptionsView}
-use Rattle.tocmark_event.specs.View.{EventView, SourcedEvent, Start, End, Leaf}
+use Rattle.tocmark_event.specs.View.{EventView}
 use Rattle.tocmark_event.specs.declared.options.Error.{Error}
 use Rattle.tocmark_event.specs.declared.options.Error.TheVariants as error
 use Rattle.tocmark_spelling.specs.Body.{Trees}
@@ -12,7 +12,7 @@ use Rattle.tocmark_spelling.specs.declared.plan.Layout.{Layout}
 use Rattle.tocmark_spelling.specs.declared.plan.Layout.TheVariants.{Runs}
 use Rattle.tocmark_spelling.specs.declared.plan.TextSpelling.{TextSpelling}
 use Rattle.tocmark_spelling.specs.declared.plan.TextSpelling.TheVariants.{Escaped}
-use Rattle.tocmark_render.specs.Candidates.{escaped_manners, in_manner, is_delimiter_tag, is_math, is_sourced, pairs_from, preferred_manner, source_manners}
+use Rattle.tocmark_render.specs.Candidates.{escaped_manners, in_manner, pairs_from, preferred_manner, source_manners}
 use Rattle.tocmark_write_renderer.specs.WriterOf.{Rendering, page_of, site_of}
 use Rattle.tocmark_render.specs.Choice.{first_that_reads_back}
 use Rattle.tocmark_write_labels.specs.Document.{DocumentView}
@@ -22,17 +22,6 @@ pub record Asked : Type 0 where
   pub setting : Setting
   pub unit : Trees
   pub next : Option EventView
-
--- whether an event is written by delimiters
-abbrev pub is_delimiter_event : SourcedEvent → Bool
-is_delimiter_event (Start t) = is_delimiter_tag t
-is_delimiter_event (Leaf l) = is_math l.leaf
-is_delimiter_event (End k) = false
-
--- whether an event has a text whose spelling in the source is known
-abbrev pub is_sourced_event : SourcedEvent → Bool
-is_sourced_event (Leaf l) = is_sourced l
-is_sourced_event e = false
 
 -- a layout with a way of writing texts
 abbrev pub plan_view : Layout × TextSpelling → Plan

@@ -22,7 +22,7 @@ ghost use Rattle.tocmark_render.specs.DocumentOf.{document_at, document_view, do
 use crate::earlier::Earlier;
 use crate::read_back::ReadBack;
 use crate::search::choose;
-use crate::trial::{Trial, likely_len};
+use crate::trial::Trial;
 use std::alloc::{AllocError, Global};
 use std::mem;
 use tocmark_event::event::{Event, OwnedEvent, ParserOptions};
@@ -295,7 +295,7 @@ impl Document {
             WritesChosen reading trial.now self.now renderer.old renderer.new result }
         ensures known { Knows renderer.new result }
     {
-        renderer.reserve_lines(likely_len(trial.unit.events()))?;
+        renderer.reserve_lines(trial.found.census.likely_len)?;
         let earlier = Earlier {
             known: &self.known,
             flushed: self.flushed,

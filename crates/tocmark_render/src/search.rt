@@ -1,14 +1,13 @@
 //! The search for a spelling that is read back.
 
 ghost use Rattle.std.specs.Prelude.{◌≡◌, ◌==◌, ◌&&◌, ◌∷◌, ◌||◌, None, [], flat_map, length, map, not, true, IfOk, OnOk};
-ghost use Rattle.std.specs.List.{AllByRecursion, list_any};
+ghost use Rattle.std.specs.List.{AllByRecursion};
 ghost use Rattle.tocmark_event.specs.Options.{options_view};
-ghost use Rattle.tocmark_spelling.specs.Buffered.{buffered_view};
 ghost use Rattle.tocmark_write_renderer.specs.JobOf.{manner_view};
 ghost use Rattle.tocmark_write_renderer.specs.WriterOf.{site_of};
 ghost use Rattle.tocmark_render.specs.Candidates.{delimiter_manners, escaped_manners, fallback_manners, fallbacks, preferred_manner};
 ghost use Rattle.tocmark_render.specs.Choice.{has_standard_markers};
-ghost use Rattle.tocmark_render.specs.Tries.{if_source, is_delimiter_event, is_sourced_event, manners_for};
+ghost use Rattle.tocmark_render.specs.Tries.{if_source, manners_for};
 ghost use Rattle.tocmark_render.specs.TrialOf.{AreRefused, Chooses, IsFront, IsLow, IsReady, Knows, TriesIn, WritesIn, asked_of, earlier_view, options_in};
 ghost use Rattle.tocmark_render.specs.Validates.{validates};
 
@@ -20,70 +19,18 @@ use crate::manners::{
 use crate::read_back::ReadBack;
 use crate::trial::{Refused, Trial, write_preferred};
 use indexmap::IndexSet;
-use tocmark_event::event::{EventOf, ParserOptions, TagOf};
+use tocmark_event::event::ParserOptions;
 use tocmark_event::options::{Error, Options};
 use tocmark_event::reader::Reader;
-use tocmark_spelling::buffered::BufferedEvent;
+use tocmark_write_pending::pending::Pending;
 use tocmark_write_renderer::job::Manner;
 use tocmark_write_renderer::renderer::Renderer;
 
-/// Whether an event with a text in the source waits.
-fn is_sourced(event: &BufferedEvent) -> bool
-    ensures { result ≡ is_sourced_event (buffered_view event.now) }
-{
-    match &event.event {
-        EventOf::Start(_) => false,
-        EventOf::End(_) => false,
-        _ => event.source.is_some(),
-    }
-}
-
-/// Whether the spelling of some text of a unit is known in the source.
-fn has_source(unit: &[BufferedEvent]) -> bool
-    ensures { result ≡ list_any is_sourced_event (map buffered_view unit.now) }
-{
-    for event in unit {
-        if is_sourced(event) {
-            return true;
-        }
-    }
-    false
-}
-
-/// Whether an event is written by delimiters: emphasis, strong emphasis, strikethrough, super- or
-/// subscript, or mathematics.
-fn is_delimiter(event: &BufferedEvent) -> bool
-    ensures { result ≡ is_delimiter_event (buffered_view event.now) }
-{
-    match &event.event {
-        EventOf::Start(TagOf::Emphasis) => true,
-        EventOf::Start(TagOf::Strong) => true,
-        EventOf::Start(TagOf::Strikethrough) => true,
-        EventOf::Start(TagOf::Superscript) => true,
-        EventOf::Start(TagOf::Subscript) => true,
-        EventOf::InlineMath(_) => true,
-        EventOf::DisplayMath(_) => true,
-        _ => false,
-    }
-}
-
-fn has_delimiters(unit: &[BufferedEvent]) -> bool
-    ensures { result ≡ list_any is_delimiter_event (map buffered_view unit.now) }
-{
-    for event in unit {
-        if is_delimiter(event) {
-            return true;
-        }
-    }
-    false
-}
-
 /// Whether a unit is written only as it is read back: one with delimiters, and where the options ask
 /// for it each that has an event.
-fn is_checked(options: &Options<'_>, unit: &[BufferedEvent], has_delimiters: bool) -> bool
+fn is_checked(options: &Options<'_>, unit: &Pending, has_delimiters: bool) -> bool
     ensures { let o = options_view options.now in
-        result ≡ (has_delimiters
-        || (o.check_plain_blocks && not (length (map buffered_view unit.now) == 0))) }
+        result ≡ (has_delimiters || (o.check_plain_blocks && not (length unit.now.events == 0))) }
 {
     has_delimiters || (options.check_plain_blocks && !unit.is_empty())
 }
@@ -358,16 +305,17 @@ pub fn choose<'t, R: Reader>(
     if !has_standard_markers(trial.options) {
         return write_unread(trial, renderer);
     }
-    let unit = trial.unit.events();
-    let has_delimiters = has_delimiters(unit);
-    let has_source = has_source(unit);
-    let is_checked = is_checked(trial.options, unit, has_delimiters);
+    let census = trial.found.census;
+    let is_checked = is_checked(trial.options, trial.unit, census.delimiters);
+    if !census.sourced && !is_checked {
+        return write_unread(trial, renderer);
+    }
     if let Some(known) = search(
         trial,
         earlier,
         renderer,
-        has_source,
-        has_delimiters,
+        census.sourced,
+        census.delimiters,
         is_checked,
     )? {
         return Ok(Some(known));

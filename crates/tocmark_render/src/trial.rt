@@ -8,10 +8,9 @@ ghost use Rattle.tocmark_render.specs.TrialOf.{IsFront, IsLow, IsReady, WritesIn
 use crate::manners::preferred_manner;
 use indexmap::IndexSet;
 use std::alloc::Global;
-use tocmark_event::event::{EventOf, OwnedEvent, ParserOptions};
+use tocmark_event::event::{OwnedEvent, ParserOptions};
 use tocmark_event::options::{Error, Options};
 use tocmark_event::reader::Reader;
-use tocmark_spelling::buffered::BufferedEvent;
 use tocmark_write_pending::pending::Pending;
 use tocmark_write_renderer::job::{Job, Manner};
 use tocmark_write_renderer::renderer::Renderer;
@@ -36,26 +35,6 @@ pub struct Trial<'t, 'o, R> {
     /// The label that is reserved for lists, if there is one.
     pub label: Option<&'t str>,
     pub options: &'t Options<'o>,
-}
-
-/// How long the text of a leaf is, in bytes; 0 for any other event.
-fn text_len(event: &BufferedEvent) -> usize {
-    match &event.event {
-        EventOf::Text(text) => text.len(),
-        EventOf::Code(text) => text.len(),
-        EventOf::Html(text) => text.len(),
-        EventOf::InlineHtml(text) => text.len(),
-        _ => 0,
-    }
-}
-
-/// How long a unit's text is likely to be, in bytes: its texts, and some bytes for each event.
-pub fn likely_len(unit: &[BufferedEvent]) -> usize {
-    let mut len = 0usize;
-    for event in unit {
-        len = len.saturating_add(text_len(event)).saturating_add(4);
-    }
-    len
 }
 
 /// Writes the unit of a trial in one manner, behind a mark. An `Err` is as in `write_unit`; the

@@ -1,4 +1,4 @@
-use Rattle.std.proofs.Common.{[], ap, false, if◌then◌else◌, sym, true, ◌∷◌, ◌∙◌}
+use Rattle.std.proofs.Common.{[], ap, sym, ◌∷◌}
 use Rattle.tocmark_write_renderer.specs.WriterOf.{site_of}
 use Rattle.tocmark_render.specs.Candidates.{delimiter_manners, escaped_manners, preferred_manner}
 use Rattle.tocmark_render.specs.TrialOf.{asked_of, earlier_at, options_in}
