@@ -200,7 +200,8 @@ pub(crate) fn is_unwrapped(blocks: &[Block], block: Block) -> bool
     }
 }
 
-fn write_block(
+/// Writes the node of a block by its tag.
+fn write_tagged(
     alloc: Global,
     out: &mut Emission,
     text: &str,
@@ -211,6 +212,27 @@ fn write_block(
 {
     let tag = block_tag(alloc, text, block.kind)?;
     out.open(text, block.depth, tag, block.start, block.end)
+}
+
+/// Writes the node of a block. Paragraphs, lists and items are put into the list of events at once.
+#[tactic(auto, unfolding(crate::specs::Pages::block_tag))]
+fn write_block(
+    alloc: Global,
+    out: &mut Emission,
+    text: &str,
+    block: Block,
+) -> Result<(), AllocError>
+    ensures { OnOk result (emission_view out.new
+        ≡ step text.now (emission_view out.old) (block_node text.now block)) }
+{
+    match block.kind {
+        BlockKind::Paragraph => { out.open_paragraph(text, block.depth, block.start, block.end) }
+        BlockKind::Item => out.open_item(text, block.depth, block.start, block.end),
+        BlockKind::List(first) => {
+            out.open_list(text, block.depth, first, block.start, block.end)
+        }
+        _ => write_tagged(alloc, out, text, block),
+    }
 }
 
 /// Writes the node of a fenced code block, whose info string stands between two places.

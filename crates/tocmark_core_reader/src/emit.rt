@@ -2,7 +2,7 @@
 
 ghost use Rattle.std.specs.Prelude.{◌≡◌, ◌++◌, ◌∷◌, [], map, string_bytes, IfOk, OnOk};
 ghost use Rattle.tocmark_event.specs.Text.{text_of};
-ghost use Rattle.tocmark_event.specs.View.{Text, event_view, tag_view};
+ghost use Rattle.tocmark_event.specs.View.{Item, Leaf, ListOf, Paragraph, Text, event_view, tag_view};
 ghost use Rattle.tocmark_core_reader.specs.Range.{is_cut, snapped, IsGoodRange};
 ghost use Rattle.tocmark_core_reader.specs.Emitted.{Container, Given, Source, item_view, node_view, emission_view, shown, closed, source_text, put, step};
 ghost use Rattle.tocmark_core_reader.specs.Pages.{node};
@@ -111,6 +111,15 @@ fn push(
     add(out, (event, range))
 }
 
+/// Adds the event of a text.
+fn push_text(out: &mut Vec<Marked>, words: String, range: (usize, usize)) -> Result<(), AllocError>
+    ensures { OnOk result (map shown out.new.items
+        ≡ map shown out.old.items ++ (Leaf (Text (string_bytes words)), range) ∷ []) }
+{
+    out.push((Event::Text(CowStr::Owned(words)), range))?;
+    Ok(())
+}
+
 impl Emission {
     /// Ends the containers from a depth on, the innermost first.
     pub fn close_to(&mut self, depth: usize) -> Result<(), AllocError>
@@ -118,7 +127,7 @@ impl Emission {
     {
         while self.stack.len() > depth {
             if let Some(last) = self.stack.pop() {
-                push(&mut self.events, Event::End(last.end), last.range)?;
+                self.events.push((Event::End(last.end), last.range))?;
             }
         }
         Ok(())
@@ -190,6 +199,70 @@ impl Emission {
         self.begin(text, tag, snapped(text, start, end))
     }
 
+    /// Writes the node of a paragraph.
+    pub fn open_paragraph(
+        &mut self,
+        text: &str,
+        depth: usize,
+        start: usize,
+        end: usize,
+    ) -> Result<(), AllocError>
+        ensures { OnOk result (emission_view self.new ≡ step text.now (emission_view self.old)
+            (node depth (Container Paragraph) start end)) }
+    {
+        self.close_to(depth)?;
+        let range = snapped(text, start, end);
+        self.events.push((Event::Start(Tag::Paragraph), range))?;
+        self.stack.push(Open {
+            end: TagEnd::Paragraph,
+            range,
+        })?;
+        Ok(())
+    }
+
+    /// Writes the node of an item.
+    pub fn open_item(
+        &mut self,
+        text: &str,
+        depth: usize,
+        start: usize,
+        end: usize,
+    ) -> Result<(), AllocError>
+        ensures { OnOk result (emission_view self.new ≡ step text.now (emission_view self.old)
+            (node depth (Container Item) start end)) }
+    {
+        self.close_to(depth)?;
+        let range = snapped(text, start, end);
+        self.events.push((Event::Start(Tag::Item), range))?;
+        self.stack.push(Open {
+            end: TagEnd::Item,
+            range,
+        })?;
+        Ok(())
+    }
+
+    /// Writes the node of a list, which begins with a number if it is ordered.
+    pub fn open_list(
+        &mut self,
+        text: &str,
+        depth: usize,
+        first: Option<u64>,
+        start: usize,
+        end: usize,
+    ) -> Result<(), AllocError>
+        ensures { OnOk result (emission_view self.new ≡ step text.now (emission_view self.old)
+            (node depth (Container (ListOf first)) start end)) }
+    {
+        self.close_to(depth)?;
+        let range = snapped(text, start, end);
+        self.events.push((Event::Start(Tag::List(first)), range))?;
+        self.stack.push(Open {
+            end: TagEnd::List(first.is_some()),
+            range,
+        })?;
+        Ok(())
+    }
+
     /// Writes the node of a text that differs from its source.
     pub fn write_text(
         &mut self,
@@ -203,8 +276,7 @@ impl Emission {
             (node depth (Given (Text (string_bytes words))) start end)) }
     {
         self.close_to(depth)?;
-        let event = Event::Text(CowStr::Owned(words));
-        push(&mut self.events, event, snapped(text, start, end))
+        push_text(&mut self.events, words, snapped(text, start, end))
     }
 
     /// Writes the node of a text that is its source.
@@ -221,8 +293,8 @@ impl Emission {
     {
         self.close_to(depth)?;
         let range = snapped(text, start, end);
-        let event = Event::Text(source_text(alloc, text, range)?);
-        push(&mut self.events, event, range)
+        let words = cleaned_part(alloc, text, range.0, range.1, false)?;
+        push_text(&mut self.events, words, range)
     }
 
     /// Writes one node. Its range is that of the event if it is in order, within the text and on
