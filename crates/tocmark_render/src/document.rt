@@ -55,6 +55,8 @@ pub struct Document {
     bracketed: Vec<String>,
     /// Whether a unit was written.
     flushed: bool,
+    /// A text that nobody reads any more: the next unit's is written in its room.
+    room: String,
 }
 
 fn kept_event(alloc: Global, event: Option<&Event<'_>>) -> Result<Option<OwnedEvent>, AllocError>
@@ -147,6 +149,7 @@ impl Document {
             known: Labels::new(alloc),
             bracketed: Vec::new(alloc),
             flushed: false,
+            room: String::new(alloc),
         }
     }
 
@@ -163,6 +166,7 @@ impl Document {
             known: self.known.copied()?,
             bracketed: copied_texts(alloc, &self.bracketed)?,
             flushed: self.flushed,
+            room: String::new(alloc),
         })
     }
 
@@ -243,7 +247,16 @@ impl Document {
         ensures flags { document_flags self.new ≡ document_flags self.old }
     {
         let trail = mem::replace(&mut self.trail, Trail::new());
-        Renderer::resume(alloc, self.newlines, trail)
+        let room = mem::replace(&mut self.room, String::new(alloc));
+        Renderer::resume(alloc, room, self.newlines, trail)
+    }
+
+    /// Takes a unit's text back when it is handed on: the next unit is written in its room.
+    pub fn give_back(&mut self, text: String)
+        ensures view { document_view self.new ≡ document_view self.old }
+        ensures flags { document_flags self.new ≡ document_flags self.old }
+    {
+        self.room = text;
     }
 
     /// Takes back what `begin` moved, from a renderer that stands at a unit's front.

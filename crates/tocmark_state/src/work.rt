@@ -1,12 +1,12 @@
 //! What a state makes of the events that it takes.
 
-ghost use Rattle.std.specs.Prelude.{◌+◌, ◌&&◌, Option, true, ◌≡◌, length, IfOk, List, ℕ, IsOk, Some, None, [], sum_by};
+ghost use Rattle.std.specs.Prelude.{◌+◌, ◌&&◌, Option, true, ◌≡◌, length, IfOk, List, ℕ, IsOk, Some, None, [], string_bytes, sum_by};
 ghost use Rattle.std.specs.Iterator.{IsFinite, DrainsIf};
 ghost use Rattle.tocmark_event.specs.Text.{text_of};
 ghost use Rattle.tocmark_event.specs.View.{event_view};
 ghost use Rattle.tocmark_spelling.specs.Buffered.{next_view, sourced};
 ghost use Rattle.tocmark_state.specs.Ranges.{Range};
-ghost use Rattle.tocmark_state.specs.Walk.{step, done, is_due, flushed, flushed_before, advance, joins, walk, nothing_yet, last_choice, ended};
+ghost use Rattle.tocmark_state.specs.Walk.{step, done, hand_walk, is_due, flushed, flushed_before, advance, joins, walk, nothing_yet, last_choice, ended};
 ghost use Rattle.tocmark_state.specs.Writes.{Makes};
 ghost use Rattle.tocmark_state.specs.WorkView.{Answers, Chooses, Counts, at_most, flags_of, incoming_pairs, kept_of, rendering_with, standing_of};
 ghost use Rattle.tocmark_write_pending.specs.Pending.{text_now};
@@ -110,7 +110,19 @@ fn flush<R: Reader, W: Taker>(
         tools.defined,
     )?;
     work.pending.clear();
-    hand(writer, text.as_str())
+    hand_on(work, writer, text)
+}
+
+/// Hands a unit's text to the writer, and gives it back for its room. Returns its length in bytes.
+fn hand_on<W: Taker>(work: &mut Work, writer: &mut W, text: String) -> Result<usize, Error>
+    ensures handed { Makes W.takes W.refuses writer.old writer.new result done
+        (hand_walk (string_bytes text) done) }
+    ensures count { IfOk result (λ n. n ≡ length (string_bytes text)) }
+    ensures stays { standing_of work.new ≡ standing_of work.old }
+{
+    let handed = hand(writer, text.as_str());
+    work.document.give_back(text);
+    handed
 }
 
 /// Adds an event to what is pending.

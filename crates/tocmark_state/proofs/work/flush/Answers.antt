@@ -14,7 +14,7 @@ returns-in_err-text-clause-made g c =
     rw (p.1, p.2) (flushed_refused g.W.Taker.takes g.W.Taker.refuses c.args.writer.now (rendering_with g.R.Reader.reading c.args.tools.now) (next_view c.args.next) (standing_of c.args.work.now) c.in_err-text.field-0.0
     (keeping_refused (document_flags c.args.work.now.document) _ c.in_err-text.field-0.0 c.in_err-text.ensures.chosen))
 
-flushed_to : (g : given.Over) (c : goal.After-drop-text g) → flushed (rendering_with g.R.Reader.reading c.args.tools.now) (next_view c.args.next) (standing_of c.args.work.now)
+flushed_to : (g : given.Over) (c : goal.After-hand_on g) → flushed (rendering_with g.R.Reader.reading c.args.tools.now) (next_view c.args.next) (standing_of c.args.work.now)
     ≡ hand_walk (string_bytes c.in_ok-text.text) (record (standing_of c.args.work.now) { pending = []; document = kept_of c.block_behind.new.self })
 flushed_to g c =
     flushed_ok (rendering_with g.R.Reader.reading c.args.tools.now) (next_view c.args.next) (standing_of c.args.work.now) (string_bytes c.in_ok-text.text, kept_of c.block_behind.new.self)
@@ -22,11 +22,11 @@ flushed_to g c =
 
 pub returns-clause-made : goal.returns-clause-made
 returns-clause-made g c =
-    rw (flushed_to g c, c.clear.ensures, c.requires.whole, ← c.as_str.ensures.value)
-    (Makes-at g.W.Taker.takes g.W.Taker.refuses c.args.writer.now c.hand.new.writer c.hand.result c.as_str.result.now (record (standing_of c.args.work.now) { pending = []; open_tags = []; document = kept_of c.block_behind.new.self }) c.hand.ensures.handed)
+    rw (flushed_to g c, c.hand_on.ensures.stays, c.clear.ensures, c.requires.whole)
+    (Makes-at g.W.Taker.takes g.W.Taker.refuses c.args.writer.now c.hand_on.new.writer c.hand_on.result (string_bytes c.in_ok-text.text) (record (standing_of c.args.work.now) { pending = []; open_tags = []; document = kept_of c.block_behind.new.self }) c.hand_on.ensures.handed)
 
 pub returns-clause-count : goal.returns-clause-count
 returns-clause-count g c =
-    IfOk-weaker c.hand.result (λ n. n ≡ length c.as_str.result.now) (λ n. n ≡ sum_by length (flushed (rendering_with g.R.Reader.reading c.args.tools.now) (next_view c.args.next) (standing_of c.args.work.now)).texts)
-    (λ n h. h ∙ (ap length c.as_str.ensures.value ∙ sym (ap (λ (w : Walk Standing). sum_by length w.texts) (flushed_to g c) ∙ sum_by-handed_text (string_bytes c.in_ok-text.text))))
-    c.hand.ensures.count
+    IfOk-weaker c.hand_on.result (λ n. n ≡ length (string_bytes c.in_ok-text.text)) (λ n. n ≡ sum_by length (flushed (rendering_with g.R.Reader.reading c.args.tools.now) (next_view c.args.next) (standing_of c.args.work.now)).texts)
+    (λ n h. h ∙ sym (ap (λ (w : Walk Standing). sum_by length w.texts) (flushed_to g c) ∙ sum_by-handed_text (string_bytes c.in_ok-text.text)))
+    c.hand_on.ensures.count
