@@ -23,6 +23,7 @@ use tocmark_event::options::Options;
 use tocmark_spelling::plan::Layout;
 use tocmark_spelling::trail::Last;
 use tocmark_write_containers::content::OpeningChoice;
+use tocmark_write_containers::prefix::Prefix;
 use tocmark_write_renderer::job::{Job, Manner};
 use tocmark_write_renderer::renderer::Renderer;
 
@@ -54,7 +55,7 @@ pub fn open_between<'a>(
     renderer.write(before)?;
     renderer.push_frame(
         tag,
-        String::new(alloc),
+        Prefix::Empty,
         OpeningChoice::Delimited {
             before: kept_before,
             after: kept_after,

@@ -19,6 +19,7 @@ use tocmark_event::event::{LinkType, TagOf};
 use tocmark_spelling::trail::Last;
 use tocmark_write_containers::content::OpeningChoice;
 use tocmark_write_containers::frame::Frame;
+use tocmark_write_containers::prefix::Prefix;
 use tocmark_write_renderer::parts::Reference;
 use tocmark_write_renderer::renderer::Renderer;
 use tocmark_write_texts::text_modifications;
@@ -37,7 +38,7 @@ fn open_named<'a>(
     ensures mark { renderer.new.at_mark ≡ renderer.old.at_mark }
 {
     renderer.write(mark)?;
-    renderer.push_frame(tag, String::new(alloc), OpeningChoice::Named(named))
+    renderer.push_frame(tag, Prefix::Empty, OpeningChoice::Named(named))
 }
 
 /// Opens a link of this type; `named` says whether its id will stand in place of its body.

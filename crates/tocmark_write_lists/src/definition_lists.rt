@@ -22,6 +22,7 @@ use tocmark_write_blocks::new_line::begin_new_line;
 use tocmark_write_blocks::paragraphs::open_plain;
 use tocmark_write_blocks::trail::end_block;
 use tocmark_write_containers::content::OpeningChoice;
+use tocmark_write_containers::prefix::Prefix;
 use tocmark_write_lookahead::body_facts::BodyFacts;
 use tocmark_write_renderer::renderer::Renderer;
 
@@ -85,10 +86,13 @@ pub fn open_definition<'a>(
         (open_definition l (levels_of renderer.old) (page_of renderer.old))) }
     ensures mark { renderer.new.at_mark ≡ renderer.old.at_mark }
 {
-    let prefix = String::from_str(alloc, "  ")?;
     fill_if(renderer, body.begins_paragraph)?;
     renderer.write(definition_mark())?;
-    renderer.push_frame(tag, prefix, OpeningChoice::Defined(body.has_paragraph))
+    renderer.push_frame(
+        tag,
+        Prefix::Spaces(2),
+        OpeningChoice::Defined(body.has_paragraph),
+    )
 }
 
 /// A definition list's end.

@@ -11,6 +11,7 @@ use std::alloc::{AllocError, Global};
 use tocmark_event::event::{TagEnd, TagOf};
 use tocmark_spelling::trail::Last;
 use tocmark_write_containers::content::OpeningChoice;
+use tocmark_write_containers::prefix::Prefix;
 use tocmark_write_renderer::renderer::Renderer;
 
 /// Opens the definition of the footnote with this label.
@@ -27,10 +28,9 @@ pub fn open_footnote<'a>(
         (open_footnote label.now (levels_of renderer.old) (page_of renderer.old))) }
     ensures mark { renderer.new.at_mark ≡ renderer.old.at_mark }
 {
-    let prefix = String::from_str(alloc, "    ")?;
     let mark = footnote_mark(alloc, label)?;
     renderer.write(mark.as_str())?;
-    renderer.push_frame(tag, prefix, OpeningChoice::Plain)
+    renderer.push_frame(tag, Prefix::Spaces(4), OpeningChoice::Plain)
 }
 
 /// The end of a footnote's definition.

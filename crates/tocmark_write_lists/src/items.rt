@@ -1,7 +1,7 @@
-//! Items of lists: what opens and what closes them, with the texts of their markers, prefixes and labels.
+//! Items of lists: what opens and what closes them, with the texts of their markers and labels.
 
 ghost use Rattle.std.specs.Option.{option_map};
-ghost use Rattle.std.specs.Prelude.{◌≡◌, if◌then◌else◌, codes, length, replicate, string_bytes, IfOk, [], ◌&&◌, ◌||◌, nat_le, Some, OnOk, true};
+ghost use Rattle.std.specs.Prelude.{◌≡◌, ◌++◌, if◌then◌else◌, codes, encode_utf8, string_bytes, IfOk, IfSome, [], ◌&&◌, ◌||◌, nat_le, Some, OnOk, true};
 ghost use Rattle.tocmark_event.specs.Options.{options_view};
 ghost use Rattle.tocmark_event.specs.View.{tag_view, Item};
 ghost use Rattle.tocmark_spelling.specs.Closing.{item_tail, close_item};
@@ -18,7 +18,6 @@ ghost use Rattle.tocmark_write_lists.specs.Lists.{IsMarked};
 ghost use Rattle.tocmark_write_renderer.specs.Changes.{on_path};
 ghost use Rattle.tocmark_write_renderer.specs.JobOf.{label_in, setting_in, Reading};
 ghost use Rattle.tocmark_write_renderer.specs.WriterOf.{levels_of, page_of, site_of, Arrives, Comes, Stands};
-ghost use Rattle.tocmark_write_texts.specs.Characters.{space};
 ghost use Rattle.tocmark_write_texts.specs.Texts.{Grows};
 
 use std::alloc::{AllocError, Global};
@@ -29,7 +28,7 @@ use tocmark_spelling::list_choice::ListChoice;
 use tocmark_spelling::trail::{Last, LastChild};
 use tocmark_write_blocks::trail::owe_at_least;
 use tocmark_write_containers::content::OpeningChoice;
-use tocmark_write_raw_blocks::repeated::spaces;
+use tocmark_write_containers::prefix::Prefix;
 use tocmark_write_renderer::job::Job;
 use tocmark_write_renderer::renderer::Renderer;
 
@@ -138,6 +137,51 @@ fn write_reserved_label(
     }
 }
 
+/// Writes an item's marker, which is given, and the definition of the reserved label where that is
+/// needed; then opens the item. Its list has gone on to the next number already.
+fn enter_behind<'a>(
+    renderer: &mut Renderer<'a>,
+    job: Job<'_, '_>,
+    tag: &'a TagOf<String>,
+    choice: ListChoice,
+    marker: &str,
+    empty_inner: bool,
+) -> Result<(), AllocError>
+    requires tag { tag_view string_bytes tag.now ≡ Item }
+    requires marker { marker.now ≡ item_marker choice }
+    ensures stands { OnOk result (Arrives renderer.new (marked_item (label_in job.entry) empty_inner
+        choice (levels_of renderer.old) (page_of renderer.old))) }
+    ensures mark { renderer.new.at_mark ≡ renderer.old.at_mark }
+{
+    renderer.write(marker)?;
+    write_reserved_label(renderer, job.alloc, job.label, choice.labelled, empty_inner)?;
+    renderer.set_last(Last::ItemStart);
+    renderer.push_frame(tag, Prefix::Spaces(marker.len()), OpeningChoice::Plain)
+}
+
+/// A bullet of this token with a space behind it; none for another token.
+fn bullet(token: char) -> Option<&'static str>
+    ensures { IfSome result (λ text. text.now ≡ encode_utf8 token ++ codes " ") }
+{
+    match token {
+        '*' => Some("* "),
+        '-' => Some("- "),
+        '+' => Some("+ "),
+        _ => None,
+    }
+}
+
+/// The marker of an item without a number that isn't wide; none for another item.
+fn narrow_bullet(choice: ListChoice) -> Option<&'static str>
+    ensures { IfSome result (λ marker. marker.now ≡ item_marker choice) }
+{
+    if choice.wide || choice.number.is_some() {
+        None
+    } else {
+        bullet(choice.token)
+    }
+}
+
 /// Writes an item's marker, and the definition of the reserved label where that is needed; then
 /// opens the item. Its list has gone on to the next number already.
 fn enter_marked<'a>(
@@ -152,12 +196,13 @@ fn enter_marked<'a>(
         choice (levels_of renderer.old) (page_of renderer.old))) }
     ensures mark { renderer.new.at_mark ≡ renderer.old.at_mark }
 {
-    let marker = item_marker(job.alloc, marker_of(choice))?;
-    let prefix = item_prefix(job.alloc, marker.as_str())?;
-    renderer.write(marker.as_str())?;
-    write_reserved_label(renderer, job.alloc, job.label, choice.labelled, empty_inner)?;
-    renderer.set_last(Last::ItemStart);
-    renderer.push_frame(tag, prefix, OpeningChoice::Plain)
+    match narrow_bullet(choice) {
+        Some(marker) => enter_behind(renderer, job, tag, choice, marker, empty_inner),
+        None => {
+            let marker = item_marker(job.alloc, marker_of(choice))?;
+            enter_behind(renderer, job, tag, choice, marker.as_str(), empty_inner)
+        }
+    }
 }
 
 /// Whether an item that is empty or not is an empty one in a list inside a list.
@@ -280,16 +325,6 @@ pub fn item_marker(alloc: Global, marker: Marker) -> Result<String, AllocError>
     text.push(marker.token)?;
     text.push_str(marker_end(marker.wide))?;
     Ok(text)
-}
-
-/// What stands before each further line of an item with this marker: as many spaces as the marker has
-/// bytes. Room for all of them is made before the first.
-///
-/// An `Err` says that memory ran out.
-pub fn item_prefix(alloc: Global, marker: &str) -> Result<String, AllocError>
-    ensures { IfOk result (λ prefix. string_bytes prefix ≡ replicate (length marker.now) space) }
-{
-    spaces(alloc, marker.len())
 }
 
 /// The number of the next item: the same one, or where the options count the numbers one more, which

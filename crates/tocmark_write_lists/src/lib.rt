@@ -1,9 +1,9 @@
 //! Lists and their items, definition lists, tables, footnotes and metadata: what opens, what closes and what words
 //! each of them stands in one file, in this order.
 //!
-//! Below it stand `tocmark_write_blocks` and `tocmark_write_raw_blocks`, above it `tocmark_write_unit`. Enter at
-//! `lists` and `items`, or at `tables`, `footnotes`, `definition_lists` or `metadata`; the texts are made from plain
-//! values: tokens, numbers and prefixes of items, rows of dashes, labels.
+//! Below it stands `tocmark_write_blocks`, above it `tocmark_write_unit`. Enter at `lists` and `items`, or at `tables`,
+//! `footnotes`, `definition_lists` or `metadata`; the texts are made from plain values: tokens and numbers of items,
+//! rows of dashes, labels.
 #![tactic(auto)]
 
 pub mod definition_lists;

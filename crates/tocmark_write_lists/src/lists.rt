@@ -25,6 +25,7 @@ use tocmark_spelling::trail::{Last, LastChild, LastList};
 use tocmark_write_blocks::ahead::Ahead;
 use tocmark_write_blocks::trail::{owe_at_least, set_last_list};
 use tocmark_write_containers::content::OpeningChoice;
+use tocmark_write_containers::prefix::Prefix;
 use tocmark_write_renderer::job::Job;
 use tocmark_write_renderer::renderer::Renderer;
 
@@ -89,7 +90,7 @@ pub fn open_list<'a>(
         wide: is_before_code(ahead.next),
         labelled: ahead.body.is_lone(),
     };
-    renderer.push_frame(tag, String::new(job.alloc), OpeningChoice::Listed(choice))
+    renderer.push_frame(tag, Prefix::Empty, OpeningChoice::Listed(choice))
 }
 
 /// Notes the list as the one that ended last.

@@ -23,6 +23,7 @@ use tocmark_write_blocks::paragraphs::open_plain;
 use tocmark_write_blocks::trail::end_block;
 use tocmark_write_containers::content::OpeningChoice;
 use tocmark_write_containers::frame::Frame;
+use tocmark_write_containers::prefix::Prefix;
 use tocmark_write_renderer::renderer::Renderer;
 
 /// Opens a table, which writes nothing and keeps the widths of its headers; there is none so far.
@@ -38,11 +39,7 @@ pub fn open_table<'a>(
         (levels_of renderer.old) (page_of renderer.old))) }
     ensures mark { renderer.new.at_mark ≡ renderer.old.at_mark }
 {
-    renderer.push_frame(
-        tag,
-        String::new(alloc),
-        OpeningChoice::Headers(Vec::new(alloc)),
-    )
+    renderer.push_frame(tag, Prefix::Empty, OpeningChoice::Headers(Vec::new(alloc)))
 }
 
 /// Whether the innermost container is a table.
@@ -87,7 +84,7 @@ fn enter_cell<'a>(
     ensures mark { renderer.new.at_mark ≡ renderer.old.at_mark }
 {
     renderer.write("|")?;
-    renderer.push_frame(tag, String::new(alloc), OpeningChoice::Width(0))
+    renderer.push_frame(tag, Prefix::Empty, OpeningChoice::Width(0))
 }
 
 /// Opens a cell, behind the bar before it.
