@@ -4,6 +4,7 @@ use std::alloc::{AllocError, Global};
 use tocmark_event::event::{EventOf, OwnedEvent, TagOf};
 use tocmark_spelling::list_choice::ListChoice;
 use tocmark_write_containers::content::OpeningChoice;
+use tocmark_write_containers::prefix::Prefix;
 use tocmark_write_renderer::parts::{Held, Reference};
 use tocmark_write_renderer::renderer::Renderer;
 
@@ -58,8 +59,7 @@ fn open<'u>(
         _ => 1,
     };
     renderer.set_newlines(feeds);
-    let prefix = String::from_str(alloc, "> ")?;
-    renderer.push_frame(tag, prefix, content_of(alloc, tag))
+    renderer.push_frame(tag, Prefix::Quote, content_of(alloc, tag))
 }
 
 /// Has an empty renderer stand behind this event, if that is a Start: in a line with some text, behind a
