@@ -29,6 +29,7 @@ ghost use Rattle.std.specs.List.{list_all};
 ghost use Rattle.tocmark_event.specs.Text.{ParserEvent};
 ghost use Rattle.tocmark_event.specs.declared.event.flags.ParserOptions.{ParserOptions};
 ghost use Rattle.tocmark_event.specs.Options.{default_options, options_view};
+ghost use Rattle.tocmark_laws.specs.Documents.{MakesDocument};
 ghost use Rattle.tocmark_laws.specs.PlainLines.{HandsLines, is_line, paragraph_of_lines};
 ghost use Rattle.tocmark_laws.specs.SingleBlocks.{MakesCodeSpan, MakesFencedCode, MakesLink};
 ghost use Rattle.tocmark_state.specs.Ranges.{Range};
@@ -58,7 +59,8 @@ pub use tocmark_state::work::Progress;
 /// handed as one text that `CoreReader` reads as exactly that paragraph (the clause `lines`). For paragraphs
 /// and headings that hold texts alone exactly one text each is handed: two line feeds unless it is the first
 /// one, as many `#` as its level and a space if it is a heading, and the escape of its texts (the clause
-/// `blocks`).
+/// `blocks`). A document of such paragraphs and of headings of one such line, in any number and order, is
+/// handed as texts that `CoreReader` reads, joined, as exactly that document (the clause `documents`).
 ///
 /// A paragraph with one code span alone is handed as one text, the span that is read as its text (the clause
 /// `code`); one with an inline link round one text as the link (`link`); and a fenced code block alone with
@@ -93,6 +95,9 @@ where
     ensures blocks { (it : I.IntoIter) × (xs : List (Bor ParserEvent)) × I.into_iter_gives events it
         × DrainsIf I.IntoIter.next_gives (IsOk result) it xs
         × MakesBlocks W.takes W.refuses writer.old writer.new result parser_options (pairs xs) }
+    ensures documents { (it : I.IntoIter) × (xs : List (Bor ParserEvent)) × I.into_iter_gives events it
+        × DrainsIf I.IntoIter.next_gives (IsOk result) it xs
+        × MakesDocument W.takes W.refuses writer.old writer.new result (pairs xs) }
     ensures code { (it : I.IntoIter) × (xs : List (Bor ParserEvent)) × I.into_iter_gives events it
         × DrainsIf I.IntoIter.next_gives (IsOk result) it xs
         × MakesCodeSpan W.takes W.refuses writer.old writer.new result (pairs xs) }

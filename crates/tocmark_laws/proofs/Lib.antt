@@ -28,3 +28,14 @@ pub mod UnexpectedCauses
 pub mod SingleBlocks
 pub mod WrittenUnits
 pub mod LineFeeds
+pub mod DocumentBlocks
+pub mod DocumentHeadings
+pub mod DocumentParagraphs
+pub mod DocumentRows
+pub mod DocumentInlines
+pub mod DocumentNodes
+pub mod DocumentEvents
+pub mod DocumentRowsWritten
+pub mod DocumentSpelling
+pub mod DocumentWalks
+pub mod DocumentsReadBack

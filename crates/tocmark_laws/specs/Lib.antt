@@ -12,3 +12,4 @@ pub mod SingleBlocks
 pub mod UnrepresentableLists
 pub mod Written
 pub mod LineFeeds
+pub mod Documents

@@ -14,8 +14,9 @@ use Rattle.tocmark_rewrite.specs.declared.answer.Rewritten.{Rewritten}
 abbrev pub edited_events : List (Bor ParserEvent × Option (ℕ × ℕ)) → List EventView
 edited_events = map (λ x. event_view text_of x.0.now)
 
--- a text for events that were given: it is read as these events, and of each tree that is said to be kept the events are
--- those of the source, and its lines were copied
+-- a text for events that were given: it is read as these events; where they are, merged, those of the source it is the
+-- source; and of each tree that is said to be kept the events are those of the source
 pub record IsWrittenFor (reading : List ℕ → ReadingView) (source : List ℕ) (given : List EventView) (answer : Rewritten) : Type 0 where
   pub same : merged (found_events (reading (string_bytes answer.text))) ≡ merged given
+  pub unchanged : merged given ≡ merged (found_events (reading source)) → string_bytes answer.text ≡ source
   pub kept : All (IsTold (found_events (reading source)) given answer.parts.items) answer.trees.items

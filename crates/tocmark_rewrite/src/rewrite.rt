@@ -405,6 +405,9 @@ fn new_text<'a, R: Reader>(
         merged (found_events
         (R.reading tools.now.reader.now (string_bytes output.text) tools.now.flags))
         ≡ merged (given_events events.now)) }
+    ensures unchanged { merged (given_events events.now)
+        ≡ merged (found_events (R.reading tools.now.reader.now source.now tools.now.flags))
+        → IfOk result (λ output. string_bytes output.text ≡ source.now) }
     ensures parts { IfOk result (λ output. Builds source.now output) }
 {
     if !differ(work.found, events) && are_same(tools.alloc, work.found, events)? {
@@ -432,6 +435,10 @@ pub fn rewritten_slice<'a, R: Reader>(
         ≡ merged (given_events events.now)) }
     ensures parts { IfOk result (λ answer.
         IsMadeOf source.now (string_bytes answer.text) answer.parts.items) }
+    ensures unchanged { IfOk result (λ answer.
+        merged (given_events events.now)
+        ≡ merged (found_events (R.reading reader.now source.now flags))
+        → string_bytes answer.text ≡ source.now) }
     ensures kept { IfOk result (λ answer.
         All (IsTold (found_events (R.reading reader.now source.now flags))
         (given_events events.now) answer.parts.items) answer.trees.items) }

@@ -1,3 +1,4 @@
 pub mod Digests
 pub mod Fronts
 pub mod Marks
+pub mod Apart

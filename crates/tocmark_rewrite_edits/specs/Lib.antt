@@ -1,3 +1,4 @@
 pub mod Digest
 pub mod Edits
 pub mod Given
+pub mod Apart

@@ -5,6 +5,7 @@ ghost use Rattle.tocmark_event.specs.Merged.{merged};
 ghost use Rattle.tocmark_event.specs.Text.{text_of};
 ghost use Rattle.tocmark_event.specs.View.{event_view};
 ghost use Rattle.tocmark_spelling.specs.SameEvents.{same_events};
+ghost use Rattle.tocmark_rewrite_edits.specs.Apart.{are_apart, is_text_event};
 ghost use Rattle.tocmark_rewrite_edits.specs.Given.{given_events};
 
 use crate::given::merged_events;
@@ -12,7 +13,9 @@ use std::alloc::{AllocError, Global};
 use tocmark_event::event::Event;
 use tocmark_write_read_back::event::{same_event, same_events};
 
-fn is_text(event: &Event<'_>) -> bool {
+fn is_text(event: &Event<'_>) -> bool
+    ensures { result ≡ is_text_event (event_view text_of event.now) }
+{
     match event {
         Event::Text(_) => true,
         _ => false,
@@ -69,10 +72,13 @@ pub fn are_same(
 pub fn differ(
     found: &[(Event<'_>, (usize, usize))],
     given: &[(Event<'_>, (usize, usize))],
-) -> bool {
-    for (one, other) in found.iter().zip(given) {
-        if !same_event(&one.0, &other.0) {
-            return !is_text(&one.0) && !is_text(&other.0);
+) -> bool
+    ensures { result ≡ are_apart (given_events found.now) (given_events given.now) }
+{
+    let count = found.len().min(given.len());
+    for i in 0..count {
+        if !same_event(&found[i].0, &given[i].0) {
+            return !is_text(&found[i].0) && !is_text(&given[i].0);
         }
     }
     false

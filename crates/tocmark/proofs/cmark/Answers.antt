@@ -5,6 +5,7 @@ use Rattle.tocmark_event.specs.Options.{OptionsView, default_options, options_vi
 use Rattle.tocmark_state.specs.WorkView.{pairs, rendering}
 use Rattle.tocmark_state.specs.StateView.{rendering_of}
 use Rattle.tocmark_laws.proofs.BlockWalks.{blocks_made}
+use Rattle.tocmark_laws.proofs.DocumentsReadBack.{document_made}
 use Rattle.tocmark_laws.proofs.PlainDocument.{lines_handed}
 use Rattle.tocmark_laws.proofs.SingleBlocks.{code_span_made, fenced_code_made, link_made}
 use Rattle.tocmark_state.proofs.Runs.{taken_whole}
@@ -33,6 +34,16 @@ returns-clause-blocks g c =
       m.2,
       (m.3.0, m.3.1, λ h. m.3.2 (taken_whole c.cmark_with_options.result _ h)),
       blocks_made g.W.Taker.takes g.W.Taker.refuses c.args.writer.now c.cmark_with_options.new.writer c.cmark_with_options.result (options_view c.default.result) (g.R.Reader.reading c.args.reader) c.args.parser_options (pairs m.1) c.default.ensures (m.4 []),
+    )
+
+pub returns-clause-documents : goal.returns-clause-documents
+returns-clause-documents g c =
+    let m = c.cmark_with_options.ensures.made in (
+      m.0,
+      m.1,
+      m.2,
+      (m.3.0, m.3.1, λ h. m.3.2 (taken_whole c.cmark_with_options.result _ h)),
+      document_made g.W.Taker.takes g.W.Taker.refuses c.args.writer.now c.cmark_with_options.new.writer c.cmark_with_options.result (options_view c.default.result) (g.R.Reader.reading c.args.reader) c.args.parser_options (pairs m.1) c.default.ensures (m.4 []),
     )
 
 pub returns-clause-code : goal.returns-clause-code

@@ -23,3 +23,6 @@ returns-clause-kept g c =
     subst (All (IsHonest (given_events c.deref-2.result.now) given)) (sym c.deref-7.ensures.value) c.in_ok-plans.ensures in
     subst (λ (found : List EventView). All (IsTold found given c.in_ok-answer.answer.parts.items) c.in_ok-answer.answer.trees.items) read
     (c.in_ok-answer.ensures.told (given_events c.deref-2.result.now) given honest)
+
+pub returns-clause-unchanged : goal.returns-clause-unchanged
+returns-clause-unchanged g c = λ same. c.in_ok-answer.ensures.text.0 ∙ c.in_ok-output.ensures.unchanged same

@@ -1,0 +1,510 @@
+-- The blocks of a text of rows: paragraphs and headings of one line each, and blank lines.
+use Rattle.std.proofs.Common.{◌≡◌, ℕ, zero, suc, ◌+◌, ◌-◌, ◌^◌, ◌<◌, ◌≤◌, Bool, true, false, ◌==◌, ◌&&◌, if◌then◌else◌, nat_lt, List, [], ◌∷◌, ◌++◌, length, map, refl, ap, sym, subst, ◌∙◌, arith, append_assoc, append-nil, length-append, None, Some, inl, inr, true≢false, unwrap_or}
+use Rattle.std.proofs.lemmas.Bool.Decides.{nat_tests}
+use Rattle.std.specs.Char.{is_ascii_digit}
+use Rattle.std.specs.List.{AllByRecursion, fold}
+use Rattle.tocmark_event.specs.declared.event.HeadingLevel.{HeadingLevel}
+use Rattle.tocmark_event.specs.declared.event.HeadingLevel.TheVariants as level
+use Rattle.tocmark_read_scan.specs.Basic.{plus, byte_at, bytes_between}
+use Rattle.tocmark_read_scan.specs.PlainParts.{Part, Bare, Escaped, Referred, Feed, spelled, spelled_part}
+use Rattle.tocmark_read_scan.proofs.PlainPieces.{feed_joined, piece_between}
+use Rattle.tocmark_read_scan.proofs.PlainTests.{not_char}
+use Rattle.tocmark_read_lines.specs.Lines.{ends_here, line_stop, line, lines_from, lines_of}
+use Rattle.tocmark_read_lines.specs.Cells.{cells_of, cell_place}
+use Rattle.tocmark_read_lines.specs.declared.line.Line.{Line}
+use Rattle.tocmark_read_leaves.specs.Codes.{piece_of}
+use Rattle.tocmark_read_leaves.specs.Metadata.{known_of}
+use Rattle.tocmark_read_leaves.specs.declared.definition.Piece.{Piece}
+use Rattle.tocmark_read_open_blocks.specs.Pages.{State, first_page, closed_to}
+use Rattle.tocmark_read_open_blocks.specs.declared.page.Block.{Block}
+use Rattle.tocmark_read_open_blocks.specs.declared.page.BlockKind.{BlockKind}
+use Rattle.tocmark_read_open_blocks.specs.declared.page.BlockKind.TheVariants as kind
+use Rattle.tocmark_read_blocks.specs.Blocks.{BlocksView, line_taken, page_in, blocks_in, blocks_of}
+use Rattle.tocmark_read_blocks.proofs.PlainFronts.{BeginsPlainly, plainly_begins_nothing}
+use Rattle.tocmark_read_blocks.proofs.PlainLines.{IsWithin, lines_within as line_within, cells_within, numbered}
+use Rattle.tocmark_read_blocks.proofs.PlainSteps.{IsPlainLine as IsPlainBlockLine, BeginsNothing, line_piece}
+use Rattle.tocmark_read_blocks.proofs.PlainTexts.{line_list, AreNoReturns}
+use Rattle.tocmark_read_inlines.proofs.PlainNeighbours.{ArePlainParts}
+use Rattle.tocmark_core_reader.specs.PlainTexts.{text_parts}
+use Rattle.tocmark_core_reader.proofs.PlainReading.{IsPrintable, IsPlainLine, clean_lines, spelled_text}
+use Rattle.tocmark_core_reader.proofs.PlainSources.{IsClean, AreClean, all_implied}
+use Rattle.tocmark_laws.specs.TextBlocks.{Kind, ParagraphKind, HeadingKind, mark_of}
+use Rattle.tocmark_laws.proofs.DocumentBlocks.{block, closed, line_begins, nothing_ends, blank_passes, line_heads}
+use Rattle.tocmark_laws.proofs.DocumentParagraphs.{open_lines, line_pieces, lines_behind, count_behind, last_number, ArePlainAt, joined_length, lines_go_on, lines_end, blank_ends, first_of, behind_line, line_length}
+use Rattle.tocmark_laws.proofs.DocumentHeadings.{EndsHeading, heading_line}
+
+-- a blank line, or a paragraph or heading whose lines are spelled by parts
+pub data Row : Type 0 where
+  Blank : Row
+  Filled : Kind → List Part → List (List Part) → Row
+
+abbrev pub row_bytes : Row → List ℕ
+row_bytes Blank = []
+row_bytes (Filled k l ms) = mark_of k ++ spelled (text_parts l ms)
+
+-- a text that is rows
+abbrev pub rows_text : Row → List Row → List ℕ
+rows_text r rs = feed_joined (row_bytes r) (map row_bytes rs)
+
+-- a heading has one line
+abbrev pub EndsIf : Kind → List Part → List (List Part) → Type 0
+EndsIf ParagraphKind l ms = Unit {0}
+EndsIf (HeadingKind level) l [] = EndsHeading (spelled l)
+EndsIf (HeadingKind level) l (m ∷ ms) = ⊥
+
+pub record IsFilled (k : Kind) (l : List Part) (ms : List (List Part)) : Type 0 where
+  pub lines : AllByRecursion IsPlainLine (l ∷ ms)
+  pub plain : ArePlainParts 10 (text_parts l ms)
+  pub ends : EndsIf k l ms
+
+-- behind each paragraph stands a blank line, and the last row is none
+abbrev pub AreRows : List Row → Type 0
+AreRows [] = Unit {0}
+AreRows (Blank ∷ []) = ⊥
+AreRows (Blank ∷ r ∷ rs) = AreRows (r ∷ rs)
+AreRows (Filled ParagraphKind l ms ∷ []) = IsFilled ParagraphKind l ms
+AreRows (Filled ParagraphKind l ms ∷ Blank ∷ rs) = IsFilled ParagraphKind l ms × AreRows (Blank ∷ rs)
+AreRows (Filled ParagraphKind l ms ∷ Filled k m ns ∷ rs) = ⊥
+AreRows (Filled (HeadingKind level) l ms ∷ rs) = IsFilled (HeadingKind level) l ms × AreRows rs
+
+abbrev pub IsRow : Row → Type 0
+IsRow Blank = Unit {0}
+IsRow (Filled k l ms) = IsFilled k l ms
+
+pub all_rows : (rs : List Row) → AreRows rs → AllByRecursion IsRow rs
+all_rows [] h = tt
+all_rows (Blank ∷ []) h = absurd h
+all_rows (Blank ∷ r ∷ rs) h = (tt, all_rows (r ∷ rs) h)
+all_rows (Filled ParagraphKind l ms ∷ []) h = (h, tt)
+all_rows (Filled ParagraphKind l ms ∷ Blank ∷ rs) h = (h.0, all_rows (Blank ∷ rs) (h.1))
+all_rows (Filled ParagraphKind l ms ∷ Filled k m ns ∷ rs) h = absurd h
+all_rows (Filled (HeadingKind level) l ms ∷ rs) h = (h.0, all_rows rs (h.1))
+
+abbrev pub block_kind : Kind → BlockKind
+block_kind ParagraphKind = kind.Paragraph
+block_kind (HeadingKind l) = kind.Heading l None
+
+abbrev pub content_start : Kind → ℕ → ℕ
+content_start ParagraphKind start = start
+content_start (HeadingKind l) start = start + length (mark_of (HeadingKind l))
+
+abbrev pub row_end : ℕ → Kind → List Part → List (List Part) → ℕ
+row_end start k l ms = start + length (mark_of k ++ spelled (text_parts l ms))
+
+-- the lines of rows
+abbrev row_first : Row → List ℕ
+row_first Blank = []
+row_first (Filled k l ms) = mark_of k ++ spelled l
+
+abbrev row_more : Row → List (List ℕ)
+row_more Blank = []
+row_more (Filled k l ms) = map spelled ms
+
+abbrev pub behind : List Row → List (List ℕ)
+behind [] = []
+behind (r ∷ rs) = row_first r ∷ (row_more r ++ behind rs)
+
+abbrev pub filled_pieces : ℕ → Kind → List Part → List (List Part) → List Row → List Piece
+filled_pieces start ParagraphKind l ms rs = line_pieces start (spelled l) (map spelled ms) (behind rs)
+filled_pieces start (HeadingKind level) l ms rs = piece_of 0 (content_start (HeadingKind level) start) (row_end start (HeadingKind level) l ms) (row_end start (HeadingKind level) l ms) ∷ []
+
+-- the blocks of rows, behind so many pieces
+abbrev pub row_blocks : ℕ → ℕ → List Row → List Block
+row_blocks n start [] = []
+row_blocks n start (Blank ∷ rs) = row_blocks n (start + 0 + 1) rs
+row_blocks n start (Filled k l ms ∷ rs) = block (block_kind k) start (row_end start k l ms) n (n + suc (length ms)) ∷ row_blocks (n + suc (length ms)) (row_end start k l ms + 1) rs
+
+abbrev pub row_pieces : ℕ → List Row → List Piece
+row_pieces start [] = []
+row_pieces start (Blank ∷ rs) = row_pieces (start + 0 + 1) rs
+row_pieces start (Filled k l ms ∷ rs) = filled_pieces start k l ms rs ++ row_pieces (row_end start k l ms + 1) rs
+
+-- lines
+
+feed_ends : (text : List ℕ) (at : ℕ) → ends_here text 10 at ≡ true
+unfolding ends_here
+feed_ends text at = refl
+
+no_return_at : (text : List ℕ) (k : ℕ) → AreNoReturns text → (byte_at text k == 13) ≡ false
+no_return_at [] k h = refl
+no_return_at (b ∷ bs) zero h = h.0
+no_return_at (b ∷ bs) (suc k) h = no_return_at bs k (h.1)
+
+feed_stop : (text : List ℕ) (start at : ℕ) → AreNoReturns text → line_stop text start 10 at ≡ at
+unfolding line_stop
+feed_stop text start at h = by_start (nat_lt start at)
+  where
+    by_start : (c : Bool) → (if c && (byte_at text (at - 1) == 13) then at - 1 else at) ≡ at
+    by_start true = rw (no_return_at text (at - 1) h) refl
+    by_start false = refl
+
+-- the last of these lines isn't empty
+abbrev EndsFull : List ℕ → List (List ℕ) → Type 0
+EndsFull l [] = 0 < length l
+EndsFull l (m ∷ ms) = EndsFull m ms
+
+lines_are : (text : List ℕ) → AreNoReturns text → (before start : ℕ) (l : List ℕ) (ms : List (List ℕ)) → AllByRecursion (λ x. AllByRecursion IsWithin x) (l ∷ ms) → EndsFull l ms → lines_from text before start start (feed_joined l ms) ≡ line_list before start l ms
+lines_are text none before start l [] h full =
+    let some : nat_lt start (start + length l) ≡ true = let long : 0 < length l = full in grind (arith, nat_tests) in
+    ap (λ (xs : List ℕ). lines_from text before start start xs) (sym (append-nil l))
+    ∙ line_within text before start start l [] (h.0)
+    ∙ rw some refl
+lines_are text none before start l (m ∷ ms) h full =
+    let at : ℕ = start + length l in
+    line_within text before start start l (10 ∷ feed_joined m ms) (h.0)
+    ∙ rw (feed_ends text at, feed_stop text start at none) refl
+    ∙ ap (λ ls. line before start at (at + 1) ∷ ls) (lines_are text none (before + 1) (at + 1) m ms (h.1) full)
+
+-- bytes of rows
+
+within_printable : (b : ℕ) → IsPrintable b → IsWithin b
+within_printable b h = let low : 32 ≤ b = h.low in record { feed = grind (arith, nat_tests); return = grind (arith, nat_tests); tab = grind (arith, nat_tests) }
+
+clean_printable : (b : ℕ) → IsPrintable b → IsClean b
+clean_printable b h = let low : 32 ≤ b = h.low in let high : b < 127 = h.high in record { ascii = omega arith; some = grind (arith, nat_tests); return = grind (arith, nat_tests) }
+
+all_append : (P : ℕ → Type 0) (xs ys : List ℕ) → AllByRecursion P xs → AllByRecursion P ys → AllByRecursion P (xs ++ ys)
+all_append P [] ys h k = k
+all_append P (x ∷ xs) ys h k = (h.0, all_append P xs ys (h.1) k)
+
+hash : IsPrintable 35
+hash = record { low = omega arith; high = omega arith }
+
+gap : AllByRecursion IsPrintable (32 ∷ [])
+gap = (record { low = omega arith; high = omega arith }, tt)
+
+mark_printable : (k : Kind) → AllByRecursion IsPrintable (mark_of k)
+mark_printable ParagraphKind = tt
+mark_printable (HeadingKind level.H1) = (hash, gap)
+mark_printable (HeadingKind level.H2) = (hash, (hash, gap))
+mark_printable (HeadingKind level.H3) = (hash, (hash, (hash, gap)))
+mark_printable (HeadingKind level.H4) = (hash, (hash, (hash, (hash, gap))))
+mark_printable (HeadingKind level.H5) = (hash, (hash, (hash, (hash, (hash, gap)))))
+mark_printable (HeadingKind level.H6) = (hash, (hash, (hash, (hash, (hash, (hash, gap))))))
+
+abbrev AllWithin : List (List ℕ) → Type 0
+AllWithin xs = AllByRecursion (λ x. AllByRecursion IsWithin x) xs
+
+within_append : (xs ys : List (List ℕ)) → AllWithin xs → AllWithin ys → AllWithin (xs ++ ys)
+within_append [] ys h k = k
+within_append (x ∷ xs) ys h k = (h.0, within_append xs ys (h.1) k)
+
+lines_within : (ms : List (List Part)) → AllByRecursion IsPlainLine ms → AllWithin (map spelled ms)
+lines_within [] h = tt
+lines_within (m ∷ ms) h = (all_implied IsPrintable IsWithin (spelled m) within_printable ((h.0).printable), lines_within ms (h.1))
+
+first_within : (k : Kind) (l : List Part) (ms : List (List Part)) → IsFilled k l ms → AllByRecursion IsWithin (mark_of k ++ spelled l)
+first_within k l ms h = all_implied IsPrintable IsWithin (mark_of k ++ spelled l) within_printable (all_append IsPrintable (mark_of k) (spelled l) (mark_printable k) ((h.lines.0).printable))
+
+row_within : (r : Row) → IsRow r → AllWithin (row_first r ∷ row_more r)
+row_within Blank h = (tt, tt)
+row_within (Filled k l ms) h = (first_within k l ms h, lines_within ms (h.lines.1))
+
+rows_within : (rs : List Row) → AllByRecursion IsRow rs → AllWithin (behind rs)
+rows_within [] h = tt
+rows_within (r ∷ rs) h = within_append (row_first r ∷ row_more r) (behind rs) (row_within r (h.0)) (rows_within rs (h.1))
+
+clean_feed : IsClean 10
+clean_feed = record { ascii = omega arith; some = refl; return = refl }
+
+row_clean : (r : Row) → IsRow r → AreClean (row_bytes r)
+row_clean Blank h = tt
+row_clean (Filled k l ms) h =
+    all_append IsClean (mark_of k) (spelled (text_parts l ms)) (all_implied IsPrintable IsClean (mark_of k) clean_printable (mark_printable k)) (subst AreClean (sym (spelled_text l ms)) (clean_lines l ms h.lines))
+
+pub rows_clean : (r : Row) (rs : List Row) → AllByRecursion IsRow (r ∷ rs) → AreClean (rows_text r rs)
+rows_clean r [] h = row_clean r (h.0)
+rows_clean r (s ∷ rs) h = all_append IsClean (row_bytes r) (10 ∷ rows_text s rs) (row_clean r (h.0)) (clean_feed, rows_clean s rs (h.1))
+
+pub some_front : (l : List ℕ) → BeginsPlainly l → 0 < length l
+some_front [] h = absurd h
+some_front (b ∷ bs) h = omega arith
+
+full_append : (l m : List ℕ) (ms ns : List (List ℕ)) → EndsFull m ns → EndsFull l (ms ++ m ∷ ns)
+full_append l m [] ns h = h
+full_append l m (n ∷ ms) ns h = full_append n m ms ns h
+
+lines_full : (mark : List ℕ) (l : List Part) (ms : List (List Part)) → AllByRecursion IsPlainLine (l ∷ ms) → EndsFull (mark ++ spelled l) (map spelled ms ++ [])
+lines_full mark l [] h = let some : 0 < length (spelled l) = some_front (spelled l) ((h.0).begins) in let q : 0 < length (mark ++ spelled l) = omega (arith, some, length-append mark (spelled l)) in q
+lines_full mark l (m ∷ ms) h = lines_full [] m ms (h.1)
+
+rows_full : (r : Row) (rs : List Row) → AreRows (r ∷ rs) → EndsFull (row_first r) (row_more r ++ behind rs)
+rows_full Blank [] h = absurd h
+rows_full Blank (r ∷ rs) h = rows_full r rs h
+rows_full (Filled ParagraphKind l ms) [] h = lines_full [] l ms h.lines
+rows_full (Filled ParagraphKind l ms) (Blank ∷ rs) h = full_append (spelled l) [] (map spelled ms) (behind rs) (rows_full Blank rs (h.1))
+rows_full (Filled ParagraphKind l ms) (Filled k m ns ∷ rs) h = absurd h
+rows_full (Filled (HeadingKind level) l ms) [] h = lines_full (mark_of (HeadingKind level)) l ms ((h.0).lines)
+rows_full (Filled (HeadingKind level) l ms) (r ∷ rs) h = full_append (mark_of (HeadingKind level) ++ spelled l) (row_first r) (map spelled ms) (row_more r ++ behind rs) (rows_full r rs (h.1))
+
+-- rows as lines
+
+joined_then : (l n : List ℕ) (ms ns : List (List ℕ)) → feed_joined l (ms ++ n ∷ ns) ≡ feed_joined l ms ++ 10 ∷ feed_joined n ns
+joined_then l n [] ns = refl
+joined_then l n (m ∷ ms) ns = ap (λ (xs : List ℕ). l ++ 10 ∷ xs) (joined_then m n ms ns) ∙ sym (append_assoc l (10 ∷ feed_joined m ms) (10 ∷ feed_joined n ns))
+
+marked_joined : (mark l : List ℕ) (ms : List (List ℕ)) → mark ++ feed_joined l ms ≡ feed_joined (mark ++ l) ms
+marked_joined mark l [] = refl
+marked_joined mark l (m ∷ ms) = sym (append_assoc mark l (10 ∷ feed_joined m ms))
+
+row_joined : (r : Row) → row_bytes r ≡ feed_joined (row_first r) (row_more r)
+row_joined Blank = refl
+row_joined (Filled k l ms) = ap (λ (xs : List ℕ). mark_of k ++ xs) (spelled_text l ms) ∙ marked_joined (mark_of k) (spelled l) (map spelled ms)
+
+flat_text : (r : Row) (rs : List Row) → rows_text r rs ≡ feed_joined (row_first r) (row_more r ++ behind rs)
+flat_text r [] = row_joined r ∙ ap (feed_joined (row_first r)) (sym (append-nil (row_more r)))
+flat_text r (s ∷ rs) =
+    ap (λ (xs : List ℕ). xs ++ 10 ∷ rows_text s rs) (row_joined r)
+    ∙ ap (λ (xs : List ℕ). feed_joined (row_first r) (row_more r) ++ 10 ∷ xs) (flat_text s rs)
+    ∙ sym (joined_then (row_first r) (row_first s) (row_more r) (row_more s ++ behind rs))
+
+-- fronts of rows
+
+no_bracket : (before : ℕ) (parts : List Part) → ArePlainParts before parts → (byte_at (spelled parts) 0 == 91) ≡ false
+no_bracket before [] h = refl
+no_bracket before (Bare b ∷ parts) (inl h, more) = h.bracket
+no_bracket before (Bare b ∷ parts) (inr (inl h), more) = let e : b ≡ 33 = h.0 in rw e refl
+no_bracket before (Bare b ∷ parts) (inr (inr (inl h)), more) = let e : b ≡ 92 = h.0 in rw e refl
+no_bracket before (Bare b ∷ parts) (inr (inr (inr h)), more) = let e : b ≡ 95 = h.0 in rw e refl
+no_bracket before (Escaped b ∷ parts) h = refl
+no_bracket before (Referred c bs ∷ parts) h = refl
+no_bracket before (Feed ∷ parts) h = refl
+
+front_at : (text pre l rest : List ℕ) (start : ℕ) → text ≡ pre ++ (l ++ rest) → start ≡ length pre → 0 < length l → byte_at text start ≡ byte_at l 0
+front_at text pre l rest start e at some = ap (λ (xs : List ℕ). byte_at xs start) e ∙ ap (byte_at (pre ++ (l ++ rest))) at ∙ behind pre l rest some
+  where
+    behind : (pre l rest : List ℕ) → 0 < length l → byte_at (pre ++ (l ++ rest)) (length pre) ≡ byte_at l 0
+    behind [] [] rest some = absurd (omega arith)
+    behind [] (b ∷ bs) rest some = refl
+    behind (p ∷ pre) l rest some = behind pre l rest some
+
+digit_no_space : (b : ℕ) → is_ascii_digit b ≡ true → (b == 32) ≡ false
+digit_no_space b h = not_char b 32 (λ e. true≢false (sym h ∙ ap is_ascii_digit e))
+
+begins_no_space : (b : ℕ) (bs : List ℕ) → BeginsPlainly (b ∷ bs) → (b == 32) ≡ false
+begins_no_space b bs (inl h) = h.space
+begins_no_space b bs (inr (inl h)) = digit_no_space b (h.0)
+begins_no_space b bs (inr (inr (inl e, k))) = rw e refl
+begins_no_space b bs (inr (inr (inr (inl e), k))) = rw e refl
+begins_no_space b bs (inr (inr (inr (inr e), k))) = rw e refl
+
+-- one row
+
+first_place_of : (l : List ℕ) (start end : ℕ) → 0 < length l → cell_place (numbered start l) 0 end ≡ start
+first_place_of [] start end h = absurd (omega arith)
+first_place_of (b ∷ bs) start end h = refl
+
+paragraph_line : (text l : List ℕ) (start next number : ℕ) → bytes_between text start (start + length l) ≡ l → BeginsPlainly l → AllByRecursion IsWithin l → start + length l < 2 ^ 64 → start < next → IsPlainBlockLine text (numbered start l) (record { number = number; start = start; end = start + length l; next = next })
+paragraph_line text l start next number e h within fits order =
+    let some : 0 < length l = some_front l h in
+    record {
+      columns = ap (cells_of [] start) e ∙ cells_within start l within fits;
+      place = first_place_of l start (start + length l) some;
+      order = grind (arith, nat_tests);
+      begins = subst (λ (xs : List ℕ). BeginsNothing xs (numbered start l)) (sym e) (plainly_begins_nothing start l (omega (arith, fits)) h);
+    }
+
+heading_taken : (text xs : List ℕ) (l : HeadingLevel) (start next number : ℕ) (bs : List Block) (ps : List Piece) (end0 number0 : ℕ) → let bytes = mark_of (HeadingKind l) ++ xs in let end = start + length bytes in let p = piece_of 0 (start + length (mark_of (HeadingKind l))) end end in
+    bytes_between text start end ≡ bytes → AllByRecursion IsWithin bytes → BeginsPlainly xs → EndsHeading xs → end < 2 ^ 64 →
+    line_taken text (closed bs ps end0 number0) (record { number = number; start = start; end = end; next = next }) ≡ closed (bs ++ block (kind.Heading l None) start end (length ps) (length (ps ++ p ∷ [])) ∷ []) (ps ++ p ∷ []) end number
+heading_taken text [] l start next number bs ps end0 number0 e within h ends fits = absurd h
+heading_taken text (x ∷ xs) l start next number bs ps end0 number0 e within h ends fits =
+    line_heads text _ _ _ _ _ bs ps end0 number0 (heading_line text l x xs start next number e within (begins_no_space x xs h) ends fits)
+
+-- a paragraph
+
+abbrev IsPara : List ℕ → Type 0
+IsPara x = BeginsPlainly x × AllByRecursion IsWithin x
+
+are_para : (ms : List (List Part)) → AllByRecursion IsPlainLine ms → AllByRecursion IsPara (map spelled ms)
+are_para [] h = tt
+are_para (m ∷ ms) h = (((h.0).begins, all_implied IsPrintable IsWithin (spelled m) within_printable ((h.0).printable)), are_para ms (h.1))
+
+inside : (text pre l rest : List ℕ) (start : ℕ) → text ≡ pre ++ (l ++ rest) → start ≡ length pre → length text < 2 ^ 64 → start + length l < 2 ^ 64
+inside text pre l rest start e at fits =
+    let all : length text ≡ length pre + (length l + length rest) = ap length e ∙ length-append pre (l ++ rest) ∙ ap (λ n. length pre + n) (length-append l rest) in
+    omega (arith, all, at, fits)
+
+plain_at : (text pre rest : List ℕ) (start : ℕ) (l : List ℕ) (ms : List (List ℕ)) → text ≡ pre ++ (feed_joined l ms ++ rest) → start ≡ length pre → length text < 2 ^ 64 → AllByRecursion IsPara (l ∷ ms) → ArePlainAt text start l ms
+plain_at text pre rest start l [] e at fits h =
+    (λ next number order. paragraph_line text l start next number (piece_between text pre l rest start (start + length l) e at (ap (λ n. n + length l) at)) (h.0.0) (h.0.1) (inside text pre l rest start e at fits) order, some_front l (h.0.0))
+plain_at text pre rest start l (m ∷ ms) e at fits h =
+    let more : List ℕ = feed_joined m ms ++ rest in
+    let here : text ≡ pre ++ (l ++ 10 ∷ more) = first_of text pre l m ms rest e in
+    (λ next number order. paragraph_line text l start next number (piece_between text pre l (10 ∷ more) start (start + length l) here at (ap (λ n. n + length l) at)) (h.0.0) (h.0.1) (inside text pre l (10 ∷ more) start here at fits) order, plain_at text (pre ++ (l ++ 10 ∷ [])) rest (start + length l + 1) m ms (behind_line text pre l more here) (line_length pre l start at) fits (h.1))
+
+-- all lines of a paragraph, whatever stands behind them
+paragraph_lines : (text : List ℕ) (before start : ℕ) (l : List ℕ) (ms tail : List (List ℕ)) (bs : List Block) (ps : List Piece) (end number : ℕ) → ArePlainAt text start l ms → fold (line_taken text) (closed bs ps end number) (line_list before start l (ms ++ tail)) ≡ fold (line_taken text) (open_lines bs ps (line_pieces start l ms tail) start (start + length (feed_joined l ms)) (last_number before ms)) (lines_behind (count_behind before ms) (start + length (feed_joined l ms) + 1) tail)
+paragraph_lines text before start l [] [] bs ps end number h =
+    line_begins text (numbered start l) (line before start (start + length l) (start + length l)) bs ps end number (h.0 (start + length l) (plus before 1) (let some : 0 < length l = h.1 in omega (arith, some)))
+paragraph_lines text before start l [] (t ∷ ts) bs ps end number h =
+    ap (λ s. fold (line_taken text) s (line_list (before + 1) (start + length l + 1) t ts))
+    (line_begins text (numbered start l) (line before start (start + length l) (start + length l + 1)) bs ps end number (h.0 (start + length l + 1) (plus before 1) (omega arith)))
+paragraph_lines text before start l (m ∷ ms) tail bs ps end number h =
+    let next : ℕ = start + length l + 1 in
+    let x : Piece = piece_of 0 start (start + length l) next in
+    ap (λ s. fold (line_taken text) s (line_list (before + 1) next m (ms ++ tail)))
+    (line_begins text (numbered start l) (line before start (start + length l) next) bs ps end number (h.0 next (plus before 1) (omega arith)))
+    ∙ lines_go_on text (before + 1) next m ms tail bs ps [] x start (start + length l) (plus before 1) (h.1)
+    ∙ ap (λ n. fold (line_taken text) (open_lines bs ps (x ∷ line_pieces next m ms tail) start n (last_number (before + 1) ms)) (lines_behind (count_behind (before + 1) ms) (n + 1) tail)) (joined_length start l m ms)
+
+-- the first piece of lines
+record PiecesOf (start : ℕ) (l : List ℕ) (ps : List Piece) : Type 0 where
+  next : ℕ
+  more : List Piece
+  split : ps ≡ piece_of 0 start (start + length l) next ∷ more
+
+pieces_of : (start : ℕ) (l : List ℕ) (ms tail : List (List ℕ)) → PiecesOf start l (line_pieces start l ms tail)
+pieces_of start l [] [] = record { next = start + length l; more = []; split = refl }
+pieces_of start l [] (t ∷ ts) = record { next = start + length l + 1; more = []; split = refl }
+pieces_of start l (m ∷ ms) tail = record { next = start + length l + 1; more = line_pieces (start + length l + 1) m ms tail; split = refl }
+
+pieces_count : (start : ℕ) (l : List ℕ) (ms tail : List (List ℕ)) → length (line_pieces start l ms tail) ≡ suc (length ms)
+pieces_count start l [] [] = refl
+pieces_count start l [] (t ∷ ts) = refl
+pieces_count start l (m ∷ ms) tail = ap suc (pieces_count (start + length l + 1) m ms tail)
+
+lines_many : (l : List ℕ) (ms : List (List ℕ)) → length ms ≤ length (feed_joined l ms)
+lines_many l [] = omega arith
+lines_many l (m ∷ ms) = omega (arith, lines_many m ms, length-append l (10 ∷ feed_joined m ms))
+
+map_length : (ms : List (List Part)) → length (map spelled ms) ≡ length ms
+map_length [] = refl
+map_length (m ∷ ms) = ap suc (map_length ms)
+
+-- all rows
+
+abbrev result : List Block → List Piece → BlocksView
+result bs ps = record { blocks = bs; pieces = ps; definitions = [] }
+
+abbrev ended : List ℕ → State → BlocksView
+ended text s = let t = closed_to text 0 s in record { blocks = t.blocks; pieces = t.pieces; definitions = t.definitions }
+
+grown : (bs : List Block) (ps new : List Piece) (k : BlockKind) (start end c next : ℕ) (rs : List Row) → length new ≡ suc c → result ((bs ++ block k start end (length ps) (length (ps ++ new)) ∷ []) ++ row_blocks (length (ps ++ new)) next rs) ((ps ++ new) ++ row_pieces next rs) ≡ result (bs ++ block k start end (length ps) (length ps + suc c) ∷ row_blocks (length ps + suc c) next rs) (ps ++ (new ++ row_pieces next rs))
+grown bs ps new k start end c next rs e =
+    ap (λ m. result ((bs ++ block k start end (length ps) m ∷ []) ++ row_blocks m next rs) ((ps ++ new) ++ row_pieces next rs)) (length-append ps new ∙ ap (λ n. length ps + n) e)
+    ∙ ap (λ xs. result xs ((ps ++ new) ++ row_pieces next rs)) (append_assoc bs (block k start end (length ps) (length ps + suc c) ∷ []) (row_blocks (length ps + suc c) next rs))
+    ∙ ap (λ xs. result (bs ++ block k start end (length ps) (length ps + suc c) ∷ row_blocks (length ps + suc c) next rs) xs) (append_assoc ps new (row_pieces next rs))
+
+grown_last : (bs : List Block) (ps new : List Piece) (k : BlockKind) (start end c : ℕ) → length new ≡ suc c → result (bs ++ block k start end (length ps) (length (ps ++ new)) ∷ []) (ps ++ new) ≡ result (bs ++ block k start end (length ps) (length ps + suc c) ∷ []) (ps ++ (new ++ []))
+grown_last bs ps new k start end c e =
+    ap (λ m. result (bs ++ block k start end (length ps) m ∷ []) (ps ++ new)) (length-append ps new ∙ ap (λ n. length ps + n) e)
+    ∙ ap (λ xs. result (bs ++ block k start end (length ps) (length ps + suc c) ∷ []) (ps ++ xs)) (sym (append-nil new))
+
+-- an open paragraph ends, or ends with a blank line
+open_ends : (text : List ℕ) (bs : List Block) (ps new : List Piece) (start : ℕ) (l : List ℕ) (end number : ℕ) → PiecesOf start l new → (byte_at text start == 91) ≡ false → length ps < 2 ^ 64 → closed_to text 0 (open_lines bs ps new start end number) ≡ closed (bs ++ block kind.Paragraph start end (length ps) (length (ps ++ new)) ∷ []) (ps ++ new) end number
+open_ends text bs ps new start l end number h k fits =
+    subst (λ (xs : List Piece). closed_to text 0 (open_lines bs ps xs start end number) ≡ closed (bs ++ block kind.Paragraph start end (length ps) (length (ps ++ xs)) ∷ []) (ps ++ xs) end number) (sym h.split)
+    (lines_end text bs ps h.more (piece_of 0 start (start + length l) h.next) end number k fits)
+
+open_ends_blank : (text : List ℕ) (b : Line) (bs : List Block) (ps new : List Piece) (start : ℕ) (l : List ℕ) (end number : ℕ) → PiecesOf start l new → bytes_between text b.start b.end ≡ [] → (byte_at text start == 91) ≡ false → length ps < 2 ^ 64 → line_taken text (open_lines bs ps new start end number) b ≡ closed (bs ++ block kind.Paragraph start end (length ps) (length (ps ++ new)) ∷ []) (ps ++ new) end number
+open_ends_blank text b bs ps new start l end number h e k fits =
+    subst (λ (xs : List Piece). line_taken text (open_lines bs ps xs start end number) b ≡ closed (bs ++ block kind.Paragraph start end (length ps) (length (ps ++ xs)) ∷ []) (ps ++ xs) end number) (sym h.split)
+    (blank_ends text b bs ps h.more (piece_of 0 start (start + length l) h.next) end number e k fits)
+
+-- a paragraph's lines, by its parts
+paragraph_taken : (text pre rest : List ℕ) (before start : ℕ) (l : List Part) (ms : List (List Part)) (tail : List (List ℕ)) (bs : List Block) (ps : List Piece) (end number : ℕ) → text ≡ pre ++ (spelled (text_parts l ms) ++ rest) → start ≡ length pre → length text < 2 ^ 64 → AllByRecursion IsPlainLine (l ∷ ms) → let stop = start + length (spelled (text_parts l ms)) in
+    fold (line_taken text) (closed bs ps end number) (line_list before start (spelled l) (map spelled ms ++ tail)) ≡ fold (line_taken text) (open_lines bs ps (line_pieces start (spelled l) (map spelled ms) tail) start stop (last_number before (map spelled ms))) (lines_behind (count_behind before (map spelled ms)) (stop + 1) tail)
+paragraph_taken text pre rest before start l ms tail bs ps end number e at fits h =
+    let xs : List ℕ = spelled l in
+    let ys : List (List ℕ) = map spelled ms in
+    let there : text ≡ pre ++ (feed_joined xs ys ++ rest) = e ∙ ap (λ (zs : List ℕ). pre ++ (zs ++ rest)) (spelled_text l ms) in
+    paragraph_lines text before start xs ys tail bs ps end number (plain_at text pre rest start xs ys there at fits (are_para (l ∷ ms) h))
+    ∙ ap (λ (zs : List ℕ). fold (line_taken text) (open_lines bs ps (line_pieces start xs ys tail) start (start + length zs) (last_number before ys)) (lines_behind (count_behind before ys) (start + length zs + 1) tail)) (sym (spelled_text l ms))
+
+some_text : (l : List Part) (ms : List (List Part)) → AllByRecursion IsPlainLine (l ∷ ms) → 0 < length (spelled (text_parts l ms))
+some_text l [] h = some_front (spelled l) ((h.0).begins)
+some_text l (m ∷ ms) h =
+    let some : 0 < length (spelled l) = some_front (spelled l) ((h.0).begins) in
+    let width : length (spelled (text_parts l (m ∷ ms))) ≡ length (spelled l) + length (10 ∷ feed_joined (spelled m) (map spelled ms)) = ap length (spelled_text l (m ∷ ms)) ∙ length-append (spelled l) (10 ∷ feed_joined (spelled m) (map spelled ms)) in
+    omega (arith, some, width)
+
+few_pieces : (ps new : List Piece) (start : ℕ) (l : List Part) (ms : List (List Part)) → length ps ≤ start → length new ≡ suc (length ms) → length (ps ++ new) ≤ start + length (spelled (text_parts l ms)) + 1 + 0 + 1
+few_pieces ps new start l ms few e =
+    let many : length (map spelled ms) ≤ length (feed_joined (spelled l) (map spelled ms)) = lines_many (spelled l) (map spelled ms) in
+    let same : length (spelled (text_parts l ms)) ≡ length (feed_joined (spelled l) (map spelled ms)) = ap length (spelled_text l ms) in
+    omega (arith, few, e, many, same, map_length ms, length-append ps new)
+
+pub counted : (start : ℕ) (l : List Part) (ms : List (List Part)) (tail : List (List ℕ)) → length (line_pieces start (spelled l) (map spelled ms) tail) ≡ suc (length ms)
+counted start l ms tail = pieces_count start (spelled l) (map spelled ms) tail ∙ ap suc (map_length ms)
+
+pub rows_taken : (text pre : List ℕ) (before start : ℕ) (r : Row) (rs : List Row) (bs : List Block) (ps : List Piece) (end number : ℕ) → text ≡ pre ++ rows_text r rs → start ≡ length pre → length ps ≤ start → length text < 2 ^ 64 → AreRows (r ∷ rs) → ended text (fold (line_taken text) (closed bs ps end number) (line_list before start (row_first r) (row_more r ++ behind rs))) ≡ result (bs ++ row_blocks (length ps) start (r ∷ rs)) (ps ++ row_pieces start (r ∷ rs))
+rows_taken text pre before start Blank [] bs ps end number e at few fits h = absurd h
+rows_taken text pre before start Blank (r ∷ rs) bs ps end number e at few fits h =
+    let more : List ℕ = rows_text r rs in
+    let l : Line = line before start (start + 0) (start + 0 + 1) in
+    let blank : bytes_between text start (start + 0) ≡ [] = piece_between text pre [] (10 ∷ more) start (start + 0) e at (ap (λ n. n + 0) at) in
+    ap (λ s. ended text (fold (line_taken text) s (line_list (before + 1) (start + 0 + 1) (row_first r) (row_more r ++ behind rs)))) (blank_passes text l bs ps end number blank)
+    ∙ rows_taken text (pre ++ ([] ++ 10 ∷ [])) (before + 1) (start + 0 + 1) r rs bs ps end number (behind_line text pre [] more e) (line_length pre [] start at) (omega (arith, few)) fits h
+rows_taken text pre before start (Filled ParagraphKind l ms) [] bs ps end number e at few fits h =
+    let xs : List ℕ = spelled (text_parts l ms) in
+    let stop : ℕ = start + length xs in
+    let here : text ≡ pre ++ (xs ++ []) = e ∙ ap (λ (ys : List ℕ). pre ++ ys) (sym (append-nil xs)) in
+    let some : 0 < length xs = some_text l ms h.lines in
+    let width : stop < 2 ^ 64 = inside text pre xs [] start here at fits in
+    let new : List Piece = line_pieces start (spelled l) (map spelled ms) [] in
+    let bracket : (byte_at text start == 91) ≡ false = ap (λ b. b == 91) (front_at text pre xs [] start here at some) ∙ no_bracket 10 (text_parts l ms) h.plain in
+    ap (λ s. ended text s) (paragraph_taken text pre [] before start l ms [] bs ps end number here at fits h.lines)
+    ∙ ap (let g : State → BlocksView = λ t. record { blocks = t.blocks; pieces = t.pieces; definitions = t.definitions } in g) (open_ends text bs ps new start (spelled l) stop (last_number before (map spelled ms)) (pieces_of start (spelled l) (map spelled ms) []) bracket (omega (arith, few, width)))
+    ∙ grown_last bs ps new kind.Paragraph start stop (length ms) (counted start l ms [])
+rows_taken text pre before start (Filled ParagraphKind l ms) (Blank ∷ []) bs ps end number e at few fits h = absurd (h.1)
+rows_taken text pre before start (Filled ParagraphKind l ms) (Blank ∷ r ∷ rs) bs ps end number e at few fits h =
+    let xs : List ℕ = spelled (text_parts l ms) in
+    let ys : List (List ℕ) = map spelled ms in
+    let stop : ℕ = start + length xs in
+    let good = h.0 in
+    let later : List ℕ = rows_text r rs in
+    let more : List ℕ = 10 ∷ later in
+    let some : 0 < length xs = some_text l ms good.lines in
+    let width : stop < 2 ^ 64 = inside text pre xs (10 ∷ more) start e at fits in
+    let tail : List (List ℕ) = behind (Blank ∷ r ∷ rs) in
+    let new : List Piece = line_pieces start (spelled l) ys tail in
+    let bracket : (byte_at text start == 91) ≡ false = ap (λ b. b == 91) (front_at text pre xs (10 ∷ more) start e at some) ∙ no_bracket 10 (text_parts l ms) good.plain in
+    let pre2 : List ℕ = pre ++ (xs ++ 10 ∷ []) in
+    let e2 : text ≡ pre2 ++ ([] ++ 10 ∷ later) = behind_line text pre xs more e in
+    let at2 : stop + 1 ≡ length pre2 = line_length pre xs start at in
+    let count : ℕ = count_behind before ys in
+    let last : ℕ = last_number before ys in
+    let b : Line = line count (stop + 1) (stop + 1 + 0) (stop + 1 + 0 + 1) in
+    let blank : bytes_between text (stop + 1) (stop + 1 + 0) ≡ [] = piece_between text pre2 [] (10 ∷ later) (stop + 1) (stop + 1 + 0) e2 at2 (ap (λ n. n + 0) at2) in
+    let rest : List Line = line_list (count + 1) (stop + 1 + 0 + 1) (row_first r) (row_more r ++ behind rs) in
+    ap (λ s. ended text s) (paragraph_taken text pre (10 ∷ more) before start l ms tail bs ps end number e at fits good.lines)
+    ∙ ap (λ s. ended text (fold (line_taken text) s rest)) (open_ends_blank text b bs ps new start (spelled l) stop last (pieces_of start (spelled l) ys tail) blank bracket (omega (arith, few, width)))
+    ∙ rows_taken text (pre2 ++ ([] ++ 10 ∷ [])) (count + 1) (stop + 1 + 0 + 1) r rs (bs ++ block kind.Paragraph start stop (length ps) (length (ps ++ new)) ∷ []) (ps ++ new) stop last (behind_line text pre2 [] later e2) (line_length pre2 [] (stop + 1) at2) (few_pieces ps new start l ms few (counted start l ms tail)) fits (h.1)
+    ∙ grown bs ps new kind.Paragraph start stop (length ms) (stop + 1 + 0 + 1) (r ∷ rs) (counted start l ms tail)
+rows_taken text pre before start (Filled ParagraphKind l ms) (Filled k m ns ∷ rs) bs ps end number e at few fits h = absurd h
+rows_taken text pre before start (Filled (HeadingKind level) l (m ∷ ms)) rs bs ps end number e at few fits h = absurd ((h.0).ends)
+rows_taken text pre before start (Filled (HeadingKind level) parts []) [] bs ps end number e at few fits h =
+    let good = h.0 in
+    let bytes : List ℕ = mark_of (HeadingKind level) ++ spelled parts in
+    let stop : ℕ = start + length bytes in
+    let here : text ≡ pre ++ (bytes ++ []) = e ∙ ap (λ (ys : List ℕ). pre ++ ys) (sym (append-nil bytes)) in
+    let width : stop < 2 ^ 64 = inside text pre bytes [] start here at fits in
+    let p : Piece = piece_of 0 (start + length (mark_of (HeadingKind level))) stop stop in
+    ap (λ s. ended text s) (heading_taken text (spelled parts) level start stop (plus before 1) bs ps end number (piece_between text pre bytes [] start stop here at (ap (λ n. n + length bytes) at)) (first_within (HeadingKind level) parts [] good) ((good.lines.0).begins) good.ends width)
+    ∙ ap (let g : State → BlocksView = λ t. record { blocks = t.blocks; pieces = t.pieces; definitions = t.definitions } in g) (nothing_ends text (bs ++ block (kind.Heading level None) start stop (length ps) (length (ps ++ p ∷ [])) ∷ []) (ps ++ p ∷ []) stop (plus before 1))
+    ∙ grown_last bs ps (p ∷ []) (kind.Heading level None) start stop 0 refl
+rows_taken text pre before start (Filled (HeadingKind level) parts []) (r ∷ rs) bs ps end number e at few fits h =
+    let good = h.0 in
+    let bytes : List ℕ = mark_of (HeadingKind level) ++ spelled parts in
+    let stop : ℕ = start + length bytes in
+    let more : List ℕ = rows_text r rs in
+    let width : stop < 2 ^ 64 = inside text pre bytes (10 ∷ more) start e at fits in
+    let p : Piece = piece_of 0 (start + length (mark_of (HeadingKind level))) stop stop in
+    let few2 : length (ps ++ p ∷ []) ≤ stop + 1 = omega (arith, few, length-append ps (p ∷ [])) in
+    ap (λ s. ended text (fold (line_taken text) s (line_list (before + 1) (stop + 1) (row_first r) (row_more r ++ behind rs)))) (heading_taken text (spelled parts) level start (stop + 1) (plus before 1) bs ps end number (piece_between text pre bytes (10 ∷ more) start stop e at (ap (λ n. n + length bytes) at)) (first_within (HeadingKind level) parts [] good) ((good.lines.0).begins) good.ends width)
+    ∙ rows_taken text (pre ++ (bytes ++ 10 ∷ [])) (before + 1) (stop + 1) r rs (bs ++ block (kind.Heading level None) start stop (length ps) (length (ps ++ p ∷ [])) ∷ []) (ps ++ p ∷ []) stop (plus before 1) (behind_line text pre bytes more e) (line_length pre bytes start at) few2 fits (h.1)
+    ∙ grown bs ps (p ∷ []) (kind.Heading level None) start stop 0 (stop + 1) (r ∷ rs) refl
+
+-- the blocks of rows
+pub rows_blocks : (r : Row) (rs : List Row) → AreRows (r ∷ rs) → length (rows_text r rs) < 2 ^ 64 → blocks_of (rows_text r rs) ≡ result (row_blocks 0 0 (r ∷ rs)) (row_pieces 0 (r ∷ rs))
+unfolding blocks_in page_in known_of
+rows_blocks r rs h fits =
+    let text : List ℕ = rows_text r rs in
+    let all = all_rows (r ∷ rs) h in
+    let none : AreNoReturns text = all_implied IsClean (λ b. (b == 13) ≡ false) text (λ b c. c.return) (rows_clean r rs all) in
+    let lines : lines_of text ≡ line_list 0 0 (row_first r) (row_more r ++ behind rs) =
+    ap (λ (xs : List ℕ). lines_from text 0 0 0 xs) (flat_text r rs) ∙ lines_are text none 0 0 (row_first r) (row_more r ++ behind rs) (rows_within (r ∷ rs) all) (rows_full r rs h)
+    in
+    ap (λ lines. ended text (fold (line_taken text) first_page lines)) lines
+    ∙ rows_taken text [] 0 0 r rs [] [] 0 0 refl refl (omega arith) fits h

@@ -1,0 +1,199 @@
+-- What is handed for a document of paragraphs of lines and headings is read as this document.
+use Rattle.std.proofs.Common.{◌≡◌, ℕ, zero, suc, max, ◌+◌, ◌-◌, ◌^◌, ◌<◌, true, false, ◌==◌, List, [], ◌∷◌, ◌++◌, length, map, replicate, codes, flat_map, refl, ap, sym, subst, ◌∙◌, arith, append_assoc, append-nil, None, Ok, Result}
+use Rattle.std.specs.Char.{char_set_contains}
+use Rattle.std.specs.List.{AllByRecursion, concat, list_all}
+use Rattle.tocmark_event.specs.Options.{OptionsView, default_options}
+use Rattle.tocmark_event.specs.Merged.{merged, after_text}
+use Rattle.tocmark_event.specs.Reading.{ReadingView}
+use Rattle.tocmark_event.specs.View.{EventView, Start, End, Leaf, Text, SoftBreak, Paragraph, end_of}
+use Rattle.tocmark_event.specs.declared.event.TagEnd.TheVariants as end
+use Rattle.tocmark_event.specs.declared.event.HeadingLevel.{HeadingLevel}
+use Rattle.tocmark_event.specs.declared.event.flags.ParserOptions.{ParserOptions}
+use Rattle.tocmark_event.specs.declared.options.Error.{Error}
+use Rattle.tocmark_read_scan.specs.PlainParts.{Part, spelled, meant}
+use Rattle.tocmark_read_scan.proofs.PlainPieces.{feed_joined}
+use Rattle.tocmark_read_scan.proofs.PlainTests.{all_from}
+use Rattle.tocmark_core_reader.specs.PlainTexts.{IsReadAs, line_events, lines_paragraph}
+use Rattle.tocmark_core_reader.specs.Reading.{core_reading}
+use Rattle.tocmark_core_reader.proofs.PlainReading.{spelled_text}
+use Rattle.tocmark_spelling.specs.Plan.{Setting, Manner}
+use Rattle.tocmark_spelling.specs.PlanOf.{setting_of}
+use Rattle.tocmark_render.specs.Candidates.{preferred_manner}
+use Rattle.tocmark_laws.specs.PlainLines.{is_line, PlacedLine, texts}
+use Rattle.tocmark_laws.specs.TextBlocks.{Kind, ParagraphKind, HeadingKind, Block, block_events, feeds_behind, mark_of, place_in, tag_of}
+use Rattle.tocmark_laws.proofs.PlainCharacters.{parts_of}
+use Rattle.tocmark_laws.proofs.PlainEscapedBytes.{escaped_text_is}
+use Rattle.tocmark_laws.proofs.PlainEscapedLines.{line_means}
+use Rattle.tocmark_laws.proofs.PlainEscapedTexts.{IsLine, line_parts, plain_lines, plain_parts, escapes_are_parts, parts_mean_lines}
+use Rattle.tocmark_laws.proofs.PlainParagraph.{Escapes, IsLineText, line_from, lines_stand}
+use Rattle.tocmark_laws.proofs.PlainSpelling.{placed, all_placed, lines_text, AreLinesIn}
+use Rattle.tocmark_state.specs.Walk.{Walk, Done, done, nothing_yet, script}
+use Rattle.tocmark_state.specs.Ranges.{Pair}
+use Rattle.tocmark_state.specs.WorkView.{rendering}
+use Rattle.tocmark_state.specs.Writes.{Makes}
+use Rattle.tocmark_laws.specs.Documents.{AreReadBack, PlainBlock, PlainParagraph, PlainHeading, heading_block, plain_events, plain_document, IsPlainBlock, MakesDocument}
+use Rattle.tocmark_laws.proofs.DocumentRows.{Row, Blank, Filled, row_bytes, rows_text, IsFilled, AreRows}
+use Rattle.tocmark_laws.proofs.DocumentEvents.{row_said, rows_are_read, merged_before}
+use Rattle.tocmark_laws.proofs.DocumentRowsWritten as written
+use Rattle.tocmark_laws.proofs.DocumentWalks.{kind_of, text_in, texts_in, StandsIn, blocks_are_handed}
+
+-- merged events
+
+merged_line_events : (l : List ℕ) (ms : List (List ℕ)) → merged (line_events l ms) ≡ line_events l ms
+merged_line_events l [] = refl
+merged_line_events l (m ∷ ms) = ap (λ es. after_text l (Leaf SoftBreak ∷ es)) (merged_line_events m ms)
+
+-- the events of a block, merged
+abbrev plain_said : PlainBlock → List EventView
+plain_said (PlainParagraph l ms) = Start Paragraph ∷ (line_events l ms ++ End end.Paragraph ∷ [])
+plain_said (PlainHeading level ts) = Start (tag_of (HeadingKind level)) ∷ Leaf (Text (concat ts)) ∷ End (end_of (tag_of (HeadingKind level))) ∷ []
+
+plain_merged : (bs : List PlainBlock) → AllByRecursion IsPlainBlock bs → merged (flat_map plain_events bs) ≡ flat_map plain_said bs
+plain_merged [] h = refl
+plain_merged (PlainParagraph l ms ∷ bs) h =
+    let lines : List EventView = line_events l ms in
+    let last : EventView = End end.Paragraph in
+    let rest : List EventView = flat_map plain_events bs in
+    ap (λ es. Start Paragraph ∷ merged es) (append_assoc lines (last ∷ []) rest)
+    ∙ ap (λ es. Start Paragraph ∷ es) (merged_before end.Paragraph lines rest)
+    ∙ ap (λ es. Start Paragraph ∷ (es ++ last ∷ merged rest)) (merged_line_events l ms)
+    ∙ ap (λ es. Start Paragraph ∷ (lines ++ last ∷ es)) (plain_merged bs (h.1))
+    ∙ ap (λ es. Start Paragraph ∷ es) (sym (append_assoc lines (last ∷ []) (flat_map plain_said bs)))
+plain_merged (PlainHeading level ts ∷ bs) h =
+    let tag = tag_of (HeadingKind level) in
+    let leaves : List EventView = map (λ u. Leaf (Text u)) ts in
+    let last : EventView = End (end_of tag) in
+    let rest : List EventView = flat_map plain_events bs in
+    ap (λ es. Start tag ∷ merged es) (append_assoc leaves (last ∷ []) rest)
+    ∙ ap (λ es. Start tag ∷ es) (merged_before (end_of tag) leaves rest)
+    ∙ ap (λ es. Start tag ∷ (es ++ last ∷ merged rest)) (written.merged_some ts (h.0))
+    ∙ ap (λ es. Start tag ∷ Leaf (Text (concat ts)) ∷ last ∷ es) (plain_merged bs (h.1))
+
+module _ (o : OptionsView) (reading : List ℕ → ParserOptions → ReadingView) (flags : ParserOptions) (token : char_set_contains (codes "*_") o.emphasis_token ≡ true) where
+  abbrev setting : Setting
+  setting = setting_of o flags reading None
+
+  abbrev manner : Manner
+  manner = preferred_manner o
+
+  escapes : Escapes setting manner
+  escapes = record { literal = refl; entities = refl; token = token }
+
+  abbrev first : List ℕ → List (List ℕ) → PlacedLine
+  first l ms = placed setting manner l ms
+
+  abbrev more : List (List ℕ) → List PlacedLine
+  more ms = all_placed setting manner ms
+
+  abbrev row : PlainBlock → Row
+  row (PlainParagraph l ms) = Filled ParagraphKind (line_parts (first l ms)) (map line_parts (more ms))
+  row (PlainHeading level ts) = Filled (HeadingKind level) (parts_of (place_in o flags (HeadingKind level)) (concat ts)) []
+
+  lines_in : (l : List ℕ) (ms : List (List ℕ)) → list_all is_line (l ∷ ms) ≡ true → AreLinesIn setting manner (l ∷ ms)
+  lines_in l ms h = lines_stand setting manner (l ∷ ms) escapes (all_from is_line IsLineText (l ∷ ms) line_from h)
+
+  lines_are : (ls : List (List ℕ)) → AreLinesIn setting manner ls → AllByRecursion IsLine (all_placed setting manner ls)
+  lines_are [] h = tt
+  lines_are (l ∷ ls) h = (h.0, lines_are ls (h.1))
+
+  all_lines : (l : List ℕ) (ms : List (List ℕ)) → list_all is_line (l ∷ ms) ≡ true → AllByRecursion IsLine (first l ms ∷ more ms)
+  all_lines l ms h = let k = lines_in l ms h in (k.0, lines_are ms (k.1))
+
+  placed_texts : (ms : List (List ℕ)) → texts (more ms) ≡ ms
+  placed_texts [] = refl
+  placed_texts (n ∷ ms) = ap (λ ls. n ∷ ls) (placed_texts ms)
+
+  pub may_stand : (b : PlainBlock) → IsPlainBlock b → StandsIn o reading flags b
+  may_stand (PlainParagraph l ms) h = lines_in l ms h
+  may_stand (PlainHeading level ts) h = written.has_text (heading_block level ts) h
+
+  row_good : (b : PlainBlock) → IsPlainBlock b → AreRows (row b ∷ [])
+  row_good (PlainParagraph l ms) h =
+      let lines = all_lines l ms h in
+      record { lines = plain_lines (first l ms ∷ more ms) lines; plain = plain_parts (first l ms) (more ms) lines; ends = tt }
+  row_good (PlainHeading level ts) h = (written.filled o flags token (heading_block level ts) h, tt)
+
+  row_is : (b : PlainBlock) → IsPlainBlock b → text_in o reading flags b ≡ row_bytes (row b)
+  row_is (PlainParagraph l ms) h =
+      let lines = all_lines l ms h in
+      escaped_text_is (first l ms) (more ms) lines ∙ escapes_are_parts (first l ms) (more ms) lines ∙ sym (spelled_text (line_parts (first l ms)) (map line_parts (more ms)))
+  row_is (PlainHeading level ts) h = written.block_is o flags token (heading_block level ts) h
+
+  abbrev rows_behind : Kind → List PlainBlock → List Row
+  rows_behind k [] = []
+  rows_behind k (b ∷ bs) = replicate (feeds_behind o k - 1) Blank ++ row b ∷ rows_behind (kind_of b) bs
+
+  texts_joined : (feeds : ℕ) (b : PlainBlock) (bs : List PlainBlock) → AllByRecursion IsPlainBlock (b ∷ bs) → concat (texts_in o reading flags feeds (b ∷ bs)) ≡ replicate feeds 10 ++ rows_text (row b) (rows_behind (kind_of b) bs)
+  texts_joined feeds b [] h = append-nil (replicate feeds 10 ++ text_in o reading flags b) ∙ ap (λ (t : List ℕ). replicate feeds 10 ++ t) (row_is b (h.0))
+  texts_joined feeds b (c ∷ cs) h =
+      let f : ℕ = feeds_behind o (kind_of b) in
+      let front : List ℕ = replicate feeds 10 in
+      let later : List ℕ = concat (texts_in o reading flags f (c ∷ cs)) in
+      let rest : List ℕ = rows_text (row c) (rows_behind (kind_of c) cs) in
+      append_assoc front (text_in o reading flags b) later
+      ∙ ap (λ (t : List ℕ). front ++ (t ++ later)) (row_is b (h.0))
+      ∙ ap (λ (t : List ℕ). front ++ (row_bytes (row b) ++ t)) (texts_joined f c cs (h.1))
+      ∙ ap (λ n. front ++ (row_bytes (row b) ++ (replicate n 10 ++ rest))) (written.some_feeds o flags token (kind_of b))
+      ∙ ap (λ (t : List ℕ). front ++ t) (sym (written.joined_behind o flags token (row_bytes (row b)) (f - 1) (row c) (rows_behind (kind_of c) cs)))
+
+  rows_good : (b : PlainBlock) (bs : List PlainBlock) → AllByRecursion IsPlainBlock (b ∷ bs) → AreRows (row b ∷ rows_behind (kind_of b) bs)
+  rows_good b [] h = row_good b (h.0)
+  rows_good (PlainParagraph l ms) (c ∷ cs) h =
+      let n : ℕ = max o.newlines_after_paragraph 2 in
+      let some : n - 1 ≡ suc (n - 2) = omega arith in
+      let later : List Row = row c ∷ rows_behind (kind_of c) cs in
+      subst (λ m. AreRows (row (PlainParagraph l ms) ∷ (replicate m Blank ++ later))) (sym some)
+      (row_good (PlainParagraph l ms) (h.0), written.behind_blank o flags token (n - 2) (row c) (rows_behind (kind_of c) cs) (rows_good c cs (h.1)))
+  rows_good (PlainHeading level ts) (c ∷ cs) h =
+      ((row_good (PlainHeading level ts) (h.0)).0, written.behind_blanks o flags token (feeds_behind o (HeadingKind level) - 1) (row c) (rows_behind (kind_of c) cs) (rows_good c cs (h.1)))
+
+  row_means : (b : PlainBlock) (rs : List Row) → row_said (row b ∷ rs) ≡ plain_said b ++ row_said rs
+  row_means (PlainParagraph l ms) rs =
+      ap (λ es. Start Paragraph ∷ (es ++ End end.Paragraph ∷ row_said rs)) (parts_mean_lines (first l ms) (more ms) ∙ ap (line_events l) (placed_texts ms))
+      ∙ ap (λ es. Start Paragraph ∷ es) (sym (append_assoc (line_events l ms) (End end.Paragraph ∷ []) (row_said rs)))
+  row_means (PlainHeading level ts) rs =
+      ap (λ t. Start (tag_of (HeadingKind level)) ∷ Leaf (Text t) ∷ End (end_of (tag_of (HeadingKind level))) ∷ row_said rs) (line_means (place_in o flags (HeadingKind level)) (concat ts))
+
+  rows_mean : (k : Kind) (bs : List PlainBlock) → row_said (rows_behind k bs) ≡ flat_map plain_said bs
+  rows_mean k [] = refl
+  rows_mean k (b ∷ bs) =
+      written.said_behind o flags token (feeds_behind o k - 1) (row b ∷ rows_behind (kind_of b) bs)
+      ∙ row_means b (rows_behind (kind_of b) bs)
+      ∙ ap (λ (es : List EventView). plain_said b ++ es) (rows_mean (kind_of b) bs)
+
+  texts_are_read : (b : PlainBlock) (bs : List PlainBlock) → AllByRecursion IsPlainBlock (b ∷ bs) → length (concat (texts_in o reading flags 0 (b ∷ bs))) < 2 ^ 64 → IsReadAs (core_reading (concat (texts_in o reading flags 0 (b ∷ bs)))) (merged (flat_map plain_events (b ∷ bs)))
+  texts_are_read b bs h fits =
+      let text : List ℕ = rows_text (row b) (rows_behind (kind_of b) bs) in
+      let joined : concat (texts_in o reading flags 0 (b ∷ bs)) ≡ text = texts_joined 0 b bs h in
+      let said : row_said (row b ∷ rows_behind (kind_of b) bs) ≡ merged (flat_map plain_events (b ∷ bs)) =
+      row_means b (rows_behind (kind_of b) bs) ∙ ap (λ (es : List EventView). plain_said b ++ es) (rows_mean (kind_of b) bs) ∙ sym (plain_merged (b ∷ bs) h)
+      in
+      subst (λ (xs : List ℕ). IsReadAs (core_reading xs) (merged (flat_map plain_events (b ∷ bs)))) (sym joined)
+      (subst (λ (es : List EventView). IsReadAs (core_reading text) es) said
+      (rows_are_read (row b) (rows_behind (kind_of b) bs) (rows_good b bs h) (subst (λ (xs : List ℕ). length xs < 2 ^ 64) joined fits)))
+
+  all_stand : (bs : List PlainBlock) → AllByRecursion IsPlainBlock bs → AllByRecursion (StandsIn o reading flags) bs
+  all_stand [] h = tt
+  all_stand (b ∷ bs) h = (may_stand b (h.0), all_stand bs (h.1))
+
+-- the law
+pub plain_read_back : (options : OptionsView) (reading : List ℕ → ParserOptions → ReadingView) (flags : ParserOptions) (source : List ℕ) (b : PlainBlock) (bs : List PlainBlock) →
+    options.check_plain_blocks ≡ false → char_set_contains (codes "*_") options.emphasis_token ≡ true → AllByRecursion IsPlainBlock (b ∷ bs) →
+    AreReadBack (script (rendering options reading) source (nothing_yet flags) (plain_document (b ∷ bs))) (merged (flat_map plain_events (b ∷ bs)))
+plain_read_back options reading flags source b bs off token h =
+    let walk : script (rendering options reading) source (nothing_yet flags) (plain_document (b ∷ bs)) ≡ record { texts = texts_in options reading flags 0 (b ∷ bs); outcome = Ok done } = blocks_are_handed options reading flags source off b bs (all_stand options reading flags token (b ∷ bs) h) in
+    subst (λ (w : Walk Done). AreReadBack w (merged (flat_map plain_events (b ∷ bs)))) (sym walk)
+    (record { ends_well = refl; read = λ fits. texts_are_read options reading flags token b bs h fits })
+
+-- a call with the default options that made the script of such a document handed texts that are read as it
+pub document_made : {W X : Type 0} (gives refuses : W → List ℕ → W → Type 0) (w v : W) (r : Result X Error) (o : OptionsView) (reading : List ℕ → ParserOptions → ReadingView) (flags : ParserOptions) (p : List Pair) → o ≡ default_options → Makes gives refuses w v r done (script (rendering o reading) [] (nothing_yet flags) p) → MakesDocument gives refuses w v r p
+document_made gives refuses w v r o reading flags p default made =
+    λ b bs h e.
+    let off : o.check_plain_blocks ≡ false = ap (λ (x : OptionsView). x.check_plain_blocks) default in
+    let token : char_set_contains (codes "*_") o.emphasis_token ≡ true = ap (λ (x : OptionsView). char_set_contains (codes "*_") x.emphasis_token) default in
+    let handed : List (List ℕ) = texts_in o reading flags 0 (b ∷ bs) in
+    let is : script (rendering o reading) [] (nothing_yet flags) p ≡ record { texts = handed; outcome = Ok done } =
+    ap (λ (q : List Pair). script (rendering o reading) [] (nothing_yet flags) q) e
+    ∙ blocks_are_handed o reading flags [] off b bs (all_stand o reading flags token (b ∷ bs) h)
+    in
+    (handed, subst (λ (x : Walk Done). Makes gives refuses w v r done x) is made, λ fits. texts_are_read o reading flags token b bs h fits)

@@ -1,0 +1,73 @@
+-- Documents of headings and paragraphs of plain lines, and that what is handed for them is read back.
+use Rattle.std.specs.Prelude.{◌≡◌, ℕ, ◌^◌, ◌<◌, true, false, List, ◌∷◌, Result, Ok, codes, flat_map, length, map}
+use Rattle.std.specs.Char.{char_set_contains}
+use Rattle.std.specs.List.{AllByRecursion, concat, list_all}
+use Rattle.tocmark_event.specs.declared.event.HeadingLevel.{HeadingLevel}
+use Rattle.tocmark_state.specs.Ranges.{Pair, unranged}
+use Rattle.tocmark_event.specs.Merged.{merged}
+use Rattle.tocmark_event.specs.Options.{OptionsView}
+use Rattle.tocmark_event.specs.Reading.{ReadingView}
+use Rattle.tocmark_event.specs.View.{EventView}
+use Rattle.tocmark_event.specs.declared.event.flags.ParserOptions.{ParserOptions}
+use Rattle.tocmark_event.specs.declared.options.Error.{Error}
+use Rattle.tocmark_core_reader.specs.PlainTexts.{IsReadAs, lines_paragraph}
+use Rattle.tocmark_core_reader.specs.Reading.{core_reading}
+use Rattle.tocmark_laws.specs.PlainLines.{is_line}
+use Rattle.tocmark_laws.specs.TextBlocks.{Block, HeadingKind, block_events, document_of}
+use Rattle.tocmark_state.specs.Walk.{Walk, Done, done, nothing_yet, script}
+use Rattle.tocmark_state.specs.WorkView.{rendering}
+use Rattle.tocmark_state.specs.Writes.{Makes}
+
+-- the texts of a paragraph or heading join to one line: at least one character, each from U+0020 to U+007E, the last no space
+abbrev pub IsLineBlock : Block → Type 0
+IsLineBlock b = is_line (concat b.texts) ≡ true
+
+-- the texts that are handed join to one that the core reader reads as these events, with no labels
+pub record AreReadBack (walk : Walk Done) (events : List EventView) : Type 0 where
+  pub ends_well : walk.outcome ≡ Ok done
+  pub read : length (concat walk.texts) < 2 ^ 64 → IsReadAs (core_reading (concat walk.texts)) events
+
+-- what is handed for such a document is read as its events, merged
+abbrev pub DocumentsAreReadBack : Type 0
+DocumentsAreReadBack =
+    (options : OptionsView) (reading : List ℕ → ParserOptions → ReadingView) (flags : ParserOptions) (source : List ℕ) (b : Block) (bs : List Block) →
+    options.check_plain_blocks ≡ false → char_set_contains (codes "*_") options.emphasis_token ≡ true → AllByRecursion IsLineBlock (b ∷ bs) →
+    AreReadBack (script (rendering options reading) source (nothing_yet flags) (document_of (b ∷ bs))) (merged (flat_map block_events (b ∷ bs)))
+
+-- a paragraph of lines, a text for each with a soft break between two, or a heading whose texts join to one line
+pub data PlainBlock : Type 0 where
+  PlainParagraph : List ℕ → List (List ℕ) → PlainBlock
+  PlainHeading : HeadingLevel → List (List ℕ) → PlainBlock
+
+-- the heading as a block of texts
+abbrev pub heading_block : HeadingLevel → List (List ℕ) → Block
+heading_block level ts = record { kind = HeadingKind level; texts = ts }
+
+-- its events
+abbrev pub plain_events : PlainBlock → List EventView
+plain_events (PlainParagraph l ms) = lines_paragraph l ms
+plain_events (PlainHeading level ts) = block_events (heading_block level ts)
+
+-- the events of all blocks in order, without ranges
+abbrev pub plain_document : List PlainBlock → List Pair
+plain_document bs = flat_map (λ b. map unranged (plain_events b)) bs
+
+-- each line has at least one character, each from U+0020 to U+007E, the last no space
+abbrev pub IsPlainBlock : PlainBlock → Type 0
+IsPlainBlock (PlainParagraph l ms) = list_all is_line (l ∷ ms) ≡ true
+IsPlainBlock (PlainHeading level ts) = is_line (concat ts) ≡ true
+
+-- what is handed for such a document is read as its events, merged
+abbrev pub PlainDocumentsAreReadBack : Type 0
+PlainDocumentsAreReadBack =
+    (options : OptionsView) (reading : List ℕ → ParserOptions → ReadingView) (flags : ParserOptions) (source : List ℕ) (b : PlainBlock) (bs : List PlainBlock) →
+    options.check_plain_blocks ≡ false → char_set_contains (codes "*_") options.emphasis_token ≡ true → AllByRecursion IsPlainBlock (b ∷ bs) →
+    AreReadBack (script (rendering options reading) source (nothing_yet flags) (plain_document (b ∷ bs))) (merged (flat_map plain_events (b ∷ bs)))
+
+-- if the events are those of such a document, a call that succeeded handed texts that join to one that the core reader reads as
+-- these events, merged; else it failed at one of them, or for want of memory behind a front of them
+abbrev pub MakesDocument : {W X : Type 0} → (W → List ℕ → W → Type 0) → (W → List ℕ → W → Type 0) → W → W → Result X Error → List Pair → Type 0
+MakesDocument gives refuses w v r p =
+    (b : PlainBlock) (bs : List PlainBlock) → AllByRecursion IsPlainBlock (b ∷ bs) → p ≡ plain_document (b ∷ bs) →
+    (texts : List (List ℕ)) × Makes gives refuses w v r done (record { texts = texts; outcome = Ok done })
+    × (length (concat texts) < 2 ^ 64 → IsReadAs (core_reading (concat texts)) (merged (flat_map plain_events (b ∷ bs))))
