@@ -205,13 +205,13 @@ with_emission r e = record r { assembly = record r.assembly { emission = e } }
 
 -- the nodes of the blocks that are left
 abbrev pub nodes_left : BlockReading → State
-nodes_left r = some_taken r.syntax r.text.now (entry_of r.definitions) r.blocks.items r.pieces.items (drop r.place r.blocks.items) (no_nodes (inlines.inlines_view r.assembly.inlines))
+nodes_left r = some_taken r.syntax r.text (entry_of r.definitions) r.blocks.items r.pieces.items (drop r.place r.blocks.items) (no_nodes (inlines.inlines_view r.assembly.inlines))
 
 -- the events that are made are handed out: those that are left come behind them
 pub handed : (r : BlockReading) (e : Emission) → r.assembly.emission.stack.items ≡ [] → emission_view e ≡ writing [] [] → reading_left r ≡ behind (map shown r.assembly.emission.events.items) (reading_left (with_emission r e))
 handed r e none empty =
     let es : List Marked = map shown r.assembly.emission.events.items in
-    let text : List ℕ = r.text.now in
+    let text : List ℕ = r.text in
     let nodes : List NodeView = (nodes_left r).nodes in
     ap (λ (l : List Marked). shows r l)
     (ap (λ (s : List Open). (closed 0 (fold (step text) (writing s es) nodes)).events) none
@@ -226,7 +226,7 @@ pub none_left : (r : BlockReading) → IsHandable r → is_empty r ≡ true → 
 none_left r h empty =
     let es : List Marked = map shown r.assembly.emission.events.items in
     let none : es ≡ [] = ap (map shown) (nil_from_length r.assembly.emission.events.items (eqb-true (length r.assembly.emission.events.items) 0 empty)) in
-    ap (λ (l : List Block). (closed 0 (left_taken r.syntax r.text.now (entry_of r.definitions) r.blocks.items r.pieces.items l (progress (inlines.inlines_view r.assembly.inlines) (emission_view r.assembly.emission))).writing).events) (h.last empty)
+    ap (λ (l : List Block). (closed 0 (left_taken r.syntax r.text (entry_of r.definitions) r.blocks.items r.pieces.items l (progress (inlines.inlines_view r.assembly.inlines) (emission_view r.assembly.emission))).writing).events) (h.last empty)
     ∙ ap (λ (s : List Open). es ++ closings 0 s) h.closed
     ∙ append-nil es
     ∙ none
@@ -262,10 +262,10 @@ tree_ended r e stop is =
     let left : List Block = drop r.place r.blocks.items in
     let found : inlines.State = inlines.inlines_view r.assembly.inlines in
     let here : Progress = progress found (emission_view r.assembly.emission) in
-    let taken : Progress → Progress = left_taken r.syntax r.text.now find r.blocks.items r.pieces.items left in
+    let taken : Progress → Progress = left_taken r.syntax r.text find r.blocks.items r.pieces.items left in
     let parts : MayEnd left × (is_empty r ≡ true → left ≡ []) = go (nat_lt r.place (length r.blocks.items)) (is_empty r) (is_at_tree r) refl refl refl stop in (
       ap (λ (w : Writing). reading_at_end defined (taken (progress found w))) is
-          ∙ alike_readings defined (taken (ended here)) (taken here) (ended_before r.syntax r.text.now find r.blocks.items r.pieces.items left here parts.0),
+          ∙ alike_readings defined (taken (ended here)) (taken here) (ended_before r.syntax r.text find r.blocks.items r.pieces.items left here parts.0),
       record {
         closed = ap (λ (w : Writing). w.stack) is;
         last = λ none. parts.1 (none_before e.events.items r.assembly.emission.events.items (closings 0 r.assembly.emission.stack.items) (ap (λ (w : Writing). w.events) is) none);
@@ -279,19 +279,19 @@ tree_ended r e stop is =
     go true false false lt en at h = absurd (false≢true (sym h))
 
 -- the events of the next block are made: what is left stays the same
-pub block_made : (r : BlockReading) (b : Block) (unwrapped : Bool) (before after : Progress) → drop r.place r.blocks.items ≡ b ∷ drop (r.place + 1) r.blocks.items → unwrapped ≡ is_unwrapped r.blocks.items b → after ≡ written_by r.text.now (block_taken_in r.syntax r.text.now (entry_of r.definitions) r.pieces.items unwrapped b) before → left_taken r.syntax r.text.now (entry_of r.definitions) r.blocks.items r.pieces.items (drop (r.place + 1) r.blocks.items) after ≡ left_taken r.syntax r.text.now (entry_of r.definitions) r.blocks.items r.pieces.items (drop r.place r.blocks.items) before
+pub block_made : (r : BlockReading) (b : Block) (unwrapped : Bool) (before after : Progress) → drop r.place r.blocks.items ≡ b ∷ drop (r.place + 1) r.blocks.items → unwrapped ≡ is_unwrapped r.blocks.items b → after ≡ written_by r.text (block_taken_in r.syntax r.text (entry_of r.definitions) r.pieces.items unwrapped b) before → left_taken r.syntax r.text (entry_of r.definitions) r.blocks.items r.pieces.items (drop (r.place + 1) r.blocks.items) after ≡ left_taken r.syntax r.text (entry_of r.definitions) r.blocks.items r.pieces.items (drop r.place r.blocks.items) before
 block_made r b unwrapped before after first u a =
-    let taken : List Block → Progress → Progress = left_taken r.syntax r.text.now (entry_of r.definitions) r.blocks.items r.pieces.items in
-    sym (first_behind r.syntax r.text.now (entry_of r.definitions) r.blocks.items r.pieces.items b (drop (r.place + 1) r.blocks.items) unwrapped before after u a)
+    let taken : List Block → Progress → Progress = left_taken r.syntax r.text (entry_of r.definitions) r.blocks.items r.pieces.items in
+    sym (first_behind r.syntax r.text (entry_of r.definitions) r.blocks.items r.pieces.items b (drop (r.place + 1) r.blocks.items) unwrapped before after u a)
     ∙ ap (λ l. taken l before) (sym first)
 
 -- the same of a reading in which the next block was taken
-pub one_taken : (r : BlockReading) (a : Assembly) (n : ℕ) (blocks : List Block) (pieces : List Piece) (b : Block) (unwrapped : Bool) → n ≡ r.place + 1 → blocks ≡ r.blocks.items → pieces ≡ r.pieces.items → r.place < length r.blocks.items → get_or r.blocks.items r.place b ≡ b → unwrapped ≡ is_unwrapped blocks b → assembly_view a ≡ written_by r.text.now (block_taken_in r.syntax r.text.now (entry_of r.definitions) pieces unwrapped b) (assembly_view r.assembly) → reading_left (record r { assembly = a; place = n }) ≡ reading_left r
+pub one_taken : (r : BlockReading) (a : Assembly) (n : ℕ) (blocks : List Block) (pieces : List Piece) (b : Block) (unwrapped : Bool) → n ≡ r.place + 1 → blocks ≡ r.blocks.items → pieces ≡ r.pieces.items → r.place < length r.blocks.items → get_or r.blocks.items r.place b ≡ b → unwrapped ≡ is_unwrapped blocks b → assembly_view a ≡ written_by r.text (block_taken_in r.syntax r.text (entry_of r.definitions) pieces unwrapped b) (assembly_view r.assembly) → reading_left (record r { assembly = a; place = n }) ≡ reading_left r
 one_taken r a n blocks pieces b unwrapped next same_blocks same_pieces lt is u made =
     let all : List Block = r.blocks.items in
-    let taken : List Block → Progress → Progress = left_taken r.syntax r.text.now (entry_of r.definitions) all r.pieces.items in
+    let taken : List Block → Progress → Progress = left_taken r.syntax r.text (entry_of r.definitions) all r.pieces.items in
     let first : drop r.place all ≡ b ∷ drop (r.place + 1) all = drop_more all r.place b lt ∙ ap (λ (x : Block). x ∷ drop (r.place + 1) all) is in
-    let one : (ps : List Piece) → Progress = λ ps. written_by r.text.now (block_taken_in r.syntax r.text.now (entry_of r.definitions) ps unwrapped b) (assembly_view r.assembly) in
+    let one : (ps : List Piece) → Progress = λ ps. written_by r.text (block_taken_in r.syntax r.text (entry_of r.definitions) ps unwrapped b) (assembly_view r.assembly) in
     ap (λ (p : Progress). reading_at_end (map string_bytes r.defined.items) p)
     (ap (λ (k : ℕ). taken (drop k all) (assembly_view a)) next
     ∙ block_made r b unwrapped (assembly_view r.assembly) (assembly_view a) first (u ∙ ap (λ (l : List Block). is_unwrapped l b) same_blocks) (made ∙ ap one same_pieces))

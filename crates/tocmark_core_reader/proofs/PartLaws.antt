@@ -42,9 +42,9 @@ emitted_leads : (text : List ℕ) (nodes : List NodeView) → Leads [] (emitted 
 emitted_leads text nodes = leads_closed 0 (fold (step text) (writing [] []) nodes) (leads_fold text nodes (writing [] []) refl)
 
 -- between two trees what is left is what the nodes of the blocks that are left come to
-left_emitted : (r : BlockReading) → IsBetweenTrees r → (reading_left r).events ≡ emitted r.text.now (nodes_left r).nodes
+left_emitted : (r : BlockReading) → IsBetweenTrees r → (reading_left r).events ≡ emitted r.text (nodes_left r).nodes
 left_emitted r h =
-    let text : List ℕ = r.text.now in
+    let text : List ℕ = r.text in
     let nodes : List NodeView = (nodes_left r).nodes in
     ap (λ (s : List Open). (closed 0 (fold (step text) (writing s (map shown r.assembly.emission.events.items)) nodes)).events) h.stack
     ∙ ap (λ es. (closed 0 (fold (step text) (writing [] (map shown es)) nodes)).events) h.events
@@ -52,5 +52,5 @@ left_emitted r h =
 pub part_balanced : (old new : BlockReading) (part : List Marked) → IsBetweenTrees old → IsBetweenTrees new → (reading_left old).events ≡ part ++ (reading_left new).events → IsBalanced (map (λ e. e.0) part)
 part_balanced old new part before after is =
     balanced_front part (reading_left new).events
-    (subst (λ (es : List Marked). Leads [] es []) (sym (left_emitted old before) ∙ is) (emitted_leads old.text.now (nodes_left old).nodes))
-    (subst (λ (es : List Marked). Leads [] es []) (sym (left_emitted new after)) (emitted_leads new.text.now (nodes_left new).nodes))
+    (subst (λ (es : List Marked). Leads [] es []) (sym (left_emitted old before) ∙ is) (emitted_leads old.text (nodes_left old).nodes))
+    (subst (λ (es : List Marked). Leads [] es []) (sym (left_emitted new after)) (emitted_leads new.text (nodes_left new).nodes))

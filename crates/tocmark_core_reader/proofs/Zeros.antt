@@ -1,5 +1,5 @@
 -- A text in which no U+0000 stands is left as it is, and so is an empty info string.
-use Rattle.std.proofs.Common.{◌≡◌, ◌<◌, ℕ, zero, suc, true, false, ◌==◌, List, [], ◌∷◌, ◌++◌, length, refl, ap, ◌∙◌, append-nil, slice_index, arith}
+use Rattle.std.proofs.Common.{◌≡◌, ◌<◌, ◌-◌, ℕ, zero, suc, true, false, ◌==◌, List, [], ◌∷◌, ◌++◌, length, drop, take, slice_range, refl, ap, ◌∙◌, append-nil, slice_index, arith}
 use Rattle.std.specs.List.{flat_map, list_any}
 use Rattle.std.specs.Str.{IsUtf8}
 use Rattle.std.specs.Str.Lossy.{utf8_lossy}
@@ -37,3 +37,18 @@ pub no_info : (names : Names) (bytes : List ℕ) → length bytes ≡ 0 → info
 unfolding info_text_in unescaped_in
 no_info names [] h = utf8_lossy_empty [] refl
 no_info names (b ∷ bs) h = absurd (omega (arith, h))
+
+none_behind : (n : ℕ) (xs : List ℕ) → list_any (λ b. b == 0) xs ≡ false → list_any (λ b. b == 0) (drop n xs) ≡ false
+none_behind zero xs h = h
+none_behind (suc n) [] h = refl
+none_behind (suc n) (x ∷ xs) h = none_behind n xs ((both_false (x == 0) (list_any (λ b. b == 0) xs) h).1)
+
+none_before : (n : ℕ) (xs : List ℕ) → list_any (λ b. b == 0) xs ≡ false → list_any (λ b. b == 0) (take n xs) ≡ false
+none_before zero xs h = refl
+none_before (suc n) [] h = refl
+none_before (suc n) (x ∷ xs) h =
+    let both = both_false (x == 0) (list_any (λ b. b == 0) xs) h in rw (both.0) (none_before n xs (both.1))
+
+-- nor in any part of it
+pub none_between : (text : List ℕ) (start end : ℕ) → list_any (λ b. b == 0) text ≡ false → list_any (λ b. b == 0) (slice_range text start end) ≡ false
+none_between text start end h = none_before (end - start) (drop start text) (none_behind start text h)

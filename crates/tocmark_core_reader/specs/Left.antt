@@ -36,8 +36,8 @@ goes_on r = nat_lt r.place (length r.blocks.items) && (is_empty r || not (is_at_
 -- all blocks that are left, written behind what is made and not handed out
 abbrev pub all_made : BlockReading → Progress
 all_made r =
-    written_by r.text.now
-    (λ s. fold (block_step_in r.syntax r.text.now (entry_of r.definitions) r.blocks.items r.pieces.items) s (drop r.place r.blocks.items))
+    written_by r.text
+    (λ s. fold (block_step_in r.syntax r.text (entry_of r.definitions) r.blocks.items r.pieces.items) s (drop r.place r.blocks.items))
     (assembly_view r.assembly)
 
 -- the reading in which this is all that is made

@@ -13,7 +13,8 @@ use crate::attributes::heading_tag;
 use crate::emit::{Emission, Node, NodeKind};
 use crate::inline::write_inlines;
 use crate::quiet::{are_quiet_lines, write_quiet_lines};
-use crate::words::{cleaned_part, info_text, name_text, spaces_text};
+use crate::searched::SearchedText;
+use crate::words::{info_text, name_text, part_of, spaces_text};
 use std::alloc::{AllocError, Global};
 use std::mem;
 use tocmark_event::event::{CodeBlockKind, CowStr, Tag};
@@ -65,7 +66,7 @@ fn content_lines(lines: &mut Vec<ContentLine>, pieces: &[Piece]) -> Result<(), A
 fn write_spaces(
     alloc: Global,
     out: &mut Emission,
-    text: &str,
+    text: &SearchedText<'_>,
     depth: usize,
     line: Piece,
 ) -> Result<(), AllocError>
@@ -90,7 +91,7 @@ fn write_spaces(
 fn write_words(
     alloc: Global,
     out: &mut Emission,
-    text: &str,
+    text: &SearchedText<'_>,
     html: bool,
     depth: usize,
     line: Piece,
@@ -99,7 +100,7 @@ fn write_words(
         (node depth (line_item text.now html line) line.start line.next)) }
 {
     let feed = line.end < line.next;
-    let words = cleaned_part(alloc, text, line.start, line.end, feed)?;
+    let words = part_of(alloc, text, line.start, line.end, feed)?;
     if !html {
         return out.write_text(text, depth, words, line.start, line.next);
     }
@@ -117,7 +118,7 @@ fn write_words(
 fn write_line(
     alloc: Global,
     out: &mut Emission,
-    text: &str,
+    text: &SearchedText<'_>,
     html: bool,
     depth: usize,
     line: Piece,
@@ -135,7 +136,7 @@ fn write_line(
 fn write_lines(
     alloc: Global,
     out: &mut Emission,
-    text: &str,
+    text: &SearchedText<'_>,
     html: bool,
     depth: usize,
     lines: &[Piece],
@@ -152,7 +153,11 @@ fn write_lines(
 
 /// The container that a block is. A thematic break is none, and stands as a paragraph here.
 #[tactic(auto, unfolding(crate::specs::Pages::block_tag))]
-fn block_tag(alloc: Global, text: &str, kind: BlockKind) -> Result<Tag<'static>, AllocError>
+fn block_tag(
+    alloc: Global,
+    text: &SearchedText<'_>,
+    kind: BlockKind,
+) -> Result<Tag<'static>, AllocError>
     ensures { IfOk result (λ t. tag_view text_of t ≡ block_tag text.now kind) }
 {
     match kind {
@@ -160,21 +165,25 @@ fn block_tag(alloc: Global, text: &str, kind: BlockKind) -> Result<Tag<'static>,
         BlockKind::List(first) => Ok(Tag::List(first)),
         BlockKind::Item => Ok(Tag::Item),
         BlockKind::Paragraph => Ok(Tag::Paragraph),
-        BlockKind::Heading(level, braces) => heading_tag(alloc, text, level, braces),
+        BlockKind::Heading(level, braces) => heading_tag(alloc, text.as_str(), level, braces),
         BlockKind::Indented => Ok(Tag::CodeBlock(CodeBlockKind::Indented)),
         BlockKind::Fenced(from, to) => {
-            let info = info_text(alloc, Names::Four, bytes_between(text.as_bytes(), from, to))?;
+            let info = info_text(
+                alloc,
+                Names::Four,
+                bytes_between(text.as_str().as_bytes(), from, to),
+            )?;
             Ok(Tag::CodeBlock(CodeBlockKind::Fenced(CowStr::Owned(info))))
         }
         BlockKind::Html => Ok(Tag::HtmlBlock),
         BlockKind::Rule => Ok(Tag::Paragraph),
         BlockKind::Metadata(kind) => Ok(Tag::MetadataBlock(kind)),
         BlockKind::Note(from, to) => {
-            let name = name_text(alloc, bytes_between(text.as_bytes(), from, to))?;
+            let name = name_text(alloc, bytes_between(text.as_str().as_bytes(), from, to))?;
             Ok(Tag::FootnoteDefinition(CowStr::Owned(name)))
         }
         BlockKind::Table(from, to) => {
-            let row = bytes_between(text.as_bytes(), from, to);
+            let row = bytes_between(text.as_str().as_bytes(), from, to);
             Ok(Tag::Table(alignments(alloc, row)?))
         }
         BlockKind::TableHead => Ok(Tag::TableHead),
@@ -204,7 +213,7 @@ pub(crate) fn is_unwrapped(blocks: &[Block], block: Block) -> bool
 fn write_tagged(
     alloc: Global,
     out: &mut Emission,
-    text: &str,
+    text: &SearchedText<'_>,
     block: Block,
 ) -> Result<(), AllocError>
     ensures { OnOk result (emission_view out.new
@@ -219,7 +228,7 @@ fn write_tagged(
 fn write_block(
     alloc: Global,
     out: &mut Emission,
-    text: &str,
+    text: &SearchedText<'_>,
     block: Block,
 ) -> Result<(), AllocError>
     ensures { OnOk result (emission_view out.new
@@ -241,7 +250,7 @@ fn write_fence(
     alloc: Global,
     names: Names,
     out: &mut Emission,
-    text: &str,
+    text: &SearchedText<'_>,
     from: usize,
     to: usize,
     block: Block,
@@ -249,7 +258,11 @@ fn write_fence(
     ensures { OnOk result (emission_view out.new
         ≡ step text.now (emission_view out.old) (fence_node_in names text.now from to block)) }
 {
-    let info = info_text(alloc, names, bytes_between(text.as_bytes(), from, to))?;
+    let info = info_text(
+        alloc,
+        names,
+        bytes_between(text.as_str().as_bytes(), from, to),
+    )?;
     let node = Node {
         depth: block.depth,
         item: NodeKind::Container(Tag::CodeBlock(CodeBlockKind::Fenced(CowStr::Owned(info)))),
@@ -264,7 +277,7 @@ fn write_fence(
 fn write_task(
     alloc: Global,
     out: &mut Emission,
-    text: &str,
+    text: &SearchedText<'_>,
     task: Option<Task>,
     depth: usize,
 ) -> Result<(), AllocError>
@@ -301,7 +314,7 @@ fn no_inlines(alloc: Global, texts: Vec<u8>) -> Inlines
 #[derive(Clone, Copy)]
 pub struct Document<'t, 'd> {
     pub syntax: Syntax,
-    pub text: &'t str,
+    pub text: &'d SearchedText<'t>,
     pub definitions: &'d Definitions,
 }
 
@@ -331,7 +344,12 @@ impl Assembly {
     }
 
     /// Writes inlines that were found, and keeps what they have beside the source.
-    fn write_found(&mut self, alloc: Global, text: &str, found: Inlines) -> Result<(), AllocError>
+    fn write_found(
+        &mut self,
+        alloc: Global,
+        text: &SearchedText<'_>,
+        found: Inlines,
+    ) -> Result<(), AllocError>
         ensures { OnOk result (assembly_view self.new ≡ written_by text.now
             (with_inlines (inlines_view found)) (assembly_view self.old)) }
     {
@@ -363,7 +381,7 @@ impl Assembly {
             (assembly_view self.old)) }
     {
         content_lines(&mut self.lines, pieces)?;
-        let content = content_of(alloc, document.text.as_bytes(), &self.lines)?;
+        let content = content_of(alloc, document.text.as_str().as_bytes(), &self.lines)?;
         let before = mem::replace(&mut self.inlines, no_inlines(alloc, Vec::new(alloc)));
         let found = read_inlines(
             alloc,
@@ -390,7 +408,7 @@ impl Assembly {
             (assembly_view self.old)) }
     {
         let text = document.text;
-        if self.inlines.nodes.is_empty() && are_quiet_lines(text.as_bytes(), pieces) {
+        if self.inlines.nodes.is_empty() && are_quiet_lines(text.as_str().as_bytes(), pieces) {
             write_quiet_lines(alloc, &mut self.emission, text, depth, pieces)
         } else {
             self.read_marked_leaf(alloc, document, pieces, depth)
@@ -410,7 +428,12 @@ impl Assembly {
             (entry_of document.now.definitions.now) block)
             (assembly_view self.old)) }
     {
-        let cell = cell_content(alloc, document.text.as_bytes(), block.start, block.end)?;
+        let cell = cell_content(
+            alloc,
+            document.text.as_str().as_bytes(),
+            block.start,
+            block.end,
+        )?;
         let content = Content::Pasted(cell);
         let before = mem::replace(&mut self.inlines, no_inlines(alloc, Vec::new(alloc)));
         let depth = block.depth.saturating_add(1);
@@ -426,7 +449,12 @@ impl Assembly {
     }
 
     #[tactic(auto, unfolding(crate::specs::Pages::with_block))]
-    fn open(&mut self, alloc: Global, text: &str, block: Block) -> Result<(), AllocError>
+    fn open(
+        &mut self,
+        alloc: Global,
+        text: &SearchedText<'_>,
+        block: Block,
+    ) -> Result<(), AllocError>
         ensures { OnOk result (assembly_view self.new
             ≡ written_by text.now (with_block text.now block) (assembly_view self.old)) }
     {
@@ -436,7 +464,12 @@ impl Assembly {
     }
 
     #[tactic(auto, unfolding(crate::specs::Pages::with_task))]
-    fn take_task(&mut self, alloc: Global, text: &str, block: Block) -> Result<(), AllocError>
+    fn take_task(
+        &mut self,
+        alloc: Global,
+        text: &SearchedText<'_>,
+        block: Block,
+    ) -> Result<(), AllocError>
         ensures { OnOk result (assembly_view self.new
             ≡ written_by text.now (with_task block) (assembly_view self.old)) }
     {
@@ -447,7 +480,7 @@ impl Assembly {
     fn take_lines(
         &mut self,
         alloc: Global,
-        text: &str,
+        text: &SearchedText<'_>,
         html: bool,
         block: Block,
         lines: &[Piece],
@@ -503,7 +536,12 @@ impl Assembly {
     }
 
     #[tactic(auto, unfolding(crate::specs::Pages::with_rule))]
-    fn take_rule(&mut self, alloc: Global, text: &str, block: Block) -> Result<(), AllocError>
+    fn take_rule(
+        &mut self,
+        alloc: Global,
+        text: &SearchedText<'_>,
+        block: Block,
+    ) -> Result<(), AllocError>
         ensures { OnOk result (assembly_view self.new
             ≡ written_by text.now (with_rule block) (assembly_view self.old)) }
     {

@@ -6,6 +6,7 @@ ghost use Rattle.tocmark_event.specs.Reading.{reading_view};
 ghost use Rattle.tocmark_core_reader.specs.Left.{HasFailed, IsAtEnd, IsBetweenTrees, IsHandable, IsPart, begins_tree, goes_on, has_events, is_at_tree, reading_left};
 
 use crate::block_events::{Assembly, Document, is_unwrapped};
+use crate::searched::SearchedText;
 use std::alloc::{AllocError, Global};
 use std::mem;
 use tocmark_event::reader::Reading;
@@ -31,7 +32,7 @@ use tocmark_read_syntax::Syntax;
 pub struct BlockReading<'t> {
     pub(crate) alloc: Global,
     pub(crate) syntax: Syntax,
-    pub(crate) text: &'t str,
+    pub(crate) text: SearchedText<'t>,
     pub(crate) blocks: Vec<Block>,
     pub(crate) pieces: Vec<Piece>,
     pub(crate) definitions: Definitions,
@@ -115,7 +116,7 @@ impl BlockReading<'_> {
             let unwrapped = is_unwrapped(&self.blocks, block);
             let document = Document {
                 syntax: self.syntax,
-                text: self.text,
+                text: &self.text,
                 definitions: &self.definitions,
             };
             self.assembly
@@ -186,7 +187,7 @@ impl BlockReading<'_> {
         ensures { IfOk result (λ found. reading_view found ≡ reading_left self.old) }
     {
         let blocks = self.blocks.len().saturating_add(self.pieces.len());
-        let room = blocks.max(likely_events(self.text.len()));
+        let room = blocks.max(likely_events(self.text.as_str().len()));
         self.assembly.emission.events.reserve(room)?;
         while self.place < self.blocks.len() {
             self.take()?;

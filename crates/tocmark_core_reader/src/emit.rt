@@ -7,7 +7,8 @@ ghost use Rattle.tocmark_core_reader.specs.Range.{is_cut, snapped, IsGoodRange};
 ghost use Rattle.tocmark_core_reader.specs.Emitted.{Container, Given, Source, item_view, node_view, emission_view, shown, closed, source_text, put, step};
 ghost use Rattle.tocmark_core_reader.specs.Pages.{node};
 
-use crate::words::cleaned_part;
+use crate::searched::SearchedText;
+use crate::words::part_of;
 use std::alloc::{AllocError, Global};
 use tocmark_event::event::{CowStr, Event, Tag, TagEnd};
 
@@ -85,12 +86,12 @@ pub fn snapped(text: &str, start: usize, end: usize) -> (usize, usize)
 
 fn source_text(
     alloc: Global,
-    text: &str,
+    text: &SearchedText<'_>,
     range: (usize, usize),
 ) -> Result<CowStr<'static>, AllocError>
     ensures { IfOk result (λ copy. text_of copy ≡ source_text text.now range) }
 {
-    Ok(CowStr::Owned(cleaned_part(alloc, text, range.0, range.1, false)?))
+    Ok(CowStr::Owned(part_of(alloc, text, range.0, range.1, false)?))
 }
 
 /// Adds an item to a list.
@@ -136,7 +137,7 @@ impl Emission {
     /// Begins a container.
     fn begin(
         &mut self,
-        text: &str,
+        text: &SearchedText<'_>,
         tag: Tag<'static>,
         range: (usize, usize),
     ) -> Result<(), AllocError>
@@ -154,7 +155,7 @@ impl Emission {
     fn put(
         &mut self,
         alloc: Global,
-        text: &str,
+        text: &SearchedText<'_>,
         item: NodeKind,
         range: (usize, usize),
     ) -> Result<(), AllocError>
@@ -182,7 +183,7 @@ impl Emission {
     /// Writes the node of a container.
     pub fn open(
         &mut self,
-        text: &str,
+        text: &SearchedText<'_>,
         depth: usize,
         tag: Tag<'static>,
         start: usize,
@@ -196,13 +197,13 @@ impl Emission {
             drop(tag);
             return closed;
         }
-        self.begin(text, tag, snapped(text, start, end))
+        self.begin(text, tag, snapped(text.as_str(), start, end))
     }
 
     /// Writes the node of a paragraph.
     pub fn open_paragraph(
         &mut self,
-        text: &str,
+        text: &SearchedText<'_>,
         depth: usize,
         start: usize,
         end: usize,
@@ -211,7 +212,7 @@ impl Emission {
             (node depth (Container Paragraph) start end)) }
     {
         self.close_to(depth)?;
-        let range = snapped(text, start, end);
+        let range = snapped(text.as_str(), start, end);
         self.events.push((Event::Start(Tag::Paragraph), range))?;
         self.stack.push(Open {
             end: TagEnd::Paragraph,
@@ -223,7 +224,7 @@ impl Emission {
     /// Writes the node of an item.
     pub fn open_item(
         &mut self,
-        text: &str,
+        text: &SearchedText<'_>,
         depth: usize,
         start: usize,
         end: usize,
@@ -232,7 +233,7 @@ impl Emission {
             (node depth (Container Item) start end)) }
     {
         self.close_to(depth)?;
-        let range = snapped(text, start, end);
+        let range = snapped(text.as_str(), start, end);
         self.events.push((Event::Start(Tag::Item), range))?;
         self.stack.push(Open {
             end: TagEnd::Item,
@@ -244,7 +245,7 @@ impl Emission {
     /// Writes the node of a list, which begins with a number if it is ordered.
     pub fn open_list(
         &mut self,
-        text: &str,
+        text: &SearchedText<'_>,
         depth: usize,
         first: Option<u64>,
         start: usize,
@@ -254,7 +255,7 @@ impl Emission {
             (node depth (Container (ListOf first)) start end)) }
     {
         self.close_to(depth)?;
-        let range = snapped(text, start, end);
+        let range = snapped(text.as_str(), start, end);
         self.events.push((Event::Start(Tag::List(first)), range))?;
         self.stack.push(Open {
             end: TagEnd::List(first.is_some()),
@@ -266,7 +267,7 @@ impl Emission {
     /// Writes the node of a text that differs from its source.
     pub fn write_text(
         &mut self,
-        text: &str,
+        text: &SearchedText<'_>,
         depth: usize,
         words: String,
         start: usize,
@@ -276,14 +277,14 @@ impl Emission {
             (node depth (Given (Text (string_bytes words))) start end)) }
     {
         self.close_to(depth)?;
-        push_text(&mut self.events, words, snapped(text, start, end))
+        push_text(&mut self.events, words, snapped(text.as_str(), start, end))
     }
 
     /// Writes the node of a text that is its source.
     pub fn write_source(
         &mut self,
         alloc: Global,
-        text: &str,
+        text: &SearchedText<'_>,
         depth: usize,
         start: usize,
         end: usize,
@@ -292,14 +293,19 @@ impl Emission {
             (node depth Source start end)) }
     {
         self.close_to(depth)?;
-        let range = snapped(text, start, end);
-        let words = cleaned_part(alloc, text, range.0, range.1, false)?;
+        let range = snapped(text.as_str(), start, end);
+        let words = part_of(alloc, text, range.0, range.1, false)?;
         push_text(&mut self.events, words, range)
     }
 
     /// Writes one node. Its range is that of the event if it is in order, within the text and on
     /// boundaries of characters; else the event gets an empty one at the front.
-    pub fn write(&mut self, alloc: Global, text: &str, node: Node) -> Result<(), AllocError>
+    pub fn write(
+        &mut self,
+        alloc: Global,
+        text: &SearchedText<'_>,
+        node: Node,
+    ) -> Result<(), AllocError>
         ensures { OnOk result (emission_view self.new
             ≡ step text.now (emission_view self.old) (node_view node)) }
     {
@@ -308,7 +314,7 @@ impl Emission {
             drop(node);
             return closed;
         }
-        let range = snapped(text, node.start, node.end);
+        let range = snapped(text.as_str(), node.start, node.end);
         self.put(alloc, text, node.item, range)
     }
 }

@@ -9,6 +9,7 @@ ghost use Rattle.tocmark_core_reader.specs.Inlines.{target_at, link_of, image_of
 ghost use Rattle.std.specs.Prelude.{encode_utf8};
 
 use crate::emit::{Emission, Node, NodeKind};
+use crate::searched::SearchedText;
 use crate::words::stretch_text;
 use std::alloc::{AllocError, Global};
 use tocmark_event::event::{CowStr, LinkType, Tag};
@@ -141,7 +142,7 @@ fn inline_node(
 fn write_inline(
     alloc: Global,
     out: &mut Emission,
-    text: &str,
+    text: &SearchedText<'_>,
     texts: &[u8],
     targets: &[Target],
     node: inline::Node,
@@ -161,7 +162,7 @@ fn write_inline(
 pub fn write_inlines(
     alloc: Global,
     out: &mut Emission,
-    text: &str,
+    text: &SearchedText<'_>,
     texts: &[u8],
     targets: &[Target],
     nodes: &[inline::Node],

@@ -2,8 +2,8 @@
 //!
 //! Below it stand `tocmark_read_blocks` and `tocmark_read_inlines`, above it the library, which hands it to its
 //! users. Enter at `CoreReader` (`reader`). `block_events` makes the events of the blocks, `inline` those of the lines in
-//! them, `quiet` those of lines without marks, `words` their texts, and `emit` writes them out. `is_plain` (`plain`)
-//! tells the texts that it reads as they stand.
+//! them, `quiet` those of lines without marks, `words` their texts, and `emit` writes them out; `searched` is the text,
+//! in which U+0000 is sought once. `is_plain` (`plain`) tells the texts that it reads as they stand.
 #![tactic(auto)]
 
 mod attributes;
@@ -16,6 +16,7 @@ pub mod laws;
 mod plain;
 mod quiet;
 mod reader;
+mod searched;
 mod words;
 
 pub use block_reading::BlockReading;

@@ -9,6 +9,7 @@ ghost use Rattle.tocmark_core_reader.specs.QuietLines.{is_text_byte, is_quiet_li
 
 use crate::emit::{Emission, Node, NodeKind};
 use crate::plain::last_byte;
+use crate::searched::SearchedText;
 use std::alloc::{AllocError, Global};
 use tocmark_read_leaves::definition::Piece;
 use tocmark_read_scan::basic::{byte_at, bytes_between};
@@ -92,7 +93,7 @@ pub fn are_quiet_lines(text: &[u8], lines: &[Piece]) -> bool
 fn write_further_line(
     alloc: Global,
     out: &mut Emission,
-    text: &str,
+    text: &SearchedText<'_>,
     depth: usize,
     line: Piece,
 ) -> Result<(), AllocError>
@@ -113,7 +114,7 @@ fn write_further_line(
 fn write_further_lines(
     alloc: Global,
     out: &mut Emission,
-    text: &str,
+    text: &SearchedText<'_>,
     depth: usize,
     lines: &[Piece],
 ) -> Result<(), AllocError>
@@ -131,7 +132,7 @@ fn write_further_lines(
 pub fn write_quiet_lines(
     alloc: Global,
     out: &mut Emission,
-    text: &str,
+    text: &SearchedText<'_>,
     depth: usize,
     lines: &[Piece],
 ) -> Result<(), AllocError>

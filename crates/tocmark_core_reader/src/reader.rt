@@ -10,6 +10,7 @@ ghost use Rattle.tocmark_event.specs.Reading.{reading_view};
 
 use crate::block_events::Assembly;
 use crate::block_reading::BlockReading;
+use crate::searched::SearchedText;
 use crate::words::replaced_bytes;
 use std::alloc::{AllocError, Global};
 use tocmark_event::event::ParserOptions;
@@ -137,7 +138,7 @@ pub fn find_blocks(
     Ok(BlockReading {
         alloc,
         syntax,
-        text,
+        text: SearchedText::new(text),
         blocks: found.blocks,
         pieces: found.pieces,
         definitions,

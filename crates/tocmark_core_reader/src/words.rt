@@ -1,7 +1,7 @@
 //! Texts of events that are not spelled in the source as they are.
 
-ghost use Rattle.std.specs.Prelude.{◌≡◌, ◌++◌, true, string_bytes, IfOk, OnOk};
-ghost use Rattle.std.specs.List.{flat_map};
+ghost use Rattle.std.specs.Prelude.{◌≡◌, ◌==◌, ◌++◌, false, true, string_bytes, IfOk, OnOk};
+ghost use Rattle.std.specs.List.{flat_map, list_any};
 ghost use Rattle.std.specs.Str.Lossy.{utf8_lossy};
 ghost use Rattle.tocmark_read_scan.specs.Basic.{bytes_between};
 ghost use Rattle.tocmark_read_tokens.specs.Reference.{unescaped_in};
@@ -10,6 +10,7 @@ ghost use Rattle.tocmark_read_leaves.specs.Definitions.{replaced};
 ghost use Rattle.tocmark_read_spans.specs.Definitions.{stretch_text};
 ghost use Rattle.tocmark_core_reader.specs.Words.{feed_if, cleaned, info_text_in, spaces_text, name_text};
 
+use crate::searched::SearchedText;
 use std::alloc::{AllocError, Global};
 use tocmark_event::event::CowStr;
 use tocmark_read_scan::basic::bytes_between;
@@ -96,19 +97,43 @@ fn cleaned_text(alloc: Global, text: &str, feed: bool) -> Result<String, AllocEr
     }
 }
 
+/// A text in which no U+0000 stands, and a line feed behind it if it is a line that ends.
+#[tactic(auto, using(crate::proofs::Zeros::text_kept, crate::proofs::Zeros::line_kept))]
+fn clean_text(alloc: Global, text: &str, feed: bool) -> Result<String, AllocError>
+    ensures { list_any (λ b. b == 0) text.now ≡ false
+        → IfOk result (λ t. string_bytes t ≡ cleaned text.now feed) }
+{
+    if feed {
+        with_feed(alloc, text)
+    } else {
+        String::from_str(alloc, text)
+    }
+}
+
 /// A part of a text with U+FFFD for U+0000, and a line feed behind it if it is a line that ends.
-pub fn cleaned_part(
+#[tactic(auto, using(crate::proofs::Zeros::none_between))]
+pub fn part_of(
     alloc: Global,
-    text: &str,
+    text: &SearchedText<'_>,
     start: usize,
     end: usize,
     feed: bool,
 ) -> Result<String, AllocError>
     ensures { IfOk result (λ t. string_bytes t ≡ cleaned (bytes_between text.now start end) feed) }
 {
-    match text.get(start..end) {
-        Some(part) => cleaned_text(alloc, part, feed),
-        None => cleaned(alloc, bytes_between(text.as_bytes(), start, end), feed),
+    match text.as_str().get(start..end) {
+        Some(part) => {
+            if text.is_clean() {
+                clean_text(alloc, part, feed)
+            } else {
+                cleaned_text(alloc, part, feed)
+            }
+        }
+        None => cleaned(
+            alloc,
+            bytes_between(text.as_str().as_bytes(), start, end),
+            feed,
+        ),
     }
 }
 

@@ -1,4 +1,4 @@
-use Rattle.std.proofs.Common.{rules, arith, ◌≡◌, ◌^◌, ◌<◌, ℕ, List, length, true, ap, sym, ◌∙◌}
+use Rattle.std.proofs.Common.{rules, arith, ◌≡◌, ◌^◌, ◌<◌, ℕ, List, length, true, ap, sym, subst, ◌∙◌}
 use Rattle.std.specs.Prelude.{◌==◌}
 use Rattle.std.proofs.lemmas.Bool.{eqb-true}
 use Rattle.std.proofs.lemmas.List.{nil_from_length}
@@ -17,9 +17,11 @@ returns-then-are_quiet_lines c =
     let text : List ℕ = c.args.document.now.text.now in
     let pieces : List Piece = c.args.pieces.now in
     let nodes : List Node = c.args.self.now.inlines.nodes.items in
-    let quiet : are_quiet_lines text pieces ≡ true = ap (λ bytes. are_quiet_lines bytes pieces) (sym c.as_bytes.ensures.value) ∙ sym c.if-are_quiet_lines.ensures in
+    let same : c.as_bytes.result.now ≡ text = c.as_bytes.ensures.value ∙ c.as_str.ensures in
+    let quiet : are_quiet_lines text pieces ≡ true = ap (λ bytes. are_quiet_lines bytes pieces) (sym same) ∙ sym c.if-are_quiet_lines.ensures in
     let none : (length nodes == 0) ≡ true = search rules in
-    let fits : length text < 2 ^ 64 = omega arith in
+    let long : length c.as_bytes.result.now < 2 ^ 64 = omega arith in
+    let fits : length text < 2 ^ 64 = subst (λ (xs : List ℕ). length xs < 2 ^ 64) same long in
     on_ok_weaker c.write_quiet_lines.result
     (λ wrote.
     quiet_written c.args.document.now.syntax text (entry_of c.args.document.now.definitions.now) pieces c.args.depth (assembly_view c.args.self.now) (emission_view c.write_quiet_lines.new.out) quiet (nil_from_length nodes (eqb-true (length nodes) 0 none)) fits wrote)
