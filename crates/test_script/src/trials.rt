@@ -36,12 +36,7 @@ impl Front {
     /// A renderer of the unit that begins here.
     fn renderer<'u>(&self, alloc: Global) -> Result<Renderer<'u>, AllocError> {
         let trail = self.trail.copied(alloc)?;
-        Ok(Renderer::resume(
-            alloc,
-            String::new(alloc),
-            self.newlines,
-            trail,
-        ))
+        Ok(Renderer::resume(alloc, String::new(alloc), self.newlines, trail))
     }
 
     /// Goes on to where a unit ended.

@@ -77,22 +77,52 @@ block k start end first last = record { depth = 0; kind = k; start = start; end 
 -- a page on which all blocks have ended
 abbrev pub closed : List Block → List Piece → ℕ → ℕ → State
 closed bs ps end number = record {
-  blocks = bs; pieces = ps; definitions = []; opened = []; quotes = []; leaf = leaf.Nothing;
-  end = end; line = number; kept = length ps; header = Never; tried = 0; left = None;
+  blocks = bs;
+  pieces = ps;
+  definitions = [];
+  opened = [];
+  quotes = [];
+  leaf = leaf.Nothing;
+  end = end;
+  line = number;
+  kept = length ps;
+  header = Never;
+  tried = 0;
+  left = None;
 }
 
 -- a page on which a paragraph began that has no line yet
 abbrev fresh : List Block → List Piece → ℕ → ℕ → ℕ → State
 fresh bs ps start end number = record {
-  blocks = bs ++ block kind.Paragraph start start (length ps) (length ps) ∷ []; pieces = ps; definitions = []; opened = []; quotes = []; leaf = leaf.Paragraph;
-  end = end; line = number; kept = length ps; header = Never; tried = 0; left = None;
+  blocks = bs ++ block kind.Paragraph start start (length ps) (length ps) ∷ [];
+  pieces = ps;
+  definitions = [];
+  opened = [];
+  quotes = [];
+  leaf = leaf.Paragraph;
+  end = end;
+  line = number;
+  kept = length ps;
+  header = Never;
+  tried = 0;
+  left = None;
 }
 
 -- a page with an open paragraph of one line
 abbrev pub open_page : List Block → List Piece → Piece → ℕ → ℕ → ℕ → State
 open_page bs ps p start end number = record {
-  blocks = bs ++ block kind.Paragraph start start (length ps) (length ps) ∷ []; pieces = ps ++ p ∷ []; definitions = []; opened = []; quotes = []; leaf = leaf.Paragraph;
-  end = end; line = number; kept = length (ps ++ p ∷ []); header = Never; tried = 0; left = None;
+  blocks = bs ++ block kind.Paragraph start start (length ps) (length ps) ∷ [];
+  pieces = ps ++ p ∷ [];
+  definitions = [];
+  opened = [];
+  quotes = [];
+  leaf = leaf.Paragraph;
+  end = end;
+  line = number;
+  kept = length (ps ++ p ∷ []);
+  header = Never;
+  tried = 0;
+  left = None;
 }
 
 pub last_place : {A : Type 0} (xs : List A) (x : A) → length (xs ++ x ∷ []) - 1 ≡ length xs
@@ -217,14 +247,34 @@ starts_heading text cells l h from to s k =
 -- a page with a heading that has its piece, before it is finished
 abbrev headed : List Block → List Piece → Piece → HeadingLevel → ℕ → ℕ → ℕ → State
 headed bs ps p level start end number = record {
-  blocks = bs ++ block (kind.Heading level None) start start (length ps) (length ps) ∷ []; pieces = ps ++ p ∷ []; definitions = []; opened = []; quotes = []; leaf = leaf.Nothing;
-  end = end; line = number; kept = length (ps ++ p ∷ []); header = Never; tried = 0; left = None;
+  blocks = bs ++ block (kind.Heading level None) start start (length ps) (length ps) ∷ [];
+  pieces = ps ++ p ∷ [];
+  definitions = [];
+  opened = [];
+  quotes = [];
+  leaf = leaf.Nothing;
+  end = end;
+  line = number;
+  kept = length (ps ++ p ∷ []);
+  header = Never;
+  tried = 0;
+  left = None;
 }
 
 abbrev unheaded : List Block → List Piece → HeadingLevel → ℕ → ℕ → ℕ → State
 unheaded bs ps level start end number = record {
-  blocks = bs ++ block (kind.Heading level None) start start (length ps) (length ps) ∷ []; pieces = ps; definitions = []; opened = []; quotes = []; leaf = leaf.Nothing;
-  end = end; line = number; kept = length ps; header = Never; tried = 0; left = None;
+  blocks = bs ++ block (kind.Heading level None) start start (length ps) (length ps) ∷ [];
+  pieces = ps;
+  definitions = [];
+  opened = [];
+  quotes = [];
+  leaf = leaf.Nothing;
+  end = end;
+  line = number;
+  kept = length ps;
+  header = Never;
+  tried = 0;
+  left = None;
 }
 
 heading_finished : (bs : List Block) (ps : List Piece) (p : Piece) (level : HeadingLevel) (start end number : ℕ) → leaf_finished (headed bs ps p level start end number) ≡ closed (bs ++ block (kind.Heading level None) start end (length ps) (length (ps ++ p ∷ [])) ∷ []) (ps ++ p ∷ []) end number

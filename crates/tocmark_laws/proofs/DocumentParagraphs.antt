@@ -36,8 +36,18 @@ use Rattle.tocmark_laws.proofs.DocumentBlocks.{block, closed, here, get_last, se
 -- a page with an open paragraph that has these pieces
 abbrev pub open_lines : List Block → List Piece → List Piece → ℕ → ℕ → ℕ → State
 open_lines bs ps new start end number = record {
-  blocks = bs ++ block kind.Paragraph start start (length ps) (length ps) ∷ []; pieces = ps ++ new; definitions = []; opened = []; quotes = []; leaf = leaf.Paragraph;
-  end = end; line = number; kept = length (ps ++ new); header = Never; tried = 0; left = None;
+  blocks = bs ++ block kind.Paragraph start start (length ps) (length ps) ∷ [];
+  pieces = ps ++ new;
+  definitions = [];
+  opened = [];
+  quotes = [];
+  leaf = leaf.Paragraph;
+  end = end;
+  line = number;
+  kept = length (ps ++ new);
+  header = Never;
+  tried = 0;
+  left = None;
 }
 
 started_before : (at : ℕ) (bs : List Block) (ps new : List Piece) (p : Piece) (start end number : ℕ) → text_started at (open_lines bs ps (p ∷ new) start end number) ≡ open_lines bs ps (p ∷ new) start end number

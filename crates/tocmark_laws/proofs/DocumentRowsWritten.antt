@@ -41,7 +41,6 @@ line_block_events b = Start (tag_of b.kind) ∷ Leaf (Text (concat b.texts)) ∷
 abbrev pub line_document : List Block → List EventView
 line_document bs = flat_map line_block_events bs
 
-
 -- how the text of a heading ends
 
 or_true : (x : Bool) → (x || true) ≡ true

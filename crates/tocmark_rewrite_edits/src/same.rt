@@ -69,10 +69,7 @@ pub fn are_same(
 
 /// Whether the first events in which two lists differ are there on both sides, and neither is a text: then
 /// the lists say different things however texts are cut. It takes no memory.
-pub fn differ(
-    found: &[(Event<'_>, (usize, usize))],
-    given: &[(Event<'_>, (usize, usize))],
-) -> bool
+pub fn differ(found: &[(Event<'_>, (usize, usize))], given: &[(Event<'_>, (usize, usize))]) -> bool
     ensures { result ≡ are_apart (given_events found.now) (given_events given.now) }
 {
     let count = found.len().min(given.len());
