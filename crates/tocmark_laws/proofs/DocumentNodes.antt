@@ -8,7 +8,7 @@ use Rattle.tocmark_read_scan.specs.Class.{is_in}
 use Rattle.tocmark_read_scan.specs.Content as content
 use Rattle.tocmark_read_scan.specs.declared.class.Class.TheVariants.{White}
 use Rattle.tocmark_read_scan.specs.PlainParts.{Part, spelled, last_byte}
-use Rattle.tocmark_read_scan.proofs.PlainContent.{places_of, take_front}
+use Rattle.tocmark_read_scan.proofs.PlainContent.{length_places, places_of, put_bytes_plain, take_front, trimmed_feed}
 use Rattle.tocmark_read_scan.proofs.PlainPieces.{feed_joined, piece_between, drop_behind, AreNoZeros}
 use Rattle.tocmark_read_leaves.specs.Codes.{piece_of}
 use Rattle.tocmark_read_leaves.specs.declared.definition.Piece.{Piece}
@@ -25,6 +25,7 @@ use Rattle.tocmark_core_reader.specs.Attributes.{heading_tag}
 use Rattle.tocmark_core_reader.specs.Emitted.{NodeView, Container}
 use Rattle.tocmark_core_reader.specs.Pages.{State, start_state, pieces_of, is_unwrapped, block_taken, block_taken_in, block_step_in, paragraph_taken_in, wrapped, wrapped_in, task_nodes, with_block, leaf_inlines_in, with_inlines, content_line, block_tag}
 use Rattle.tocmark_core_reader.specs.Reading.{found_in, found_under, FoundView, collected, collected_from, first_entry}
+use Rattle.tocmark_core_reader.proofs.PlacedParts.{parts_inlines_at}
 use Rattle.tocmark_core_reader.proofs.PlainEvents.{viewed}
 use Rattle.tocmark_core_reader.proofs.PlainReading.{IsPrintable, IsPlainLine, spelled_text}
 use Rattle.tocmark_core_reader.specs.PlainTexts.{text_parts}
@@ -33,9 +34,20 @@ use Rattle.tocmark_read_syntax.specs.declared.TheConstants.{CORE}
 use Rattle.tocmark_read_blocks.proofs.PlainFronts.{BeginsPlainly}
 use Rattle.tocmark_laws.specs.TextBlocks.{Kind, ParagraphKind, HeadingKind, mark_of, tag_of}
 use Rattle.tocmark_laws.proofs.DocumentBlocks.{block}
-use Rattle.tocmark_laws.proofs.DocumentInlines.{content_of_line, parts_inlines_at}
 use Rattle.tocmark_laws.proofs.DocumentRows.{Row, Blank, Filled, row_bytes, rows_text, IsFilled, IsRow, AreRows, all_rows, block_kind, content_start, row_end, behind, filled_pieces, row_blocks, row_pieces, rows_blocks, counted}
 use Rattle.tocmark_laws.proofs.DocumentParagraphs.{content_of_lines, behind_line, line_length}
+
+-- the content of one line that stands in a text
+content_of_line : (text xs : List ℕ) (start next : ℕ) (body : List ℕ) (y : ℕ) → bytes_between text start (start + length xs) ≡ xs → xs ≡ body ++ y ∷ [] → is_in White y ≡ false → AreNoZeros xs → start + length xs < 2 ^ 64 → content.content_of text (record { start = start; end = start + length xs; next = next } ∷ []) ≡ record { bytes = xs; places = places_of start xs }
+unfolding content.content_of content.put_line content.put
+content_of_line text xs start next body y e split white zeros fits =
+    let end : ℕ = start + length xs in
+    let none : content.State = record { bytes = []; places = [] } in
+    ap (λ (l : List ℕ). content.trimmed (content.put 10 end next (content.put_bytes start none l))) e
+    ∙ ap (λ (t : content.State). content.trimmed (content.put 10 end next t)) (put_bytes_plain start none xs zeros fits)
+    ∙ ap (λ (l : List ℕ). content.trimmed (record { bytes = l ++ 10 ∷ []; places = places_of start xs ++ (end, next) ∷ [] })) split
+    ∙ trimmed_feed body y (places_of start xs) (end, next) (length_places start xs ∙ ap length split) white
+    ∙ ap (λ (l : List ℕ). (let f : content.State = record { bytes = l; places = places_of start xs } in f)) (sym split)
 
 -- how a line ends
 

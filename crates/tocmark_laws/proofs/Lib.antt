@@ -32,7 +32,6 @@ pub mod DocumentBlocks
 pub mod DocumentHeadings
 pub mod DocumentParagraphs
 pub mod DocumentRows
-pub mod DocumentInlines
 pub mod DocumentNodes
 pub mod DocumentEvents
 pub mod DocumentRowsWritten
