@@ -1,5 +1,5 @@
 -- A page at the top of which blocks have ended, and what a line makes of it.
-use Rattle.std.proofs.Common.{◌≡◌, ℕ, suc, ◌+◌, ◌-◌, ◌^◌, ◌<◌, Bool, true, false, ◌==◌, nat_lt, nat_le, List, [], ◌∷◌, ◌++◌, length, drop, slice_get, refl, ap, sym, ◌∙◌, arith, length-append, Some, None}
+use Rattle.std.proofs.Common.{◌≡◌, ℕ, ◌-◌, ◌^◌, ◌<◌, Bool, true, false, ◌==◌, nat_lt, nat_le, List, [], ◌∷◌, ◌++◌, length, slice_get, refl, ap, sym, ◌∙◌, arith, length-append, Some, None}
 use Rattle.std.proofs.Math.Seq.{take-length}
 use Rattle.std.specs.Prelude.{slice_set}
 use Rattle.tocmark_read_scan.specs.Basic.{plus, byte_at, bytes_between}
@@ -18,8 +18,8 @@ use Rattle.std.proofs.lemmas.Bool.Decides.{nat_tests}
 use Rattle.tocmark_read_leaves.specs.Definitions.{begins_definition, definitions_from}
 use Rattle.tocmark_read_leaves.specs.Leaves.{leaf_at, mark_at, html_at, underline_in, rule_at, is_paragraph, leaf_turn}
 use Rattle.tocmark_read_lines.specs.Html.{html_kind}
-use Rattle.tocmark_read_lines.specs.Marks.{is_rule, marker_at, heading_at, fence_at, underline_at, tail_of}
-use Rattle.tocmark_read_open_blocks.specs.Pages.{State, first_page, leaf_opened, leaf_closed, closed_to, times, list_left, begun, loosened, had_marked, list_of, is_apart, leaf_finished, finished, settled, shortened, piece_taken, one_closed}
+use Rattle.tocmark_read_lines.specs.Marks.{is_rule, marker_at, heading_at, underline_at, tail_of}
+use Rattle.tocmark_read_open_blocks.specs.Pages.{State, leaf_opened, leaf_closed, closed_to, times, list_left, begun, loosened, had_marked, list_of, is_apart, leaf_finished, finished, settled, shortened, piece_taken, one_closed}
 use Rattle.tocmark_read_open_blocks.specs.declared.line_start.LineStart.{LineStart}
 use Rattle.tocmark_read_open_blocks.specs.declared.page.Block.{Block}
 use Rattle.tocmark_read_open_blocks.specs.declared.page.BlockKind.{BlockKind}

@@ -1,23 +1,21 @@
 -- The events of a text of rows, and what these are when they are merged.
-use Rattle.std.proofs.Common.{◌≡◌, ℕ, suc, ◌+◌, ◌^◌, ◌<◌, ◌≤◌, List, [], ◌∷◌, ◌++◌, length, map, take, refl, ap, sym, subst, ◌∙◌, arith, append_assoc, append-nil, length-append, None, Some, Option}
+use Rattle.std.proofs.Common.{◌≡◌, ℕ, suc, ◌+◌, ◌^◌, ◌<◌, ◌≤◌, List, [], ◌∷◌, ◌++◌, length, map, take, refl, ap, sym, ◌∙◌, arith, append_assoc, append-nil, length-append, None, Some, Option}
 use Rattle.std.specs.List.{AllByRecursion, fold}
 use Rattle.std.proofs.lemmas.List.Sums.{fold-append}
 use Rattle.tocmark_event.specs.Merged.{merged, after_text}
-use Rattle.tocmark_event.specs.Reading.{ReadingView}
-use Rattle.tocmark_event.specs.View.{EventView, Start, End, Leaf, Text, TagView, end_of}
+use Rattle.tocmark_event.specs.View.{EventView, Start, End, Leaf, Text, end_of}
 use Rattle.tocmark_event.specs.declared.event.TagEnd.{TagEnd}
 use Rattle.tocmark_read_scan.specs.PlainParts.{Part, Bare, Escaped, Referred, Feed, spelled, spelled_part, meant}
 use Rattle.tocmark_read_inlines.proofs.PlainNodes.{nodes_of}
-use Rattle.tocmark_core_reader.specs.Emitted.{NodeView, Container, Writing, step, closed, closings, emitted}
+use Rattle.tocmark_core_reader.specs.Emitted.{NodeView, Writing, step, closings, emitted}
 use Rattle.tocmark_core_reader.specs.declared.emit.Open.{Open}
 use Rattle.tocmark_core_reader.specs.PlainTexts.{IsReadAs, line_events, text_parts}
-use Rattle.tocmark_core_reader.specs.Range.{snapped}
 use Rattle.tocmark_core_reader.specs.Reading.{core_reading, found_in, reading_of, FoundView}
-use Rattle.tocmark_core_reader.proofs.PlainEvents.{Marked, viewed, unplaced, at, events_of, emit_parts, source_of, AreSourced, merged_parts, said}
+use Rattle.tocmark_core_reader.proofs.PlainEvents.{Marked, viewed, unplaced, at, events_of, emit_parts, source_of, AreSourced, merged_parts}
 use Rattle.tocmark_core_reader.proofs.PlainReading.{IsPlainLine, merged_lines}
 use Rattle.tocmark_core_reader.proofs.PlainSources.{AreClean, snapped_clean, sourced_parts}
-use Rattle.tocmark_laws.specs.TextBlocks.{Kind, ParagraphKind, HeadingKind, mark_of, tag_of}
-use Rattle.tocmark_laws.proofs.DocumentRows.{Row, Blank, Filled, row_bytes, rows_text, IsFilled, IsRow, AreRows, all_rows, content_start, row_end, rows_clean}
+use Rattle.tocmark_laws.specs.TextBlocks.{Kind, mark_of, tag_of}
+use Rattle.tocmark_laws.proofs.DocumentRows.{Row, Blank, Filled, rows_text, IsRow, AreRows, all_rows, content_start, row_end, rows_clean}
 use Rattle.tocmark_laws.proofs.DocumentNodes.{row_node, row_nodes, found_rows, rows_found, content_front}
 use Rattle.tocmark_laws.proofs.DocumentParagraphs.{behind_line, line_length}
 

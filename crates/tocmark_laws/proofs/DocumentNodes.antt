@@ -1,29 +1,25 @@
 -- The nodes of a text of rows.
-use Rattle.std.proofs.Common.{◌≡◌, ℕ, zero, suc, ◌+◌, ◌-◌, ◌^◌, ◌<◌, ◌≤◌, Bool, true, false, ◌==◌, nat_le, List, [], ◌∷◌, ◌++◌, length, map, drop, take, refl, ap, sym, subst, ◌∙◌, arith, append_assoc, append-nil, length-append, None, Some, Option}
+use Rattle.std.proofs.Common.{◌≡◌, ℕ, suc, ◌+◌, ◌-◌, ◌^◌, ◌<◌, ◌≤◌, true, false, ◌==◌, nat_le, List, [], ◌∷◌, ◌++◌, length, map, drop, refl, ap, sym, subst, ◌∙◌, arith, append_assoc, append-nil, length-append, None, Option}
 use Rattle.std.proofs.lemmas.Bool.Decides.{nat_tests}
 use Rattle.std.specs.List.{AllByRecursion, fold}
-use Rattle.tocmark_event.specs.declared.event.HeadingLevel.{HeadingLevel}
-use Rattle.tocmark_read_scan.specs.Basic.{plus, bytes_between}
+use Rattle.tocmark_read_scan.specs.Basic.{bytes_between}
 use Rattle.tocmark_read_scan.specs.Class.{is_in}
 use Rattle.tocmark_read_scan.specs.Content as content
 use Rattle.tocmark_read_scan.specs.declared.class.Class.TheVariants.{White}
 use Rattle.tocmark_read_scan.specs.PlainParts.{Part, spelled, last_byte}
 use Rattle.tocmark_read_scan.proofs.PlainContent.{length_places, places_of, put_bytes_plain, take_front, trimmed_feed}
 use Rattle.tocmark_read_scan.proofs.PlainPieces.{feed_joined, piece_between, drop_behind, AreNoZeros}
-use Rattle.tocmark_read_leaves.specs.Codes.{piece_of}
 use Rattle.tocmark_read_leaves.specs.declared.definition.Piece.{Piece}
 use Rattle.tocmark_read_open_blocks.specs.declared.page.Block.{Block}
-use Rattle.tocmark_read_open_blocks.specs.declared.page.BlockKind.TheVariants as kind
-use Rattle.tocmark_read_blocks.specs.Blocks.{BlocksView, blocks_of}
+use Rattle.tocmark_read_blocks.specs.Blocks.{BlocksView}
 use Rattle.tocmark_read_spans.specs.Definitions as defs
 use Rattle.tocmark_read_spans.specs.declared.definitions.Entry.{Entry}
 use Rattle.tocmark_read_inlines.specs.Inlines as inlines
 use Rattle.tocmark_read_inlines.proofs.PlainLeaf.{known}
 use Rattle.tocmark_read_inlines.proofs.PlainNeighbours.{plain_parts_are_read}
 use Rattle.tocmark_read_inlines.proofs.PlainNodes.{nodes_of}
-use Rattle.tocmark_core_reader.specs.Attributes.{heading_tag}
 use Rattle.tocmark_core_reader.specs.Emitted.{NodeView, Container}
-use Rattle.tocmark_core_reader.specs.Pages.{State, start_state, pieces_of, is_unwrapped, block_taken, block_taken_in, block_step_in, paragraph_taken_in, wrapped, wrapped_in, task_nodes, with_block, leaf_inlines_in, with_inlines, content_line, block_tag}
+use Rattle.tocmark_core_reader.specs.Pages.{State, start_state, pieces_of, is_unwrapped, block_taken_in, block_step_in, paragraph_taken_in, wrapped, wrapped_in, task_nodes, with_block, leaf_inlines_in, with_inlines, content_line, block_tag}
 use Rattle.tocmark_core_reader.specs.Reading.{found_in, found_under, FoundView, collected, collected_from, first_entry}
 use Rattle.tocmark_core_reader.proofs.PlacedParts.{parts_inlines_at}
 use Rattle.tocmark_core_reader.proofs.PlainEvents.{viewed}

@@ -1,8 +1,7 @@
 -- Paragraphs of many lines behind other blocks: the page, its pieces, and their content.
-use Rattle.std.proofs.Common.{◌≡◌, ℕ, zero, suc, ◌+◌, ◌-◌, ◌^◌, ◌<◌, ◌≤◌, Bool, true, false, ◌==◌, nat_lt, nat_le, List, [], ◌∷◌, ◌++◌, length, map, drop, slice_get, refl, ap, sym, subst, ◌∙◌, arith, append_assoc, append-nil, length-append, Some, None}
+use Rattle.std.proofs.Common.{◌≡◌, ℕ, suc, ◌+◌, ◌-◌, ◌^◌, ◌<◌, true, false, ◌==◌, nat_lt, nat_le, List, [], ◌∷◌, ◌++◌, length, map, refl, ap, sym, ◌∙◌, arith, append_assoc, length-append, None}
 use Rattle.std.proofs.Math.Seq.{take-length}
 use Rattle.std.proofs.lemmas.Bool.Decides.{nat_tests}
-use Rattle.std.specs.Prelude.{slice_set}
 use Rattle.std.specs.List.{AllByRecursion, fold}
 use Rattle.tocmark_read_scan.specs.Basic.{plus, byte_at, bytes_between}
 use Rattle.tocmark_read_scan.specs.Class.{is_in}
@@ -29,8 +28,6 @@ use Rattle.tocmark_read_blocks.proofs.PlainLines.{numbered}
 use Rattle.tocmark_read_blocks.proofs.PlainSteps.{IsPlainLine, line_piece}
 use Rattle.tocmark_read_blocks.proofs.PlainTexts.{line_list}
 use Rattle.tocmark_core_reader.specs.Pages.{content_line}
-use Rattle.tocmark_read_blocks.proofs.PlainFronts.{BeginsPlainly}
-use Rattle.tocmark_read_blocks.proofs.PlainLines.{IsWithin}
 use Rattle.tocmark_laws.proofs.DocumentBlocks.{block, closed, here, get_last, set_last, starts_text, piece_taken_whole, blank_started}
 
 -- a page with an open paragraph that has these pieces

@@ -1,12 +1,12 @@
 -- The blocks of a text of rows: paragraphs and headings of one line each, and blank lines.
-use Rattle.std.proofs.Common.{◌≡◌, ℕ, zero, suc, ◌+◌, ◌-◌, ◌^◌, ◌<◌, ◌≤◌, Bool, true, false, ◌==◌, ◌&&◌, if◌then◌else◌, nat_lt, List, [], ◌∷◌, ◌++◌, length, map, refl, ap, sym, subst, ◌∙◌, arith, append_assoc, append-nil, length-append, None, Some, inl, inr, true≢false, unwrap_or}
+use Rattle.std.proofs.Common.{◌≡◌, ℕ, zero, suc, ◌+◌, ◌-◌, ◌^◌, ◌<◌, ◌≤◌, Bool, true, false, ◌==◌, ◌&&◌, if◌then◌else◌, nat_lt, List, [], ◌∷◌, ◌++◌, length, map, refl, ap, sym, subst, ◌∙◌, arith, append_assoc, append-nil, length-append, None, inl, inr, true≢false}
 use Rattle.std.proofs.lemmas.Bool.Decides.{nat_tests}
 use Rattle.std.specs.Char.{is_ascii_digit}
 use Rattle.std.specs.List.{AllByRecursion, fold}
 use Rattle.tocmark_event.specs.declared.event.HeadingLevel.{HeadingLevel}
 use Rattle.tocmark_event.specs.declared.event.HeadingLevel.TheVariants as level
 use Rattle.tocmark_read_scan.specs.Basic.{plus, byte_at, bytes_between}
-use Rattle.tocmark_read_scan.specs.PlainParts.{Part, Bare, Escaped, Referred, Feed, spelled, spelled_part}
+use Rattle.tocmark_read_scan.specs.PlainParts.{Part, Bare, Escaped, Referred, Feed, spelled}
 use Rattle.tocmark_read_scan.proofs.PlainPieces.{feed_joined, piece_between}
 use Rattle.tocmark_read_scan.proofs.PlainTests.{not_char}
 use Rattle.tocmark_read_lines.specs.Lines.{ends_here, line_stop, line, lines_from, lines_of}
@@ -22,7 +22,7 @@ use Rattle.tocmark_read_open_blocks.specs.declared.page.BlockKind.TheVariants as
 use Rattle.tocmark_read_blocks.specs.Blocks.{BlocksView, line_taken, page_in, blocks_in, blocks_of}
 use Rattle.tocmark_read_blocks.proofs.PlainFronts.{BeginsPlainly, plainly_begins_nothing}
 use Rattle.tocmark_read_blocks.proofs.PlainLines.{IsWithin, lines_within as line_within, cells_within, numbered}
-use Rattle.tocmark_read_blocks.proofs.PlainSteps.{IsPlainLine as IsPlainBlockLine, BeginsNothing, line_piece}
+use Rattle.tocmark_read_blocks.proofs.PlainSteps.{IsPlainLine as IsPlainBlockLine, BeginsNothing}
 use Rattle.tocmark_read_blocks.proofs.PlainTexts.{line_list, AreNoReturns}
 use Rattle.tocmark_read_inlines.proofs.PlainNeighbours.{ArePlainParts}
 use Rattle.tocmark_core_reader.specs.PlainTexts.{text_parts}

@@ -1,25 +1,22 @@
 -- What is handed for a document of headings and paragraphs of one line each is a text of rows that mean it.
-use Rattle.std.proofs.Common.{◌≡◌, ◌≢◌, ℕ, zero, suc, max, ◌+◌, ◌-◌, ◌^◌, ◌<◌, ◌≤◌, Bool, true, false, not, ◌==◌, ◌&&◌, ◌||◌, List, [], ◌∷◌, ◌++◌, length, map, replicate, codes, chars, flat_map, refl, ap, sym, subst, ◌∙◌, arith, append_assoc, append-nil, length-append, None, Some, Option, inl, inr, ◌⊎◌, IsAscii, true≢false, Ok}
+use Rattle.std.proofs.Common.{◌≡◌, ◌≢◌, ℕ, zero, suc, max, ◌-◌, ◌^◌, ◌<◌, Bool, true, false, not, ◌==◌, ◌&&◌, ◌||◌, List, [], ◌∷◌, ◌++◌, length, map, replicate, codes, chars, flat_map, refl, ap, sym, subst, ◌∙◌, arith, append_assoc, append-nil, None, Some, Option, inl, inr, ◌⊎◌, IsAscii, true≢false}
 use Rattle.std.proofs.lemmas.Str.{chars-IsAscii}
-use Rattle.std.proofs.lemmas.Bool.Decides.{nat_tests}
 use Rattle.std.specs.Prelude.{is_none}
 use Rattle.std.specs.Char.{char_set_contains, is_ascii_digit}
-use Rattle.std.specs.List.{AllByRecursion, concat, list_all}
+use Rattle.std.specs.List.{AllByRecursion, concat}
 use Rattle.tocmark_event.specs.Options.{OptionsView}
 use Rattle.tocmark_event.specs.Merged.{merged, after_text}
 use Rattle.tocmark_event.specs.Reading.{ReadingView}
 use Rattle.tocmark_event.specs.View.{EventView, Start, End, Leaf, Text, end_of}
-use Rattle.tocmark_event.specs.declared.event.HeadingLevel.{HeadingLevel}
 use Rattle.tocmark_event.specs.declared.event.flags.ParserOptions.{ParserOptions}
-use Rattle.tocmark_read_scan.specs.PlainParts.{Part, Bare, Escaped, Referred, spelled, spelled_part, meant, last_byte}
+use Rattle.tocmark_read_scan.specs.PlainParts.{Part, spelled, spelled_part, last_byte}
 use Rattle.tocmark_read_scan.proofs.PlainPieces.{feed_joined}
-use Rattle.tocmark_read_scan.proofs.PlainTests.{differs, both_true}
-use Rattle.tocmark_read_inlines.proofs.PlainNeighbours.{ArePlainParts}
+use Rattle.tocmark_read_scan.proofs.PlainTests.{differs}
 use Rattle.tocmark_core_reader.specs.PlainTexts.{IsReadAs}
 use Rattle.tocmark_core_reader.specs.Reading.{core_reading}
-use Rattle.tocmark_write_texts.specs.Escape.{Surroundings, ends_line, escaped, is_read_as_marker, needs_backslash, spot_from}
-use Rattle.tocmark_laws.specs.PlainLines.{is_line, IsInParagraph, IsReadBack}
-use Rattle.tocmark_laws.specs.TextBlocks.{Kind, ParagraphKind, HeadingKind, Block, block_events, block_text, blocks_walk, document_of, feeds_behind, is_heading_kind, mark_of, place_in, tag_of, texts_behind, HasText}
+use Rattle.tocmark_write_texts.specs.Escape.{Surroundings, ends_line, is_read_as_marker, spot_from}
+use Rattle.tocmark_laws.specs.PlainLines.{is_line, IsInParagraph}
+use Rattle.tocmark_laws.specs.TextBlocks.{Kind, ParagraphKind, HeadingKind, Block, block_events, block_text, blocks_walk, document_of, feeds_behind, mark_of, place_in, tag_of, texts_behind, HasText}
 use Rattle.tocmark_laws.proofs.PlainCharacters.{part_of, parts_on, parts_of, part_elim, no_marker}
 use Rattle.tocmark_laws.proofs.PlainEscapes.{ArePrintable, escape_is}
 use Rattle.tocmark_laws.proofs.PlainEscapedBytes.{escaped_is}
@@ -27,7 +24,7 @@ use Rattle.tocmark_laws.proofs.PlainEscapedLines.{line_means}
 use Rattle.tocmark_laws.proofs.PlainEscapedTexts.{IsLine, plain_line, plain_parts}
 use Rattle.tocmark_laws.proofs.PlainParagraph.{IsLineText, line_from}
 use Rattle.tocmark_laws.proofs.BlockWalks.{blocks_are_handed}
-use Rattle.tocmark_state.specs.Walk.{Walk, Done, done, nothing_yet, script}
+use Rattle.tocmark_state.specs.Walk.{Walk, Done, nothing_yet, script}
 use Rattle.tocmark_state.specs.WorkView.{rendering}
 use Rattle.tocmark_laws.specs.Documents.{IsLineBlock, AreReadBack}
 use Rattle.tocmark_laws.proofs.DocumentHeadings.{EndsHeading}

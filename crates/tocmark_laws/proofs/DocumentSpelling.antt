@@ -1,10 +1,8 @@
 -- What a paragraph of lines is spelled as, wherever it stands among paragraphs and headings.
-use Rattle.std.proofs.Common.{◌≡◌, ℕ, ◌-◌, ◌<◌, ◌≤◌, max, Bool, true, false, ◌==◌, ◌&&◌, ◌||◌, if◌then◌else◌, nat_lt, List, [], ◌∷◌, ◌++◌, length, replicate, refl, ap, sym, subst, ◌∙◌, arith, append_assoc, append-nil, length-append, eq-eqb, Option, Some, None, Ok, codes}
+use Rattle.std.proofs.Common.{◌≡◌, ℕ, ◌-◌, ◌<◌, ◌≤◌, max, Bool, true, false, ◌==◌, ◌&&◌, ◌||◌, if◌then◌else◌, nat_lt, List, [], ◌∷◌, ◌++◌, length, replicate, refl, ap, sym, subst, ◌∙◌, arith, append_assoc, append-nil, eq-eqb, Option, Some, None, Ok}
 use Rattle.std.proofs.lemmas.Bool.Decides.{nat_tests}
-use Rattle.std.specs.Char.{char_set_contains}
-use Rattle.std.specs.List.{AllByRecursion}
 use Rattle.tocmark_event.specs.Forest.{empty, leaf, node, flat}
-use Rattle.tocmark_event.specs.View.{EventView, Start, End, Leaf, Text, SoftBreak, Paragraph, SourcedEvent, SourcedLeaf, end_of}
+use Rattle.tocmark_event.specs.View.{EventView, Start, End, Leaf, Text, SoftBreak, Paragraph, SourcedEvent, SourcedLeaf}
 use Rattle.tocmark_event.specs.declared.event.TagEnd.TheVariants as end
 use Rattle.tocmark_write_texts.specs.Escape.{Surroundings, escaped}
 use Rattle.tocmark_spelling.specs.Body.{Trees, some_leaf}
@@ -31,14 +29,13 @@ use Rattle.tocmark_core_reader.proofs.PlainReading.{IsPrintable, IsPlainLine, so
 use Rattle.tocmark_read_scan.specs.PlainParts as parts
 use Rattle.tocmark_laws.specs.PlainLines.{PlacedLine}
 use Rattle.tocmark_laws.specs.TextBlocks.{Kind, ParagraphKind, HeadingKind, feeds_behind}
-use Rattle.tocmark_laws.proofs.BlockSpelling.{last_of, page_of, blank, IsCalm, calm}
+use Rattle.tocmark_laws.proofs.BlockSpelling.{last_of, page_of, blank, IsCalm}
 use Rattle.tocmark_laws.proofs.Paragraphs.{laid-plain, neither_in}
 use Rattle.tocmark_laws.proofs.PlainCharacters.{parts_of}
 use Rattle.tocmark_laws.proofs.PlainEscapes.{ArePrintable, escape_is}
 use Rattle.tocmark_laws.proofs.PlainEscapedBytes.{escaped_is}
 use Rattle.tocmark_laws.proofs.PlainEscapedTexts.{IsLine, plain_line}
-use Rattle.tocmark_laws.proofs.PlainParagraph.{Escapes, IsLineText, lines_stand}
-use Rattle.tocmark_laws.proofs.PlainSpelling.{text_leaf, break_leaf, line_trees, line_place, next_of, around, begun, within, placed, lines_text, AreLinesIn}
+use Rattle.tocmark_laws.proofs.PlainSpelling.{text_leaf, break_leaf, line_trees, line_place, around, begun, within, placed, lines_text, AreLinesIn}
 
 -- bytes of a line, laid
 

@@ -1,16 +1,13 @@
 -- What a document of paragraphs of lines and headings hands: a text for each block.
-use Rattle.std.proofs.Common.{◌≡◌, ℕ, ◌+◌, ◌<◌, true, false, if◌then◌else◌, List, [], ◌∷◌, ◌++◌, length, length-append, replicate, map, flat_map, codes, refl, ap, sym, subst, ◌∙◌, arith, append_assoc, eq-eqb, Option, Some, None, Result, Ok, Err}
-use Rattle.std.proofs.lemmas.List.{map-append}
-use Rattle.std.specs.Char.{char_set_contains}
+use Rattle.std.proofs.Common.{◌≡◌, ℕ, ◌<◌, true, false, if◌then◌else◌, List, [], ◌∷◌, ◌++◌, length, length-append, replicate, map, refl, ap, sym, ◌∙◌, arith, append_assoc, eq-eqb, Option, Some, None, Result, Ok, Err}
 use Rattle.std.specs.List.{AllByRecursion, concat}
 use Rattle.tocmark_write_texts.specs.Escape.{escaped}
 use Rattle.tocmark_event.specs.Ends.{same_end, end_code}
 use Rattle.tocmark_event.specs.Forest.{empty, node, flat, flat_onto}
 use Rattle.tocmark_event.specs.Options.{OptionsView}
 use Rattle.tocmark_event.specs.Reading.{ReadingView}
-use Rattle.tocmark_event.specs.View.{EventView, Start, End, Leaf, Text, SoftBreak, Paragraph, TagView, SourcedEvent, end_of}
+use Rattle.tocmark_event.specs.View.{EventView, Start, End, Leaf, Text, Paragraph, TagView, SourcedEvent, end_of}
 use Rattle.tocmark_event.specs.declared.event.TagEnd.TheVariants as end
-use Rattle.tocmark_event.specs.declared.event.HeadingLevel.{HeadingLevel}
 use Rattle.tocmark_event.specs.declared.event.flags.ParserOptions.{ParserOptions}
 use Rattle.tocmark_event.specs.declared.options.Error.{Error}
 use Rattle.tocmark_event.specs.declared.options.Error.TheVariants as error
@@ -27,9 +24,9 @@ use Rattle.tocmark_write_pending.proofs.Forests.{waits-flat}
 use Rattle.tocmark_state.specs.Ranges.{Pair, unranged}
 use Rattle.tocmark_state.specs.WorkView.{keeping, rendering}
 use Rattle.tocmark_state.specs.Walk.{Walk, Done, done, Kept, Rendering, Standing, beginning, nothing_yet, go_on, stay, finished_of, flushed, flushed_before, flushed_or_deferred, flush_of, joins, advance, step, walk, script, ended, with_event}
-use Rattle.tocmark_laws.specs.TextBlocks.{Kind, ParagraphKind, HeadingKind, Block, HasText, tag_of, mark_of, block_text, feeds_behind, place_in}
+use Rattle.tocmark_laws.specs.TextBlocks.{Kind, ParagraphKind, HeadingKind, HasText, tag_of, mark_of, block_text, feeds_behind, place_in}
 use Rattle.tocmark_laws.proofs.BlockEscapes.{IsFilled, escaped_filled}
-use Rattle.tocmark_laws.proofs.BlockSpelling.{text_leaf, text_trees, unit, IsCalm, IsChosen, block_placed, block_chosen}
+use Rattle.tocmark_laws.proofs.BlockSpelling.{text_leaf, text_trees, unit, IsCalm, block_placed, block_chosen}
 use Rattle.tocmark_laws.proofs.PlainSpelling.{break_leaf, line_trees, lines_text, AreLinesIn, written_some}
 use Rattle.tocmark_laws.specs.Documents.{PlainBlock, PlainParagraph, PlainHeading, heading_block, plain_events, plain_document}
 use Rattle.tocmark_laws.proofs.DocumentSpelling.{para, para_placed, para_chosen, IsHanded}

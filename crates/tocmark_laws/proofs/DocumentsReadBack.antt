@@ -1,5 +1,5 @@
 -- What is handed for a document of paragraphs of lines and headings is read as this document.
-use Rattle.std.proofs.Common.{◌≡◌, ℕ, zero, suc, max, ◌+◌, ◌-◌, ◌^◌, ◌<◌, true, false, ◌==◌, List, [], ◌∷◌, ◌++◌, length, map, replicate, codes, flat_map, refl, ap, sym, subst, ◌∙◌, arith, append_assoc, append-nil, None, Ok, Result}
+use Rattle.std.proofs.Common.{◌≡◌, ℕ, suc, max, ◌-◌, ◌^◌, ◌<◌, true, false, List, [], ◌∷◌, ◌++◌, length, map, replicate, codes, flat_map, refl, ap, sym, subst, ◌∙◌, arith, append_assoc, append-nil, None, Ok, Result}
 use Rattle.std.specs.Char.{char_set_contains}
 use Rattle.std.specs.List.{AllByRecursion, concat, list_all}
 use Rattle.tocmark_event.specs.Options.{OptionsView, default_options}
@@ -7,32 +7,29 @@ use Rattle.tocmark_event.specs.Merged.{merged, after_text}
 use Rattle.tocmark_event.specs.Reading.{ReadingView}
 use Rattle.tocmark_event.specs.View.{EventView, Start, End, Leaf, Text, SoftBreak, Paragraph, end_of}
 use Rattle.tocmark_event.specs.declared.event.TagEnd.TheVariants as end
-use Rattle.tocmark_event.specs.declared.event.HeadingLevel.{HeadingLevel}
 use Rattle.tocmark_event.specs.declared.event.flags.ParserOptions.{ParserOptions}
 use Rattle.tocmark_event.specs.declared.options.Error.{Error}
-use Rattle.tocmark_read_scan.specs.PlainParts.{Part, spelled, meant}
-use Rattle.tocmark_read_scan.proofs.PlainPieces.{feed_joined}
 use Rattle.tocmark_read_scan.proofs.PlainTests.{all_from}
-use Rattle.tocmark_core_reader.specs.PlainTexts.{IsReadAs, line_events, lines_paragraph}
+use Rattle.tocmark_core_reader.specs.PlainTexts.{IsReadAs, line_events}
 use Rattle.tocmark_core_reader.specs.Reading.{core_reading}
 use Rattle.tocmark_core_reader.proofs.PlainReading.{spelled_text}
 use Rattle.tocmark_spelling.specs.Plan.{Setting, Manner}
 use Rattle.tocmark_spelling.specs.PlanOf.{setting_of}
 use Rattle.tocmark_render.specs.Candidates.{preferred_manner}
 use Rattle.tocmark_laws.specs.PlainLines.{is_line, PlacedLine, texts}
-use Rattle.tocmark_laws.specs.TextBlocks.{Kind, ParagraphKind, HeadingKind, Block, block_events, feeds_behind, mark_of, place_in, tag_of}
+use Rattle.tocmark_laws.specs.TextBlocks.{Kind, ParagraphKind, HeadingKind, feeds_behind, place_in, tag_of}
 use Rattle.tocmark_laws.proofs.PlainCharacters.{parts_of}
 use Rattle.tocmark_laws.proofs.PlainEscapedBytes.{escaped_text_is}
 use Rattle.tocmark_laws.proofs.PlainEscapedLines.{line_means}
 use Rattle.tocmark_laws.proofs.PlainEscapedTexts.{IsLine, line_parts, plain_lines, plain_parts, escapes_are_parts, parts_mean_lines}
 use Rattle.tocmark_laws.proofs.PlainParagraph.{Escapes, IsLineText, line_from, lines_stand}
-use Rattle.tocmark_laws.proofs.PlainSpelling.{placed, all_placed, lines_text, AreLinesIn}
+use Rattle.tocmark_laws.proofs.PlainSpelling.{placed, all_placed, AreLinesIn}
 use Rattle.tocmark_state.specs.Walk.{Walk, Done, done, nothing_yet, script}
 use Rattle.tocmark_state.specs.Ranges.{Pair}
 use Rattle.tocmark_state.specs.WorkView.{rendering}
 use Rattle.tocmark_state.specs.Writes.{Makes}
 use Rattle.tocmark_laws.specs.Documents.{AreReadBack, PlainBlock, PlainParagraph, PlainHeading, heading_block, plain_events, plain_document, IsPlainBlock, MakesDocument}
-use Rattle.tocmark_laws.proofs.DocumentRows.{Row, Blank, Filled, row_bytes, rows_text, IsFilled, AreRows}
+use Rattle.tocmark_laws.proofs.DocumentRows.{Row, Blank, Filled, row_bytes, rows_text, AreRows}
 use Rattle.tocmark_laws.proofs.DocumentEvents.{row_said, rows_are_read, merged_before}
 use Rattle.tocmark_laws.proofs.DocumentRowsWritten as written
 use Rattle.tocmark_laws.proofs.DocumentWalks.{kind_of, text_in, texts_in, StandsIn, blocks_are_handed}

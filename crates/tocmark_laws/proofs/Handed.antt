@@ -2,7 +2,7 @@
 use Rattle.std.proofs.Common.{◌≡◌, ℕ, Option, List, [], ◌∷◌, ◌++◌, map, ap, sym, ◌∙◌, append_assoc, append-nil}
 use mathlib.Core.List.{map-map}
 use Rattle.std.specs.Borrow.{Bor}
-use Rattle.std.specs.Iterator.{Yields, DrainsIf, YieldsFirstBy}
+use Rattle.std.specs.Iterator.{DrainsIf, YieldsFirstBy}
 use Rattle.std.specs.List.{FoldsTo, concat}
 use Rattle.tocmark_event.specs.Reading.{events_left, lent_event, lent_pair, pairs_left}
 use Rattle.tocmark_event.specs.Text.{ParserEvent}

@@ -1,8 +1,8 @@
 -- A paragraph of lines at the beginning of a document: the one text that is handed for it is read back.
-use Rattle.std.proofs.Common.{◌≡◌, ℕ, ◌+◌, ◌<◌, true, false, ◌&&◌, ◌||◌, codes, List, [], ◌∷◌, ◌++◌, length, map, refl, ap, subst, ◌∙◌, arith, append_assoc, Option, Some, None, Result, Ok}
+use Rattle.std.proofs.Common.{◌≡◌, ℕ, ◌<◌, true, false, ◌&&◌, ◌||◌, codes, List, [], ◌∷◌, ◌++◌, length, map, refl, ap, subst, ◌∙◌, arith, append_assoc, Option, Some, None, Result, Ok}
 use Rattle.std.specs.Char.{char_set_contains}
 use Rattle.std.specs.List.{AllByRecursion, list_all}
-use Rattle.tocmark_event.specs.Forest.{empty, leaf, node, flat, flat_onto}
+use Rattle.tocmark_event.specs.Forest.{empty, node, flat, flat_onto}
 use Rattle.tocmark_event.specs.Options.{OptionsView}
 use Rattle.tocmark_event.specs.Reading.{ReadingView}
 use Rattle.tocmark_event.specs.View.{Start, End, Leaf, SoftBreak, Paragraph, SourcedEvent}

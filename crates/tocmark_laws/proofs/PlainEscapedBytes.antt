@@ -1,5 +1,5 @@
 -- The escapes of a paragraph's lines in bytes, joined by line feeds, are read as that paragraph.
-use Rattle.std.proofs.Common.{◌≡◌, ℕ, zero, suc, ◌+◌, ◌^◌, ◌<◌, List, [], ◌∷◌, ◌++◌, length, encode_utf8_all, IsAscii, ap, sym, subst, ◌∙◌, arith}
+use Rattle.std.proofs.Common.{◌≡◌, ℕ, zero, suc, ◌^◌, ◌<◌, List, [], ◌∷◌, ◌++◌, length, encode_utf8_all, IsAscii, ap, sym, subst, ◌∙◌, arith}
 use Rattle.std.proofs.lemmas.Str.{chars-IsAscii, encodes-IsAscii}
 use Rattle.std.specs.List.{AllByRecursion}
 use Rattle.tocmark_core_reader.specs.Reading.{core_reading}

@@ -1,5 +1,5 @@
 -- The escapes of a paragraph's lines, joined by line feeds, are read as that paragraph.
-use Rattle.std.proofs.Common.{◌≡◌, ℕ, ◌+◌, ◌^◌, ◌<◌, true, false, ◌==◌, List, [], ◌∷◌, ◌++◌, length, map, refl, ap, sym, subst, ◌∙◌, arith, append-nil, None}
+use Rattle.std.proofs.Common.{◌≡◌, ℕ, ◌^◌, ◌<◌, true, false, ◌==◌, List, [], ◌∷◌, ◌++◌, length, map, refl, ap, sym, subst, ◌∙◌, arith, append-nil, None}
 use Rattle.std.specs.List.{AllByRecursion}
 use Rattle.tocmark_event.specs.View.{EventView, Start, End, Leaf, Text, SoftBreak, Paragraph}
 use Rattle.tocmark_event.specs.declared.event.TagEnd.TheVariants as end

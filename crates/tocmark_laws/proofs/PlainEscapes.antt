@@ -1,5 +1,5 @@
 -- The escape of a paragraph's lines is a plain text that means these lines.
-use Rattle.std.proofs.Common.{◌≡◌, ℕ, ◌+◌, ◌<◌, ◌≤◌, Bool, true, false, not, ◌==◌, ◌&&◌, ◌||◌, List, [], ◌∷◌, ◌++◌, codes, refl, ap, sym, subst, ◌∙◌, arith, Option, Some, inl, inr, true≢false}
+use Rattle.std.proofs.Common.{◌≡◌, ℕ, ◌≤◌, Bool, true, false, not, ◌==◌, ◌&&◌, ◌||◌, List, [], ◌∷◌, ◌++◌, codes, refl, ap, sym, subst, ◌∙◌, arith, Option, Some, inl, inr, true≢false}
 use Rattle.std.proofs.lemmas.Bool.Decides.{nat_tests}
 use Rattle.std.specs.Prelude.{slice_get}
 use Rattle.std.specs.Char.{char_set_contains, is_ascii_digit, is_ascii_alphanumeric, is_ascii_punctuation}

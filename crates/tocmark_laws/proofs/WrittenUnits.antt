@@ -1,7 +1,6 @@
 -- Each unit with delimiters that is written reads back in its document.
-use Rattle.std.proofs.Common.{◌≡◌, ℕ, List, [], ◌∷◌, ◌++◌, Bool, true, false, Option, Some, None, Result, Ok, Err, flat_map, if◌then◌else◌, refl, ap, sym, ◌∙◌, subst, append-nil}
+use Rattle.std.proofs.Common.{◌≡◌, ℕ, List, [], ◌∷◌, ◌++◌, Bool, true, false, Option, Some, None, Result, Ok, Err, if◌then◌else◌, refl, ap, sym, ◌∙◌, subst, append-nil}
 use Rattle.std.specs.List.{AllByRecursion}
-use Rattle.std.proofs.lemmas.Bool.{true≢false}
 use Rattle.tocmark_event.specs.Forest.{Forest, empty, leaf, node, flat, flat_onto}
 use Rattle.tocmark_event.specs.View.{EventView, Start, End, Leaf, SourcedEvent, SourcedLeaf, unsourced, end_of}
 use Rattle.tocmark_event.specs.declared.event.TagEnd.{TagEnd}
@@ -17,19 +16,19 @@ use Rattle.tocmark_spelling.specs.Spelling.{is_misplaced}
 use Rattle.tocmark_write_labels.specs.Document.{DocumentView}
 use Rattle.tocmark_write_labels.specs.Units.{labelled}
 use Rattle.tocmark_render.specs.Candidates.{candidates, is_delimiter_block}
-use Rattle.tocmark_render.specs.Choice.{Chosen, accepted, choice, document_after, has_standard_markers}
+use Rattle.tocmark_render.specs.Choice.{Chosen, choice, document_after, has_standard_markers}
 use Rattle.tocmark_render.specs.Chosen.{chosen}
 use Rattle.tocmark_render.specs.FirstReadBack.{First, IsChosenAmong, IsFirstReadBack, Nothing}
 use Rattle.tocmark_render.specs.Validates.{validates}
 use Rattle.tocmark_render.proofs.FirstReadBack.{checked-chosen, delimiters-checked}
-use Rattle.tocmark_laws.specs.Trees.{Part, Trees, part_onto, ranged, stop_at, then_ranged, unit_walk, walk_trees, followed_unit}
+use Rattle.tocmark_laws.specs.Trees.{Part, part_onto, ranged, stop_at, unit_walk, walk_trees, followed_unit}
 use Rattle.tocmark_laws.specs.Unexpected.{setting_at}
-use Rattle.tocmark_laws.specs.Written.{AreWritten, IsWrittenAsRead, ReadsBackIfDelimited, Written, ending_unless_refused, last_of, last_unit, last_written, texts_at_end, texts_of, written_as, written_trees, written_unit, written_unless}
+use Rattle.tocmark_laws.specs.Written.{AreWritten, ReadsBackIfDelimited, Written, ending_unless_refused, last_of, last_unit, last_written, texts_at_end, texts_of, written_as, written_trees, written_unit, written_unless}
 use Rattle.tocmark_laws.proofs.Trees.{trees_of, walk_is}
 use Rattle.tocmark_laws.proofs.Unexpected.{flat-choice, misplaced-choice}
 use Rattle.tocmark_state.specs.Ranges.{Pair, resolved}
 use Rattle.tocmark_write_pending.specs.Pending.{nested}
-use Rattle.tocmark_state.specs.Walk.{Done, Kept, Rendering, Standing, Walk, advance, advance_with, beginning, ended, ended_at, finished, finished_of, flush_of, flushed, flushed_before, flushed_or_deferred, go_on, handed_text, is_due, joins, script, stay, step, walk, with_event}
+use Rattle.tocmark_state.specs.Walk.{Kept, Rendering, Standing, Walk, advance, advance_with, beginning, ended, ended_at, finished, finished_of, flush_of, flushed, flushed_before, flushed_or_deferred, go_on, handed_text, is_due, joins, script, stay, step, walk, with_event}
 use Rattle.tocmark_state.specs.WorkView.{keeping, rendering}
 
 -- ---- the texts of a walk over trees are those of the units

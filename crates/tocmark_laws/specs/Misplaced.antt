@@ -1,5 +1,5 @@
 -- An event that may not stand where it does.
-use Rattle.std.specs.Prelude.{◌≡◌, Bool, true, false, not, ◌&&◌, List, [], ◌∷◌, ◌++◌, drop, map}
+use Rattle.std.specs.Prelude.{◌≡◌, Bool, true, not, ◌&&◌, List, [], ◌∷◌, ◌++◌, drop, map}
 use Rattle.tocmark_event.specs.Forest.{empty, leaf, node, flat}
 use Rattle.tocmark_event.specs.View.{TagView, SourcedEvent, Start, End, Leaf, end_of}
 use Rattle.tocmark_spelling.specs.Body.{Trees}

@@ -10,7 +10,6 @@ use Rattle.tocmark_event.specs.Reading.{ReadingView}
 use Rattle.tocmark_spelling.specs.Body as body
 use Rattle.tocmark_spelling.specs.Page.{Page}
 use Rattle.tocmark_spelling.specs.Plan.{Setting}
-use Rattle.tocmark_write_labels.specs.Document.{DocumentView}
 use Rattle.tocmark_write_labels.specs.Ending.{last_texts}
 use Rattle.tocmark_write_labels.specs.Units.{labelled}
 use Rattle.tocmark_render.specs.Candidates.{candidates, is_delimiter_block}
