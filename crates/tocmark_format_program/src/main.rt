@@ -26,9 +26,9 @@ use std::io::{IsTerminal, Stderr, Write};
 use std::process::ExitCode;
 use std::{env, fs, io};
 use stream::{Passed, READER, format_stream, text_in, write_out};
-use tocmark_format_settings::arguments::{Color, Help, Task, color_of, command, task_of, voice_of};
+use tocmark_format_settings::arguments::{Color, Task, color_of, command, task_of, voice_of};
 use tocmark_format_settings::lookup::{Refused, settings_of_files};
-use tocmark_format_settings::settings::{Settings, extension_help, syntax_help};
+use tocmark_format_settings::settings::{Settings, syntax_help};
 use walk::{Found, files_of};
 
 /// From how many files on a terminal is shown how far a call is.
@@ -267,14 +267,10 @@ fn main(rt: HostRuntime) -> ExitCode {
     let Ok(words) = words_of(&rt) else {
         return refuse(&mut rt.stderr(), "the arguments cannot be read");
     };
-    let (Ok(syntax), Ok(extension)) = (syntax_help(rt.alloc()), extension_help(rt.alloc())) else {
+    let Ok(syntax_help) = syntax_help(rt.alloc()) else {
         return refuse(&mut rt.stderr(), "out of memory");
     };
-    let help = Help {
-        syntax: syntax.as_str(),
-        extension: extension.as_str(),
-    };
-    let Ok(command) = command(rt.alloc(), help) else {
+    let Ok(command) = command(rt.alloc(), syntax_help.as_str()) else {
         return refuse(&mut rt.stderr(), "out of memory");
     };
     match command.try_get_matches_from(words.as_slice()) {

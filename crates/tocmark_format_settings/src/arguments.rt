@@ -23,9 +23,9 @@ impl Task {
 /// How much is said.
 #[derive(Clone, Copy, Drop)]
 pub struct Voice {
-    /// No count is said at the end.
+    /// The summary isn't printed.
     pub is_quiet: bool,
-    /// Each file that is changed is named, too.
+    /// Each file that changes is named.
     pub is_verbose: bool,
 }
 
@@ -38,15 +38,6 @@ pub enum Color {
     Never,
 }
 
-/// What `--help` says of the options whose values it lists.
-#[derive(Clone, Copy)]
-pub struct Help<'a> {
-    /// Of `--syntax`.
-    pub syntax: &'a str,
-    /// Of `--extension`.
-    pub extension: &'a str,
-}
-
 /// A value on the command line that its option doesn't take.
 #[derive(Clone, Copy, Drop)]
 pub struct Refusal {
@@ -55,6 +46,14 @@ pub struct Refusal {
     /// What it takes.
     pub wanted: &'static str,
 }
+
+/// The command's name.
+const NAME: &str = "tocmark-format";
+
+/// What `--help` says of the paths.
+const PATHS: &str = "FILE: format it in place
+FOLDER: format the files *.md and *.markdown below it
+- or no path: standard input to standard output";
 
 const COLORS: [(&str, Color); 3] = [
     ("auto", Color::Auto),
@@ -68,25 +67,25 @@ fn with_style<'a>(alloc: Global, command: Command<'a>) -> Result<Command<'a>, Al
         .long("bullet")
         .value_name("BULLET")
         .allow_hyphen_values(true)
-        .help("The bullet of lists: *, -, + or source (the default: each as it is)");
+        .help("Bullet of lists: *, -, + or source (default)");
     let ordered = Arg::new(alloc, "ordered")
         .long("ordered")
         .value_name("DELIMITER")
-        .help("What follows the numbers of lists: ., ) or source (the default)");
+        .help("Delimiter after a number: ., ) or source (default)");
     let numbering = Arg::new(alloc, "numbering")
         .long("numbering")
         .value_name("NUMBERS")
         .help(
-            "The numbers of lists: source (the default: counting where they count), first or increment",
+            "Numbers of a list: source (default: count if the\nsource counts), first (repeat it) or increment",
         );
     let emphasis = Arg::new(alloc, "emphasis")
         .long("emphasis")
         .value_name("MARKER")
-        .help("What stands round emphasis: * (the default) or _");
+        .help("Emphasis marker: * (default) or _");
     let strong = Arg::new(alloc, "strong")
         .long("strong")
         .value_name("MARKER")
-        .help("What stands round strong emphasis: ** (the default) or __");
+        .help("Strong emphasis marker: ** (default) or __");
     let command = command.arg(bullet)?.arg(ordered)?.arg(numbering)?;
     with_fences(alloc, command.arg(emphasis)?.arg(strong)?)
 }
@@ -94,17 +93,17 @@ fn with_style<'a>(alloc: Global, command: Command<'a>) -> Result<Command<'a>, Al
 fn with_fences<'a>(alloc: Global, command: Command<'a>) -> Result<Command<'a>, AllocError> {
     let fence = Arg::new(alloc, "fence")
         .long("fence")
-        .value_name("SIGN")
-        .help("What fences of code are made of: `, ~ or source (the default)");
+        .value_name("CHARACTER")
+        .help("Character of a fence: `, ~ or source (default)");
     let length = Arg::new(alloc, "fence-length")
         .long("fence-length")
         .value_name("N")
-        .help("The least length of a fence: 3 (the default) to 1000");
+        .help("Minimal length of a fence: 3 (default) to 1000");
     let escape = Arg::new(alloc, "escape")
         .long("escape")
         .value_name("CHARACTERS")
         .help(
-            "What has a backslash: minimal (the default: as it stands) or all special characters",
+            "Characters to escape: minimal (default: those\nescaped in the source) or all (every special one)",
         );
     command.arg(fence)?.arg(length)?.arg(escape)
 }
@@ -115,55 +114,57 @@ fn with_task<'a>(alloc: Global, command: Command<'a>) -> Result<Command<'a>, All
         .long("check")
         .action(ArgAction::SetTrue)
         .help(
-            "Write nothing; name the files that would change, and end with status 1 if there are some",
+            "Write nothing; name each file that would change,\nand end with status 1 if there are any",
         );
     let diff = Arg::new(alloc, "diff")
         .long("diff")
         .action(ArgAction::SetTrue)
-        .help("Write nothing; show what would change, as a unified diff");
+        .help("Write nothing; show the changes as a unified diff");
     let config = Arg::new(alloc, "config")
         .long("config")
         .value_name("FILE")
         .help(
-            "The configuration of all files, in place of the nearest .tocmark.toml upwards from each",
+            "Use this configuration for all files, and not the\nnearest .tocmark.toml in or above each folder",
         );
     let quiet = Arg::new(alloc, "quiet")
         .long("quiet")
         .action(ArgAction::SetTrue)
-        .help("Say no count at the end");
+        .help("Don't print the summary");
     let verbose = Arg::new(alloc, "verbose")
         .long("verbose")
         .action(ArgAction::SetTrue)
-        .help("Name each file that is changed, too");
+        .help("Name each file that changes");
     let color = Arg::new(alloc, "color")
         .long("color")
         .value_name("WHEN")
-        .help("Colour the diff: auto (the default: on a terminal), always or never");
+        .help(
+            "Colour the diff: auto (default: on a terminal,\nunless NO_COLOR is set), always or never",
+        );
     let command = command.arg(check)?.arg(diff)?.arg(config)?;
     command.arg(quiet)?.arg(verbose)?.arg(color)
 }
 
-/// The command line, with this help of the options whose values it lists. `docs/FORMAT.md` says what its parts mean.
-pub fn command<'a>(alloc: Global, help: Help<'a>) -> Result<Command<'a>, AllocError> {
+/// The command line, with this help of `--syntax`. `docs/FORMAT.md` says what its parts mean.
+pub fn command<'a>(alloc: Global, syntax_help: &'a str) -> Result<Command<'a>, AllocError> {
     let paths = Arg::new(alloc, "path")
         .value_name("FILE|FOLDER|-")
         .action(ArgAction::Append)
         .num_args(0..)
-        .help(
-            "Files are formatted in place, and below folders those named *.md or *.markdown; none, or -: standard input to standard output",
-        );
+        .help(PATHS);
     let syntax = Arg::new(alloc, "syntax")
         .long("syntax")
         .value_name("NAME")
-        .help(help.syntax);
+        .help(syntax_help);
     let extension = Arg::new(alloc, "extension")
         .long("extension")
         .value_name("NAME")
         .action(ArgAction::Append)
-        .help(help.extension);
-    let command = Command::new(alloc, "tocmark-format")
+        .help("Add one of these extensions, or remove it by\nno-NAME; repeatable");
+    let command = Command::new(alloc, NAME)
+        .bin_name(NAME)?
         .version("0.1.0")
-        .about("Formats Markdown, and never changes what it says")
+        .about("Give Markdown files one style, and keep what they say")
+        .after_help("The value source keeps what each list or fence has.")
         .arg(paths)?;
     let command = with_task(alloc, command)?;
     with_style(alloc, command.arg(syntax)?.arg(extension)?)
