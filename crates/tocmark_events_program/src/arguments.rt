@@ -53,70 +53,71 @@ impl<'a> fmt::Display for Refusal<'a> {
     }
 }
 
-/// What `--help` says of the arguments that both directions take.
-#[derive(Clone, Copy)]
-pub struct Help<'a> {
-    /// Of `--syntax`.
-    pub syntax: &'a str,
-    /// Of `--extension`.
-    pub extension: &'a str,
-}
+/// The command's name.
+const NAME: &str = "tocmark-events";
 
-fn syntax_arguments<'a>(
+/// The command with `--syntax`, which has this help, and `--extension`.
+fn with_syntax<'a>(
     alloc: Global,
     command: Command<'a>,
-    help: Help<'a>,
+    syntax_help: &'a str,
 ) -> Result<Command<'a>, AllocError> {
     let syntax = Arg::new(alloc, "syntax")
         .long("syntax")
         .value_name("NAME")
-        .help(help.syntax);
+        .help(syntax_help);
     let extension = Arg::new(alloc, "extension")
         .long("extension")
         .value_name("NAME")
         .action(ArgAction::Append)
-        .help(help.extension);
+        .help("Add one of these extensions; repeatable");
     command.arg(syntax)?.arg(extension)
 }
 
-const CHECK: &str =
-    "Events as JSON on standard input to the same, without spaces and in one order of keys";
+const READ: &str = "Turn Markdown on standard input into events as JSON";
 
-/// The command line. `docs/JSON.md` says what its parts mean.
-pub fn command<'a>(alloc: Global, help: Help<'a>) -> Result<Command<'a>, AllocError> {
-    let read = Command::new(alloc, "read").about("Markdown on standard input to events as JSON");
-    let write = Command::new(alloc, "write").about("Events as JSON on standard input to Markdown");
+const WRITE: &str = "Turn events as JSON on standard input into Markdown";
+
+const CHECK: &str = "Print the JSON of events without spaces, and with keys in one order";
+
+/// The command line, with this help of `--syntax`. `docs/JSON.md` says what its parts mean.
+pub fn command<'a>(alloc: Global, syntax_help: &'a str) -> Result<Command<'a>, AllocError> {
+    let read = Command::new(alloc, "read").about(READ);
+    let write = Command::new(alloc, "write").about(WRITE);
     let check = Command::new(alloc, "check").about(CHECK);
     let source = Arg::new(alloc, "source")
         .long("source")
         .value_name("FILE")
-        .help("The text that the events' ranges are of");
+        .help("Text that the ranges refer to; keep its spelling\nif that parses back");
     let reads_back = Arg::new(alloc, "check-plain-blocks")
         .long("check-plain-blocks")
         .action(ArgAction::SetTrue)
-        .help("Read each unit back before it is written");
+        .help("Parse each block back before it is written");
     let document = Arg::new(alloc, "check-document")
         .long("check-document")
         .action(ArgAction::SetTrue)
-        .help("Read the whole document back before it is written");
+        .help("Parse the whole output, and refuse it unless it\nhas just these events");
     let option = Arg::new(alloc, "option")
         .long("option")
         .value_name("KEY=VALUE")
         .action(ArgAction::Append)
-        .help("An option of the writer, as list_token=-");
+        .help(
+            "One option of the writer, such as list_token=-;\nrepeatable, and overrides the file",
+        );
     let options = Arg::new(alloc, "options")
         .long("options")
         .value_name("FILE")
-        .help("The options of the writer, as a JSON object");
+        .help("Options of the writer, as a JSON object");
     let write = write.arg(source)?.arg(reads_back)?.arg(document)?;
     let write = write.arg(options)?.arg(option)?;
-    Command::new(alloc, "tocmark-events")
+    Command::new(alloc, NAME)
+        .bin_name(NAME)?
         .version("0.1.0")
-        .about("Markdown to events as JSON, and back")
+        .about("Turn Markdown into events as JSON, and back")
         .subcommand_required(true)
-        .subcommand(syntax_arguments(alloc, read, help)?)?
-        .subcommand(check)?
-        .subcommand(syntax_arguments(alloc, write, help)?)
+        .subcommand(with_syntax(alloc, read, syntax_help)?)?
+        .subcommand(with_syntax(alloc, write, syntax_help)?)?
+        .subcommand(check)
 }
 
 /// The flags of the syntax and the extensions that are named.

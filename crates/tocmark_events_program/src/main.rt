@@ -17,10 +17,10 @@ ghost use Rattle.tocmark_interchange.specs.Interchange.{IsWrittenAgain, IsWritte
 ghost use Rattle.tocmark_interchange.specs.Document.{IsWrittenTheSame};
 ghost use Rattle.tocmark_events_program.specs.Events.{IsAnswer, IsAnswered, IsWriteFault};
 
-use arguments::{Help, Job, asked, command, options_file};
+use arguments::{Job, asked, command, options_file};
 use clap::ArgMatches;
 use fault::Fault;
-use settings::{extension_help, syntax_help};
+use settings::syntax_help;
 use std::alloc::Global;
 use std::io::{Read, Write};
 use std::process::ExitCode;
@@ -277,14 +277,10 @@ fn main(rt: HostRuntime) -> ExitCode {
     let Ok(words) = words_of(&rt) else {
         return refuse(&mut rt.stderr(), "the arguments cannot be read");
     };
-    let (Ok(syntax), Ok(extension)) = (syntax_help(rt.alloc()), extension_help(rt.alloc())) else {
+    let Ok(syntax_help) = syntax_help(rt.alloc()) else {
         return refuse(&mut rt.stderr(), "out of memory");
     };
-    let help = Help {
-        syntax: syntax.as_str(),
-        extension: extension.as_str(),
-    };
-    let Ok(command) = command(rt.alloc(), help) else {
+    let Ok(command) = command(rt.alloc(), syntax_help.as_str()) else {
         return refuse(&mut rt.stderr(), "out of memory");
     };
     match command.try_get_matches_from(words.as_slice()) {

@@ -19,6 +19,12 @@ const GFM: ParserOptions = ParserOptions(
         & EXTENSIONS.0,
 );
 
+/// The extensions that `all` has and `gfm` hasn't.
+const ONLY_IN_ALL: ParserOptions = ParserOptions(EXTENSIONS.0 & !GFM.0);
+
+/// How wide a line of an option's help may be. The names of options stand before it, and 80 columns are all.
+const HELP_WIDTH: usize = 51;
+
 /// The flags of a syntax.
 pub fn syntax_named(name: &str) -> Option<ParserOptions> {
     match name {
@@ -39,37 +45,40 @@ pub fn extension_named(name: &str) -> Option<ParserOptions> {
     None
 }
 
-/// Writes the names of the extensions among these flags.
-fn name_extensions(help: &mut String, flags: ParserOptions) -> fmt::Result {
+/// Writes a line of help that begins with these words and goes on with the names of the extensions among these flags. It is
+/// broken before a name that would end beyond `HELP_WIDTH`.
+fn name_extensions(help: &mut String, start: &str, flags: ParserOptions) -> fmt::Result {
+    help.write_str(start)?;
+    let mut width = start.len();
     let mut is_later = false;
     for (name, flag) in &NAMED_EXTENSIONS {
         if flags.contains(*flag) {
             if is_later {
-                help.write_str(", ")?;
+                help.write_str(",")?;
+            }
+            is_later = true;
+            // A name has a space before it and a comma behind it.
+            let wider = width.saturating_add(name.len()).saturating_add(2);
+            if wider <= HELP_WIDTH {
+                help.write_str(" ")?;
+                width = wider;
+            } else {
+                help.write_str("\n")?;
+                width = name.len().saturating_add(1);
             }
             help.write_str(name)?;
-            is_later = true;
         }
     }
     Ok(())
 }
 
-/// What `--syntax` takes, and what each reads.
+/// What `--help` says of `--syntax`: its values, and which extensions each adds.
 pub fn syntax_help(alloc: Global) -> Result<String, fmt::Error> {
     let mut help = String::new(alloc);
-    help.write_str("The Markdown that is read: commonmark, gfm (that with ")?;
-    name_extensions(&mut help, GFM)?;
-    help.write_str(") or all (with ")?;
-    name_extensions(&mut help, EXTENSIONS)?;
-    help.write_str(")")?;
-    Ok(help)
-}
-
-/// What `--extension` takes.
-pub fn extension_help(alloc: Global) -> Result<String, fmt::Error> {
-    let mut help = String::new(alloc);
-    help.write_str("An extension that is read too: ")?;
-    name_extensions(&mut help, EXTENSIONS)?;
+    help.write_str("Kind of Markdown: commonmark (default), gfm or all\n")?;
+    name_extensions(&mut help, "gfm adds", GFM)?;
+    help.write_str("\n")?;
+    name_extensions(&mut help, "all adds these and", ONLY_IN_ALL)?;
     Ok(help)
 }
 
