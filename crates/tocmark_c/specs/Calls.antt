@@ -11,6 +11,7 @@ use Rattle.tocmark_event.specs.declared.options.Error.TheVariants as error
 use Rattle.tocmark_json.specs.declared.fault.JsonError.{JsonError}
 use Rattle.tocmark_state.specs.Ranges.{Pair}
 use Rattle.tocmark_interchange.specs.Document.{IsChange, IsWrittenTheSame}
+use Rattle.tocmark_interchange.specs.Options.{is_options_object}
 use Rattle.tocmark_interchange.specs.Interchange.{AreOptions, IsNoList, IsTextOf, IsWrittenFrom, in_source, reading_json, writing}
 use Rattle.tocmark_core_reader.specs.Reading.{reading_of}
 use Rattle.tocmark_extended_reader.specs.Flags.{syntax_of}
@@ -70,7 +71,7 @@ IsWriteCause bits source options json cause.OptionsNotUtf8 = ¬ (IsUtf8 options)
 IsWriteCause bits source options json cause.NotJson = read json ≡ None
 IsWriteCause bits source options json cause.NotEvents = (value : Data) × (read json ≡ Some value) × (e : JsonError) × IsNoList value e
 IsWriteCause bits source options json cause.OptionsNotJson = read options ≡ None
-IsWriteCause bits source options json cause.NotOptions = (value : Data) × (read options ≡ Some value)
+IsWriteCause bits source options json cause.NotOptions = (value : Data) × (read options ≡ Some value) × (is_options_object value ≡ false)
 IsWriteCause bits source options json cause.InvalidOptions = (o : OptionsView) × AreOptions options o × (fault : OptionsFault) × (validation o (flags_of bits) ≡ Some fault)
 IsWriteCause bits source options json cause.UnexpectedEvent = IsRefusedAs error.UnexpectedEvent bits source options json
 IsWriteCause bits source options json cause.Unrepresentable = IsRefusedAs error.Unrepresentable bits source options json

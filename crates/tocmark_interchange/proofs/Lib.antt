@@ -2,3 +2,4 @@ pub mod Empty
 mod Taken
 mod Refused
 mod FoundAgain
+mod Stretches

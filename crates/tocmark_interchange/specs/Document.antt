@@ -1,5 +1,6 @@
 -- When a written document says what its events say.
-use Rattle.std.specs.Prelude.{◌≡◌, ℕ, List, Bool, map}
+use Rattle.std.specs.Prelude.{◌≡◌, ◌+◌, ◌<◌, ◌&&◌, ℕ, List, ◌∷◌, Bool, false, drop, length, map}
+use Rattle.std.specs.List.{common_prefix_len}
 use Rattle.tocmark_core_reader.specs.Reading.{reading_of}
 use Rattle.tocmark_extended_reader.specs.Flags.{syntax_of}
 use Rattle.tocmark_read_syntax.specs.declared.Names.TheVariants.{All}
@@ -11,6 +12,8 @@ use Rattle.tocmark_event.specs.declared.event.flags.ParserOptions.{ParserOptions
 use Rattle.tocmark_interchange.specs.Interchange.{IsCause, IsTextOf, IsWritten, in_source}
 use Rattle.tocmark_interchange.specs.declared.fault.DocumentError.{DocumentError}
 use Rattle.tocmark_interchange.specs.declared.fault.DocumentError.TheVariants as document_error
+use Rattle.tocmark_spelling.specs.Kinds.{is_text}
+use Rattle.tocmark_spelling.specs.SameEvents.{same_event}
 use Rattle.tocmark_state.specs.Ranges.{Pair}
 
 -- the events of pairs
@@ -35,6 +38,25 @@ pub record IsWrittenTheSame (options : OptionsView) (flags : ParserOptions) (has
   pub is_text : IsTextOf input pairs
   pub is_written : IsWritten options flags source (in_source has_source pairs) output
   pub is_found : IsFoundIn flags output pairs
+
+-- an event's place in a list is the first one that has this many stretches before it, where each longest stretch of texts
+-- is one: so many fewer are left from there on, and more from any place before
+pub record IsFirstBehind (stretches : ℕ) (es : List EventView) (place : ℕ) : Type 0 where
+  pub behind : length (merged (drop place es)) + stretches ≡ length (merged es)
+  pub first : (before : ℕ) → before < place → length (merged es) < length (merged (drop before es)) + stretches
+
+-- whether the first two events are in one stretch: whether both are texts
+abbrev pub goes_on : List EventView → Bool
+goes_on (a ∷ b ∷ es) = is_text a && is_text b
+goes_on es = false
+
+-- how many stretches both lists begin with
+abbrev pub shared : List EventView → List EventView → ℕ
+shared = common_prefix_len same_event
+
+-- the place of the first event that isn't found again: the first one behind all that both lists begin with
+abbrev pub IsFirstLost : List EventView → List EventView → ℕ → Type 0
+IsFirstLost found given place = IsFirstBehind (shared (merged found) (merged given)) given place
 
 -- the events that a text has as JSON, written over the source, are a text in which others are found
 pub record IsChange (options : OptionsView) (flags : ParserOptions) (has_source : Bool) (source input : List ℕ) : Type 0 where

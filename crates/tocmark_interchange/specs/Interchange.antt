@@ -17,7 +17,7 @@ use Rattle.tocmark_event.specs.declared.event.flags.ParserOptions.{ParserOptions
 use Rattle.tocmark_event.specs.declared.options.Error.{Error}
 use Rattle.tocmark_event.specs.declared.options.Error.TheVariants as error
 use Rattle.tocmark_json.specs.Json.{event_json, events_json, pair_json, pair_view, pairs_json}
-use Rattle.tocmark_interchange.specs.Options.{IsOptionsJson}
+use Rattle.tocmark_interchange.specs.Options.{IsOptionsJson, is_options_object}
 use Rattle.tocmark_json.specs.Place.{StandsIn}
 use Rattle.tocmark_json.specs.declared.fault.JsonError.{JsonError}
 use Rattle.tocmark_state.specs.Ranges.{Pair, unranged}
@@ -123,16 +123,16 @@ abbrev pub AreOptions : List ℕ → OptionsView → Type 0
 AreOptions text options = ((text ≡ []) × (options ≡ default_options)) ⊎ HasOptions text options
 
 -- why a value has no options: its fault has a line of its own
-abbrev pub IsNoOptions : OptionsTextError → Type 0
-IsNoOptions (options_error.NotJson e) = ⊥
-IsNoOptions (options_error.NotOptions line) = Unit {0}
-IsNoOptions (options_error.Invalid e) = ⊥
-IsNoOptions options_error.OutOfMemory = Unit {0}
+abbrev pub IsNoOptions : Data → OptionsTextError → Type 0
+IsNoOptions value (options_error.NotJson e) = ⊥
+IsNoOptions value (options_error.NotOptions line) = is_options_object value ≡ false
+IsNoOptions value (options_error.Invalid e) = ⊥
+IsNoOptions value options_error.OutOfMemory = Unit {0}
 
 -- why a text has no options
 abbrev pub IsNoOptionsText : List ℕ → OptionsTextError → Type 0
 IsNoOptionsText text (options_error.NotJson e) = read text ≡ None
-IsNoOptionsText text (options_error.NotOptions line) = (value : Data) × (read text ≡ Some value)
+IsNoOptionsText text (options_error.NotOptions line) = (value : Data) × (read text ≡ Some value) × (is_options_object value ≡ false)
 IsNoOptionsText text (options_error.Invalid e) = ⊥
 IsNoOptionsText text options_error.OutOfMemory = Unit {0}
 

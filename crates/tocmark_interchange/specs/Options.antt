@@ -1,7 +1,8 @@
 -- The JSON value of options: an object with a key for each field.
-use Rattle.std.specs.Prelude.{◌≡◌, ℕ, List, Bool, true, false, codes}
+use Rattle.std.specs.Prelude.{◌≡◌, ◌&&◌, ℕ, List, [], ◌∷◌, Bool, true, false, bytes_eq, codes}
 use Rattle.std.specs.Char.{encode_utf8}
-use Rattle.serde_json.specs.Data.{Data, boolean, string, object, Members, no_members, member, put}
+use Rattle.std.specs.List.{list_any}
+use Rattle.serde_json.specs.Data.{Data, boolean, number, unsigned, string, object, Members, no_members, member, put}
 use Rattle.tocmark_event.specs.Options.{OptionsView, default_options}
 use Rattle.tocmark_json.specs.Json.{size_json}
 
@@ -45,3 +46,60 @@ IsPut false key d old new = new ≡ old
 -- an object whose members, put over those of the default options, are those of these options
 abbrev pub IsOptionsJson : Data → OptionsView → Type 0
 IsOptionsJson value options = (ms : Members) × (value ≡ object ms) × (put_all ms (options_members default_options) ≡ options_members options)
+
+-- the keys at which true or false stands
+abbrev pub truth_keys : List (List ℕ)
+truth_keys =
+    codes "increment_ordered_list_bullets" ∷
+    codes "use_html_for_super_sub_script" ∷
+    codes "check_plain_blocks" ∷
+    []
+
+-- the keys at which a whole number stands, from 0 on
+abbrev pub count_keys : List (List ℕ)
+count_keys =
+    codes "newlines_after_headline" ∷
+    codes "newlines_after_paragraph" ∷
+    codes "newlines_after_codeblock" ∷
+    codes "newlines_after_htmlblock" ∷
+    codes "newlines_after_table" ∷
+    codes "newlines_after_rule" ∷
+    codes "newlines_after_list" ∷
+    codes "newlines_after_blockquote" ∷
+    codes "newlines_after_rest" ∷
+    codes "newlines_after_metadata" ∷
+    codes "code_block_token_count" ∷
+    []
+
+-- the keys at which a token stands, each with the tokens that it takes
+abbrev pub tokens : List (List ℕ × List ℕ)
+tokens =
+    (codes "code_block_token", codes "`") ∷
+    (codes "code_block_token", codes "~") ∷
+    (codes "list_token", codes "*") ∷
+    (codes "list_token", codes "-") ∷
+    (codes "list_token", codes "+") ∷
+    (codes "ordered_list_token", codes ".") ∷
+    (codes "ordered_list_token", codes ")") ∷
+    (codes "emphasis_token", codes "*") ∷
+    (codes "emphasis_token", codes "_") ∷
+    (codes "strong_token", codes "**") ∷
+    (codes "strong_token", codes "__") ∷
+    []
+
+-- whether an option has this key and takes this value
+abbrev pub is_option : List ℕ → Data → Bool
+is_option key (boolean b) = list_any (λ k. bytes_eq key k) truth_keys
+is_option key (number (unsigned n)) = list_any (λ k. bytes_eq key k) count_keys
+is_option key (string s) = list_any (λ t. bytes_eq key t.0 && bytes_eq s t.1) tokens
+is_option key d = false
+
+-- whether each member is an option with a value that it takes
+abbrev pub are_options : Members → Bool
+are_options no_members = true
+are_options (member key d ms) = is_option key d && are_options ms
+
+-- whether a value is an object of options, each with a value that it takes
+abbrev pub is_options_object : Data → Bool
+is_options_object (object ms) = are_options ms
+is_options_object d = false

@@ -1,13 +1,14 @@
 //! Events to Markdown that is read again as a whole.
 
-ghost use Rattle.std.specs.Prelude.{◌≡◌, ◌↔◌, IfErr, IfOk, IfSome, IsNone, IsTrue, is_some, map, string_bytes};
+ghost use Rattle.std.specs.Prelude.{◌≡◌, ◌≤◌, ◌↔◌, IfErr, IfOk, IfSome, IsNone, IsTrue, is_some, length, map, string_bytes};
 ghost use Rattle.tocmark_event.specs.Merged.{merged};
 ghost use Rattle.tocmark_event.specs.Options.{options_view};
 ghost use Rattle.tocmark_event.specs.Text.{text_of};
 ghost use Rattle.tocmark_event.specs.View.{event_view};
 ghost use Rattle.tocmark_json.specs.Json.{pair_view};
+ghost use Rattle.tocmark_spelling.specs.Kinds.{is_text};
 ghost use Rattle.tocmark_spelling.specs.SameEvents.{same_events};
-ghost use Rattle.tocmark_interchange.specs.Document.{IsDocumentCause, IsWrittenTheSame, events_in, events_read, without_range};
+ghost use Rattle.tocmark_interchange.specs.Document.{IsDocumentCause, IsFirstBehind, IsFirstLost, IsWrittenTheSame, events_in, events_read, goes_on, shared, without_range};
 ghost use Rattle.tocmark_interchange.specs.Interchange.{source_text};
 
 use crate::fault::{DocumentError, WriteError};
@@ -99,46 +100,62 @@ fn are_same(alloc: Global, found: &[Found<'_>], given: &[Placed<'_>]) -> Result<
 }
 
 /// How many events both lists begin with.
-fn shared(found: &[Event<'_>], given: &[Event<'_>]) -> usize {
-    for (place, (one, other)) in found.iter().zip(given).enumerate() {
-        if !same_event(one, other) {
+fn shared(found: &[Event<'_>], given: &[Event<'_>]) -> usize
+    ensures { result
+        ≡ shared (map (event_view text_of) found.now) (map (event_view text_of) given.now) }
+{
+    for place in 0..found.len() {
+        if place >= given.len() {
+            return place;
+        }
+        if !same_event(&found[place], &given[place]) {
             return place;
         }
     }
-    found.len().min(given.len())
+    found.len()
 }
 
-fn is_text(event: &Event<'_>) -> bool {
+fn is_text(event: &Event<'_>) -> bool
+    ensures { result ≡ is_text (event_view text_of event.now) }
+{
     match event {
         Event::Text(_) => true,
         _ => false,
     }
 }
 
+/// Whether the first two events are in one stretch: whether both are texts.
+fn goes_on(events: &[Placed<'_>]) -> bool
+    ensures { result ≡ goes_on (events_in events.now) }
+{
+    match events {
+        [first, second, ..] => is_text(&first.0) && is_text(&second.0),
+        _ => false,
+    }
+}
+
 /// The number of the event with which the stretch of this number begins, where texts side by side are one stretch; how many
 /// events there are, if there are no more stretches.
-fn place_of(given: &[Placed<'_>], stretch: usize) -> usize {
+fn place_of(given: &[Placed<'_>], stretch: usize) -> usize
+    ensures { stretch ≤ length (merged (events_in given.now))
+        → IsFirstBehind stretch (events_in given.now) result }
+{
     let mut left = stretch;
-    let mut behind_text = false;
-    for (place, pair) in given.iter().enumerate() {
-        let text = is_text(&pair.0);
-        if !(text && behind_text) {
-            if left == 0 {
-                return place;
-            }
+    for place in 0..given.len() {
+        if left == 0 {
+            return place;
+        }
+        if !goes_on(&given[place..]) {
             left = left.saturating_sub(1);
         }
-        behind_text = text;
     }
     given.len()
 }
 
 /// The number of the first event that isn't found again, where the lists differ.
-fn first_lost(
-    alloc: Global,
-    found: &[Found<'_>],
-    given: &[Placed<'_>],
-) -> Result<usize, AllocError> {
+fn first_lost(alloc: Global, found: &[Found<'_>], given: &[Placed<'_>]) -> Result<usize, AllocError>
+    ensures { IfOk result (IsFirstLost (events_in found.now) (events_in given.now)) }
+{
     let read = merged_found(alloc, found)?;
     let wanted = merged_given(alloc, given)?;
     Ok(place_of(given, shared(&read, &wanted)))
@@ -154,6 +171,8 @@ fn difference(
         → merged (events_in found.now) ≡ merged (events_in given.now)) }
     ensures other { IfOk result (λ answer. IfSome answer (λ place.
         ¬ (merged (events_in found.now) ≡ merged (events_in given.now)))) }
+    ensures place { IfOk result (λ answer. IfSome answer
+        (IsFirstLost (events_in found.now) (events_in given.now))) }
 {
     if are_same(alloc, found, given)? {
         return Ok(None);

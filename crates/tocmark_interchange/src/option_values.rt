@@ -1,20 +1,20 @@
 //! Options from their JSON value.
 
-ghost use Rattle.std.specs.Prelude.{◌≡◌, IfOk, IsOk, is_ok};
-ghost use Rattle.serde_json.specs.Data.{boolean, string};
-ghost use Rattle.serde_json.specs.View.{view};
+ghost use Rattle.std.specs.Prelude.{◌≡◌, IfOk, is_ok};
+ghost use Rattle.serde_json.specs.Data.{boolean, number, string};
+ghost use Rattle.serde_json.specs.View.{number_view, view};
 ghost use Rattle.tocmark_event.specs.Options.{options_view};
 ghost use Rattle.tocmark_json.specs.Json.{size_json};
-ghost use Rattle.tocmark_interchange.specs.Options.{IsOptionsJson, IsPut};
+ghost use Rattle.tocmark_interchange.specs.Options.{IsOptionsJson, IsPut, is_option, is_options_object};
 
 use crate::fault::OptionFault;
-use serde_json::Value;
+use serde_json::{Number, Value};
 use tocmark::Options;
-use tocmark_json::parts::number_in;
 
 fn set_truth(options: &mut Options<'static>, key: &str, truth: bool) -> bool
-    ensures { IsPut result key.now (boolean truth) (options_view options.old)
+    ensures put { IsPut result key.now (boolean truth) (options_view options.old)
         (options_view options.new) }
+    ensures taken { result ≡ is_option key.now (boolean truth) }
 {
     match key {
         "increment_ordered_list_bullets" => options.increment_ordered_list_bullets = truth,
@@ -26,8 +26,9 @@ fn set_truth(options: &mut Options<'static>, key: &str, truth: bool) -> bool
 }
 
 fn set_newlines(options: &mut Options<'static>, key: &str, count: usize) -> bool
-    ensures { IsPut result key.now (size_json count) (options_view options.old)
+    ensures put { IsPut result key.now (size_json count) (options_view options.old)
         (options_view options.new) }
+    ensures taken { result ≡ is_option key.now (size_json count) }
 {
     match key {
         "newlines_after_headline" => options.newlines_after_headline = count,
@@ -47,8 +48,9 @@ fn set_newlines(options: &mut Options<'static>, key: &str, count: usize) -> bool
 }
 
 fn set_token(options: &mut Options<'static>, key: &str, token: &str) -> bool
-    ensures { IsPut result key.now (string token.now) (options_view options.old)
+    ensures put { IsPut result key.now (string token.now) (options_view options.old)
         (options_view options.new) }
+    ensures taken { result ≡ is_option key.now (string token.now) }
 {
     match (key, token) {
         ("code_block_token", "`") => options.code_block_token = '`',
@@ -67,27 +69,30 @@ fn set_token(options: &mut Options<'static>, key: &str, token: &str) -> bool
     true
 }
 
-fn set_number(options: &mut Options<'static>, key: &str, value: &Value) -> bool
-    ensures { IsPut result key.now (view value.now) (options_view options.old)
+fn set_number(options: &mut Options<'static>, key: &str, value: &Number) -> bool
+    ensures put { IsPut result key.now (number (number_view value.now)) (options_view options.old)
         (options_view options.new) }
+    ensures taken { result ≡ is_option key.now (number (number_view value.now)) }
 {
-    let Some(number) = number_in(value) else {
+    let Some(count) = value.as_u64() else {
         return false;
     };
-    match usize::try_from(number) {
+    match usize::try_from(count) {
         Ok(count) => set_newlines(options, key, count),
         Err(_) => false,
     }
 }
 
 fn set_value(options: &mut Options<'static>, key: &str, value: &Value) -> bool
-    ensures { IsPut result key.now (view value.now) (options_view options.old)
+    ensures put { IsPut result key.now (view value.now) (options_view options.old)
         (options_view options.new) }
+    ensures taken { result ≡ is_option key.now (view value.now) }
 {
     match value {
         Value::Bool(truth) => set_truth(options, key, *truth),
         Value::String(token) => set_token(options, key, token.as_str()),
-        _ => set_number(options, key, value),
+        Value::Number(number) => set_number(options, key, number),
+        Value::Null | Value::Array(_) | Value::Object(_) => false,
     }
 }
 
@@ -123,8 +128,9 @@ pub fn set_option<'k>(
     key: &'k str,
     value: &Value,
 ) -> Result<(), OptionFault<'k>>
-    ensures { IsPut (is_ok result) key.now (view value.now) (options_view options.old)
+    ensures put { IsPut (is_ok result) key.now (view value.now) (options_view options.old)
         (options_view options.new) }
+    ensures taken { is_ok result ≡ is_option key.now (view value.now) }
 {
     if set_value(options, key, value) {
         return Ok(());
@@ -138,7 +144,9 @@ pub fn set_option<'k>(
 /// The options of a JSON object: those of `Options::default`, but for the fields that have a key there.
 /// Unknown keys and values that a field can't have are refused, with the key and what is wanted there.
 pub fn options_from_json(value: &Value) -> Result<Options<'static>, OptionFault<'_>>
-    ensures { IfOk result (λ options. IsOptionsJson (view value.now) (options_view options)) }
+    ensures options { IfOk result (λ options.
+        IsOptionsJson (view value.now) (options_view options)) }
+    ensures taken { is_ok result ≡ is_options_object (view value.now) }
 {
     let Value::Object(members) = value else {
         return Err(OptionFault::NotAnObject);

@@ -66,7 +66,7 @@ pub fn options_in_json(alloc: Global, text: &str) -> Result<Options<'static>, Op
 fn options_of(alloc: Global, value: &Value) -> Result<Options<'static>, OptionsTextError>
     ensures options { IfOk result (λ options.
         IsOptionsJson (view value.now) (options_view options)) }
-    ensures cause { IfErr result IsNoOptions }
+    ensures cause { IfErr result (IsNoOptions (view value.now)) }
 {
     match options_from_json(value) {
         Ok(options) => Ok(options),
