@@ -1,5 +1,5 @@
 -- What the program reads and writes.
-use Rattle.std.specs.Prelude.{ℕ, List, Option, false, is_some, true}
+use Rattle.std.specs.Prelude.{◌≡◌, ◌⊎◌, ℕ, List, None, Option, Some, false, is_some, true}
 use Rattle.std.specs.Io.KnownBytes.{Appends}
 use Rattle.serde_json.specs.Written.{IsInOrder}
 use Rattle.tocmark_event.specs.Options.{options_view}
@@ -36,3 +36,8 @@ pub record IsAnswered (j : Job) (source input : List ℕ) (old new : Option (Lis
   pub output : List ℕ
   pub answers : IsAnswer j source input output
   pub appended : Appends old new output
+
+-- nothing was written, or the input, if it is known, has an answer
+abbrev pub WritesLate : {O : Type 0} → Job → List ℕ → Option (List ℕ) → O → O → Type 0
+WritesLate j source (Some input) old new = (new ≡ old) ⊎ ((output : List ℕ) × IsAnswer j source input output)
+WritesLate j source None old new = Unit {0}

@@ -9,13 +9,13 @@ mod arguments;
 mod fault;
 mod settings;
 
-ghost use Rattle.std.specs.Prelude.{◌≡◌, ◌≤◌, IfErr, IfOk, IfSome, OnOk, string_bytes};
+ghost use Rattle.std.specs.Prelude.{◌≡◌, ◌≤◌, IfErr, IfOk, IfSome, OnErr, OnOk, string_bytes};
 ghost use Rattle.std.specs.Io.KnownBytes.{Appends};
 ghost use Rattle.serde_json.specs.Written.{IsInOrder};
 ghost use Rattle.tocmark_event.specs.Options.{options_view};
 ghost use Rattle.tocmark_interchange.specs.Interchange.{IsWrittenAgain, IsWrittenFrom, reading_json};
 ghost use Rattle.tocmark_interchange.specs.Document.{IsWrittenTheSame};
-ghost use Rattle.tocmark_events_program.specs.Events.{IsAnswer, IsAnswered, IsWriteFault};
+ghost use Rattle.tocmark_events_program.specs.Events.{IsAnswer, IsAnswered, IsWriteFault, WritesLate};
 
 use arguments::{Job, asked, command, options_file};
 use clap::ArgMatches;
@@ -143,12 +143,14 @@ fn convert<I: Read, O: Write>(
     ensures unwritten { IfErr result (λ fault. ¬ (IsWriteFault fault) → output.new ≡ output.old) }
     ensures answered { IfSome (I.remaining input.old) (λ bytes. OnOk result
         (IsAnswered job.entry source.now bytes (O.contents output.old) (O.contents output.new))) }
+    ensures late { OnErr result
+        (WritesLate job.entry source.now (I.remaining input.old) output.old output.new) }
 {
     let text = converted(alloc, job, source, input)?;
     write_out(output, text.as_str())
 }
 
-/// The program after its arguments: the status that it ends with.
+/// The program after its arguments: the status that it ends with. It writes nothing before the whole answer is there.
 pub fn run<I: Read, O: Write, F: Write>(
     alloc: Global,
     job: Job<'_>,
@@ -160,6 +162,8 @@ pub fn run<I: Read, O: Write, F: Write>(
     ensures status { result ≤ 1 }
     ensures answered { IfSome (I.remaining input.old) (λ bytes. result ≡ 0
         → IsAnswered job.entry source.now bytes (O.contents output.old) (O.contents output.new)) }
+    ensures late { result ≡ 1
+        → WritesLate job.entry source.now (I.remaining input.old) output.old output.new }
 {
     match convert(alloc, job, source, input, output) {
         Ok(()) => 0,
