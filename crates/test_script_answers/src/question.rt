@@ -166,7 +166,7 @@ fn write_answer(
     }
 }
 
-/// The answers to the questions of a script, in their order. An `Err` says that memory ran out.
+/// The answers to the questions of a script, in their order.
 pub fn answers(alloc: Global, script: &Script<'static>) -> Result<String, AllocError> {
     let mut answer = String::new(alloc);
     for question in &script.questions {

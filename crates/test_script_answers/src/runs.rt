@@ -194,8 +194,8 @@ fn answer_script(
     Ok(counting.readings())
 }
 
-/// What these calls come to where a text and a reading are refused, with a line for each call or one at the end. An
-/// `Err` says that memory ran out for the answer.
+/// What these calls come to where a text and a reading are refused, with a line for each call or one at
+/// the end. It fails if memory runs out for the answer.
 fn run_refused(
     alloc: Global,
     script: &Script<'static>,
@@ -235,8 +235,8 @@ pub fn refusals_of(script: &Script<'_>) -> Refusals {
     }
 }
 
-/// What these calls come to where a text and a reading are refused, with one line at the end. An `Err` says that memory
-/// ran out for the answer.
+/// What these calls come to where a text and a reading are refused, with one line at the end. It fails
+/// if memory runs out for the answer.
 pub fn run_with(
     alloc: Global,
     script: &Script<'static>,
@@ -247,7 +247,7 @@ pub fn run_with(
 }
 
 /// What a script without questions is answered where these calls are made, with a line for each call or
-/// one at the end. An `Err` says that memory ran out for the answer.
+/// one at the end. It fails if memory runs out for the answer.
 pub fn run(
     alloc: Global,
     script: &Script<'static>,

@@ -222,7 +222,7 @@ fn add(
     Ok(())
 }
 
-/// The events of a shape, with what is in braces so many times. An `Err` says that memory ran out.
+/// The events of a shape, with what is in braces so many times.
 pub fn events_of(
     alloc: Global,
     shape: &str,

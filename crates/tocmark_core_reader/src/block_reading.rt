@@ -205,8 +205,8 @@ impl BlockReading<'_> {
     /// The next part of the reading: the events of one block that stands in no other, with all that
     /// lies in it, and no labels. `None` says that no events are left.
     ///
-    /// An `Err` says that memory ran out; what was handed out before stays with the caller, and every
-    /// later call answers an `Err`.
+    /// If memory runs out, what was handed out before stays with the caller, and every later call answers
+    /// an `Err`.
     #[tactic(auto, using(crate::proofs::PartLaws::part_balanced))]
     pub fn next(&mut self) -> Result<Option<Reading>, AllocError>
         ensures some { IfOk result (λ found. IfSome found (λ block.
@@ -235,7 +235,7 @@ impl BlockReading<'_> {
     }
 
     /// All that `next` didn't hand out, at once: the events that are left, and the labels of the whole
-    /// text. An `Err` says that memory ran out, in this call or an earlier one.
+    /// text. It fails if memory runs out, in this call or an earlier one.
     pub fn rest(self) -> Result<Reading, AllocError>
         ensures rest { IfOk result (λ found. reading_view found ≡ reading_left self.entry) }
         ensures after { HasFailed self.entry → IsErr result }

@@ -305,8 +305,8 @@ fn said_all(
 /// The link reference definitions of a text under a syntax, in their order, each with what it says and
 /// where it stands. Of several with one label the first is what links with that label lead to.
 ///
-/// They are those that the reader finds under this syntax, in quotes and items, too. Each range lies within
-/// the text, on boundaries of characters. An `Err` says that memory ran out.
+/// They are those that the reader finds under this syntax, in quotes and items, too. Each range lies
+/// within the text, on boundaries of characters.
 ///
 /// ```
 /// for definition in &find_definitions(alloc, CORE, text)? {

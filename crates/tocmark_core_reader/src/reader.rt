@@ -115,8 +115,7 @@ fn definitions(
     Ok(Definitions { places, entries })
 }
 
-/// Finds the blocks of a text, with the extensions of a syntax; their events are still to be made. An
-/// `Err` says that memory ran out.
+/// Finds the blocks of a text, with the extensions of a syntax; their events are still to be made.
 #[tactic(auto, unfolding(crate::specs::Reading::found_under, crate::specs::Reading::reading_of))]
 pub fn find_blocks(
     alloc: Global,
@@ -149,7 +148,7 @@ pub fn find_blocks(
     })
 }
 
-/// The events of a text and its labels, with the extensions of a syntax. An `Err` says that memory ran out.
+/// The events of a text and its labels, with the extensions of a syntax.
 pub fn find(alloc: Global, syntax: Syntax, text: &str) -> Result<Reading, AllocError>
     ensures { IfOk result (λ found. reading_view found ≡ reading_of syntax text.now) }
 {
@@ -158,8 +157,7 @@ pub fn find(alloc: Global, syntax: Syntax, text: &str) -> Result<Reading, AllocE
 }
 
 impl CoreReader {
-    /// Reads a text block by block: its blocks are found, and their events are handed out by `next`. An
-    /// `Err` says that memory ran out.
+    /// Reads a text block by block: its blocks are found, and their events are handed out by `next`.
     pub fn blocks<'t>(&self, alloc: Global, text: &'t str) -> Result<BlockReading<'t>, AllocError>
         ensures left { IfOk result (λ blocks. reading_left blocks ≡ core_reading text.now) }
         ensures between { IfOk result (λ blocks. IsBetweenTrees blocks) }
@@ -181,7 +179,7 @@ impl Reader for CoreReader {
 
     ghost reading = { λ _ text _. core_reading text };
 
-    /// The reading of a text, with ranges in bytes. An `Err` says that memory ran out.
+    /// The reading of a text, with ranges in bytes.
     #[tactic(auto, using(crate::proofs::EmitLaws::reading_balanced, crate::proofs::EmitLaws::reading_good))]
     fn read(&self, alloc: Global, text: &str, _flags: ParserOptions) -> Result<Reading, AllocError>
         ensures reading { IfOk result (λ found. reading_view found ≡ core_reading text.now) }

@@ -440,7 +440,7 @@ impl<T: Words> TagOf<T> {
         }
     }
 
-    /// An equal tag that owns its texts. An `Err` says that memory ran out.
+    /// An equal tag that owns its texts.
     pub fn copied<U: OwnedWords + Drop>(&self, alloc: Global) -> Result<TagOf<U>, AllocError>
         ensures { IfOk result (λ copy. tag_view U.Words.bytes copy ≡ tag_view T.bytes self.now) }
     {
@@ -490,7 +490,7 @@ impl<T: Words> TagOf<T> {
 }
 
 impl<T: Words> EventOf<T> {
-    /// An equal event that owns its texts. An `Err` says that memory ran out.
+    /// An equal event that owns its texts.
     pub fn copied<U: OwnedWords + Drop>(&self, alloc: Global) -> Result<EventOf<U>, AllocError>
         ensures { IfOk result (λ copy. event_view U.Words.bytes copy
             ≡ event_view T.bytes self.now) }
@@ -516,8 +516,7 @@ impl<T: Words> EventOf<T> {
 }
 
 impl<'a> EventOf<CowStr<'a>> {
-    /// An equal event that owns its texts and can outlive their source. An `Err` says that memory
-    /// ran out.
+    /// An equal event that owns its texts and can outlive their source.
     pub fn to_static(&self, alloc: Global) -> Result<Event<'static>, AllocError>
         ensures { IfOk result (λ copy. event_view text_of copy ≡ event_view text_of self.now) }
     {
@@ -577,7 +576,7 @@ pub fn merge_all<T: Words, U: OwnedWords + Drop>(
 }
 
 /// The events, with each longest stretch of Text events as one Text of their joined texts; all else
-/// stays. An `Err` says that memory ran out.
+/// stays.
 ///
 /// `a`, `b`, a soft break and `c` become `ab`, the soft break and `c`. Empty texts join like others,
 /// so that a stretch of them stays one empty text.

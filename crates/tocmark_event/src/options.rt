@@ -313,7 +313,7 @@ impl<'a> Options<'a> {
     /// that are special under the default ones, and where the fence, list, emphasis or strong token isn't
     /// its default, these four in that order.
     ///
-    /// An `Err` says that memory ran out, which never happens under the default tokens.
+    /// It fails if memory runs out, which never happens under the default tokens.
     pub fn special_characters(&self, alloc: Global) -> Result<CowStr<'static>, AllocError>
         ensures text { IfOk result (λ text.
             text_of text ≡ special_characters (options_view self.now)) }

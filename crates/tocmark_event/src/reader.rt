@@ -85,7 +85,7 @@ pub trait Reader {
     /// That reading.
     ghost reading: { Self → List ℕ → ParserOptions → ReadingView };
 
-    /// Reads a text. An `Err` says that memory ran out.
+    /// Reads a text.
     fn read(&self, alloc: Global, text: &str, flags: ParserOptions) -> Result<Reading, AllocError>
         ensures { IfOk result (λ found. reading_view found ≡ reading self.now text.now flags) };
 }

@@ -164,7 +164,7 @@ impl ExtendedReader {
     }
 
     /// Reads a text block by block, as `read` does: its blocks are found, and their events are handed out
-    /// by `next`. An `Err` says that memory ran out.
+    /// by `next`.
     pub fn blocks<'t>(
         &self,
         alloc: Global,
@@ -179,8 +179,8 @@ impl ExtendedReader {
     }
 
     /// The link reference definitions that this reader finds in a text under some flags, as
-    /// `find_definitions` gives them: in their order, each with what it says and where it stands, in bytes of
-    /// the text. Of several with one label the first counts. An `Err` says that memory ran out.
+    /// `find_definitions` gives them: in their order, each with what it says and where it stands, in bytes
+    /// of the text. Of several with one label the first counts.
     ///
     /// ```
     /// let all = ExtendedReader::new().definitions(alloc, "[a]: /b 'c'", flags)?;
@@ -213,7 +213,7 @@ impl Reader for ExtendedReader {
 
     ghost reading = { λ reader text flags. reading_of (syntax_of reader.names flags) text };
 
-    /// The reading of a text, with ranges in bytes. An `Err` says that memory ran out.
+    /// The reading of a text, with ranges in bytes.
     #[tactic(auto, using(tocmark_core_reader::proofs::EmitLaws::reading_balanced, tocmark_core_reader::proofs::EmitLaws::reading_good, crate::proofs::Core::read_as_core))]
     fn read(&self, alloc: Global, text: &str, flags: ParserOptions) -> Result<Reading, AllocError>
         ensures reading { IfOk result (λ found.

@@ -372,8 +372,6 @@ fn formatted_with_mark<R: PartReader>(
 /// of texts as one (the clause `same`). A byte order mark stays in front of the text, and what stands behind it is read as
 /// before also without it.
 ///
-/// An `Err` says that memory ran out.
-///
 /// ```
 /// let answer = formatted(alloc, "a\n=\n -  b\n", &CoreReader, ParserOptions::empty(), Style::new())?;
 /// assert_eq!(rt; answer.text.as_str(), "# a\n\n- b\n");

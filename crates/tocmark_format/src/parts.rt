@@ -19,7 +19,7 @@ pub trait PartTaker {
     /// Whether these events were taken so far, one part behind the other.
     ghost has_taken: { Self → List EventView → Type 0 };
 
-    /// Takes the next part: trees that stand at the top of the text. An `Err` says that memory ran out.
+    /// Takes the next part: trees that stand at the top of the text.
     fn take(&mut self, alloc: Global, part: &Reading) -> Result<(), AllocError>
         ensures { OnOk result ((before : List EventView) → has_taken self.old before
             → has_taken self.new (before ++ found_events (reading_view part.now))) };
@@ -30,7 +30,7 @@ pub trait PartTaker {
 /// The parts, one behind the other, are what it finds in the text at once. A reader that has no other way than to read
 /// all at once hands out that as one part: `impl PartReader for MyReader {}`.
 pub trait PartReader: Reader {
-    /// Hands the events of a text to a taker. An `Err` says that memory ran out, here or there.
+    /// Hands the events of a text to a taker. It fails if memory runs out, here or there.
     fn read_parts<T: PartTaker>(
         &self,
         alloc: Global,

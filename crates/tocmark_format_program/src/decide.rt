@@ -18,8 +18,6 @@ pub struct Decision {
 
 /// What becomes of a text. The reader finds the same in what is written as in the text, on either side with each longest
 /// stretch of texts as one.
-///
-/// An `Err` says that memory ran out.
 pub fn decided<R: PartReader>(
     alloc: Global,
     text: &str,

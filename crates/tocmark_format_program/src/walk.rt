@@ -122,8 +122,6 @@ fn is_folder(rt: &HostRuntime, path: &str) -> bool {
 }
 
 /// The files that these paths mean. `-` stands for standard input, and is meant where there is no path.
-///
-/// An `Err` says that memory ran out.
 pub fn files_of(rt: &HostRuntime, paths: &[&str]) -> io::Result<Found> {
     let mut found = Found {
         files: Vec::new(rt.alloc()),

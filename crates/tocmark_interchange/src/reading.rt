@@ -10,8 +10,8 @@ use tocmark::reader::Reader;
 use tocmark_extended_reader::{ExtendedReader, Names};
 use tocmark_json_text::printing::ranged_to_text;
 
-/// The JSON text of the events that the reader of extensions finds in a text under these flags: an array of events with
-/// their ranges in bytes. An `Err` says that memory ran out.
+/// The JSON text of the events that the reader of extensions finds in a text under these flags: an
+/// array of events with their ranges in bytes.
 pub fn read_json(alloc: Global, text: &str, flags: ParserOptions) -> Result<String, AllocError>
     ensures { IfOk result (λ output.
         IsInOrder (string_bytes output) (reading_json flags text.now)) }

@@ -295,7 +295,7 @@ fn end_to_json(alloc: Global, end: TagEnd) -> Result<Value, AllocError>
     }
 }
 
-/// The JSON value of an event. An `Err` says that memory ran out.
+/// The JSON value of an event.
 pub fn event_to_json<T: Words>(alloc: Global, event: &EventOf<T>) -> Result<Value, AllocError>
     ensures { IfOk result (λ v. view v ≡ event_json (event_view T.bytes event.now)) }
 {
@@ -358,7 +358,7 @@ fn ranged_event_to_json<T: Words>(
     both(alloc, first, range_to_json(alloc, *range)?)
 }
 
-/// The JSON value of a list of events: an array. An `Err` says that memory ran out.
+/// The JSON value of a list of events: an array.
 pub fn events_to_json<T: Words>(alloc: Global, events: &[EventOf<T>]) -> Result<Value, AllocError>
     ensures { IfOk result (λ v. view v ≡ events_json (map (event_view T.bytes) events.now)) }
 {
@@ -369,8 +369,8 @@ pub fn events_to_json<T: Words>(alloc: Global, events: &[EventOf<T>]) -> Result<
     Ok(Value::Array(items))
 }
 
-/// The JSON value of a list of events with their ranges, where they have one: an array of arrays of two.
-/// An `Err` says that memory ran out.
+/// The JSON value of a list of events with their ranges, where they have one: an array of arrays of
+/// two.
 pub fn pairs_to_json<T: Words>(
     alloc: Global,
     pairs: &[(EventOf<T>, Option<(usize, usize)>)],
@@ -386,7 +386,7 @@ pub fn pairs_to_json<T: Words>(
 }
 
 /// The JSON value of a list of events that all have a range, as a reader gives them: that of
-/// `pairs_to_json`. An `Err` says that memory ran out.
+/// `pairs_to_json`.
 pub fn ranged_to_json<T: Words>(
     alloc: Global,
     pairs: &[(EventOf<T>, (usize, usize))],

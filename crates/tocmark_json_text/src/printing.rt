@@ -539,7 +539,6 @@ fn text_of(out: Writer) -> Result<String, AllocError>
 }
 
 /// The JSON text of a list of events, without spaces: that of the value of `events_to_json`.
-/// An `Err` says that memory ran out.
 pub fn events_to_text<T: Words>(alloc: Global, events: &[EventOf<T>]) -> Result<String, AllocError>
     ensures text { IfOk result (λ text. string_bytes text
         ≡ compact_text (events_json (map (event_view T.bytes) events.now))) }
@@ -551,8 +550,8 @@ pub fn events_to_text<T: Words>(alloc: Global, events: &[EventOf<T>]) -> Result<
     text_of(out)
 }
 
-/// The JSON text of a list of events with their ranges, where they have one, without spaces: that of the
-/// value of `pairs_to_json`. An `Err` says that memory ran out.
+/// The JSON text of a list of events with their ranges, where they have one, without spaces: that of
+/// the value of `pairs_to_json`.
 pub fn pairs_to_text<T: Words>(
     alloc: Global,
     pairs: &[(EventOf<T>, Option<(usize, usize)>)],
@@ -568,7 +567,7 @@ pub fn pairs_to_text<T: Words>(
 }
 
 /// The JSON text of a list of events that all have a range, as a reader gives them: that of
-/// `pairs_to_text`. An `Err` says that memory ran out.
+/// `pairs_to_text`.
 pub fn ranged_to_text<T: Words>(
     alloc: Global,
     pairs: &[(EventOf<T>, (usize, usize))],

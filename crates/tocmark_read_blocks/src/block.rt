@@ -447,8 +447,7 @@ fn read_page(alloc: Global, syntax: Syntax, text: &[u8]) -> Result<BlocksSoFar, 
 }
 
 /// The blocks of a text in the order of their starts, their pieces, and the link reference definitions
-/// in the order of the text, with the extensions of a syntax. The text is UTF-8. Places are bytes. An
-/// `Err` says that memory ran out.
+/// in the order of the text, with the extensions of a syntax. The text is UTF-8. Places are bytes.
 #[tactic(auto, unfolding(crate::specs::Blocks::blocks_in))]
 pub fn read_blocks(alloc: Global, syntax: Syntax, text: &[u8]) -> Result<Blocks, AllocError>
     ensures { IfOk result (λ found. blocks_view found ≡ blocks_in syntax text.now) }

@@ -87,8 +87,8 @@ fn scanner(
     }
 }
 
-/// The inlines with one more leaf, over which the pass has gone: its nodes stand at a depth behind those of
-/// the leaves before it. An `Err` says that memory ran out.
+/// The inlines with one more leaf, over which the pass has gone: its nodes stand at a depth behind
+/// those of the leaves before it.
 fn inlines_behind(
     alloc: Global,
     machine: Scanner,
@@ -126,7 +126,7 @@ const SHORT: usize = 64;
 /// For so many marks room is made at once.
 const MARKS: usize = 16;
 
-/// Reads the inlines of one more leaf, at a depth. An `Err` says that memory ran out.
+/// Reads the inlines of one more leaf, at a depth.
 #[tactic(auto, unfolding(crate::specs::Inlines::read_inlines_in))]
 pub fn read_inlines(
     alloc: Global,
@@ -180,8 +180,7 @@ fn mark_bars(roles: &mut Roles, bytes: &[u8]) -> Result<(), AllocError>
     Ok(())
 }
 
-/// Reads the inlines of one more cell of a table, at a depth: in its content each bar begins a text. An
-/// `Err` says that memory ran out.
+/// Reads the inlines of one more cell of a table, at a depth: in its content each bar begins a text.
 #[tactic(auto, unfolding(crate::specs::Inlines::read_cell_in))]
 pub fn read_cell(
     alloc: Global,

@@ -118,7 +118,7 @@ fn ends_of(bytes: &[u8]) -> LastEnds
 }
 
 /// For each number of backticks where the last run of so many begins: no entry where no backtick
-/// stands. An `Err` says that memory ran out.
+/// stands.
 #[tactic(auto, unfolding(crate::specs::Scan::ticks_of))]
 fn ticks_of(alloc: Global, bytes: &[u8]) -> Result<Vec<usize>, AllocError>
     ensures { IfOk result (λ v. v.items ≡ ticks_of bytes.now) }
@@ -130,8 +130,7 @@ fn ticks_of(alloc: Global, bytes: &[u8]) -> Result<Vec<usize>, AllocError>
     }
 }
 
-/// The partners of dollar signs, where mathematics is read and one stands. An `Err` says that memory ran
-/// out.
+/// The partners of dollar signs, where mathematics is read and one stands.
 #[tactic(auto, unfolding(crate::specs::Scan::partners_in))]
 fn partners_in(
     alloc: Global,
@@ -1066,7 +1065,7 @@ impl Scanner {
         }
     }
 
-    /// Reads a text from its front, and gives each of its bytes a role. An `Err` says that memory ran out.
+    /// Reads a text from its front, and gives each of its bytes a role.
     #[tactic(auto, unfolding(crate::specs::Scan::scanned_in))]
     pub fn read(
         &mut self,

@@ -249,8 +249,8 @@ fn ascend(marks: &[MarkedByte], end: usize) -> bool
     true
 }
 
-/// Writes the nodes of the roles of a text's bytes behind others, at a depth. There is room for a text and a
-/// node for each mark from the start. An `Err` says that memory ran out.
+/// Writes the nodes of the roles of a text's bytes behind others, at a depth. There is room for a text
+/// and a node for each mark from the start.
 #[tactic(auto, using(crate::proofs::Sparse::in_order, crate::proofs::Behind::written_behind))]
 fn write(
     alloc: Global,
@@ -300,8 +300,8 @@ fn move_all(content: &Content, nodes: &mut [Node])
     }
 }
 
-/// Writes the nodes of the roles of a text's bytes behind others, at a depth and with their ranges in the
-/// source. An `Err` says that memory ran out.
+/// Writes the nodes of the roles of a text's bytes behind others, at a depth and with their ranges in
+/// the source.
 pub fn write_behind(
     alloc: Global,
     roles: &Roles,

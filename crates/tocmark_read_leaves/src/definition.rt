@@ -168,8 +168,8 @@ fn line_count(content: &[u8], place: usize) -> usize
         .count()
 }
 
-/// Puts the definitions at the front of a paragraph's lines behind those so far, and gives the number of
-/// their lines. An `Err` says that memory ran out.
+/// Puts the definitions at the front of a paragraph's lines behind those so far, and gives the number
+/// of their lines.
 #[tactic(auto, unfolding(crate::specs::Definitions::definitions_from))]
 pub fn take_definitions(
     alloc: Global,

@@ -143,7 +143,7 @@ fn behind_bar(row: &[u8]) -> &[u8]
     }
 }
 
-/// The alignments of the columns of a delimiter row. An `Err` says that memory ran out.
+/// The alignments of the columns of a delimiter row.
 #[tactic(auto, unfolding(crate::specs::Rows::alignments_of, crate::specs::Rows::columns_ended))]
 pub fn alignments(alloc: Global, row: &[u8]) -> Result<Vec<Alignment>, AllocError>
     ensures { IfOk result (λ v. v.items ≡ alignments_of row.now) }

@@ -142,8 +142,7 @@ impl Cells {
         }
     }
 
-    /// Takes the columns of a line of a text, without its line ending, in place of those so far. An `Err`
-    /// says that memory ran out.
+    /// Takes the columns of a line of a text, without its line ending, in place of those so far.
     #[tactic(auto, using(crate::proofs::Columns::no_cells))]
     pub fn read(&mut self, text: &[u8], line: Line) -> Result<(), AllocError>
         ensures { OnOk result (self.new

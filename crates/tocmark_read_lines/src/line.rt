@@ -39,8 +39,7 @@ fn line_stop(text: &[u8], start: usize, byte: u8, at: usize) -> usize
 }
 
 /// The lines of a text in order, with their places in bytes. They end with a line feed, a carriage
-/// return or both; behind the last line ending stands a line only if it isn't empty. An `Err` says that
-/// memory ran out.
+/// return or both; behind the last line ending stands a line only if it isn't empty.
 #[tactic(auto, using(crate::proofs::LineEnds::lines_by_places))]
 pub fn lines(alloc: Global, text: &[u8]) -> Result<Vec<Line>, AllocError>
     ensures { IfOk result (λ v. v.items ≡ lines_of text.now) }

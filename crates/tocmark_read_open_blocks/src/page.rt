@@ -368,7 +368,7 @@ impl BlocksSoFar {
         Ok(())
     }
 
-    /// Closes the open leaf. An `Err` says that memory ran out.
+    /// Closes the open leaf.
     #[tactic(auto, unfolding(crate::specs::Pages::leaf_closed))]
     pub fn close_leaf(&mut self, alloc: Global, text: &[u8]) -> Result<(), AllocError>
         ensures { OnOk result (page self.new ≡ leaf_closed text.now (page self.old)) }

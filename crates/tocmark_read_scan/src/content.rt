@@ -78,7 +78,7 @@ impl Pasted {
         Ok(())
     }
 
-    /// Writes the byte at a place of the source: U+FFFD for a zero. An `Err` says that memory ran out.
+    /// Writes the byte at a place of the source: U+FFFD for a zero.
     #[tactic(auto, unfolding(crate::specs::Content::put_byte))]
     pub fn put_byte(&mut self, byte: u8, start: usize) -> Result<(), AllocError>
         ensures { OnOk result (pasted_view self.new
@@ -249,7 +249,7 @@ fn whole<'a>(source: &'a [u8], lines: &[ContentLine]) -> Option<Content<'a>>
 }
 
 /// The text of lines of a source, joined by line feeds and without white space at its end; U+FFFD
-/// stands for U+0000. An `Err` says that memory ran out.
+/// stands for U+0000.
 pub fn content_of<'a>(
     alloc: Global,
     source: &'a [u8],

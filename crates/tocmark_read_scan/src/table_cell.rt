@@ -53,7 +53,7 @@ fn cell_to(source: &[u8], from: usize, end: usize) -> usize
 }
 
 /// The content of the cell between two places of a source, without blanks round it and without each
-/// backslash just before a bar; U+FFFD stands for U+0000. An `Err` says that memory ran out.
+/// backslash just before a bar; U+FFFD stands for U+0000.
 #[tactic(auto, unfolding(crate::specs::TableCell::cell_content))]
 pub fn cell_content(
     alloc: Global,

@@ -101,7 +101,6 @@ impl Collected {
     }
 
     /// Adds a definition as it is written: a label, a destination and a title, by the names that are known.
-    /// An `Err` says that memory ran out.
     #[tactic(auto, unfolding(crate::specs::Definitions::defined_with_in))]
     pub fn define(
         &mut self,
@@ -124,8 +123,7 @@ impl Collected {
         Ok(())
     }
 
-    /// Adds the definition that was found in a text, by the names that are known. An `Err` says that memory
-    /// ran out.
+    /// Adds the definition that was found in a text, by the names that are known.
     #[tactic(auto, unfolding(crate::specs::Definitions::defined_in))]
     pub fn add(
         &mut self,
@@ -144,7 +142,7 @@ impl Collected {
     }
 
     /// Adds a footnote that has a definition, by its name as it is written. Its entry is empty, and it is
-    /// none of the labels. An `Err` says that memory ran out.
+    /// none of the labels.
     #[tactic(auto, unfolding(crate::specs::Definitions::noted_with))]
     pub fn note(&mut self, alloc: Global, name: &[u8]) -> Result<(), AllocError>
         ensures { OnOk result (collected_view self.new
@@ -184,8 +182,8 @@ fn label_text(
     String::from_utf8_lossy(alloc, bytes_between(texts, label.start, label.end))
 }
 
-/// The labels of a list, each of several that match once, as it is spelled first: one alone without a look
-/// at its key. An `Err` says that memory ran out.
+/// The labels of a list, each of several that match once, as it is spelled first: one alone without a
+/// look at its key.
 #[tactic(auto, using(crate::proofs::OneLabel::no_label, crate::proofs::OneLabel::one_label))]
 pub fn distinct_labels(
     alloc: Global,

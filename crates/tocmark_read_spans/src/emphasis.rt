@@ -229,7 +229,7 @@ impl Openers {
     }
 }
 
-/// Gives the delimiters of these runs, and of no others, their roles. An `Err` says that memory ran out.
+/// Gives the delimiters of these runs, and of no others, their roles.
 #[tactic(auto, unfolding(crate::specs::Emphasis::emphasized), using(crate::proofs::Runless::no_runs))]
 pub fn emphasize(alloc: Global, roles: &mut Roles, runs: &[Run]) -> Result<(), AllocError>
     ensures { OnOk result (roles_of roles.new ≡ emphasized (roles_of roles.old) runs.now) }

@@ -120,7 +120,7 @@ fn partners_among(alloc: Global, signs: &[Sign]) -> Result<Vec<Option<usize>>, A
 }
 
 /// For each byte of a text the partner of the dollar sign that it is: the next one with balanced braces
-/// between them. An `Err` says that memory ran out.
+/// between them.
 #[tactic(auto, unfolding(crate::specs::Math::partners))]
 pub fn partners(alloc: Global, bytes: &[u8]) -> Result<Vec<Option<usize>>, AllocError>
     ensures { IfOk result (λ v. v.items ≡ partners bytes.now) }

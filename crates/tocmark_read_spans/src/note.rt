@@ -19,8 +19,8 @@ pub enum Sought {
     Note(Word),
 }
 
-/// What names of footnotes that match have in common: the key of a label behind a bracket, with which no
-/// label's own key begins. An `Err` says that memory ran out.
+/// What names of footnotes that match have in common: the key of a label behind a bracket, with which
+/// no label's own key begins.
 #[tactic(auto, unfolding(crate::specs::Notes::note_key))]
 pub fn note_key(alloc: Global, name: &[u8]) -> Result<String, AllocError>
     ensures { IfOk result (λ t. string_bytes t ≡ note_key name.now) }

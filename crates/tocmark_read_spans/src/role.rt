@@ -181,8 +181,7 @@ impl Roles {
         Ok(())
     }
 
-    /// Gives the byte at a place a role; nothing where the text is shorter. An `Err` says that memory
-    /// ran out.
+    /// Gives the byte at a place a role; nothing where the text is shorter.
     #[inline(always)]
     pub fn put(&mut self, place: usize, role: Role) -> Result<(), AllocError>
         ensures { OnOk result (roles_of self.new ≡ slice_set (roles_of self.old) place role) }
@@ -195,8 +194,7 @@ impl Roles {
         }
     }
 
-    /// Hides the byte at a place, and gives one a role, in the order of their places. An `Err` says that
-    /// memory ran out.
+    /// Hides the byte at a place, and gives one a role, in the order of their places.
     #[tactic(auto, using(crate::proofs::Marks::set_again, crate::proofs::Marks::set_apart))]
     #[inline(always)]
     pub fn put_behind(&mut self, hidden: usize, place: usize, role: Role) -> Result<(), AllocError>
@@ -214,8 +212,7 @@ impl Roles {
         }
     }
 
-    /// For each byte the number of its last mark, from 1 on; 0 where it has none. An `Err` says that
-    /// memory ran out.
+    /// For each byte the number of its last mark, from 1 on; 0 where it has none.
     pub fn numbers(&self, alloc: Global) -> Result<Vec<usize>, AllocError>
         ensures { IfOk result (λ v.
             map (role_at self.now.marks.items) v.items ≡ roles_of self.now) }

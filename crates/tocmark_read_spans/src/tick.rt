@@ -53,8 +53,8 @@ fn run_from(bytes: &[u8], place: usize) -> Option<(usize, usize)>
     }
 }
 
-/// For each number of backticks the place behind the first byte of the last run of so many in a text;
-/// 0 or no entry where there is none. An `Err` says that memory ran out.
+/// For each number of backticks the place behind the first byte of the last run of so many in a text; 0
+/// or no entry where there is none.
 #[tactic(auto, unfolding(crate::specs::Tick::last_ticks), using(tocmark_read_scan::proofs::Repeats::iterated_zero, crate::proofs::NotedRuns::runs_stop, crate::proofs::NotedRuns::runs_more))]
 pub fn last_ticks(alloc: Global, bytes: &[u8]) -> Result<Vec<usize>, AllocError>
     ensures { IfOk result (λ v. v.items ≡ last_ticks bytes.now) }
@@ -155,8 +155,7 @@ fn push_shown(out: &mut Vec<u8>, text: &[u8]) -> Result<(), AllocError>
     Ok(())
 }
 
-/// Writes the text of the code span whose bytes stand between its backticks behind others. An `Err`
-/// says that memory ran out.
+/// Writes the text of the code span whose bytes stand between its backticks behind others.
 pub fn push_code(out: &mut Vec<u8>, text: &[u8]) -> Result<(), AllocError>
     ensures { OnOk result (out.new.items ≡ push_shown out.old.items (stripped text.now)) }
 {

@@ -42,8 +42,7 @@ impl Collapsing {
     }
 }
 
-/// The label with one space for each stretch of white space, and none at its ends. An `Err` says that
-/// memory ran out.
+/// The label with one space for each stretch of white space, and none at its ends.
 #[tactic(auto, unfolding(crate::specs::Label::collapsed))]
 pub fn collapsed(alloc: Global, label: &[u8]) -> Result<Vec<u8>, AllocError>
     ensures { IfOk result (λ v. v.items ≡ collapsed label.now) }
@@ -58,7 +57,7 @@ pub fn collapsed(alloc: Global, label: &[u8]) -> Result<Vec<u8>, AllocError>
     Ok(machine.out)
 }
 
-/// The bytes as a text, with U+FFFD for each sequence that is no UTF-8. An `Err` says that memory ran out.
+/// The bytes as a text, with U+FFFD for each sequence that is no UTF-8.
 fn text_of(alloc: Global, bytes: Vec<u8>) -> Result<String, AllocError>
     ensures { IfOk result (λ t. string_bytes t ≡ utf8_lossy bytes.items) }
 {
@@ -68,8 +67,7 @@ fn text_of(alloc: Global, bytes: Vec<u8>) -> Result<String, AllocError>
     }
 }
 
-/// The text with its letters' case folded: one of ASCII in its own place. An `Err` says that memory ran
-/// out.
+/// The text with its letters' case folded: one of ASCII in its own place.
 #[tactic(auto, using(crate::proofs::Folded::ascii_folded))]
 fn folded(alloc: Global, mut text: String) -> Result<String, AllocError>
     ensures { IfOk result (λ t.
@@ -82,8 +80,7 @@ fn folded(alloc: Global, mut text: String) -> Result<String, AllocError>
     default_case_fold_str(alloc, text.as_str())
 }
 
-/// What two labels that match have in common: the collapsed label with its letters' case folded. An
-/// `Err` says that memory ran out.
+/// What two labels that match have in common: the collapsed label with its letters' case folded.
 #[tactic(auto, unfolding(crate::specs::Label::key_of))]
 pub fn key_of(alloc: Global, label: &[u8]) -> Result<String, AllocError>
     ensures { IfOk result (λ t. string_bytes t ≡ key_of label.now) }
@@ -93,8 +90,7 @@ pub fn key_of(alloc: Global, label: &[u8]) -> Result<String, AllocError>
     folded(alloc, text)
 }
 
-/// For each key of a list its first place there: of two definitions of a label the first counts. An
-/// `Err` says that memory ran out.
+/// For each key of a list its first place there: of two definitions of a label the first counts.
 pub fn first_places(alloc: Global, keys: &[String]) -> Result<HashMap<String, usize>, AllocError>
     ensures first { IfOk result (λ places.
         (q : List ℕ) → get_by_text places q ≡ first_place 0 (map string_bytes keys.now) q) }
@@ -133,8 +129,7 @@ fn keep(
     Ok(())
 }
 
-/// The places of a list at which a key stands for the first time, in order. An `Err` says that memory
-/// ran out.
+/// The places of a list at which a key stands for the first time, in order.
 pub fn distinct(alloc: Global, keys: &[String]) -> Result<Vec<usize>, AllocError>
     ensures { IfOk result (λ v.
         v.items ≡ distinct_from 0 (map string_bytes keys.now) (map string_bytes keys.now)) }

@@ -220,7 +220,7 @@ impl Unescaping {
     }
 }
 
-/// The text with its escapes and references resolved, byte by byte. An `Err` says that memory ran out.
+/// The text with its escapes and references resolved, byte by byte.
 #[tactic(auto, unfolding(crate::specs::Reference::unescaped_in))]
 fn unescaped_by_bytes(alloc: Global, names: Names, bytes: &[u8]) -> Result<Vec<u8>, AllocError>
     ensures { IfOk result (λ v. v.items ≡ unescaped_in names bytes.now) }
@@ -237,7 +237,7 @@ fn unescaped_by_bytes(alloc: Global, names: Names, bytes: &[u8]) -> Result<Vec<u
 }
 
 /// The text with its escapes and references resolved, by the names that are known. Where neither a
-/// backslash nor an ampersand stands it is copied. An `Err` says that memory ran out.
+/// backslash nor an ampersand stands it is copied.
 #[tactic(auto, using(crate::proofs::Unmarked::left_alone))]
 pub fn unescaped(alloc: Global, names: Names, bytes: &[u8]) -> Result<Vec<u8>, AllocError>
     ensures { IfOk result (λ v. v.items ≡ unescaped_in names bytes.now) }

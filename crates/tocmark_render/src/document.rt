@@ -92,8 +92,8 @@ fn has_bracket(text: &str) -> bool
     text.as_bytes().contains(&b'[')
 }
 
-/// Adds the labels that a reader finds defined in a unit's definitions. An `Err` says that memory ran
-/// out or the reader answered it; none is added then.
+/// Adds the labels that a reader finds defined in a unit's definitions. If memory runs out, here or in
+/// the reader, none is added.
 fn note_known_labels<R: Reader>(
     known: &mut Labels,
     trial: &Trial<'_, '_, R>,
@@ -112,8 +112,7 @@ fn note_known_labels<R: Reader>(
     known.add_all(trial.alloc, &found.defined)
 }
 
-/// Keeps a copy of a unit's text, if that has a bracket. An `Err` says that memory ran out; it isn't kept
-/// then.
+/// Keeps a copy of a unit's text, if that has a bracket. If memory runs out, it isn't kept.
 fn keep_bracketed(texts: &mut Vec<String>, alloc: Global, text: &str) -> Result<(), AllocError>
     ensures kept { OnOk result (map string_bytes texts.new.items
         ≡ bracketed_in (map string_bytes texts.old.items) text.now) }
@@ -153,7 +152,7 @@ impl Document {
         }
     }
 
-    /// An equal document. An `Err` says that memory ran out.
+    /// An equal document.
     pub fn copied(&self, alloc: Global) -> Result<Document, AllocError>
         ensures view { IfOk result (λ copy. document_view copy ≡ document_view self.now) }
         ensures flags { IfOk result (λ copy. document_flags copy ≡ document_flags self.now) }
@@ -170,8 +169,8 @@ impl Document {
         })
     }
 
-    /// Notes the labels that a reader finds defined in the definitions of a unit, and its text. An `Err`
-    /// says that memory ran out or the reader answered it; nothing is noted then.
+    /// Notes the labels that a reader finds defined in the definitions of a unit, and its text. If memory
+    /// runs out, here or in the reader, nothing is noted.
     fn note_labels<R: Reader>(
         &mut self,
         trial: &Trial<'_, '_, R>,
@@ -216,9 +215,8 @@ impl Document {
         self.note_labels(trial, definitions.as_str(), renderer.text())
     }
 
-    /// Notes the labels and the text of a unit as it is written, and makes room for the definitions that
-    /// it needs.
-    /// An `Err` says that memory ran out or the reader answered it; the document is then as it was.
+    /// Notes the labels and the text of a unit as it is written, and makes room for the definitions that it
+    /// needs. If memory runs out, here or in the reader, the document stays as it was.
     fn note<R: Reader>(
         &mut self,
         trial: &Trial<'_, '_, R>,
@@ -361,8 +359,8 @@ impl Document {
         }
     }
 
-    /// The label that is reserved for the lists of the last unit, if it waits. An `Err` says that memory
-    /// ran out or the reader answered it.
+    /// The label that is reserved for the lists of the last unit, if it waits. It fails if memory runs out,
+    /// here or in the reader.
     fn label_at_end<R: Reader>(
         &self,
         alloc: Global,
@@ -383,8 +381,8 @@ impl Document {
         }
     }
 
-    /// The label that is reserved for the lists of a unit: the last unit, which no event follows, has
-    /// one if it waits. An `Err` says that memory ran out or the reader answered it.
+    /// The label that is reserved for the lists of a unit: the last unit, which no event follows, has one
+    /// if it waits. It fails if memory runs out, here or in the reader.
     fn label_for<R: Reader>(
         &self,
         alloc: Global,
@@ -502,8 +500,8 @@ impl Document {
         text
     }
 
-    /// Notes the labels of definitions that the document has already, unless a unit was written. An
-    /// `Err` says that memory ran out; some are noted then.
+    /// Notes the labels of definitions that the document has already, unless a unit was written. If memory
+    /// runs out, some are noted.
     fn know(&mut self, alloc: Global, defined: &[Reference]) -> Result<(), AllocError>
         ensures known { OnOk result (document_view self.new
             ≡ behind (map reference_view defined.now) (document_view self.old)) }
@@ -539,8 +537,8 @@ impl Document {
     }
 
     /// The definitions that are left: of each unit so far those that it needs, each once, one a line,
-    /// behind a blank line; those that the document has already aren't among them. An empty text where
-    /// none is left. An `Err` says that memory ran out.
+    /// behind a blank line; those that the document has already aren't among them. An empty text where none
+    /// is left.
     pub fn finish(&self, alloc: Global, defined: &[Reference]) -> Result<String, Error>
         ensures { let d = document_view self.now in
             Gives result

@@ -60,9 +60,9 @@ fn was_refused(refused: &Refused, text: &str) -> bool
 }
 
 impl Earlier<'_> {
-    /// Whether the reader finds a trial's unit in a text that begins with its definitions. A text that
-    /// was refused isn't read again, and one that is refused now is noted. An `Err` says that memory ran
-    /// out or the reader answered it.
+    /// Whether the reader finds a trial's unit in a text that begins with its definitions. A text that was
+    /// refused isn't read again, and one that is refused now is noted. It fails if memory runs out, here or
+    /// in the reader.
     fn find_in<R: Reader>(
         &self,
         trial: &Trial<'_, '_, R>,

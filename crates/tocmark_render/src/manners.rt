@@ -196,9 +196,8 @@ fn push_escaped<'a>(
     }
 }
 
-/// The manners in which a unit is tried, in order and as one list: from the source, where some text
-/// is known there, and escaped for a unit that is checked, as one with delimiters is. An `Err` says that
-/// memory ran out.
+/// The manners in which a unit is tried, in order and as one list: from the source, where some text is
+/// known there, and escaped for a unit that is checked, as one with delimiters is.
 pub fn candidates<'a>(
     alloc: Global,
     options: &Options<'a>,

@@ -23,7 +23,7 @@ pub struct ReadBack {
 }
 
 /// Whether a reader finds a unit's events in a text, and looks no label up in vain there that is taken.
-/// An `Err` says that memory ran out or the reader answered it.
+/// It fails if memory runs out, here or in the reader.
 pub(crate) fn find<R: Reader>(
     alloc: Global,
     reader: &R,
@@ -49,7 +49,7 @@ pub(crate) fn find<R: Reader>(
     Ok(!taken.contains_any(alloc, &unresolved)?)
 }
 
-/// Definitions and a blank line before a text. An `Err` says that memory ran out.
+/// Definitions and a blank line before a text.
 pub(crate) fn behind_definitions(
     alloc: Global,
     definitions: &str,

@@ -18,8 +18,7 @@ fn behind(event: &Event<'_>, range: (usize, usize)) -> usize {
     }
 }
 
-/// The events that an iterator gives. One without a range has an empty one behind the event before it. An `Err` says that
-/// memory ran out.
+/// The events that an iterator gives. One without a range has an empty one behind the event before it.
 pub(crate) fn collected<'a, 'c, I>(
     alloc: Global,
     events: I,

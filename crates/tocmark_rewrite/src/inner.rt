@@ -157,7 +157,7 @@ fn refined(
     Ok((finer, goes_on))
 }
 
-/// The innermost blocks in which a tree was changed. An `Err` says that memory ran out.
+/// The innermost blocks in which a tree was changed.
 pub(crate) fn innermost(
     alloc: Global,
     old: &[(Event<'_>, (usize, usize))],

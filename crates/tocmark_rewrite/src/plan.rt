@@ -93,7 +93,7 @@ fn plan_of(
     Ok(plan)
 }
 
-/// What becomes of each tree. An `Err` says that memory ran out.
+/// What becomes of each tree.
 pub(crate) fn planned(
     alloc: Global,
     found: &[(Event<'_>, (usize, usize))],

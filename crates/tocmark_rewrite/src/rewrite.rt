@@ -486,8 +486,8 @@ pub fn rewritten_slice<'a, R: Reader>(
 /// that was written (`parts`). Of a tree that is said to be kept, the events are those of the source, and
 /// its lines were copied (`edited`).
 ///
-/// An `Err` says that memory ran out, or which tree is refused by the writer, or at which tree the last
-/// text that was tried is read otherwise; the source is the caller's, as before.
+/// It fails if memory runs out, or which tree is refused by the writer, or at which tree the last text
+/// that was tried is read otherwise; the source is the caller's, as before.
 pub fn rewritten<'a, R, I>(
     alloc: Global,
     source: &str,

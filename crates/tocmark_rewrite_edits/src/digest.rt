@@ -262,7 +262,7 @@ impl Digest {
         }
     }
 
-    /// Adds what further events say. An `Err` says that memory ran out; the digest then says some of it.
+    /// Adds what further events say. If memory runs out, the digest says some of it.
     pub fn add(
         &mut self,
         alloc: Global,
@@ -277,7 +277,7 @@ impl Digest {
         Ok(())
     }
 
-    /// What a list of events says. An `Err` says that memory ran out.
+    /// What a list of events says.
     pub fn of(alloc: Global, events: &[(Event<'_>, (usize, usize))]) -> Result<Digest, AllocError>
         ensures { IfOk result (λ digest. says digest ≡ merged (given_events events.now)) }
     {
@@ -297,7 +297,7 @@ impl Digest {
         }
     }
 
-    /// Where each tree at the top ends. An `Err` says that memory ran out.
+    /// Where each tree at the top ends.
     pub fn tree_ends(&self, alloc: Global) -> Result<Vec<TreeEnd>, AllocError> {
         let mut ends = Vec::new(alloc);
         let mut walk = Walk {

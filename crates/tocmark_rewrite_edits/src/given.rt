@@ -65,7 +65,7 @@ impl<'a> Iterator for GivenEvents<'a> {
     }
 }
 
-/// The events without their ranges. An `Err` says that memory ran out.
+/// The events without their ranges.
 fn events_alone(
     alloc: Global,
     events: &[(Event<'_>, (usize, usize))],
@@ -79,8 +79,7 @@ fn events_alone(
     Ok(all)
 }
 
-/// The events without their ranges, each longest stretch of texts as one. An `Err` says that memory
-/// ran out.
+/// The events without their ranges, each longest stretch of texts as one.
 pub fn merged_events(
     alloc: Global,
     events: &[(Event<'_>, (usize, usize))],

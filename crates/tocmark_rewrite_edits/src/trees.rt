@@ -153,7 +153,7 @@ fn make_tree(events: &[(Event<'_>, (usize, usize))], first: usize, past: usize) 
     })
 }
 
-/// The trees at the top, in their order. An `Err` says that memory ran out.
+/// The trees at the top, in their order.
 pub fn trees(
     alloc: Global,
     events: &[(Event<'_>, (usize, usize))],
@@ -179,8 +179,8 @@ pub fn trees(
     Ok(all)
 }
 
-/// The trees that the reader found in a part of a source, with their lines. The parts come in their order, with the same
-/// counter. An `Err` says that memory ran out.
+/// The trees that the reader found in a part of a source, with their lines. The parts come in their
+/// order, with the same counter.
 pub fn blocks_in(
     alloc: Global,
     source: &str,
@@ -206,7 +206,7 @@ pub fn blocks_in(
     Ok(all)
 }
 
-/// The trees that the reader found, with their lines. An `Err` says that memory ran out.
+/// The trees that the reader found, with their lines.
 pub fn blocks(
     alloc: Global,
     source: &str,

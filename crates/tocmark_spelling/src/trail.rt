@@ -283,7 +283,7 @@ impl Carried {
     }
 }
 
-/// An equal text, if there is one. An `Err` says that memory ran out.
+/// An equal text, if there is one.
 pub fn copied_text(alloc: Global, text: &Option<String>) -> Result<Option<String>, AllocError>
     ensures { IfOk result (λ copy. option_map string_bytes copy
         ≡ option_map string_bytes text.now) }
@@ -305,7 +305,7 @@ impl Trail {
         }
     }
 
-    /// An equal trail. An `Err` says that memory ran out.
+    /// An equal trail.
     pub fn copied(&self, alloc: Global) -> Result<Trail, AllocError>
         ensures { IfOk result (λ copy. trail_view copy ≡ trail_view self.now) }
     {

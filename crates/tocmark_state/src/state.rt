@@ -99,8 +99,8 @@ impl<R: Reader + Drop> State<R> {
     ghost use Rattle.tocmark_state.specs.Ranges.{Pair};
     ghost use Rattle.tocmark_state.specs.StateView.{Stands, IsActive, IsFailed, IsFinished, place_of, state_flags, status_of};
 
-    /// A state that took no event. The options aren't checked. An `Err` says that memory ran out for
-    /// a copy of the strong token; the reader is dropped then.
+    /// A state that took no event. The options aren't checked. It fails if memory runs out for a copy of
+    /// the strong token; the reader is dropped then.
     pub fn new(
         alloc: Global,
         reader: R,
@@ -128,8 +128,8 @@ impl<R: Reader + Drop> State<R> {
     /// the same. The labels are known from the start: a unit that is read back may not leave one open, as
     /// the text `[a]` would where `a` is defined.
     ///
-    /// An `Err` says that memory ran out for copies of the definitions or of the strong token; the reader
-    /// is dropped then.
+    /// It fails if memory runs out for copies of the definitions or of the strong token; the reader is
+    /// dropped then.
     ///
     /// ```
     /// let defined = [
@@ -476,8 +476,8 @@ impl<R: Reader + Drop> State<R> {
 impl<R: Clone> State<R> {
     ghost use Rattle.tocmark_state.specs.StateView.{SameStanding, reader_of};
 
-    /// A state that stands where this one does, with the same options and flags and a clone of the
-    /// reader. An `Err` says that memory ran out. This state stays as it is.
+    /// A state that stands where this one does, with the same options and flags and a clone of the reader.
+    /// This state stays as it is.
     pub fn clone(&self) -> Result<State<R>, AllocError>
         ensures same { IfOk result (λ copy. SameStanding self.now copy) }
         ensures reader { IfOk result (λ copy. R.is_clone (reader_of self.now) (reader_of copy)) }

@@ -70,7 +70,7 @@ impl Work {
         }
     }
 
-    /// The same again. An `Err` says that memory ran out.
+    /// The same again.
     pub fn copied(&self, alloc: Global) -> Result<Work, AllocError>
         ensures { IfOk result (λ copy. standing_of copy ≡ standing_of self.now) }
     {

@@ -62,7 +62,7 @@ fn enter_heading<'a>(
 
 /// Opens a heading of this level; `broken` says whether it goes over more than one line.
 ///
-/// An `Err` says that memory ran out, or that this is a heading in a heading.
+/// It fails if memory runs out, or if this is a heading in a heading.
 pub fn open_heading<'a>(
     renderer: &mut Renderer<'a>,
     alloc: Global,
@@ -124,8 +124,6 @@ fn end_heading(
 }
 
 /// A heading's end, with its attributes and its underline if it has them.
-///
-/// An `Err` says that memory ran out.
 pub fn close_heading(
     renderer: &mut Renderer<'_>,
     alloc: Global,
@@ -158,8 +156,6 @@ pub fn close_heading(
 }
 
 /// Puts a heading's id behind a text, with a space and `#` before it; nothing if there is none.
-///
-/// An `Err` says that memory ran out.
 pub fn push_id(text: &mut String, id: &Option<String>) -> Result<(), AllocError>
     ensures { Grows result text.old text.new (id_text (option_map string_bytes id.now)) }
 {
@@ -197,8 +193,6 @@ fn push_value(text: &mut String, value: &Option<String>) -> Result<(), AllocErro
 
 /// Puts an attribute of a heading behind a text, with a space before it: its name, and its value
 /// behind `=` if it has one.
-///
-/// An `Err` says that memory ran out.
 pub fn push_attribute(
     text: &mut String,
     attribute: &(String, Option<String>),
@@ -226,8 +220,6 @@ fn push_attributes(
 
 /// What stands behind a heading's text: its id, classes and attributes in braces; nothing if there
 /// are none.
-///
-/// An `Err` says that memory ran out.
 pub fn attributes_text(
     alloc: Global,
     id: &Option<String>,

@@ -8,8 +8,6 @@ use std::alloc::AllocError;
 use tocmark_write_renderer::renderer::Renderer;
 
 /// Begins a line where none begins here, but not right behind an item's marker.
-///
-/// An `Err` says that memory ran out.
 pub fn begin_new_line(renderer: &mut Renderer<'_>) -> Result<(), AllocError>
     ensures stands { OnOk result (Stands renderer.new (levels_of renderer.old)
         (on_new_line (levels_of renderer.old) (page_of renderer.old))) }

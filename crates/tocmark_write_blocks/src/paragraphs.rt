@@ -17,8 +17,6 @@ use tocmark_write_containers::prefix::Prefix;
 use tocmark_write_renderer::renderer::Renderer;
 
 /// Opens a container that writes nothing and keeps nothing.
-///
-/// An `Err` says that memory ran out.
 pub fn open_plain<'a>(
     renderer: &mut Renderer<'a>,
     alloc: Global,

@@ -36,8 +36,6 @@ fn write_mark(
 }
 
 /// Opens a quote of this kind: its marker stands on a line of its own, but behind an item's marker.
-///
-/// An `Err` says that memory ran out.
 pub fn open_quote<'a>(
     renderer: &mut Renderer<'a>,
     alloc: Global,
@@ -70,8 +68,6 @@ fn leave_quote_line(renderer: &mut Renderer<'_>, alloc: Global) -> Result<(), Al
 }
 
 /// The end of a quote of this kind.
-///
-/// An `Err` says that memory ran out.
 pub fn close_quote(
     renderer: &mut Renderer<'_>,
     alloc: Global,

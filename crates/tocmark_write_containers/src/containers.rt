@@ -169,7 +169,7 @@ impl<'a> Containers<'a> {
         }
     }
 
-    /// Opens one, whose opening ends at this place of the text, in bytes. An `Err` says that memory ran out.
+    /// Opens one, whose opening ends at this place of the text, in bytes.
     pub fn push(
         &mut self,
         tag: &'a TagOf<String>,
@@ -205,8 +205,8 @@ impl<'a> Containers<'a> {
         Ok(())
     }
 
-    /// Closes the innermost one, if there is one, and gives it; one that was open at the mark is copied. An `Err` says
-    /// that memory ran out; nothing is closed then.
+    /// Closes the innermost one, if there is one, and gives it; one that was open at the mark is copied. If
+    /// memory runs out, nothing is closed.
     pub fn pop(&mut self) -> Result<Option<Frame<'a>>, AllocError>
         ensures top { IfOk result (λ top.
             MatchOption top ((self.old.path ≡ []) × (self.new.path ≡ [])) (λ frame.
@@ -241,8 +241,8 @@ impl<'a> Containers<'a> {
         set_number(&mut self.frames, number);
     }
 
-    /// Makes the nearest open cell, if there is one, wider by so many characters. An `Err` says that
-    /// memory ran out, or that the count would be too large.
+    /// Makes the nearest open cell, if there is one, wider by so many characters. It fails if memory runs
+    /// out, or if the count would be too large.
     pub fn widen(&mut self, characters: usize) -> Result<(), AllocError>
         ensures path { OnOk result (self.new.path ≡ widened characters self.old.path) }
         ensures stays { OnErr result (self.new.path ≡ self.old.path) }
@@ -254,8 +254,7 @@ impl<'a> Containers<'a> {
         }
     }
 
-    /// Adds to the nearest open table, if there is one, a cell of this width, in characters. An `Err`
-    /// says that memory ran out.
+    /// Adds to the nearest open table, if there is one, a cell of this width, in characters.
     pub fn add_header(&mut self, width: usize) -> Result<(), AllocError>
         ensures path { OnOk result (self.new.path ≡ with_header width self.old.path) }
         ensures stays { OnErr result (self.new.path ≡ self.old.path) }
@@ -321,8 +320,8 @@ fn shift<'a>(frames: &mut Vec<Kept<'a>>, closed: &mut Vec<Kept<'a>>)
     }
 }
 
-/// Moves the innermost container to those that were closed since the mark, and gives a copy. An `Err` says that
-/// memory ran out; nothing is moved then.
+/// Moves the innermost container to those that were closed since the mark, and gives a copy. If memory
+/// runs out, nothing is moved.
 fn move_last<'a>(
     alloc: Global,
     frames: &mut Vec<Kept<'a>>,

@@ -72,7 +72,7 @@ fn bullet_in(choice: ListChoice) -> Option<char>
 }
 
 impl OpeningChoice {
-    /// An equal content. An `Err` says that memory ran out.
+    /// An equal content.
     pub fn copied(&self, alloc: Global) -> Result<OpeningChoice, AllocError>
         ensures { IfOk result (λ copy. content_view copy ≡ content_view self.now) }
     {
@@ -139,7 +139,7 @@ impl OpeningChoice {
         Ok(())
     }
 
-    /// Adds to a table a cell of this width, in characters. An `Err` says that memory ran out.
+    /// Adds to a table a cell of this width, in characters.
     pub fn add_header(&mut self, width: usize) -> Result<(), AllocError>
         ensures longer { OnOk result
             (content_view self.new ≡ with_width width (content_view self.old)) }

@@ -23,7 +23,7 @@ pub struct Frame<'a> {
 }
 
 impl<'a> Frame<'a> {
-    /// An equal frame. An `Err` says that memory ran out.
+    /// An equal frame.
     pub fn copied(&self, alloc: Global) -> Result<Frame<'a>, AllocError>
         ensures { IfOk result (λ copy. level_of copy ≡ level_of self.now) }
     {

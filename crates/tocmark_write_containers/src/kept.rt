@@ -20,7 +20,7 @@ pub struct Kept<'a> {
 }
 
 impl<'a> Kept<'a> {
-    /// Notes the content, if that wasn't done since the mark. An `Err` says that memory ran out.
+    /// Notes the content, if that wasn't done since the mark.
     fn note(&mut self, alloc: Global) -> Result<(), AllocError>
         ensures present { present self.new ≡ present self.old }
         ensures original { original self.new ≡ original self.old }
@@ -49,8 +49,8 @@ impl<'a> Kept<'a> {
         }
     }
 
-    /// Makes a cell wider by so many characters. An `Err` says that memory ran out, or that the count
-    /// would be too large.
+    /// Makes a cell wider by so many characters. It fails if memory runs out, or if the count would be too
+    /// large.
     pub fn widen(&mut self, alloc: Global, characters: usize) -> Result<(), AllocError>
         ensures present { OnOk result
             (present self.new ≡ changed_level (wider characters) (present self.old)) }
@@ -62,7 +62,7 @@ impl<'a> Kept<'a> {
         self.frame.content.widen(characters)
     }
 
-    /// Adds to a table a cell of this width, in characters. An `Err` says that memory ran out.
+    /// Adds to a table a cell of this width, in characters.
     pub fn add_header(&mut self, alloc: Global, width: usize) -> Result<(), AllocError>
         ensures present { OnOk result
             (present self.new ≡ changed_level (with_width width) (present self.old)) }
@@ -149,8 +149,8 @@ pub fn set_number(frames: &mut Vec<Kept<'_>>, number: Option<u64>)
     }
 }
 
-/// Makes one container, if it is a cell, wider by so many characters; the outermost is 0. An `Err`
-/// says that memory ran out, or that the count would be too large.
+/// Makes one container, if it is a cell, wider by so many characters; the outermost is 0. It fails if
+/// memory runs out, or if the count would be too large.
 pub fn widen(
     alloc: Global,
     frames: &mut Vec<Kept<'_>>,
@@ -170,7 +170,6 @@ pub fn widen(
 }
 
 /// Adds to one container, if it is a table, a cell of this width, in characters; the outermost is 0.
-/// An `Err` says that memory ran out.
 pub fn add_header(
     alloc: Global,
     frames: &mut Vec<Kept<'_>>,

@@ -46,7 +46,7 @@ impl Prefix {
         }
     }
 
-    /// Adds it to a text. An `Err` says that memory ran out; nothing is added then.
+    /// Adds it to a text. If memory runs out, nothing is added.
     pub fn add(self, text: &mut String) -> Result<(), AllocError>
         ensures bytes { OnOk result
             (string_bytes text.new ≡ string_bytes text.old ++ prefix_bytes self) }

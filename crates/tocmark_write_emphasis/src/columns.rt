@@ -28,8 +28,6 @@ impl Columns {
 }
 
 /// The columns over a unit's events.
-///
-/// An `Err` says that memory ran out.
 pub fn columns_of<R: Reader>(
     alloc: Global,
     reader: &R,

@@ -23,7 +23,7 @@ use tocmark_write_inlines::delimiters::open_between;
 use tocmark_write_renderer::job::{Job, Manner};
 use tocmark_write_renderer::renderer::Renderer;
 
-/// What a node opens with here. An `Err` says that memory ran out.
+/// What a node opens with here.
 fn marker_here<R: Reader>(
     renderer: &mut Renderer<'_>,
     alloc: Global,
@@ -49,7 +49,7 @@ fn marker_here<R: Reader>(
 /// Opens a node of emphasis or strong emphasis, whose tag this is: the marker is chosen by what the
 /// unit's events say of it, by what is written, and by the open containers.
 ///
-/// `next` is the event in the unit just behind the node. An `Err` says that memory ran out.
+/// `next` is the event in the unit just behind the node.
 pub fn open_emphasis<'a, R: Reader>(
     renderer: &mut Renderer<'a>,
     job: Job<'_, '_>,

@@ -169,8 +169,7 @@ fn is_opened_with(
 /// What the written text and the open containers say of this place, as far as the layout of these
 /// delimiters asks.
 ///
-/// `next` is the event in the unit just behind the node that opens here. An `Err` says that memory
-/// ran out.
+/// `next` is the event in the unit just behind the node that opens here.
 pub fn place_of(
     renderer: &mut Renderer<'_>,
     alloc: Global,

@@ -51,7 +51,7 @@ struct Characters {
 }
 
 /// Whether the markers between these characters would be asterisks that could close the emphasis round
-/// them. An `Err` says that memory ran out.
+/// them.
 fn disturbs_at<R: Reader>(alloc: Global, reader: &R, round: Characters) -> Result<bool, AllocError>
     ensures { (o : OptionsView) (flags : ParserOptions) (label : Option (List ℕ))
         → IfOk result (λ disturbs.
@@ -261,8 +261,6 @@ fn characters_round(
 
 /// Whether the event at a place starts a node that disturbs, given where its body ends; by its
 /// neighbours alone where no unit is given. Characters are looked at where a node starts that counts.
-///
-/// An `Err` says that memory ran out.
 fn mark_at<R: Reader>(
     alloc: Global,
     reader: &R,
@@ -299,8 +297,6 @@ fn mark_at<R: Reader>(
 
 /// For each event whether it starts a node whose markers would be asterisks that could close the
 /// emphasis round them; by neighbours alone where no unit is given.
-///
-/// An `Err` says that memory ran out.
 fn disturbers<R: Reader>(
     alloc: Global,
     reader: &R,
@@ -346,8 +342,8 @@ fn nearer(is_marked: bool, place: usize, nearest: Option<usize>) -> Option<usize
 /// For each place whether one behind it and before its end is marked, or one behind it where it
 /// has no end.
 ///
-/// Where the marks are at the starts that would need asterisks that could close what is round them, that
-/// is whether a container prefers the underscore. An `Err` says that memory ran out.
+/// Where the marks are at the starts that would need asterisks that could close what is round them,
+/// that is whether a container prefers the underscore.
 fn marks_within(
     alloc: Global,
     marks: &[bool],
@@ -373,8 +369,6 @@ fn marks_within(
 /// For each start whether its body holds a node whose markers would be asterisks that could close the
 /// emphasis round them, so that a container there prefers the underscore; by neighbours alone where no
 /// unit is given.
-///
-/// An `Err` says that memory ran out.
 pub fn preferences<R: Reader>(
     alloc: Global,
     reader: &R,

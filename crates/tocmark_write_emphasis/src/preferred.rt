@@ -28,7 +28,7 @@ fn other_token(marker: char) -> &'static str
 }
 
 /// The marker of emphasis: `_` if it is preferred and may stand here, else the one asked for, but not
-/// the one of the emphasis round it. An `Err` says that memory ran out.
+/// the one of the emphasis round it.
 pub fn preferred_marker<R: Reader>(
     alloc: Global,
     reader: &R,

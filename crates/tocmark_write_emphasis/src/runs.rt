@@ -14,7 +14,7 @@ use std::alloc::{AllocError, Global};
 use tocmark_event::reader::Reader;
 use tocmark_write_lookahead::boundary::is_boundary;
 
-/// Whether `_` may stand between these characters. An `Err` says that memory ran out.
+/// Whether `_` may stand between these characters.
 pub fn fits_underscore<R: Reader>(
     alloc: Global,
     reader: &R,
@@ -30,7 +30,7 @@ pub fn fits_underscore<R: Reader>(
     }
 }
 
-/// Whether a character is there, no white space, and a boundary. An `Err` says that memory ran out.
+/// Whether a character is there, no white space, and a boundary.
 pub fn is_punctuation<R: Reader>(
     alloc: Global,
     reader: &R,
@@ -95,8 +95,6 @@ fn beside_parent<R: Reader>(
 
 /// The marker by runs: `*` where `_` couldn't stand; behind a closing the one that wasn't written
 /// last; `_` where it is preferred; else that asked for, or another than the parent's.
-///
-/// An `Err` says that memory ran out.
 pub fn marker_by_runs<R: Reader>(
     alloc: Global,
     reader: &R,

@@ -70,8 +70,7 @@ fn completes_runs(opening: usize, closing: usize) -> bool
     !is_divisible(opening) && is_divisible(opening % 3 + closing % 3)
 }
 
-/// Whether the runs of a node could be read as parts of each other. An `Err` says that memory ran
-/// out.
+/// Whether the runs of a node could be read as parts of each other.
 fn splits<R: Reader>(
     alloc: Global,
     reader: &R,
@@ -88,8 +87,7 @@ fn splits<R: Reader>(
     }
 }
 
-/// Whether a node that begins with its parent takes the parent's marker. An `Err` says that memory
-/// ran out.
+/// Whether a node that begins with its parent takes the parent's marker.
 fn shares_start<R: Reader>(
     alloc: Global,
     reader: &R,
@@ -121,7 +119,7 @@ fn completes_three(layout: Layout, node: &EmphasisEvents, parent: Parent) -> boo
     }
 }
 
-/// Whether a node takes its parent's marker. An `Err` says that memory ran out.
+/// Whether a node takes its parent's marker.
 fn shares_marker<R: Reader>(
     alloc: Global,
     reader: &R,
@@ -143,7 +141,7 @@ fn shares_marker<R: Reader>(
 }
 
 /// The marker of a node in its parent: the parent's or the other one; without a parent, the one asked
-/// for. An `Err` says that memory ran out.
+/// for.
 fn inside_parent<R: Reader>(
     alloc: Global,
     reader: &R,
@@ -206,7 +204,7 @@ fn literal_marker(text: TextSpelling, node: &EmphasisEvents) -> Option<char>
 }
 
 /// The marker by shared runs or the rule of three: one that stands beside the node in a literal text,
-/// else by what was written and by the parent. An `Err` says that memory ran out.
+/// else by what was written and by the parent.
 pub fn shared_marker<R: Reader>(
     alloc: Global,
     reader: &R,

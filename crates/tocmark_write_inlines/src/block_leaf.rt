@@ -14,7 +14,7 @@ use tocmark_event::options::Options;
 use tocmark_spelling::trail::Last;
 use tocmark_write_renderer::renderer::Renderer;
 
-/// Writes HTML, which has no gap. An `Err` says that memory ran out.
+/// Writes HTML, which has no gap.
 pub fn write_html(renderer: &mut Renderer<'_>, text: &str) -> Result<(), AllocError>
     ensures stands { OnOk result
         (StandsAt renderer.new (html_on text.now (levels_of renderer.old) (page_of renderer.old))) }
@@ -61,7 +61,7 @@ fn write_ruled(renderer: &mut Renderer<'_>, options: &Options<'_>) -> Result<(),
     Ok(())
 }
 
-/// Writes a thematic break behind its gap. An `Err` says that memory ran out.
+/// Writes a thematic break behind its gap.
 pub fn write_rule(
     renderer: &mut Renderer<'_>,
     options: &Options<'_>,

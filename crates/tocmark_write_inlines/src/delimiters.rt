@@ -36,8 +36,6 @@ pub struct Delimiter {
 
 /// Writes what stands before the body of a container, and opens the container, which keeps both
 /// what stands before its body and what stands after it.
-///
-/// An `Err` says that memory ran out.
 pub fn open_between<'a>(
     renderer: &mut Renderer<'a>,
     alloc: Global,
@@ -106,8 +104,6 @@ fn delimiter_of(
 }
 
 /// Opens a strikethrough, superscript or subscript.
-///
-/// An `Err` says that memory ran out.
 pub fn open_delimited<'a>(
     renderer: &mut Renderer<'a>,
     job: Job<'_, '_>,
@@ -125,8 +121,6 @@ pub fn open_delimited<'a>(
 }
 
 /// The end of inline content with this text.
-///
-/// An `Err` says that memory ran out.
 pub fn close_inline(renderer: &mut Renderer<'_>, text: &str) -> Result<(), AllocError>
     ensures stands { Closes result renderer.old renderer.new (close_inline text.now) }
     ensures mark { renderer.new.at_mark ≡ renderer.old.at_mark }
@@ -147,8 +141,6 @@ fn closing_token(content: &OpeningChoice) -> &str
 }
 
 /// The end of a delimited container.
-///
-/// An `Err` says that memory ran out.
 pub fn close_delimited(
     renderer: &mut Renderer<'_>,
     content: &OpeningChoice,

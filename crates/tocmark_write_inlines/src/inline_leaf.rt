@@ -19,7 +19,7 @@ use tocmark_write_renderer::renderer::Renderer;
 use tocmark_write_texts::escape::EscapeSurroundings;
 use tocmark_write_texts::text_modifications::{SpanEnds, few_ticks, in_cell, math_text, span_ends};
 
-/// Writes inline content, which stands behind its gap. An `Err` says that memory ran out.
+/// Writes inline content, which stands behind its gap.
 pub fn write_inline(renderer: &mut Renderer<'_>, text: &str) -> Result<(), AllocError>
     ensures stands { OnOk result (Stands renderer.new (levels_of renderer.old)
         (with_last Inline (written (levels_of renderer.old) text.now (page_of renderer.old)))) }
@@ -30,8 +30,7 @@ pub fn write_inline(renderer: &mut Renderer<'_>, text: &str) -> Result<(), Alloc
     Ok(())
 }
 
-/// Writes inline content as the escape of a text at a place, which stands behind its gap. An `Err` says that memory
-/// ran out.
+/// Writes inline content as the escape of a text at a place, which stands behind its gap.
 pub fn write_escaped_inline(
     renderer: &mut Renderer<'_>,
     text: &str,
@@ -47,7 +46,7 @@ pub fn write_escaped_inline(
     Ok(())
 }
 
-/// Writes an inline leaf with this text, behind its gap. An `Err` says that memory ran out.
+/// Writes an inline leaf with this text, behind its gap.
 pub fn write_spelled(
     renderer: &mut Renderer<'_>,
     event: &OwnedEvent,
@@ -77,8 +76,8 @@ fn code_width(text: &str) -> Result<usize, AllocError>
     character_count(text).checked_add(2).ok_or(AllocError)
 }
 
-/// Makes the nearest cell, if one is open, wider by a text's characters, which are counted only then. An
-/// `Err` says that memory ran out, or that the width would be too large.
+/// Makes the nearest cell, if one is open, wider by a text's characters, which are counted only then.
+/// It fails if memory runs out, or if the width would be too large.
 pub fn widen_by_text(renderer: &mut Renderer<'_>, text: &str) -> Result<(), AllocError>
     ensures stands { OnOk result (Stands renderer.new
         (widened (length (chars text.now)) (levels_of renderer.old)) (page_of renderer.old)) }
@@ -195,7 +194,7 @@ fn write_spanned(
     Ok(())
 }
 
-/// Writes a code span behind its gap, in a table or not. An `Err` says that memory ran out.
+/// Writes a code span behind its gap, in a table or not.
 #[tactic(auto, unfolding(tocmark_write_texts::specs::Leaves::code_span))]
 fn write_span(
     renderer: &mut Renderer<'_>,
@@ -216,8 +215,8 @@ fn write_span(
     write_spanned(renderer, alloc, event, inside.as_str())
 }
 
-/// Writes a code span behind its gap, and makes the nearest cell wider by its text's characters and
-/// two backticks. An `Err` says that memory ran out, or that the width would be too large.
+/// Writes a code span behind its gap, and makes the nearest cell wider by its text's characters and two
+/// backticks. It fails if memory runs out, or if the width would be too large.
 pub fn write_code(
     renderer: &mut Renderer<'_>,
     alloc: Global,
@@ -233,7 +232,7 @@ pub fn write_code(
     widen_by_code(renderer, text)
 }
 
-/// Writes mathematics within a line, behind its gap. An `Err` says that memory ran out.
+/// Writes mathematics within a line, behind its gap.
 pub fn write_inline_math(
     renderer: &mut Renderer<'_>,
     alloc: Global,
@@ -250,7 +249,7 @@ pub fn write_inline_math(
     write_spelled(renderer, event, math.as_str())
 }
 
-/// Writes mathematics that is shown on its own, behind its gap. An `Err` says that memory ran out.
+/// Writes mathematics that is shown on its own, behind its gap.
 pub fn write_display_math(
     renderer: &mut Renderer<'_>,
     alloc: Global,
@@ -267,8 +266,7 @@ pub fn write_display_math(
     write_spelled(renderer, event, math.as_str())
 }
 
-/// Writes a reference to the footnote with this label, behind its gap. An `Err` says that memory ran
-/// out.
+/// Writes a reference to the footnote with this label, behind its gap.
 pub fn write_footnote_reference(
     renderer: &mut Renderer<'_>,
     alloc: Global,
@@ -284,8 +282,7 @@ pub fn write_footnote_reference(
     write_spelled(renderer, event, reference.as_str())
 }
 
-/// Writes the box of a task list, checked or not, behind its gap. An `Err` says that memory ran
-/// out.
+/// Writes the box of a task list, checked or not, behind its gap.
 pub fn write_task_marker(
     renderer: &mut Renderer<'_>,
     event: &OwnedEvent,
@@ -300,8 +297,6 @@ pub fn write_task_marker(
 }
 
 /// A reference to the footnote with this label.
-///
-/// An `Err` says that memory ran out.
 fn footnote_reference(alloc: Global, label: &str) -> Result<String, AllocError>
     ensures { IfOk result (λ text. string_bytes text ≡ footnote_reference label.now) }
 {
@@ -316,8 +311,6 @@ fn task_marker(checked: bool) -> &'static str
 }
 
 /// Mathematics within a line, in a table or not.
-///
-/// An `Err` says that memory ran out.
 fn inline_math(alloc: Global, text: &str, in_table: bool) -> Result<String, AllocError>
     ensures { IfOk result (λ math. string_bytes math ≡ inline_math in_table text.now) }
 {
@@ -325,8 +318,6 @@ fn inline_math(alloc: Global, text: &str, in_table: bool) -> Result<String, Allo
 }
 
 /// Mathematics that is shown on its own, in a table or not.
-///
-/// An `Err` says that memory ran out.
 fn display_math(alloc: Global, text: &str, in_table: bool) -> Result<String, AllocError>
     ensures { IfOk result (λ math. string_bytes math ≡ display_math in_table text.now) }
 {

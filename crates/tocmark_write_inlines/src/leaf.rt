@@ -34,7 +34,7 @@ pub struct Beside<'e> {
 }
 
 /// Writes a leaf behind its gap; HTML has none, and a text is held while a further one follows. No
-/// Start and no End is given. An `Err` says that memory ran out, or that a cell would be too wide.
+/// Start and no End is given. It fails if memory runs out, or if a cell would be too wide.
 pub fn write_leaf(
     renderer: &mut Renderer<'_>,
     job: Job<'_, '_>,

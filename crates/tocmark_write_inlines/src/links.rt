@@ -42,8 +42,6 @@ fn open_named<'a>(
 }
 
 /// Opens a link of this type; `named` says whether its id will stand in place of its body.
-///
-/// An `Err` says that memory ran out.
 pub fn open_link<'a>(
     renderer: &mut Renderer<'a>,
     alloc: Global,
@@ -60,8 +58,6 @@ pub fn open_link<'a>(
 }
 
 /// Opens an image; `named` says whether its id will stand in place of its body.
-///
-/// An `Err` says that memory ran out.
 pub fn open_image<'a>(
     renderer: &mut Renderer<'a>,
     alloc: Global,
@@ -88,8 +84,6 @@ pub fn id_of(tag: &TagOf<String>) -> &str
 }
 
 /// Writes the id of a link or image in place of its body.
-///
-/// An `Err` says that memory ran out.
 pub fn write_id(renderer: &mut Renderer<'_>, tag: &TagOf<String>) -> Result<(), AllocError>
     ensures stands { OnOk result (Arrives renderer.new
         (id_on (tag_view string_bytes tag.now) (site_of renderer.old))) }
@@ -242,8 +236,6 @@ fn close_by_type(
 
 /// The end of a link or image whose opening ended where the text may be cut, in the containers
 /// outside.
-///
-/// An `Err` says that memory ran out.
 pub fn close_named(
     renderer: &mut Renderer<'_>,
     alloc: Global,

@@ -280,7 +280,7 @@ fn is_named_at<R: Reader>(
 /// For each event whether it starts a link or image whose id stands in place of its body, given where
 /// the containers end. It is empty where the reader needn't be asked.
 ///
-/// An `Err` says that memory ran out or the reader answered it.
+/// It fails if memory runs out, here or in the reader.
 pub fn named<R: Reader>(
     alloc: Global,
     reader: &R,

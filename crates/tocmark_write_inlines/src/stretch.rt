@@ -236,7 +236,7 @@ fn go_on(
 }
 
 /// Adds a text to the stretch that is held; where no further text follows, writes the stretch behind
-/// its gap. An `Err` says that memory ran out.
+/// its gap.
 pub fn add_text(
     renderer: &mut Renderer<'_>,
     job: Job<'_, '_>,

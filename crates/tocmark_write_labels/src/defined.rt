@@ -39,7 +39,7 @@ fn copied_label(alloc: Global, defined: &DefinedLabel<'_>) -> Result<Reference, 
     })
 }
 
-/// The same definitions, to keep. An `Err` says that memory ran out.
+/// The same definitions, to keep.
 pub fn copied_labels(
     alloc: Global,
     defined: &[DefinedLabel<'_>],
@@ -54,7 +54,7 @@ pub fn copied_labels(
     Ok(copies)
 }
 
-/// Adds the labels of definitions. An `Err` says that memory ran out; some are added then.
+/// Adds the labels of definitions. If memory runs out, some are added.
 pub fn add_labels(
     known: &mut Labels,
     alloc: Global,
@@ -150,8 +150,8 @@ fn text_of(alloc: Global, keys: &[Key<'_>], feeds: usize) -> Result<String, Allo
 }
 
 /// The definitions of the references that a document hasn't defined already, as `definitions_text`
-/// writes them. Of two definitions with the same label, in case folding, the first counts. It takes time
-/// in proportion to the references, the definitions and their texts. An `Err` says that memory ran out.
+/// writes them. Of two definitions with the same label, in case folding, the first counts. It takes
+/// time in proportion to the references, the definitions and their texts.
 pub fn undefined_text(
     alloc: Global,
     references: &[Reference],

@@ -22,7 +22,7 @@ fn copied_reference(alloc: Global, reference: &Reference) -> Result<Reference, A
     })
 }
 
-/// The same references. An `Err` says that memory ran out.
+/// The same references.
 pub fn copied_references(
     alloc: Global,
     references: &[Reference],
@@ -148,8 +148,7 @@ pub(crate) fn push_feeds(text: &mut String, feeds: usize) -> Result<(), AllocErr
 }
 
 /// The definitions of references, each once, after line feeds of which so many stand; nothing for no
-/// references. It takes time in proportion to the references and their texts. An `Err` says that
-/// memory ran out.
+/// references. It takes time in proportion to the references and their texts.
 #[tactic(auto, unfolding(crate::specs::Definitions::definitions_text))]
 pub fn definitions_text(
     alloc: Global,

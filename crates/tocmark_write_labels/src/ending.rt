@@ -44,7 +44,7 @@ fn leading_feeds(text: &str) -> &str
 }
 
 /// A unit's text with definitions in front of it: they stand behind the line feeds with which the text
-/// begins, without their own, and a blank line follows them. An `Err` says that memory ran out.
+/// begins, without their own, and a blank line follows them.
 pub fn with_definitions_in_front(
     alloc: Global,
     definitions: &str,

@@ -31,8 +31,7 @@ impl Labels {
         self.folded.len()
     }
 
-    /// Adds a label, unless one like it is there. An `Err` says that memory ran out; none is added
-    /// then.
+    /// Adds a label, unless one like it is there. If memory runs out, none is added.
     pub fn add(&mut self, alloc: Global, label: &str) -> Result<(), AllocError>
         ensures added { OnOk result
             (labels_of self.new ≡ with_label (labels_of self.old) label.now) }
@@ -43,7 +42,7 @@ impl Labels {
         Ok(())
     }
 
-    /// Whether a label, as Markdown compares them, is among these. An `Err` says that memory ran out.
+    /// Whether a label, as Markdown compares them, is among these.
     pub fn contains(&self, alloc: Global, label: &str) -> Result<bool, AllocError>
         ensures { IfOk result (λ b. b ≡ is_among (labels_of self.now) label.now) }
     {
@@ -51,7 +50,7 @@ impl Labels {
         Ok(self.folded.contains(&folded))
     }
 
-    /// The same labels. An `Err` says that memory ran out.
+    /// The same labels.
     pub fn copied(&self) -> Result<Labels, AllocError>
         ensures { IfOk result (λ copy. labels_of copy ≡ labels_of self.now) }
     {
@@ -67,7 +66,7 @@ impl Labels {
         self.folded.truncate(len);
     }
 
-    /// Adds labels in turn. An `Err` says that memory ran out; some are added then.
+    /// Adds labels in turn. If memory runs out, some are added.
     fn add_each(&mut self, alloc: Global, labels: &[String]) -> Result<(), AllocError>
         ensures added { OnOk result (labels_of self.new
             ≡ with_labels (labels_of self.old) (map string_bytes labels.now)) }
@@ -79,7 +78,7 @@ impl Labels {
         Ok(())
     }
 
-    /// Adds labels in turn. An `Err` says that memory ran out; none is added then.
+    /// Adds labels in turn. If memory runs out, none is added.
     pub fn add_all(&mut self, alloc: Global, labels: &[String]) -> Result<(), AllocError>
         ensures added { OnOk result (labels_of self.new
             ≡ with_labels (labels_of self.old) (map string_bytes labels.now)) }

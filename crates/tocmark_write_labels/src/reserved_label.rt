@@ -50,8 +50,8 @@ fn label_set(alloc: Global, ids: &[&str]) -> Result<Labels, AllocError>
     Ok(labels)
 }
 
-/// The labels that a reader looks up in vain in these texts, read one by one: they are literal there. An
-/// `Err` says that memory ran out or the reader answered it.
+/// The labels that a reader looks up in vain in these texts, read one by one: they are literal there.
+/// It fails if memory runs out, here or in the reader.
 pub fn literal_labels<R: Reader>(
     alloc: Global,
     reader: &R,
@@ -142,9 +142,9 @@ fn free_beside(
     free_label(alloc, known, literal, &set, count)
 }
 
-/// The label for the placeholders of the lists among pending events: `cmark-loose-n` with the least
-/// `n` from 1 that is no label which earlier units define, none which they take literally, and no id of
-/// a pending link or image, as labels are compared. An `Err` says that memory ran out.
+/// The label for the placeholders of the lists among pending events: `cmark-loose-n` with the least `n`
+/// from 1 that is no label which earlier units define, none which they take literally, and no id of a
+/// pending link or image, as labels are compared.
 pub fn reserve_list_label(
     alloc: Global,
     known: &Labels,

@@ -38,8 +38,7 @@ fn is_reserved(alloc: Global, reserved: Option<&str>, label: &str) -> Result<boo
 }
 
 impl Taken<'_, '_> {
-    /// Whether a label, as Markdown compares them, is among these. An `Err` says that memory ran
-    /// out.
+    /// Whether a label, as Markdown compares them, is among these.
     pub fn contains(&self, alloc: Global, label: &str) -> Result<bool, AllocError>
         ensures { IfOk result (λ b. b ≡ is_taken_in self.now label.now) }
     {
@@ -49,7 +48,7 @@ impl Taken<'_, '_> {
         is_reserved(alloc, self.reserved, label)
     }
 
-    /// Whether one of these labels is among them. An `Err` says that memory ran out.
+    /// Whether one of these labels is among them.
     pub fn contains_any(&self, alloc: Global, labels: &[String]) -> Result<bool, AllocError>
         ensures { IfOk result (λ b. b ≡
             list_any (is_taken_in self.now) (map string_bytes labels.now)) }

@@ -45,8 +45,6 @@ fn begin_title(renderer: &mut Renderer<'_>) -> Result<(), AllocError>
 }
 
 /// Opens a title in a definition list, on a line of its own, but behind an item's marker.
-///
-/// An `Err` says that memory ran out.
 pub fn open_title<'a>(
     renderer: &mut Renderer<'a>,
     alloc: Global,
@@ -73,8 +71,6 @@ fn fill_if(renderer: &mut Renderer<'_>, needed: bool) -> Result<(), AllocError>
 
 /// Opens a definition in a definition list, whose body is like this: a blank line stands before it
 /// if the body begins with a paragraph.
-///
-/// An `Err` says that memory ran out.
 pub fn open_definition<'a>(
     renderer: &mut Renderer<'a>,
     alloc: Global,
@@ -159,8 +155,6 @@ fn end_line(renderer: &mut Renderer<'_>) -> Result<(), AllocError>
 
 /// The end of a definition in a definition list: a quote that has to go on is written out, and the
 /// line is ended.
-///
-/// An `Err` says that memory ran out.
 pub fn close_definition(renderer: &mut Renderer<'_>) -> Result<(), AllocError>
     ensures stands { Closes result renderer.old renderer.new close_definition }
     ensures mark { renderer.new.at_mark ≡ renderer.old.at_mark }

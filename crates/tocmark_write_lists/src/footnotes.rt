@@ -15,8 +15,6 @@ use tocmark_write_containers::prefix::Prefix;
 use tocmark_write_renderer::renderer::Renderer;
 
 /// Opens the definition of the footnote with this label.
-///
-/// An `Err` says that memory ran out.
 pub fn open_footnote<'a>(
     renderer: &mut Renderer<'a>,
     alloc: Global,
@@ -43,8 +41,6 @@ pub fn close_footnote(renderer: &mut Renderer<'_>)
 }
 
 /// What stands before the definition of the footnote with this label.
-///
-/// An `Err` says that memory ran out.
 pub fn footnote_mark(alloc: Global, label: &str) -> Result<String, AllocError>
     ensures { IfOk result (λ mark. string_bytes mark ≡ codes "[^" ++ label.now ++ codes "]: ") }
 {

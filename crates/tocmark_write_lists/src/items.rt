@@ -242,7 +242,7 @@ fn count_item(renderer: &mut Renderer<'_>, options: &Options<'_>, choice: ListCh
 
 /// Opens an item, whose body is empty or not. Its list goes on to the next number.
 ///
-/// An `Err` says that memory ran out, or that the innermost container is no list.
+/// It fails if memory runs out, or if the innermost container is no list.
 pub fn open_item<'a>(
     renderer: &mut Renderer<'a>,
     job: Job<'_, '_>,
@@ -313,8 +313,6 @@ const ROOM_FOR_MARKER: usize = 24;
 
 /// An item's marker: its number if it has one, the token and a space; if it is wide, three spaces
 /// before these and four behind.
-///
-/// An `Err` says that memory ran out.
 pub fn item_marker(alloc: Global, marker: Marker) -> Result<String, AllocError>
     ensures { (c : ListChoice) → IsMarked marker c
         → IfOk result (λ text. string_bytes text ≡ item_marker c) }
@@ -345,8 +343,6 @@ pub fn next_number(options: &Options<'_>, number: Option<u64>) -> Option<u64>
 }
 
 /// A definition of this label with an empty destination.
-///
-/// An `Err` says that memory ran out.
 pub fn label_text(alloc: Global, label: &str) -> Result<String, AllocError>
     ensures { IfOk result (λ text. string_bytes text ≡ label_text label.now) }
 {

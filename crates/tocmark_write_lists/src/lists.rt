@@ -66,8 +66,6 @@ fn is_before_code(next: Option<&OwnedEvent>) -> bool
 
 /// Opens a list with this first number, none for bullets. It writes nothing and keeps its token,
 /// whether it is tight, and how its items are marked.
-///
-/// An `Err` says that memory ran out.
 pub fn open_list<'a>(
     renderer: &mut Renderer<'a>,
     job: Job<'_, '_>,

@@ -16,8 +16,6 @@ use tocmark_write_blocks::trail::end_block;
 use tocmark_write_renderer::renderer::Renderer;
 
 /// Opens metadata of this kind, below the line that opens it.
-///
-/// An `Err` says that memory ran out.
 pub fn open_metadata<'a>(
     renderer: &mut Renderer<'a>,
     alloc: Global,
@@ -35,8 +33,7 @@ pub fn open_metadata<'a>(
 
 /// The end of metadata of this kind, with the line that opened it.
 ///
-/// The line feeds that it owes are one more than the options ask for, the greatest `usize` at most. An
-/// `Err` says that memory ran out.
+/// The line feeds that it owes are one more than the options ask for, the greatest `usize` at most.
 pub fn close_metadata(
     renderer: &mut Renderer<'_>,
     options: &Options<'_>,

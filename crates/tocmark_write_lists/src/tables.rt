@@ -27,8 +27,6 @@ use tocmark_write_containers::prefix::Prefix;
 use tocmark_write_renderer::renderer::Renderer;
 
 /// Opens a table, which writes nothing and keeps the widths of its headers; there is none so far.
-///
-/// An `Err` says that memory ran out.
 pub fn open_table<'a>(
     renderer: &mut Renderer<'a>,
     alloc: Global,
@@ -54,7 +52,7 @@ fn is_directly_in_table(renderer: &Renderer<'_>) -> bool
 
 /// Opens a table's head, which writes nothing.
 ///
-/// An `Err` says that memory ran out, or that the innermost container is no table.
+/// It fails if memory runs out, or if the innermost container is no table.
 pub fn open_head<'a>(
     renderer: &mut Renderer<'a>,
     alloc: Global,
@@ -89,7 +87,7 @@ fn enter_cell<'a>(
 
 /// Opens a cell, behind the bar before it.
 ///
-/// An `Err` says that memory ran out, or that no table is open.
+/// It fails if memory runs out, or if no table is open.
 pub fn open_cell<'a>(
     renderer: &mut Renderer<'a>,
     alloc: Global,
@@ -154,8 +152,6 @@ fn innermost_row(renderer: &Renderer<'_>, alloc: Global) -> Result<String, Alloc
 }
 
 /// The end of a table's head, with the row of dashes below it.
-///
-/// An `Err` says that memory ran out.
 pub fn close_head(renderer: &mut Renderer<'_>, alloc: Global) -> Result<(), AllocError>
     ensures stands { Closes result renderer.old renderer.new close_head }
     ensures mark { renderer.new.at_mark ≡ renderer.old.at_mark }
@@ -168,8 +164,6 @@ pub fn close_head(renderer: &mut Renderer<'_>, alloc: Global) -> Result<(), Allo
 }
 
 /// The end of a table's row.
-///
-/// An `Err` says that memory ran out.
 pub fn close_row(renderer: &mut Renderer<'_>) -> Result<(), AllocError>
     ensures stands { Closes result renderer.old renderer.new close_row }
     ensures mark { renderer.new.at_mark ≡ renderer.old.at_mark }
@@ -190,8 +184,6 @@ fn width_of(content: &OpeningChoice) -> usize
 }
 
 /// A cell's end; the nearest open table keeps its width.
-///
-/// An `Err` says that memory ran out.
 pub fn close_cell(renderer: &mut Renderer<'_>, content: &OpeningChoice) -> Result<(), AllocError>
     ensures stands { Closes result renderer.old renderer.new
         (close_cell (content_view content.now)) }
@@ -224,8 +216,6 @@ fn push_hyphens(row: &mut String, count: usize) -> Result<(), AllocError>
 
 /// Puts so many dashes behind a row, with a colon in place of one at each end that the alignment
 /// names.
-///
-/// An `Err` says that memory ran out.
 pub fn push_dashes(row: &mut String, alignment: Alignment, count: usize) -> Result<(), AllocError>
     ensures { Grows result row.old row.new (dashes alignment count) }
 {
@@ -283,7 +273,7 @@ fn push_cells(
 /// characters, in order until one list ends, a bar and as many dashes, but at least as many as the
 /// alignment needs; and then a bar. Room for all of it is made before its first byte.
 ///
-/// An `Err` says that memory ran out, or that no text can be as long.
+/// It fails if memory runs out, or if no text can be as long.
 pub fn alignment_row(
     alloc: Global,
     alignments: &[Alignment],

@@ -168,7 +168,7 @@ fn behind_start(tag: &TagOf<String>, kids: BodyFacts, outer: &mut Vec<BodyFacts>
     }
 }
 
-/// One event more in front. An `Err` says that memory ran out.
+/// One event more in front.
 fn with_event(
     event: &BufferedEvent,
     inner: BodyFacts,
@@ -190,8 +190,8 @@ fn with_event(
     }
 }
 
-/// For each event what the trees behind it are like, up to the end of the container that is innermost there: at
-/// a start, its body. An `Err` says that memory ran out.
+/// For each event what the trees behind it are like, up to the end of the container that is innermost
+/// there: at a start, its body.
 pub fn body_facts(alloc: Global, events: &[BufferedEvent]) -> Result<Vec<BodyFacts>, AllocError>
     ensures { IfOk result (λ facts. AreFacts (map buffered_view events.now) facts.items) }
 {

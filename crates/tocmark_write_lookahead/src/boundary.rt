@@ -35,7 +35,7 @@ fn finds_emphasis(events: &[(Event<'static>, (usize, usize))]) -> bool
     false
 }
 
-/// Whether the reader opens emphasis behind a character. An `Err` says that memory ran out.
+/// Whether the reader opens emphasis behind a character.
 fn opens_behind<R: Reader>(alloc: Global, reader: &R, character: char) -> Result<bool, AllocError>
     ensures { (o : OptionsView) (flags : ParserOptions) (label : Option (List ℕ))
         → IfOk result (λ opens.
@@ -48,7 +48,7 @@ fn opens_behind<R: Reader>(alloc: Global, reader: &R, character: char) -> Result
     Ok(finds_emphasis(&found.events))
 }
 
-/// Whether `_` may open or close emphasis beside a character. An `Err` says that memory ran out.
+/// Whether `_` may open or close emphasis beside a character.
 #[tactic(auto, unfolding(tocmark_spelling::specs::Edges::is_boundary))]
 pub fn is_boundary<R: Reader>(
     alloc: Global,

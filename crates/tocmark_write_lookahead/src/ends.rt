@@ -11,8 +11,6 @@ use tocmark_spelling::buffered::BufferedEvent;
 
 /// Goes back over an event, and gives where the container ends that it starts, if it is ended.
 /// `closers` are the places of the ends of the containers that are open there, the innermost last.
-///
-/// An `Err` says that memory ran out.
 fn go_back(
     closers: &mut Vec<usize>,
     event: &BufferedEvent,
@@ -34,8 +32,6 @@ fn go_back(
 }
 
 /// At each start where its container ends, if it does, and `None` at other events.
-///
-/// An `Err` says that memory ran out.
 pub fn matching_ends(
     alloc: Global,
     events: &[BufferedEvent],

@@ -125,7 +125,7 @@ fn past_start(kids: TokenRuns, outer: &mut Vec<TokenRuns>) -> Result<TokenRuns, 
     }
 }
 
-/// One event more in front. An `Err` says that memory ran out.
+/// One event more in front.
 fn with_event(
     event: &BufferedEvent,
     token: char,
@@ -151,8 +151,6 @@ fn with_event(
 /// For each event the runs of a token in the joined texts of the trees behind it, up to the end of the container
 /// that is innermost there: at a start, those of its body. It takes time in the events and their texts, however
 /// deep they stand.
-///
-/// An `Err` says that memory ran out.
 pub fn token_runs(
     alloc: Global,
     events: &[BufferedEvent],

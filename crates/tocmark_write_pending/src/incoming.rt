@@ -19,7 +19,7 @@ pub trait Incoming {
     fn lent(&self) -> &Event<'_>
         ensures { event_view text_of result.now ≡ event self.now };
 
-    /// The event with texts of its own. An `Err` says that memory ran out.
+    /// The event with texts of its own.
     fn into_owned(self, alloc: Global) -> Result<OwnedEvent, AllocError>
         ensures { IfOk result (λ owned. event_view string_bytes owned ≡ event self) };
 }
@@ -149,7 +149,7 @@ fn taken_leaf(alloc: Global, event: &mut Event<'static>) -> Result<OwnedEvent, A
     }
 }
 
-/// The event with its texts moved. An `Err` says that memory ran out.
+/// The event with its texts moved.
 fn taken_event(alloc: Global, event: &mut Event<'static>) -> Result<OwnedEvent, AllocError>
     ensures { IfOk result (λ taken. event_view string_bytes taken ≡ event_view text_of event.old) }
 {

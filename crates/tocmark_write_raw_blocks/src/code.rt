@@ -45,8 +45,6 @@ fn begin_indented(renderer: &mut Renderer<'_>) -> Result<(), AllocError>
 }
 
 /// Opens indented code.
-///
-/// An `Err` says that memory ran out.
 fn open_indented<'a>(
     renderer: &mut Renderer<'a>,
     alloc: Global,
@@ -63,8 +61,6 @@ fn open_indented<'a>(
 
 /// Opens fenced code with this info string, in whose text the longest run of the fence's token has
 /// this length, in characters.
-///
-/// An `Err` says that memory ran out.
 fn open_fenced<'a>(
     renderer: &mut Renderer<'a>,
     alloc: Global,
@@ -88,8 +84,6 @@ fn open_fenced<'a>(
 
 /// Opens a code block of this kind; for a fenced one it is said how long the longest run of its
 /// fence's token is in its text, in characters.
-///
-/// An `Err` says that memory ran out.
 pub fn open_code<'a>(
     renderer: &mut Renderer<'a>,
     job: Job<'_, '_>,
@@ -130,8 +124,6 @@ fn fence_closing(content: &OpeningChoice, feeds: usize) -> &str
 }
 
 /// A code block's end, with its fence if it has one.
-///
-/// An `Err` says that memory ran out.
 pub fn close_code(
     renderer: &mut Renderer<'_>,
     options: &Options<'_>,
@@ -180,7 +172,7 @@ pub fn fence_length(options: &Options<'_>, longest: usize) -> Result<usize, Allo
 /// The fence of a block with this info string, in whose code the longest run of the fence's token has
 /// this length, in characters. Room for all of it is made before its first byte.
 ///
-/// An `Err` says that memory ran out, or that no text can be as long.
+/// It fails if memory runs out, or if no text can be as long.
 pub fn fence(
     alloc: Global,
     options: &Options<'_>,

@@ -28,8 +28,6 @@ use tocmark_write_renderer::renderer::Renderer;
 
 /// Opens an HTML block, which writes nothing and keeps whether a blank line ends it and whether its
 /// end stands in it.
-///
-/// An `Err` says that memory ran out.
 pub fn open_html<'a>(
     renderer: &mut Renderer<'a>,
     alloc: Global,

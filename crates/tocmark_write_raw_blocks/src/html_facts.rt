@@ -131,8 +131,6 @@ fn found(
 
 /// For each event that starts an HTML block how it ends, if there is such an event. It takes time
 /// in the events and their HTML, however deep such blocks stand in one another.
-///
-/// An `Err` says that memory ran out.
 pub fn html_facts(
     alloc: Global,
     events: &[BufferedEvent],

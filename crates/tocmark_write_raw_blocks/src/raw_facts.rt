@@ -252,8 +252,6 @@ fn other_runs(
 /// For each event that starts a code or HTML block what its opening asks of the texts in it; an
 /// empty list for events without such a block, which are looked at once. It takes time in the
 /// events and their texts, however deep they stand.
-///
-/// An `Err` says that memory ran out.
 pub fn raw_facts(
     alloc: Global,
     options: &Options<'_>,

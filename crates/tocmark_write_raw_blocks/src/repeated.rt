@@ -6,7 +6,7 @@ use std::alloc::{AllocError, Global};
 
 /// A character so many times. Room for all of them is made before the first is written.
 ///
-/// An `Err` says that memory ran out, or that no text can be as long.
+/// It fails if memory runs out, or if no text can be as long.
 pub fn repeated(alloc: Global, character: char, count: usize) -> Result<String, AllocError>
     ensures { IfOk result (λ text.
         string_bytes text ≡ flat_map encode_utf8 (replicate count character)) }

@@ -120,7 +120,7 @@ impl<'a> Renderer<'a> {
         }
     }
 
-    /// Writes a text inside the open containers. An `Err` says that memory ran out.
+    /// Writes a text inside the open containers.
     pub fn write(&mut self, text: &str) -> Result<(), AllocError>
         ensures written { OnOk result
             (Stands self.new (levels_of self.old)
@@ -130,7 +130,7 @@ impl<'a> Renderer<'a> {
         self.lay(text)
     }
 
-    /// Writes a text that is its own prefix. An `Err` says that memory ran out.
+    /// Writes a text that is its own prefix.
     pub fn write_alone(&mut self, text: &str) -> Result<(), AllocError>
         ensures written { OnOk result
             (Stands self.new (levels_of self.old) (laid_on [] text.now (page_of self.old))) }
@@ -156,7 +156,7 @@ impl<'a> Renderer<'a> {
         Ok(())
     }
 
-    /// Writes a text's escape inside the open containers. An `Err` says that memory ran out.
+    /// Writes a text's escape inside the open containers.
     pub fn write_escaped(
         &mut self,
         text: &str,

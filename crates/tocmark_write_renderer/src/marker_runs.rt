@@ -38,8 +38,7 @@ impl MarkerRuns {
         }
     }
 
-    /// Reads what the text has grown by. An `Err` says that memory ran out; what is noted by then
-    /// stays.
+    /// Reads what the text has grown by. If memory runs out, what is noted by then stays.
     pub fn note(&mut self, text: &str) -> Result<(), AllocError>
         requires { AreNoted self.old text.now }
         ensures noted { AreNoted self.new text.now }
@@ -119,8 +118,7 @@ fn covers(run: MarkerRun, marker: u8, place: usize) -> bool
     run.marker == marker && run.start <= place && place - run.start <= run.length
 }
 
-/// One more marker, behind all that was read. An `Err` says that memory ran out; nothing is changed
-/// then.
+/// One more marker, behind all that was read. If memory runs out, nothing is changed.
 fn put_marker(runs: &mut Vec<MarkerRun>, marker: u8, place: usize) -> Result<(), AllocError>
     requires { place < usize.MAX }
     ensures more { OnOk result (reverse runs.new.items

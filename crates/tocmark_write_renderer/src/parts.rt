@@ -26,7 +26,7 @@ pub struct Held {
 }
 
 impl Held {
-    /// An equal stretch. An `Err` says that memory ran out.
+    /// An equal stretch.
     pub fn copied(&self, alloc: Global) -> Result<Held, AllocError>
         ensures { IfOk result (λ copy. held_view copy ≡ held_view self.now) }
     {

@@ -148,8 +148,8 @@ impl<'a> Renderer<'a> {
         &self.text[start..]
     }
 
-    /// How long the last run of `*` or of `_` in the text is, in bytes. Only what is new of the
-    /// text since runs were asked for is read. An `Err` says that memory ran out.
+    /// How long the last run of `*` or of `_` in the text is, in bytes. Only what is new of the text since
+    /// runs were asked for is read.
     pub fn last_run(&mut self) -> Result<usize, AllocError>
         ensures run { IfOk result (λ run. run ≡ last_run (sheet_of self.old).text) }
         ensures site { site_of self.new ≡ site_of self.old }
@@ -159,8 +159,8 @@ impl<'a> Renderer<'a> {
         Ok(self.runs.last())
     }
 
-    /// How long the run of a byte is round a place of the text, in bytes. For `*` and `_` only what
-    /// is new of the text since runs were asked for is read. An `Err` says that memory ran out.
+    /// How long the run of a byte is round a place of the text, in bytes. For `*` and `_` only what is new
+    /// of the text since runs were asked for is read.
     pub fn run_around(&mut self, place: usize, byte: u8) -> Result<usize, AllocError>
         ensures run { IfOk result (λ run. run ≡ run_around byte place (sheet_of self.old).text) }
         ensures site { site_of self.new ≡ site_of self.old }
@@ -278,7 +278,7 @@ impl<'a> Renderer<'a> {
         self.containers.is_in_loose_list()
     }
 
-    /// Makes room for so many line feeds, each with the prefix of its line. An `Err` says that memory ran out.
+    /// Makes room for so many line feeds, each with the prefix of its line.
     pub fn reserve_lines(&mut self, count: usize) -> Result<(), AllocError>
         ensures site { site_of self.new ≡ site_of self.old }
         ensures mark { self.new.at_mark ≡ self.old.at_mark }
@@ -293,7 +293,7 @@ impl<'a> Renderer<'a> {
             .reserve(count.checked_mul(width).ok_or(AllocError)?)
     }
 
-    /// Adds to the text. An `Err` says that memory ran out.
+    /// Adds to the text.
     pub fn put_text(&mut self, text: &str) -> Result<(), AllocError>
         ensures site { OnOk result (site_of self.new
             ≡ on_sheet (with_more text.now) (site_of self.old)) }
@@ -303,7 +303,7 @@ impl<'a> Renderer<'a> {
         Ok(())
     }
 
-    /// Adds a text's escape to the text. An `Err` says that memory ran out.
+    /// Adds a text's escape to the text.
     pub fn put_escaped(
         &mut self,
         text: &str,
@@ -317,7 +317,7 @@ impl<'a> Renderer<'a> {
         Ok(())
     }
 
-    /// Adds the prefix, where a line begins. An `Err` says that memory ran out.
+    /// Adds the prefix, where a line begins.
     pub fn begin_line(&mut self) -> Result<(), AllocError>
         ensures site { OnOk result (site_of self.new
             ≡ on_sheet
@@ -381,7 +381,7 @@ impl<'a> Renderer<'a> {
         }
     }
 
-    /// Takes the line that goes on with a quote; one of the mark is copied. An `Err` says that memory ran out.
+    /// Takes the line that goes on with a quote; one of the mark is copied.
     pub fn take_quote_line(&mut self) -> Result<Option<String>, AllocError>
         ensures site { OnOk result (site_of self.new ≡ on_page forget_quote (site_of self.old)) }
         ensures line { IfOk result (λ line.
@@ -411,7 +411,7 @@ impl<'a> Renderer<'a> {
         }
     }
 
-    /// Takes the stretch that is held; one of the mark is copied. An `Err` says that memory ran out.
+    /// Takes the stretch that is held; one of the mark is copied.
     pub fn take_held(&mut self) -> Result<Option<Held>, AllocError>
         ensures site { OnOk result (site_of self.new ≡ on_page unheld (site_of self.old)) }
         ensures held { IfOk result (λ held. option_map held_view held ≡ (page_of self.old).held) }
@@ -431,7 +431,7 @@ impl<'a> Renderer<'a> {
         Ok(copy)
     }
 
-    /// Adds a definition that is still to be written. An `Err` says that memory ran out.
+    /// Adds a definition that is still to be written.
     pub fn add_reference(&mut self, reference: Reference) -> Result<(), AllocError>
         ensures site { OnOk result (site_of self.new
             ≡ on_page (referring (reference_view reference)) (site_of self.old)) }
@@ -441,7 +441,7 @@ impl<'a> Renderer<'a> {
         Ok(())
     }
 
-    /// Opens a container here, with this prefix before its lines. An `Err` says that memory ran out.
+    /// Opens a container here, with this prefix before its lines.
     pub fn push_frame(
         &mut self,
         tag: &'a TagOf<String>,
@@ -458,8 +458,8 @@ impl<'a> Renderer<'a> {
         self.containers.push(tag, prefix, start, content)
     }
 
-    /// Closes the innermost container, if there is one, and gives it. An `Err` says that memory ran out; nothing is
-    /// closed then.
+    /// Closes the innermost container, if there is one, and gives it. If memory runs out, nothing is
+    /// closed.
     pub fn pop_frame(&mut self) -> Result<Option<Frame<'a>>, AllocError>
         ensures top { IfOk result (λ top.
             MatchOption top (levels_of self.old ≡ []) (λ frame.
@@ -483,8 +483,8 @@ impl<'a> Renderer<'a> {
         self.containers.set_number(number);
     }
 
-    /// Makes the nearest open cell, if there is one, wider by so many characters. An `Err` says that
-    /// memory ran out, or that the count would be too large.
+    /// Makes the nearest open cell, if there is one, wider by so many characters. It fails if memory runs
+    /// out, or if the count would be too large.
     pub fn widen(&mut self, characters: usize) -> Result<(), AllocError>
         ensures site { OnOk result
             (site_of self.new ≡ on_path (widened characters) (site_of self.old)) }
@@ -493,8 +493,7 @@ impl<'a> Renderer<'a> {
         self.containers.widen(characters)
     }
 
-    /// Adds to the nearest open table, if there is one, a cell of this width, in characters. An `Err`
-    /// says that memory ran out.
+    /// Adds to the nearest open table, if there is one, a cell of this width, in characters.
     pub fn add_header(&mut self, width: usize) -> Result<(), AllocError>
         ensures site { OnOk result
             (site_of self.new ≡ on_path (with_header width) (site_of self.old)) }

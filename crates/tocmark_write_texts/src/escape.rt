@@ -238,7 +238,8 @@ fn code_reference(alloc: Global, c: char) -> Result<String, AllocError>
 }
 
 fn push_code(to: &mut String, c: char) -> Result<(), AllocError>
-    ensures { Pushes result (string_bytes to.old) (encode_utf8_all (coded c)) (string_bytes to.new) }
+    ensures { Pushes result (string_bytes to.old)
+        (encode_utf8_all (coded c)) (string_bytes to.new) }
 {
     let reference = code_reference(*to.allocator(), c)?;
     to.push_str(reference.as_str())
@@ -393,8 +394,8 @@ fn push_characters(
     Ok(())
 }
 
-/// Adds a stretch of text as `escape_text` gives it to what a `String` holds. An `Err` says that memory
-/// ran out; then the `String` holds what it held.
+/// Appends to a `String` what `escape_text` returns for a text. If memory runs out, the `String` keeps
+/// what it held.
 pub fn push_escaped(
     to: &mut String,
     text: &str,
@@ -416,7 +417,7 @@ pub fn push_escaped(
 ///
 /// Line endings and ampersands become references, and so do a blank at the front and, where the place
 /// asks for it, the first and the last character. What could be read as a marker there has a backslash
-/// before it. An `Err` says that memory ran out.
+/// before it. It fails only if memory runs out.
 pub fn escape_text(
     alloc: Global,
     text: &str,

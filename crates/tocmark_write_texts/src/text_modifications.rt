@@ -355,7 +355,7 @@ pub fn span_ends(text: &str) -> SpanEnds
     }
 }
 
-/// Mathematics between two of these delimiters, in a table or not. An `Err` says that memory ran out.
+/// Mathematics between two of these delimiters, in a table or not.
 pub fn math_text(
     alloc: Global,
     delimiter: &str,

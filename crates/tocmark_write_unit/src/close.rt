@@ -26,8 +26,7 @@ use tocmark_write_renderer::renderer::Renderer;
 
 /// The end of a container that is neither a link nor an image, in the containers outside.
 ///
-/// An `Err` says that memory ran out, or that the line feeds behind metadata would be too many for
-/// a `usize`.
+/// It fails if memory runs out, or if the line feeds behind metadata would be too many for a `usize`.
 pub fn close(
     renderer: &mut Renderer<'_>,
     alloc: Global,

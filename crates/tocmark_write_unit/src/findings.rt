@@ -104,8 +104,6 @@ fn columns_if<R: Reader>(
 }
 
 /// The findings over a unit's events, with this reader, these options and these flags.
-///
-/// An `Err` says that memory ran out.
 pub fn findings_of<R: Reader>(
     alloc: Global,
     reader: &R,

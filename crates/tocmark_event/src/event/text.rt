@@ -35,7 +35,7 @@ impl Words for String {
 
 /// A text that can be made of any other, with memory of its own.
 pub trait OwnedWords: Words {
-    /// The same text, owned. An `Err` says that memory ran out.
+    /// The same text, owned.
     fn from_text(alloc: Global, text: &str) -> Result<Self, AllocError>
         ensures { IfOk result (λ copy. Self.Words.bytes copy ≡ text.now) };
 }
