@@ -13,9 +13,9 @@ CALLGRIND = ["valgrind", "--tool=callgrind", "--callgrind-out-file=/dev/null"]
 # What a reading is made by, as a whole or block by block; `read` itself, which only calls these, may be part of its caller.
 # None of them calls another one.
 PARTS = [
-    "tocmark_core_reader::reader::find_blocks",
-    "tocmark_core_reader::block_reading::BlockReading::next",
-    "tocmark_core_reader::block_reading::BlockReading::rest",
+    "tocmark_reader::reader::find_blocks",
+    "tocmark_reader::block_reading::BlockReading::next",
+    "tocmark_reader::block_reading::BlockReading::rest",
 ]
 
 

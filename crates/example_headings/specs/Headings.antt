@@ -6,7 +6,7 @@ use Rattle.tocmark_event.specs.View.{EventView, Start, End, Heading}
 use Rattle.tocmark_event.specs.declared.event.HeadingLevel.{HeadingLevel}
 use Rattle.tocmark_event.specs.declared.event.HeadingLevel.TheVariants.{H1, H2, H3, H4, H5, H6}
 use Rattle.tocmark_event.specs.declared.event.TagEnd.TheVariants as end
-use Rattle.tocmark_core_reader.specs.Reading.{core_reading}
+use Rattle.tocmark_reader.specs.Reading.{core_reading}
 use Rattle.tocmark_state.specs.Ranges.{unranged}
 use Rattle.tocmark_state.specs.WorkView.{rendering}
 use Rattle.tocmark_state.specs.Walk.{Walk, Done, done, nothing_yet, script}

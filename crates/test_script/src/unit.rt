@@ -4,7 +4,7 @@ ghost use Rattle.std.specs.Prelude.{◌≡◌, true};
 ghost use Rattle.tocmark_write_emphasis.specs.Low.{AsksLow};
 
 use std::alloc::Global;
-use tocmark_core_reader::CoreReader;
+use tocmark_reader::CoreReader;
 use tocmark_event::event::{OwnedEvent, ParserOptions};
 use tocmark_event::options::{Error, Options};
 use tocmark_spelling::plan::Delimiters;

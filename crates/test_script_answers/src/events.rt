@@ -6,7 +6,7 @@ use test_script_events::line::EventLine;
 use test_script_lines::script::EventsQuestion;
 use tocmark::calculate_code_block_token_count;
 use tocmark::event::{CowStr, Event, EventOf, OwnedEvent, merge_all, merge_texts};
-use tocmark_write_read_back::event::same_event;
+use tocmark_compare::event::same_event;
 
 fn token_count(events: &[RangedEvent<'static>]) -> Option<usize> {
     calculate_code_block_token_count(Events(events.iter()))

@@ -3,7 +3,7 @@
 use std::alloc::{AllocError, Global};
 use std::io::{self, Write};
 use std::time::CpuClock;
-use tocmark_core_reader::CoreReader;
+use tocmark_reader::CoreReader;
 use tocmark_event::event::ParserOptions;
 use tocmark_event::reader::{Reader, Reading};
 use tocmark_extended_reader::ExtendedReader;

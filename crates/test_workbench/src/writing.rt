@@ -5,7 +5,7 @@ use crate::shape::events_of;
 use std::alloc::Global;
 use std::io::{self, Write};
 use tocmark::{Error, Options, State, cmark};
-use tocmark_core_reader::CoreReader;
+use tocmark_reader::CoreReader;
 use tocmark_event::event::{Event, ParserOptions};
 
 /// How a list of events is dealt with.

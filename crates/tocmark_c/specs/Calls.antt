@@ -13,7 +13,7 @@ use Rattle.tocmark_state.specs.Ranges.{Pair}
 use Rattle.tocmark_interchange.specs.Document.{IsChange, IsWrittenTheSame}
 use Rattle.tocmark_interchange.specs.Options.{is_options_object}
 use Rattle.tocmark_interchange.specs.Interchange.{AreOptions, IsNoList, IsTextOf, IsWrittenFrom, in_source, reading_json, writing}
-use Rattle.tocmark_core_reader.specs.Reading.{reading_of}
+use Rattle.tocmark_reader.specs.Reading.{reading_of}
 use Rattle.tocmark_extended_reader.specs.Flags.{syntax_of}
 use Rattle.tocmark_read_syntax.specs.declared.Names.TheVariants.{All}
 use Rattle.tocmark_event.specs.Merged.{merged}

@@ -5,7 +5,7 @@ use Rattle.tocmark_read_syntax.specs.declared.Syntax.{Syntax}
 use Rattle.tocmark_read_syntax.specs.declared.TheConstants.{CORE}
 use Rattle.tocmark_read_syntax.specs.declared.Names.TheVariants.{Four}
 use Rattle.tocmark_event.specs.declared.event.flags.ParserOptions.{ParserOptions}
-use Rattle.tocmark_core_reader.specs.Reading.{core_reading, reading_of}
+use Rattle.tocmark_reader.specs.Reading.{core_reading, reading_of}
 use Rattle.tocmark_extended_reader.specs.Flags.{syntax_of}
 
 pub read_as_core : (syntax : Syntax) (text : List ℕ) (v : ReadingView) → syntax ≡ CORE → v ≡ reading_of syntax text → v ≡ core_reading text

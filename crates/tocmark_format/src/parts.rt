@@ -1,14 +1,14 @@
 //! Readers that hand out what they find part by part, so that never all events of a text are there at once.
 
 ghost use Rattle.std.specs.Prelude.{◌++◌, List, OnOk};
-ghost use Rattle.tocmark_core_reader.specs.Left.{reading_left};
+ghost use Rattle.tocmark_reader.specs.Left.{reading_left};
 ghost use Rattle.tocmark_event.specs.Reading.{reading_view};
 ghost use Rattle.tocmark_event.specs.View.{EventView};
 ghost use Rattle.tocmark_rewrite_edits.specs.Digest.{SaysFirst};
 ghost use Rattle.tocmark_rewrite_edits.specs.Given.{found_events};
 
 use std::alloc::{AllocError, Global};
-use tocmark_core_reader::{BlockReading, CoreReader};
+use tocmark_reader::{BlockReading, CoreReader};
 use tocmark_event::event::ParserOptions;
 use tocmark_event::reader::{Reader, Reading};
 use tocmark_extended_reader::ExtendedReader;

@@ -5,7 +5,7 @@ ghost use Rattle.tocmark_format_program.specs.Formats.{SaysTheSame};
 
 use std::alloc::{AllocError, Global};
 use tocmark_format::{Formatted, Left, PartReader, formatted};
-use tocmark_format_settings::settings::Settings;
+use tocmark_command::settings::Settings;
 
 /// What becomes of a text.
 #[derive(Drop)]

@@ -2,7 +2,7 @@
 //! compared, so a document never says anything else afterwards (the clause `same` of `decided`). `docs/FORMAT.md` has the
 //! options.
 //!
-//! It stands on `tocmark_format` and on `tocmark_format_settings`, which has the command line, configuration files and what
+//! It stands on `tocmark_format` and on `tocmark_command`, which has the command line, configuration files and what
 //! both name. Enter at `main`. `walk` has which files are meant, `decide` what is written for a text, `stream` how standard
 //! input is answered, `diff` what is shown of a text, `replace` how a file is replaced, and `report` and `fault` what is said.
 #![tactic(auto)]
@@ -26,9 +26,9 @@ use std::io::{IsTerminal, Stderr, Write};
 use std::process::ExitCode;
 use std::{env, fs, io};
 use stream::{Passed, READER, format_stream, text_in, write_out};
-use tocmark_format_settings::arguments::{Color, Task, color_of, command, task_of, voice_of};
-use tocmark_format_settings::lookup::{Refused, settings_of_files};
-use tocmark_format_settings::settings::{Settings, syntax_help};
+use tocmark_command::arguments::{Color, Task, color_of, command, task_of, voice_of};
+use tocmark_command::lookup::{Refused, settings_of_files};
+use tocmark_command::settings::{Settings, syntax_help};
 use walk::{Found, files_of};
 
 /// From how many files on a terminal is shown how far a call is.

@@ -5,7 +5,7 @@ use crate::stream::Passed;
 use std::fmt;
 use std::io::Write;
 use tocmark_format::Left;
-use tocmark_format_settings::arguments::Voice;
+use tocmark_command::arguments::Voice;
 
 /// How many files there were, and what became of them.
 #[derive(Clone, Copy, Drop)]

@@ -10,7 +10,7 @@ use std::alloc::Global;
 use std::io::{Read, Write};
 use tocmark_extended_reader::{ExtendedReader, Names};
 use tocmark_format::{Left, PartReader};
-use tocmark_format_settings::settings::Settings;
+use tocmark_command::settings::Settings;
 
 /// The reader of all documents.
 pub const READER: ExtendedReader = ExtendedReader { names: Names::All };

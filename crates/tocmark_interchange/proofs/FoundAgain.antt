@@ -1,7 +1,7 @@
 -- The events of pairs, as values of both forms.
 use Rattle.std.proofs.Common.{◌≡◌, ℕ, List, Option, map, sym, ap, ◌∙◌}
 use mathlib.Core.List.{map-map}
-use Rattle.tocmark_core_reader.specs.Reading.{reading_of}
+use Rattle.tocmark_reader.specs.Reading.{reading_of}
 use Rattle.tocmark_event.specs.Reading.{ReadingView, reading_view}
 use Rattle.tocmark_event.specs.Text.{ParserEvent, text_of}
 use Rattle.tocmark_event.specs.View.{EventView, event_view}

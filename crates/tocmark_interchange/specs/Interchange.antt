@@ -6,7 +6,7 @@ use Rattle.std.specs.Slice.Iter.{iter_rest}
 use Rattle.serde_json.specs.Data.{Data}
 use Rattle.serde_json.specs.Read.{read}
 use Rattle.serde_json.specs.Written.{IsInOrder}
-use Rattle.tocmark_core_reader.specs.Reading.{reading_of}
+use Rattle.tocmark_reader.specs.Reading.{reading_of}
 use Rattle.tocmark_extended_reader.specs.Flags.{syntax_of}
 use Rattle.tocmark_read_syntax.specs.declared.Names.TheVariants.{All}
 use Rattle.tocmark_event.specs.Options.{OptionsView, default_options}

@@ -19,7 +19,7 @@ use tocmark::Options;
 use tocmark::event::{Event, ParserOptions, merge_texts};
 use tocmark::reader::Reader;
 use tocmark_extended_reader::{ExtendedReader, Names};
-use tocmark_write_read_back::event::{same_event, same_events};
+use tocmark_compare::event::{same_event, same_events};
 
 /// What a reader found: events with their ranges.
 type Found<'f> = (Event<'f>, (usize, usize));

@@ -7,13 +7,13 @@ use Rattle.tocmark_event.specs.View.{EventView, Start, End, Leaf, Text, end_of}
 use Rattle.tocmark_event.specs.declared.event.TagEnd.{TagEnd}
 use Rattle.tocmark_read_scan.specs.PlainParts.{Part, Bare, Escaped, Referred, Feed, spelled, spelled_part, meant}
 use Rattle.tocmark_read_inlines.proofs.PlainNodes.{nodes_of}
-use Rattle.tocmark_core_reader.specs.Emitted.{NodeView, Writing, step, closings, emitted}
-use Rattle.tocmark_core_reader.specs.declared.emit.Open.{Open}
-use Rattle.tocmark_core_reader.specs.PlainTexts.{IsReadAs, line_events, text_parts}
-use Rattle.tocmark_core_reader.specs.Reading.{core_reading, found_in, reading_of, FoundView}
-use Rattle.tocmark_core_reader.proofs.PlainEvents.{Marked, viewed, unplaced, at, events_of, emit_parts, source_of, AreSourced, merged_parts}
-use Rattle.tocmark_core_reader.proofs.PlainReading.{IsPlainLine, merged_lines}
-use Rattle.tocmark_core_reader.proofs.PlainSources.{AreClean, snapped_clean, sourced_parts}
+use Rattle.tocmark_reader.specs.Emitted.{NodeView, Writing, step, closings, emitted}
+use Rattle.tocmark_reader.specs.declared.emit.Open.{Open}
+use Rattle.tocmark_reader.specs.PlainTexts.{IsReadAs, line_events, text_parts}
+use Rattle.tocmark_reader.specs.Reading.{core_reading, found_in, reading_of, FoundView}
+use Rattle.tocmark_reader.proofs.PlainEvents.{Marked, viewed, unplaced, at, events_of, emit_parts, source_of, AreSourced, merged_parts}
+use Rattle.tocmark_reader.proofs.PlainReading.{IsPlainLine, merged_lines}
+use Rattle.tocmark_reader.proofs.PlainSources.{AreClean, snapped_clean, sourced_parts}
 use Rattle.tocmark_laws.specs.TextBlocks.{Kind, mark_of, tag_of}
 use Rattle.tocmark_laws.proofs.DocumentRows.{Row, Blank, Filled, rows_text, IsRow, AreRows, all_rows, content_start, row_end, rows_clean}
 use Rattle.tocmark_laws.proofs.DocumentNodes.{row_node, row_nodes, found_rows, rows_found, content_front}

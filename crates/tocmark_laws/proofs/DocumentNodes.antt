@@ -18,14 +18,14 @@ use Rattle.tocmark_read_inlines.specs.Inlines as inlines
 use Rattle.tocmark_read_inlines.proofs.PlainLeaf.{known}
 use Rattle.tocmark_read_inlines.proofs.PlainNeighbours.{plain_parts_are_read}
 use Rattle.tocmark_read_inlines.proofs.PlainNodes.{nodes_of}
-use Rattle.tocmark_core_reader.specs.Emitted.{NodeView, Container}
-use Rattle.tocmark_core_reader.specs.Pages.{State, start_state, pieces_of, is_unwrapped, block_taken_in, block_step_in, paragraph_taken_in, wrapped, wrapped_in, task_nodes, with_block, leaf_inlines_in, with_inlines, content_line, block_tag}
-use Rattle.tocmark_core_reader.specs.Reading.{found_in, found_under, FoundView, collected, collected_from, first_entry}
-use Rattle.tocmark_core_reader.proofs.PlacedParts.{parts_inlines_at}
-use Rattle.tocmark_core_reader.proofs.PlainEvents.{viewed}
-use Rattle.tocmark_core_reader.proofs.PlainReading.{IsPrintable, IsPlainLine, spelled_text}
-use Rattle.tocmark_core_reader.specs.PlainTexts.{text_parts}
-use Rattle.tocmark_core_reader.proofs.PlainSources.{all_behind, all_implied}
+use Rattle.tocmark_reader.specs.Emitted.{NodeView, Container}
+use Rattle.tocmark_reader.specs.Pages.{State, start_state, pieces_of, is_unwrapped, block_taken_in, block_step_in, paragraph_taken_in, wrapped, wrapped_in, task_nodes, with_block, leaf_inlines_in, with_inlines, content_line, block_tag}
+use Rattle.tocmark_reader.specs.Reading.{found_in, found_under, FoundView, collected, collected_from, first_entry}
+use Rattle.tocmark_reader.proofs.PlacedParts.{parts_inlines_at}
+use Rattle.tocmark_reader.proofs.PlainEvents.{viewed}
+use Rattle.tocmark_reader.proofs.PlainReading.{IsPrintable, IsPlainLine, spelled_text}
+use Rattle.tocmark_reader.specs.PlainTexts.{text_parts}
+use Rattle.tocmark_reader.proofs.PlainSources.{all_behind, all_implied}
 use Rattle.tocmark_read_syntax.specs.declared.TheConstants.{CORE}
 use Rattle.tocmark_read_blocks.proofs.PlainFronts.{BeginsPlainly}
 use Rattle.tocmark_laws.specs.TextBlocks.{Kind, ParagraphKind, HeadingKind, mark_of, tag_of}

@@ -27,7 +27,7 @@ use Rattle.tocmark_read_blocks.specs.Blocks.{cells_taken, cells_taken_in, line_t
 use Rattle.tocmark_read_blocks.proofs.PlainLines.{numbered}
 use Rattle.tocmark_read_blocks.proofs.PlainSteps.{IsPlainLine, line_piece}
 use Rattle.tocmark_read_blocks.proofs.PlainTexts.{line_list}
-use Rattle.tocmark_core_reader.specs.Pages.{content_line}
+use Rattle.tocmark_reader.specs.Pages.{content_line}
 use Rattle.tocmark_laws.proofs.DocumentBlocks.{block, closed, here, get_last, set_last, starts_text, piece_taken_whole, blank_started}
 
 -- a page with an open paragraph that has these pieces

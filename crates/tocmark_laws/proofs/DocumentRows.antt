@@ -25,9 +25,9 @@ use Rattle.tocmark_read_blocks.proofs.PlainLines.{IsWithin, lines_within as line
 use Rattle.tocmark_read_blocks.proofs.PlainSteps.{IsPlainLine as IsPlainBlockLine, BeginsNothing}
 use Rattle.tocmark_read_blocks.proofs.PlainTexts.{line_list, AreNoReturns}
 use Rattle.tocmark_read_inlines.proofs.PlainNeighbours.{ArePlainParts}
-use Rattle.tocmark_core_reader.specs.PlainTexts.{text_parts}
-use Rattle.tocmark_core_reader.proofs.PlainReading.{IsPrintable, IsPlainLine, clean_lines, spelled_text}
-use Rattle.tocmark_core_reader.proofs.PlainSources.{IsClean, AreClean, all_implied}
+use Rattle.tocmark_reader.specs.PlainTexts.{text_parts}
+use Rattle.tocmark_reader.proofs.PlainReading.{IsPrintable, IsPlainLine, clean_lines, spelled_text}
+use Rattle.tocmark_reader.proofs.PlainSources.{IsClean, AreClean, all_implied}
 use Rattle.tocmark_laws.specs.TextBlocks.{Kind, ParagraphKind, HeadingKind, mark_of}
 use Rattle.tocmark_laws.proofs.DocumentBlocks.{block, closed, line_begins, nothing_ends, blank_passes, line_heads}
 use Rattle.tocmark_laws.proofs.DocumentParagraphs.{open_lines, line_pieces, lines_behind, count_behind, last_number, ArePlainAt, joined_length, lines_go_on, lines_end, blank_ends, first_of, behind_line, line_length}

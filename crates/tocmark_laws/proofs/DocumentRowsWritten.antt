@@ -12,8 +12,8 @@ use Rattle.tocmark_event.specs.declared.event.flags.ParserOptions.{ParserOptions
 use Rattle.tocmark_read_scan.specs.PlainParts.{Part, spelled, spelled_part, last_byte}
 use Rattle.tocmark_read_scan.proofs.PlainPieces.{feed_joined}
 use Rattle.tocmark_read_scan.proofs.PlainTests.{differs}
-use Rattle.tocmark_core_reader.specs.PlainTexts.{IsReadAs}
-use Rattle.tocmark_core_reader.specs.Reading.{core_reading}
+use Rattle.tocmark_reader.specs.PlainTexts.{IsReadAs}
+use Rattle.tocmark_reader.specs.Reading.{core_reading}
 use Rattle.tocmark_write_texts.specs.Escape.{Surroundings, ends_line, is_read_as_marker, spot_from}
 use Rattle.tocmark_laws.specs.PlainLines.{is_line, IsInParagraph}
 use Rattle.tocmark_laws.specs.TextBlocks.{Kind, ParagraphKind, HeadingKind, Block, block_events, block_text, blocks_walk, document_of, feeds_behind, mark_of, place_in, tag_of, texts_behind, HasText}

@@ -25,7 +25,7 @@ use Rattle.tocmark_write_pending.specs.Placeholder.{whole, needs_placeholder, ne
 use Rattle.tocmark_render.specs.Chosen.{chosen}
 use Rattle.tocmark_render.proofs.Chosen.{chosen-unlabelled}
 use Rattle.tocmark_render.proofs.PlainUnits.{choice-unasked}
-use Rattle.tocmark_core_reader.proofs.PlainReading.{IsPrintable, IsPlainLine, some_front}
+use Rattle.tocmark_reader.proofs.PlainReading.{IsPrintable, IsPlainLine, some_front}
 use Rattle.tocmark_read_scan.specs.PlainParts as parts
 use Rattle.tocmark_laws.specs.PlainLines.{PlacedLine}
 use Rattle.tocmark_laws.specs.TextBlocks.{Kind, ParagraphKind, HeadingKind, feeds_behind}

@@ -10,9 +10,9 @@ use Rattle.tocmark_event.specs.declared.event.TagEnd.TheVariants as end
 use Rattle.tocmark_event.specs.declared.event.flags.ParserOptions.{ParserOptions}
 use Rattle.tocmark_event.specs.declared.options.Error.{Error}
 use Rattle.tocmark_read_scan.proofs.PlainTests.{all_from}
-use Rattle.tocmark_core_reader.specs.PlainTexts.{IsReadAs, line_events}
-use Rattle.tocmark_core_reader.specs.Reading.{core_reading}
-use Rattle.tocmark_core_reader.proofs.PlainReading.{spelled_text}
+use Rattle.tocmark_reader.specs.PlainTexts.{IsReadAs, line_events}
+use Rattle.tocmark_reader.specs.Reading.{core_reading}
+use Rattle.tocmark_reader.proofs.PlainReading.{spelled_text}
 use Rattle.tocmark_spelling.specs.Plan.{Setting, Manner}
 use Rattle.tocmark_spelling.specs.PlanOf.{setting_of}
 use Rattle.tocmark_render.specs.Candidates.{preferred_manner}

@@ -6,7 +6,7 @@ use Rattle.std.specs.Char.{char_set_contains, is_ascii_digit, is_ascii_alphanume
 use Rattle.std.specs.List.{list_all}
 use Rattle.tocmark_write_texts.specs.Characters.{is_alphanumeric}
 use Rattle.tocmark_write_texts.specs.Escape.{Surroundings, spot_from, is_last, is_literal, is_encoded, reference, with_backslash, needs_backslash, is_read_as_marker, is_own_token, written, is_marker, is_alone, doubles_backslash, opens_emphasis}
-use Rattle.tocmark_core_reader.proofs.PlainReading.{IsPrintable}
+use Rattle.tocmark_reader.proofs.PlainReading.{IsPrintable}
 use Rattle.tocmark_read_scan.proofs.PlainTests.{eq_of, not_char, differs, turned, both_true, both_false}
 use Rattle.tocmark_read_scan.specs.PlainParts.{Part, Bare, Escaped, Referred, spelled_part}
 use Rattle.tocmark_laws.specs.PlainLines.{IsInParagraph}

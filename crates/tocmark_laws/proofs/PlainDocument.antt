@@ -9,7 +9,7 @@ use Rattle.tocmark_event.specs.View.{Start, End, Leaf, SoftBreak, Paragraph, Sou
 use Rattle.tocmark_event.specs.declared.event.TagEnd.TheVariants as end
 use Rattle.tocmark_event.specs.declared.event.flags.ParserOptions.{ParserOptions}
 use Rattle.tocmark_event.specs.declared.options.Error.{Error}
-use Rattle.tocmark_core_reader.specs.PlainTexts.{line_events, lines_paragraph}
+use Rattle.tocmark_reader.specs.PlainTexts.{line_events, lines_paragraph}
 use Rattle.tocmark_spelling.specs.Body.{Trees, some_leaf}
 use Rattle.tocmark_spelling.specs.Closing.{closing}
 use Rattle.tocmark_spelling.specs.Opening.{opening}

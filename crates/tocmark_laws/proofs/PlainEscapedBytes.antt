@@ -2,9 +2,9 @@
 use Rattle.std.proofs.Common.{◌≡◌, ℕ, zero, suc, ◌^◌, ◌<◌, List, [], ◌∷◌, ◌++◌, length, encode_utf8_all, IsAscii, ap, sym, subst, ◌∙◌, arith}
 use Rattle.std.proofs.lemmas.Str.{chars-IsAscii, encodes-IsAscii}
 use Rattle.std.specs.List.{AllByRecursion}
-use Rattle.tocmark_core_reader.specs.Reading.{core_reading}
+use Rattle.tocmark_reader.specs.Reading.{core_reading}
 use Rattle.tocmark_write_texts.specs.Escape.{escape, escaped}
-use Rattle.tocmark_core_reader.specs.PlainTexts.{lines_paragraph, IsReadAs}
+use Rattle.tocmark_reader.specs.PlainTexts.{lines_paragraph, IsReadAs}
 use Rattle.tocmark_laws.proofs.PlainCharacters.{parts_of}
 use Rattle.tocmark_laws.proofs.PlainEscapes.{ArePrintable, escape_is}
 use Rattle.tocmark_laws.proofs.PlainEscapedTexts.{IsLine, plain_line, escape_lines, escape_lines_are_read}

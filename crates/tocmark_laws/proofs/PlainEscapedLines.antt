@@ -6,7 +6,7 @@ use Rattle.std.specs.Char.{char_set_contains, is_ascii_digit}
 use Rattle.tocmark_write_texts.specs.Escape.{Surroundings, spot_from, is_read_as_marker, is_alone, goes_on_marker}
 use Rattle.tocmark_read_blocks.proofs.PlainStarts.{IsQuiet}
 use Rattle.tocmark_read_blocks.proofs.PlainFronts.{BeginsPlainly, GoesOn}
-use Rattle.tocmark_core_reader.proofs.PlainReading.{IsPrintable, IsPlainLine}
+use Rattle.tocmark_reader.proofs.PlainReading.{IsPrintable, IsPlainLine}
 use Rattle.tocmark_read_scan.proofs.PlainTests.{eq_of, not_char, differs}
 use Rattle.tocmark_laws.proofs.PlainCharacters.{part_of, parts_on, parts_of, part_elim, no_marker, no_mark_of, at_underscore, at_minus, at_plus, at_equals, at_greater, at_hash, at_dot, at_parenthesis, no_such}
 use Rattle.tocmark_laws.proofs.PlainEscapes.{ArePrintable, last_append}

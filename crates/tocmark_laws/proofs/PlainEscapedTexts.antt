@@ -5,14 +5,14 @@ use Rattle.tocmark_event.specs.View.{EventView, Start, End, Leaf, Text, SoftBrea
 use Rattle.tocmark_event.specs.declared.event.TagEnd.TheVariants as end
 use Rattle.tocmark_read_scan.proofs.PlainPieces.{feed_joined}
 use Rattle.tocmark_read_inlines.proofs.PlainNeighbours.{ArePlainParts}
-use Rattle.tocmark_core_reader.specs.Reading.{core_reading}
-use Rattle.tocmark_core_reader.proofs.PlainReading.{spelled_text, IsPlainLine, IsPlainText, plain_text_is_meant}
+use Rattle.tocmark_reader.specs.Reading.{core_reading}
+use Rattle.tocmark_reader.proofs.PlainReading.{spelled_text, IsPlainLine, IsPlainText, plain_text_is_meant}
 use Rattle.tocmark_write_texts.specs.Escape.{Surroundings, escape}
 use Rattle.tocmark_laws.proofs.PlainCharacters.{parts_of}
 use Rattle.tocmark_laws.proofs.PlainEscapes.{ArePrintable, escape_is, line_parts_plain}
 use Rattle.tocmark_laws.proofs.PlainEscapedLines.{line_is_plain, line_means}
 use Rattle.tocmark_read_scan.specs.PlainParts.{Part, Feed, spelled, meant, last_byte}
-use Rattle.tocmark_core_reader.specs.PlainTexts.{text_parts, line_events, lines_paragraph, IsReadAs}
+use Rattle.tocmark_reader.specs.PlainTexts.{text_parts, line_events, lines_paragraph, IsReadAs}
 use Rattle.tocmark_laws.specs.PlainLines.{IsInParagraph, PlacedLine, texts}
 
 -- such a line isn't empty, has characters from U+0020 to U+007E, and doesn't end with a space

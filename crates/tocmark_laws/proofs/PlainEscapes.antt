@@ -9,7 +9,7 @@ use Rattle.tocmark_read_scan.specs.Basic.{byte_at}
 use Rattle.tocmark_write_texts.specs.Characters.{is_alphanumeric}
 use Rattle.tocmark_write_texts.specs.Escape.{Surroundings, spot_from, needs_backslash, is_read_as_marker, escape_after, escape, doubles_backslash}
 use Rattle.tocmark_read_inlines.proofs.PlainNeighbours.{IsPlainByte, IsPlainPart, ArePlainParts}
-use Rattle.tocmark_core_reader.proofs.PlainReading.{IsPrintable}
+use Rattle.tocmark_reader.proofs.PlainReading.{IsPrintable}
 use Rattle.tocmark_read_scan.proofs.PlainTests.{eq_of, differs}
 use Rattle.tocmark_laws.proofs.PlainCharacters.{part_of, parts_on, parts_of, written_is, part_elim, backslash_punctuation, no_marker, no_mark_of, at_backslash, at_underscore, bare_if, bare_letter, letter_ascii}
 use Rattle.tocmark_read_scan.specs.PlainParts.{Part, Bare, spelled_part, spelled, last_byte}

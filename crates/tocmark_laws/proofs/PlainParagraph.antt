@@ -5,8 +5,8 @@ use Rattle.std.specs.List.{AllByRecursion, list_all}
 use Rattle.std.specs.Option.{option_map}
 use Rattle.tocmark_event.specs.View.{Start, End, Paragraph}
 use Rattle.tocmark_event.specs.declared.event.TagEnd.TheVariants as end
-use Rattle.tocmark_core_reader.specs.Reading.{core_reading}
-use Rattle.tocmark_core_reader.specs.PlainTexts.{lines_paragraph, IsReadAs}
+use Rattle.tocmark_reader.specs.Reading.{core_reading}
+use Rattle.tocmark_reader.specs.PlainTexts.{lines_paragraph, IsReadAs}
 use Rattle.tocmark_write_texts.specs.Escape.{ends_line}
 use Rattle.tocmark_spelling.specs.Stretch.{is_literal, has_entities}
 use Rattle.tocmark_laws.proofs.PlainEscapes.{ArePrintable}
@@ -16,9 +16,9 @@ use Rattle.tocmark_laws.proofs.PlainEscapedTexts.{IsLine, line_parts, plain_line
 use Rattle.tocmark_laws.proofs.PlainEscapedBytes.{escaped_text_is, escaped_text_is_read}
 use Rattle.tocmark_laws.proofs.PlainSpelling.{placed, all_placed, next_of, lines_text, AreLinesIn}
 use Rattle.tocmark_read_scan.specs.PlainParts.{last_byte}
-use Rattle.tocmark_core_reader.specs.PlainTexts.{is_printable}
-use Rattle.tocmark_core_reader.proofs.PlainReading.{IsPrintable, spelled_text}
-use Rattle.tocmark_core_reader.proofs.PlainTests.{printable_from, text_to}
+use Rattle.tocmark_reader.specs.PlainTexts.{is_printable}
+use Rattle.tocmark_reader.proofs.PlainReading.{IsPrintable, spelled_text}
+use Rattle.tocmark_reader.proofs.PlainTests.{printable_from, text_to}
 use Rattle.tocmark_read_scan.proofs.PlainTests.{both_true, is_not, all_from}
 use Rattle.tocmark_laws.specs.PlainLines.{is_line, IsPlaced, IsPlainOf, escaped_text, texts, PlacedLine}
 

@@ -4,7 +4,7 @@ use Rattle.std.proofs.lemmas.Bool.Decides.{nat_tests}
 use Rattle.tocmark_event.specs.Forest.{empty, leaf}
 use Rattle.tocmark_event.specs.View.{EventView, Start, End, Leaf, Text, SoftBreak, Paragraph, SourcedEvent, SourcedLeaf}
 use Rattle.tocmark_event.specs.declared.event.TagEnd.TheVariants as end
-use Rattle.tocmark_core_reader.proofs.PlainReading.{IsPrintable}
+use Rattle.tocmark_reader.proofs.PlainReading.{IsPrintable}
 use Rattle.tocmark_spelling.specs.Body.{Trees}
 use Rattle.tocmark_write_texts.specs.Escape.{Surroundings, escaped}
 use Rattle.tocmark_spelling.specs.Kinds.{is_emphasis_or_strong, starts, and_is}
@@ -15,7 +15,7 @@ use Rattle.tocmark_spelling.specs.Plan.{Setting, Manner}
 use Rattle.tocmark_spelling.specs.Spelling.{spelling}
 use Rattle.tocmark_spelling.specs.Stretch.{leaf_on, is_literal, has_entities}
 use Rattle.tocmark_spelling.specs.Runs.{ahead_of, past}
-use Rattle.tocmark_core_reader.proofs.PlainReading.{IsPlainLine, some_front}
+use Rattle.tocmark_reader.proofs.PlainReading.{IsPlainLine, some_front}
 use Rattle.tocmark_laws.proofs.PlainCharacters.{parts_of}
 use Rattle.tocmark_laws.proofs.PlainEscapes.{ArePrintable, escape_is}
 use Rattle.tocmark_laws.proofs.PlainEscapedTexts.{IsLine, plain_line}

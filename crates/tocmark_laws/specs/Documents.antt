@@ -10,8 +10,8 @@ use Rattle.tocmark_event.specs.Reading.{ReadingView}
 use Rattle.tocmark_event.specs.View.{EventView}
 use Rattle.tocmark_event.specs.declared.event.flags.ParserOptions.{ParserOptions}
 use Rattle.tocmark_event.specs.declared.options.Error.{Error}
-use Rattle.tocmark_core_reader.specs.PlainTexts.{IsReadAs, lines_paragraph}
-use Rattle.tocmark_core_reader.specs.Reading.{core_reading}
+use Rattle.tocmark_reader.specs.PlainTexts.{IsReadAs, lines_paragraph}
+use Rattle.tocmark_reader.specs.Reading.{core_reading}
 use Rattle.tocmark_laws.specs.PlainLines.{is_line}
 use Rattle.tocmark_laws.specs.TextBlocks.{Block, HeadingKind, block_events, document_of}
 use Rattle.tocmark_state.specs.Walk.{Walk, Done, done, nothing_yet, script}

@@ -4,8 +4,8 @@ use Rattle.std.specs.Char.{char_set_contains}
 use Rattle.std.specs.List.{list_all}
 use Rattle.tocmark_event.specs.View.{EventView}
 use Rattle.tocmark_event.specs.declared.options.Error.{Error}
-use Rattle.tocmark_core_reader.specs.PlainTexts.{text_parts, is_printable, is_plain_text, lines_paragraph, IsReadAs}
-use Rattle.tocmark_core_reader.specs.Reading.{core_reading}
+use Rattle.tocmark_reader.specs.PlainTexts.{text_parts, is_printable, is_plain_text, lines_paragraph, IsReadAs}
+use Rattle.tocmark_reader.specs.Reading.{core_reading}
 use Rattle.tocmark_read_scan.specs.PlainParts.{Part, spelled, meant, last_byte}
 use Rattle.tocmark_write_texts.specs.Escape.{Surroundings, ends_line, escaped}
 use Rattle.tocmark_state.specs.Ranges.{Pair, unranged}

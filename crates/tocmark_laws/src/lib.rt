@@ -3,7 +3,7 @@
 //! (`counts`), of the line feeds that end what is written (`feeds`), of units that read back (`written`), and of why a
 //! unit has no spelling (`misplaced_nodes`).
 //!
-//! Below it stand `tocmark_state` and `tocmark_core_reader`, above it the library, for the words of its clauses.
+//! Below it stand `tocmark_state` and `tocmark_reader`, above it the library, for the words of its clauses.
 #![tactic(auto)]
 
 pub mod blocks;

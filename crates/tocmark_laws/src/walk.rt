@@ -3,7 +3,7 @@
 ghost use Rattle.std.specs.Prelude.{◌≡◌, ◌≢◌, ◌++◌, All, IsTrue, IsUtf8, List, [], ℕ, Result, Ok, Err, chars, codes, false, ◌∷◌};
 ghost use Rattle.std.specs.Char.{char_set_contains};
 ghost use Rattle.std.specs.List.{AllByRecursion, list_all};
-ghost use Rattle.tocmark_core_reader.specs.PlainTexts.{lines_paragraph};
+ghost use Rattle.tocmark_reader.specs.PlainTexts.{lines_paragraph};
 ghost use Rattle.tocmark_event.specs.Forest.{IsBalanced, IsReading};
 ghost use Rattle.tocmark_event.specs.Options.{OptionsView};
 ghost use Rattle.tocmark_event.specs.View.{Code};

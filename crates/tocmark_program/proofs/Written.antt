@@ -9,10 +9,10 @@ use Rattle.tocmark_event.specs.Reading.{ReadingView}
 use Rattle.tocmark_event.specs.View.{EventView}
 use Rattle.tocmark_event.specs.declared.options.Error.{Error}
 use Rattle.tocmark_event.specs.declared.event.flags.ParserOptions.{ParserOptions}
-use Rattle.tocmark_core_reader.specs.Left.{IsAtEnd, IsPart, behind, reading_left}
-use Rattle.tocmark_core_reader.specs.Reading.{core_reading}
-use Rattle.tocmark_core_reader.specs.declared.block_reading.BlockReading.{BlockReading}
-use Rattle.tocmark_core_reader.specs.declared.reader.CoreReader.{CoreReader}
+use Rattle.tocmark_reader.specs.Left.{IsAtEnd, IsPart, behind, reading_left}
+use Rattle.tocmark_reader.specs.Reading.{core_reading}
+use Rattle.tocmark_reader.specs.declared.block_reading.BlockReading.{BlockReading}
+use Rattle.tocmark_reader.specs.declared.reader.CoreReader.{CoreReader}
 use Rattle.tocmark_state.specs.Ranges.{Pair, unranged}
 use Rattle.tocmark_state.specs.StateView.{Adds, Ends, Stands, place_of, rendering_of, status_of}
 use Rattle.tocmark_state.specs.Walk.{Rendering, done, nothing_yet, script, walk}

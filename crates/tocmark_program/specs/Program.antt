@@ -6,10 +6,10 @@ use Rattle.std.specs.List.{concat}
 use Rattle.std.specs.Str.{IsUtf8}
 use Rattle.tocmark_event.specs.Options.{default_options}
 use Rattle.tocmark_event.specs.View.{EventView}
-use Rattle.tocmark_core_reader.specs.Left.{reading_left}
-use Rattle.tocmark_core_reader.specs.Reading.{core_reading}
-use Rattle.tocmark_core_reader.specs.declared.block_reading.BlockReading.{BlockReading}
-use Rattle.tocmark_core_reader.specs.declared.reader.CoreReader.{CoreReader}
+use Rattle.tocmark_reader.specs.Left.{reading_left}
+use Rattle.tocmark_reader.specs.Reading.{core_reading}
+use Rattle.tocmark_reader.specs.declared.block_reading.BlockReading.{BlockReading}
+use Rattle.tocmark_reader.specs.declared.reader.CoreReader.{CoreReader}
 use Rattle.tocmark_state.specs.StateView.{Stands, rendering_of}
 use Rattle.tocmark_state.specs.declared.state.State.{State}
 use Rattle.tocmark_state.specs.Ranges.{Pair, unranged}

@@ -10,7 +10,7 @@ use Rattle.tocmark_spelling.specs.Plan.{Setting}
 use Rattle.tocmark_spelling.specs.Body.{Trees}
 use Rattle.tocmark_spelling.specs.ById.{by_id, by_id_of, events_of, goes_by_id, is_one_link, is_same_kind, merged_trees}
 use Rattle.tocmark_spelling.specs.SameEvents.{same_events}
-use Rattle.tocmark_write_read_back.proofs.SameIsEqual.{same-equal, equal-same}
+use Rattle.tocmark_compare.proofs.SameIsEqual.{same-equal, equal-same}
 use Rattle.tocmark_write_labels.specs.Document.{DocumentView}
 use Rattle.tocmark_render.specs.EqualEvents.{HasUnit, HasOneLink, IsSpelledById, reading_of_id}
 use Rattle.tocmark_render.specs.ReadsBack.{ReadsBack, expected, flags_at, is_taken, reads_back, whole_text}

@@ -20,7 +20,7 @@ use Rattle.tocmark_write_renderer.specs.WriterOf as renderer
 use Rattle.tocmark_write_renderer.specs.WriterOf.{Arrives, Comes, IsRefusal, Rendering, blank, site_of}
 use Rattle.tocmark_write_renderer.specs.declared.job.Manner as declared
 use Rattle.tocmark_spelling.proofs.Refusals.{none-misplaced}
-use Rattle.tocmark_write_read_back.specs.InParagraph.{in_paragraph}
+use Rattle.tocmark_compare.specs.InParagraph.{in_paragraph}
 use Rattle.tocmark_render.specs.Candidates.{has_source, is_checked, is_delimiter_block, preferred_manner}
 use Rattle.tocmark_render.specs.Choice.{Chosen, accepted_if, first_that_reads_back, if_read_back, page_in, page_of, page_read_back, preferred, spelled}
 use Rattle.tocmark_write_labels.specs.Document.{DocumentView}

@@ -10,7 +10,7 @@ use Rattle.tocmark_spelling.specs.Plan.{Setting}
 use Rattle.tocmark_spelling.specs.SameEvents.{same_events}
 use Rattle.tocmark_spelling.specs.ById.{events_of, merged_trees}
 use Rattle.tocmark_spelling.specs.Body.{Trees}
-use Rattle.tocmark_write_read_back.specs.InParagraph.{in_paragraph}
+use Rattle.tocmark_compare.specs.InParagraph.{in_paragraph}
 use Rattle.tocmark_write_labels.specs.Document.{DocumentView, is_among, is_label}
 
 -- the flags under which a unit is read: metadata stands only at a document's beginning

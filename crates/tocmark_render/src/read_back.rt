@@ -4,7 +4,7 @@ ghost use Rattle.std.specs.Prelude.{◌≡◌, ◌++◌, codes, map, string_byte
 ghost use Rattle.tocmark_event.specs.Merged.{merged};
 ghost use Rattle.tocmark_event.specs.View.{unsourced};
 ghost use Rattle.tocmark_write_labels.specs.LabelsOf.{is_taken_in};
-ghost use Rattle.tocmark_write_read_back.specs.InParagraph.{in_paragraph};
+ghost use Rattle.tocmark_compare.specs.InParagraph.{in_paragraph};
 ghost use Rattle.tocmark_render.specs.ReadsBack.{found_in};
 ghost use Rattle.tocmark_spelling.specs.Buffered.{buffered_view};
 
@@ -13,7 +13,7 @@ use tocmark_event::event::ParserOptions;
 use tocmark_event::reader::{Reader, Reading};
 use tocmark_spelling::buffered::BufferedEvent;
 use tocmark_write_labels::taken::Taken;
-use tocmark_write_read_back::agrees::agrees;
+use tocmark_compare::agrees::agrees;
 
 /// What is known of a spelling that is read back.
 #[derive(Drop)]

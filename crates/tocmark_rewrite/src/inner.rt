@@ -11,7 +11,7 @@ use tocmark_event::reader::Reader;
 use tocmark_rewrite_edits::patch::Patch;
 use tocmark_rewrite_edits::same::{are_same, differ};
 use tocmark_rewrite_edits::trees::{line_start, lines_end, trees};
-use tocmark_write_read_back::event::same_event;
+use tocmark_compare::event::same_event;
 
 /// A stretch of the events that the reader found, and the one that was given in its place.
 #[derive(Clone, Copy, Debug)]

@@ -5,7 +5,7 @@ use crate::plan::{Plan, place_of};
 use crate::texts::Texts;
 use std::alloc::{AllocError, Global};
 use std::collections::{HashMap, HashSet};
-use tocmark_core_reader::ReferenceDefinition;
+use tocmark_reader::ReferenceDefinition;
 use tocmark_event::event::{Event, ParserOptions};
 use tocmark_event::options::{Error, Options};
 use tocmark_event::reader::Reader;

@@ -5,7 +5,7 @@ use Rattle.tocmark_rewrite_edits.specs.Given.{given_events}
 use Rattle.tocmark_event.specs.Merged.{merged, after_text}
 use Rattle.tocmark_event.specs.View.{EventView, Start, End, Leaf, Text}
 use Rattle.tocmark_spelling.specs.SameEvents.{same_event, same_events}
-use Rattle.tocmark_write_read_back.proofs.SameIsEqual.{same-equal, equal-same}
+use Rattle.tocmark_compare.proofs.SameIsEqual.{same-equal, equal-same}
 use Rattle.tocmark_rewrite_edits.specs.Apart.{is_text_event, are_apart}
 
 merged_other : (a : EventView) (es : List EventView) → is_text_event a ≡ false → merged (a ∷ es) ≡ a ∷ merged es

@@ -9,8 +9,8 @@ ghost use Rattle.tocmark_rewrite_edits.specs.Given.{given_events};
 
 use std::alloc::{AllocError, Global};
 use tocmark_event::event::{CodeBlockKind, Event, Tag, TagEnd};
-use tocmark_write_read_back::event::same_events;
-use tocmark_write_read_back::number::end_number;
+use tocmark_compare::event::same_events;
+use tocmark_compare::number::end_number;
 
 /// What stands before a mark. No text has such a byte.
 const SIGN: u8 = 255;

@@ -7,11 +7,11 @@ use crate::edits::number_of;
 use crate::trees::line_end;
 use std::alloc::{AllocError, Global};
 use std::collections::HashMap;
-use tocmark_core_reader::{DefinitionPlace, ReferenceDefinition};
+use tocmark_reader::{DefinitionPlace, ReferenceDefinition};
 use tocmark_event::event::{CodeBlockKindOf, Event, HeadingLevel, LinkType, Tag};
 use tocmark_read_tokens::label::key_of;
 use tocmark_read_tokens::word::destination;
-use tocmark_write_read_back::event::same_event;
+use tocmark_compare::event::same_event;
 use tocmark_write_texts::text_modifications::close_link;
 
 /// Bytes of the source, and the text that takes their place.

@@ -11,7 +11,7 @@ ghost use Rattle.tocmark_rewrite_edits.specs.Given.{given_events};
 use crate::given::merged_events;
 use std::alloc::{AllocError, Global};
 use tocmark_event::event::Event;
-use tocmark_write_read_back::event::{same_event, same_events};
+use tocmark_compare::event::{same_event, same_events};
 
 fn is_text(event: &Event<'_>) -> bool
     ensures { result ≡ is_text_event (event_view text_of event.now) }

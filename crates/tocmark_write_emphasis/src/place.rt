@@ -21,7 +21,7 @@ use tocmark_spelling::plan::{Delimiters, Layout};
 use tocmark_write_containers::content::OpeningChoice;
 use tocmark_write_containers::frame::Frame;
 use tocmark_write_pending::edges::last_character;
-use tocmark_write_read_back::number::end_number;
+use tocmark_compare::number::end_number;
 use tocmark_write_renderer::renderer::Renderer;
 
 /// What stands before the body of a delimited container.

@@ -22,7 +22,7 @@ use tocmark_event::event::{Event, EventOf, LinkType, OwnedEvent, ParserOptions, 
 use tocmark_event::reader::Reader;
 use tocmark_spelling::buffered::BufferedEvent;
 use tocmark_write_lookahead::ends::body_end;
-use tocmark_write_read_back::alike::alike;
+use tocmark_compare::alike::alike;
 
 /// Whether the id of a link or image of this type may stand in place of its body.
 fn goes_by_id(kind: LinkType) -> bool

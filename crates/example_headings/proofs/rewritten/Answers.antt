@@ -7,7 +7,7 @@ use Rattle.tocmark_event.specs.Text.{ParserEvent, text_of}
 use Rattle.tocmark_event.specs.View.{EventView, event_view}
 use Rattle.tocmark_event.specs.Reading.{ReadingView, events_left}
 use Rattle.tocmark_event.specs.declared.event.flags.ParserOptions.{ParserOptions}
-use Rattle.tocmark_core_reader.specs.Reading.{core_reading}
+use Rattle.tocmark_reader.specs.Reading.{core_reading}
 use Rattle.tocmark_state.specs.Ranges.{Pair, unranged}
 use Rattle.tocmark_state.specs.WorkView.{rendering, pairs}
 use Rattle.tocmark_state.specs.Walk.{Walk, Done, done, nothing_yet, script}

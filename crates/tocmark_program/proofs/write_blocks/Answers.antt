@@ -1,5 +1,5 @@
 use Rattle.std.proofs.Common.{string_bytes}
-use Rattle.tocmark_core_reader.specs.Left.{IsAtEnd, reading_left}
+use Rattle.tocmark_reader.specs.Left.{IsAtEnd, reading_left}
 use Rattle.tocmark_program.proofs.Written.{goes_to_end, none_left}
 use Rattle.tocmark_program.proofs.write_blocks.Goals as goal
 

@@ -1,5 +1,5 @@
 use Rattle.std.proofs.Common.{List, length, string_bytes}
-use Rattle.tocmark_core_reader.specs.Left.{reading_left}
+use Rattle.tocmark_reader.specs.Left.{reading_left}
 use Rattle.tocmark_state.specs.Ranges.{Pair}
 use Rattle.tocmark_program.specs.Program.{IsWriting}
 use Rattle.tocmark_program.proofs.write_blocks.Given as goal

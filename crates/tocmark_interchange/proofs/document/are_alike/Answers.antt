@@ -3,7 +3,7 @@ use Rattle.tocmark_event.specs.Merged.{merged}
 use Rattle.tocmark_event.specs.Text.{text_of}
 use Rattle.tocmark_event.specs.View.{event_view}
 use Rattle.tocmark_spelling.specs.SameEvents.{same_events}
-use Rattle.tocmark_write_read_back.proofs.SameIsEqual.{same-told}
+use Rattle.tocmark_compare.proofs.SameIsEqual.{same-told}
 use Rattle.tocmark_interchange.specs.Document.{events_in}
 use Rattle.tocmark_interchange.proofs.document.are_alike.Goals as goal
 

@@ -1,6 +1,6 @@
 use Rattle.std.proofs.Common.{◌∙◌, refl, sym}
 use Rattle.tocmark_event.specs.Merged.{merged}
-use Rattle.tocmark_write_read_back.proofs.SameIsEqual.{same-equal}
+use Rattle.tocmark_compare.proofs.SameIsEqual.{same-equal}
 use Rattle.tocmark_interchange.specs.Document.{events_in}
 use Rattle.tocmark_interchange.proofs.document.are_same.Goals as goal
 

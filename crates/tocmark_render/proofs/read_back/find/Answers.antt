@@ -3,7 +3,7 @@ use Rattle.std.specs.List.{list_any}
 use Rattle.tocmark_event.specs.Merged.{merged}
 use Rattle.tocmark_event.specs.Text.{text_of}
 use Rattle.tocmark_event.specs.View.{event_view, unsourced}
-use Rattle.tocmark_write_read_back.specs.InParagraph.{in_paragraph}
+use Rattle.tocmark_compare.specs.InParagraph.{in_paragraph}
 use Rattle.tocmark_spelling.specs.Buffered.{buffered_view}
 use Rattle.tocmark_spelling.specs.SameEvents.{same_events}
 use Rattle.tocmark_write_labels.specs.LabelsOf.{is_taken_in}

@@ -3,7 +3,7 @@ use Rattle.tocmark_event.specs.Merged.{merged}
 use Rattle.tocmark_event.specs.Text.{text_of}
 use Rattle.tocmark_event.specs.View.{event_view}
 use Rattle.tocmark_spelling.specs.SameEvents.{same_events}
-use Rattle.tocmark_write_read_back.proofs.SameIsEqual.{same-told}
+use Rattle.tocmark_compare.proofs.SameIsEqual.{same-told}
 use Rattle.tocmark_rewrite_edits.specs.Given.{given_events}
 use Rattle.tocmark_rewrite_edits.proofs.same.are_alike.Goals as goal
 

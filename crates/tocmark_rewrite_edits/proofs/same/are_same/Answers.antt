@@ -1,6 +1,6 @@
 use Rattle.std.proofs.Common.{◌∙◌, refl, sym}
 use Rattle.tocmark_event.specs.Merged.{merged}
-use Rattle.tocmark_write_read_back.proofs.SameIsEqual.{same-equal}
+use Rattle.tocmark_compare.proofs.SameIsEqual.{same-equal}
 use Rattle.tocmark_rewrite_edits.specs.Given.{given_events}
 use Rattle.tocmark_rewrite_edits.proofs.same.are_same.Goals as goal
 

@@ -3,7 +3,7 @@ use Rattle.std.specs.Cmp.Lexicographic.{same_text}
 use Rattle.tocmark_event.specs.Merged.{merged}
 use Rattle.tocmark_event.specs.Text.{text_of}
 use Rattle.tocmark_event.specs.View.{event_view}
-use Rattle.tocmark_write_read_back.proofs.SameIsEqual.{same-equal}
+use Rattle.tocmark_compare.proofs.SameIsEqual.{same-equal}
 use Rattle.tocmark_rewrite_edits.specs.Digest.{Texts, said}
 use Rattle.tocmark_rewrite_edits.proofs.digest.Digest.is_same.Goals as goal
 

@@ -1,5 +1,0 @@
-use Rattle.tocmark_core_reader.proofs.PlainRanges.{ranges_kept}
-use Rattle.tocmark_core_reader.proofs.laws.plain_ranges_are_kept.Goals as goal
-
-pub returns : goal.returns
-returns c l ms plain fits = ranges_kept l ms plain fits

@@ -1,5 +1,0 @@
-use Rattle.tocmark_core_reader.proofs.PlainDecided.{plain_decided}
-use Rattle.tocmark_core_reader.proofs.laws.plain_texts_are_decided.Goals as goal
-
-pub returns : goal.returns
-returns c text = plain_decided text

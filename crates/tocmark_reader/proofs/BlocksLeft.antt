@@ -1,0 +1,297 @@
+-- Events that are handed out tree by tree are those of the whole text.
+use Rattle.std.proofs.Common.{◌≡◌, ◌≢◌, ℕ, Bool, true, false, ◌++◌, ◌∷◌, [], List, map, Option, Some, None, refl, ap, sym, subst, ◌∙◌, append_assoc, append-nil, arith, drop, length, ◌+◌, ◌<◌}
+use Rattle.std.specs.List.{fold}
+use Rattle.std.specs.Option.{option_map_or}
+use Rattle.std.specs.Prelude.{get_or, nat_le, nat_lt, if◌then◌else◌, is_none, not, slice_get, zero, suc, string_bytes, ◌==◌, ◌&&◌, ◌||◌}
+use Rattle.std.proofs.lemmas.List.{drop_all, drop_more, length-append, length-map, nil_from_length}
+use Rattle.std.proofs.lemmas.Bool.{and_parts, eqb-true, false≢true}
+use Rattle.std.proofs.lemmas.Bool.Decides.{nat_tests}
+use Rattle.tocmark_event.specs.Reading.{ReadingView}
+use Rattle.tocmark_event.specs.Text.{ParserEvent}
+use Rattle.tocmark_event.specs.View.{EventView, Start, Leaf, Text}
+use Rattle.tocmark_event.specs.View as view
+use Rattle.tocmark_read_scan.specs.Basic.{plus}
+use Rattle.tocmark_read_scan.specs.Content as content
+use Rattle.tocmark_read_scan.specs.TableCell.{cell_content}
+use Rattle.tocmark_read_syntax.specs.declared.Syntax.{Syntax}
+use Rattle.tocmark_read_leaves.specs.declared.definition.Piece.{Piece}
+use Rattle.tocmark_read_open_blocks.specs.declared.page.Block.{Block}
+use Rattle.tocmark_read_open_blocks.specs.declared.page.BlockKind.{BlockKind}
+use Rattle.tocmark_read_open_blocks.specs.declared.page.BlockKind.TheVariants as kind
+use Rattle.tocmark_read_inlines.specs.Inlines as inlines
+use Rattle.tocmark_read_spans.specs.Definitions.{distinct_labels, entry_of}
+use Rattle.tocmark_reader.specs.declared.block_events.Assembly.{Assembly}
+use Rattle.tocmark_reader.specs.declared.block_reading.BlockReading.{BlockReading}
+use Rattle.tocmark_reader.specs.declared.emit.Emission.{Emission}
+use Rattle.tocmark_reader.specs.declared.emit.Open.{Open}
+use Rattle.tocmark_reader.specs.Emitted.{ItemView, Container, Source, Given, NodeView, Writing, closed, closings, emission_view, put, shown, source_text, step}
+use Rattle.tocmark_reader.specs.Range.{snapped}
+use Rattle.tocmark_reader.specs.Inlines.{inline_node}
+use Rattle.tocmark_reader.specs.Left.{IsHandable, all_made, begins_tree, behind, goes_on, has_events, is_at_tree, is_empty, reading_at_end, reading_left}
+use Rattle.tocmark_reader.specs.Pages.{State, Progress, assembly_view, node, written_behind, written_by, content_line, lines_nodes, block_node, pieces_of, with_inlines, leaf_inlines_in, task_nodes, with_block, with_lines, fence_node_in, with_fence_in, with_rule, wrapped_in, paragraph_taken_in, taken_as_in, block_taken_in, is_unwrapped, cell_inlines_in, cell_taken_in}
+use Rattle.tocmark_reader.proofs.Behind.{Find, some_taken, first_behind}
+
+abbrev Marked : Type 0
+Marked = EventView × (ℕ × ℕ)
+
+-- the first node of a state stands at a depth
+abbrev Begins : ℕ → State → Type 0
+Begins depth s = (n : NodeView) × (ns : List NodeView) × (s.nodes ≡ n ∷ ns) × (n.depth ≡ depth)
+
+abbrev no_nodes : inlines.State → State
+no_nodes i = record { nodes = []; inlines = i }
+
+begins_block : (text : List ℕ) (b : Block) (i : inlines.State) → Begins b.depth (with_block text b (no_nodes i))
+unfolding with_block
+begins_block text b i = (block_node text b, task_nodes b.task (plus b.depth 1), refl, refl)
+
+begins_inlines : (depth : ℕ) (found : inlines.State) (s : State) → Begins depth s → Begins depth (with_inlines found s)
+begins_inlines depth found s h =
+    let more : List NodeView = map (inline_node found.texts found.targets) found.nodes in
+    (h.0, h.1 ++ more, ap (λ (l : List NodeView). l ++ more) h.2, h.3)
+
+begins_wrapped : (syntax : Syntax) (text : List ℕ) (find : Find) (pieces : List Piece) (b : Block) (i : inlines.State) → Begins b.depth (wrapped_in syntax text find pieces b (no_nodes i))
+unfolding wrapped_in leaf_inlines_in
+begins_wrapped syntax text find pieces b i =
+    let s : State = with_block text b (no_nodes i) in
+    begins_inlines b.depth (inlines.read_inlines_in syntax (content.content_of text (map content_line pieces)) (plus b.depth 1) find s.inlines) s (begins_block text b i)
+
+begins_cell : (syntax : Syntax) (text : List ℕ) (find : Find) (b : Block) (i : inlines.State) → Begins b.depth (cell_taken_in syntax text find b (no_nodes i))
+unfolding cell_taken_in cell_inlines_in
+begins_cell syntax text find b i =
+    let s : State = with_block text b (no_nodes i) in
+    begins_inlines b.depth (inlines.read_cell_in syntax (cell_content text b.start b.end) (plus b.depth 1) find s.inlines) s (begins_block text b i)
+
+begins_lines : (text : List ℕ) (html : Bool) (b : Block) (lines : List Piece) (i : inlines.State) → Begins b.depth (with_lines text html b lines (no_nodes i))
+unfolding with_lines
+begins_lines text html b lines i = (block_node text b, lines_nodes text html (plus b.depth 1) lines, refl, refl)
+
+begins_fence : (syntax : Syntax) (text : List ℕ) (from to : ℕ) (b : Block) (lines : List Piece) (i : inlines.State) → Begins b.depth (with_fence_in syntax.names text from to b lines (no_nodes i))
+unfolding with_fence_in fence_node_in
+begins_fence syntax text from to b lines i = (fence_node_in syntax.names text from to b, lines_nodes text false (plus b.depth 1) lines, refl, refl)
+
+begins_rule : (b : Block) (i : inlines.State) → Begins b.depth (with_rule b (no_nodes i))
+unfolding with_rule
+begins_rule b i = (node b.depth (Given view.Rule) b.start b.end, [], refl, refl)
+
+begins_paragraph : (syntax : Syntax) (text : List ℕ) (find : Find) (pieces : List Piece) (b : Block) (i : inlines.State) → nat_lt b.first b.last ≡ true → Begins b.depth (paragraph_taken_in syntax text find pieces false b (no_nodes i))
+unfolding paragraph_taken_in
+begins_paragraph syntax text find pieces b i h =
+    let some : nat_le b.last b.first ≡ false = grind (arith, nat_tests) in
+    subst (λ (x : Bool). Begins b.depth (if x then no_nodes i else wrapped_in syntax text find pieces b (no_nodes i))) (sym some) (begins_wrapped syntax text find pieces b i)
+
+begins_kind : (syntax : Syntax) (k : BlockKind) (text : List ℕ) (find : Find) (pieces : List Piece) (b : Block) (i : inlines.State) → has_events k b ≡ true → Begins b.depth (taken_as_in syntax k text find pieces false b (no_nodes i))
+begins_kind syntax kind.Paragraph text find pieces b i h = begins_paragraph syntax text find pieces b i h
+begins_kind syntax (kind.Heading level braces) text find pieces b i h = begins_wrapped syntax text find pieces b i
+begins_kind syntax (kind.Quote q) text find pieces b i h = begins_block text b i
+begins_kind syntax (kind.List first) text find pieces b i h = begins_block text b i
+begins_kind syntax kind.Item text find pieces b i h = begins_block text b i
+begins_kind syntax kind.Indented text find pieces b i h = begins_lines text false b pieces i
+begins_kind syntax (kind.Fenced from to) text find pieces b i h = begins_fence syntax text from to b pieces i
+begins_kind syntax kind.Html text find pieces b i h = begins_lines text true b pieces i
+begins_kind syntax kind.Rule text find pieces b i h = begins_rule b i
+begins_kind syntax (kind.Metadata q) text find pieces b i h = begins_lines text false b pieces i
+begins_kind syntax (kind.Note from to) text find pieces b i h = begins_block text b i
+begins_kind syntax (kind.Table from to) text find pieces b i h = begins_block text b i
+begins_kind syntax kind.TableHead text find pieces b i h = begins_block text b i
+begins_kind syntax kind.TableRow text find pieces b i h = begins_block text b i
+begins_kind syntax kind.TableCell text find pieces b i h = begins_cell syntax text find b i
+begins_kind syntax kind.DefinitionList text find pieces b i h = begins_block text b i
+begins_kind syntax kind.DefinitionListTitle text find pieces b i h = begins_wrapped syntax text find pieces b i
+begins_kind syntax kind.DefinitionListDefinition text find pieces b i h = begins_block text b i
+
+-- what isn't in a list isn't unwrapped
+not_unwrapped : (blocks : List Block) (b : Block) → is_none b.list ≡ true → is_unwrapped blocks b ≡ false
+unfolding is_unwrapped
+not_unwrapped blocks b h = go b.list h
+  where
+    go : (o : Option ℕ) → is_none o ≡ true → option_map_or (λ place. option_map_or (λ (l : Block). not l.loose) (slice_get blocks place) false) o false ≡ false
+    go None h = refl
+    go (Some place) h = absurd (false≢true h)
+
+begins_taken : (syntax : Syntax) (text : List ℕ) (find : Find) (pieces : List Piece) (blocks : List Block) (b : Block) (i : inlines.State) → begins_tree b ≡ true → Begins 0 (block_taken_in syntax text find pieces (is_unwrapped blocks b) b (no_nodes i))
+unfolding block_taken_in begins_tree
+begins_taken syntax text find pieces blocks b i h =
+    let both = and_parts (b.depth == 0 && is_none b.list) (has_events b.kind b) h in
+    let outer = and_parts (b.depth == 0) (is_none b.list) both.0 in
+    subst (λ (u : Bool). Begins 0 (taken_as_in syntax b.kind text find (pieces_of pieces b.first b.last) u b (no_nodes i))) (sym (not_unwrapped blocks b outer.1))
+    (subst (λ (d : ℕ). Begins d (taken_as_in syntax b.kind text find (pieces_of pieces b.first b.last) false b (no_nodes i))) (eqb-true b.depth 0 outer.0) (begins_kind syntax b.kind text find (pieces_of pieces b.first b.last) b i both.1))
+
+-- what is written, of its two parts
+abbrev pub writing : List Open → List Marked → Writing
+writing stack events = record { events = events; stack = stack }
+
+abbrev progress : inlines.State → Writing → Progress
+progress found w = record { writing = w; inlines = found }
+
+closed_twice : (w : Writing) → closed 0 (closed 0 w) ≡ closed 0 w
+closed_twice w = ap (writing []) (append-nil (w.events ++ closings 0 w.stack))
+
+-- a node that stands in no container needs none ended before it
+step_closed : (text : List ℕ) (w : Writing) (n : NodeView) → n.depth ≡ 0 → step text (closed 0 w) n ≡ step text w n
+step_closed text w n h =
+    let range : ℕ × ℕ = snapped text n.start n.end in
+    subst (λ (d : ℕ). put text n.item range (closed d (closed 0 w)) ≡ put text n.item range (closed d w)) (sym h) (ap (put text n.item range) (closed_twice w))
+
+-- what is made, with its containers ended
+abbrev pub ended : Progress → Progress
+ended p = progress p.inlines (closed 0 p.writing)
+
+starts_ended : (text : List ℕ) (w : Writing) (s : State) → Begins 0 s → written_behind text (closed 0 w) s ≡ written_behind text w s
+starts_ended text w s (n, ns, is, depth) =
+    ap (progress s.inlines)
+    (ap (fold (step text) (closed 0 w)) is ∙ ap (λ x. fold (step text) x ns) (step_closed text w n depth) ∙ sym (ap (fold (step text) w) is))
+
+-- both show the same at the end
+record Alike (p q : Progress) : Type 0 where
+  events : (closed 0 p.writing).events ≡ (closed 0 q.writing).events
+  inlines : p.inlines ≡ q.inlines
+
+alike_readings : (defined : List (List ℕ)) (p q : Progress) → Alike p q → reading_at_end defined p ≡ reading_at_end defined q
+alike_readings defined p q h =
+    ap (λ (i : inlines.State). reading_of_parts (closed 0 p.writing).events i) h.inlines ∙ ap (λ (es : List Marked). reading_of_parts es q.inlines) h.events
+  where
+    reading_of_parts : List Marked → inlines.State → ReadingView
+    reading_of_parts es i = record { events = es; defined = defined; unresolved = distinct_labels i.texts i.missed }
+
+-- before a block that begins a tree, and at the end, all containers may be ended
+abbrev MayEnd : List Block → Type 0
+MayEnd [] = Unit {0}
+MayEnd (b ∷ bs) = begins_tree b ≡ true
+
+module _ (syntax : Syntax) (text : List ℕ) (find : Find) (all : List Block) (pieces : List Piece) where
+  abbrev left_taken : List Block → Progress → Progress
+  left_taken left p = written_by text (some_taken syntax text find all pieces left) p
+
+  ended_before : (left : List Block) (p : Progress) → MayEnd left → Alike (left_taken left (ended p)) (left_taken left p)
+  ended_before [] p h = record { events = append-nil (p.writing.events ++ closings 0 p.writing.stack); inlines = refl }
+  ended_before (b ∷ bs) p h =
+      let change : State → State = block_taken_in syntax text find pieces (is_unwrapped all b) b in
+      let same : written_by text change (ended p) ≡ written_by text change p = starts_ended text p.writing (change (no_nodes p.inlines)) (begins_taken syntax text find pieces all b p.inlines h) in
+      let before : left_taken (b ∷ bs) (ended p) ≡ left_taken bs (written_by text change (ended p)) = first_behind syntax text find all pieces b bs (is_unwrapped all b) (ended p) (written_by text change (ended p)) refl refl in
+      let after : left_taken (b ∷ bs) p ≡ left_taken bs (written_by text change p) = first_behind syntax text find all pieces b bs (is_unwrapped all b) p (written_by text change p) refl refl in
+      let both : left_taken (b ∷ bs) (ended p) ≡ left_taken (b ∷ bs) p = before ∙ ap (left_taken bs) same ∙ sym after in
+      record { events = ap (λ q. (closed 0 q.writing).events) both; inlines = ap (λ q. q.inlines) both }
+
+-- events in front of all others
+abbrev in_front : List Marked → Writing → Writing
+in_front es w = writing w.stack (es ++ w.events)
+
+put_front : (text : List ℕ) (es : List Marked) (i : ItemView) (range : ℕ × ℕ) (w : Writing) → put text i range (in_front es w) ≡ in_front es (put text i range w)
+put_front text es (Container tag) range w = ap (writing (put text (Container tag) range w).stack) (append_assoc es w.events ((Start tag, range) ∷ []))
+put_front text es Source range w = ap (writing w.stack) (append_assoc es w.events ((Leaf (Text (source_text text range)), range) ∷ []))
+put_front text es (Given l) range w = ap (writing w.stack) (append_assoc es w.events ((Leaf l, range) ∷ []))
+
+closed_front : (es : List Marked) (depth : ℕ) (w : Writing) → closed depth (in_front es w) ≡ in_front es (closed depth w)
+closed_front es depth w = ap (writing (closed depth w).stack) (append_assoc es w.events (closings depth w.stack))
+
+fold_front : (text : List ℕ) (es : List Marked) (nodes : List NodeView) (w : Writing) → fold (step text) (in_front es w) nodes ≡ in_front es (fold (step text) w nodes)
+fold_front text es [] w = refl
+fold_front text es (n ∷ ns) w =
+    let range : ℕ × ℕ = snapped text n.start n.end in
+    let first : step text (in_front es w) n ≡ in_front es (step text w n) = ap (put text n.item range) (closed_front es n.depth w) ∙ put_front text es n.item range (closed n.depth w) in
+    ap (λ x. fold (step text) x ns) first ∙ fold_front text es ns (step text w n)
+
+-- events that are handed out stand in front of those that are made behind them
+handed_first : (text : List ℕ) (es : List Marked) (nodes : List NodeView) → (closed 0 (fold (step text) (writing [] es) nodes)).events ≡ es ++ (closed 0 (fold (step text) (writing [] []) nodes)).events
+handed_first text es nodes =
+    ap (λ l. (closed 0 (fold (step text) (writing [] l) nodes)).events) (sym (append-nil es))
+    ∙ ap (λ w. (closed 0 w).events) (fold_front text es nodes (writing [] []))
+    ∙ ap (λ (w : Writing). w.events) (closed_front es 0 (fold (step text) (writing [] []) nodes))
+
+-- the same reading with other events written
+abbrev with_emission : BlockReading → Emission → BlockReading
+with_emission r e = record r { assembly = record r.assembly { emission = e } }
+
+-- the nodes of the blocks that are left
+abbrev pub nodes_left : BlockReading → State
+nodes_left r = some_taken r.syntax r.text (entry_of r.definitions) r.blocks.items r.pieces.items (drop r.place r.blocks.items) (no_nodes (inlines.inlines_view r.assembly.inlines))
+
+-- the events that are made are handed out: those that are left come behind them
+pub handed : (r : BlockReading) (e : Emission) → r.assembly.emission.stack.items ≡ [] → emission_view e ≡ writing [] [] → reading_left r ≡ behind (map shown r.assembly.emission.events.items) (reading_left (with_emission r e))
+handed r e none empty =
+    let es : List Marked = map shown r.assembly.emission.events.items in
+    let text : List ℕ = r.text in
+    let nodes : List NodeView = (nodes_left r).nodes in
+    ap (λ (l : List Marked). shows r l)
+    (ap (λ (s : List Open). (closed 0 (fold (step text) (writing s es) nodes)).events) none
+    ∙ handed_first text es nodes
+    ∙ ap (λ (w : Writing). es ++ (closed 0 (fold (step text) w nodes)).events) (sym empty))
+  where
+    shows : BlockReading → List Marked → ReadingView
+    shows r l = record { events = l; defined = map string_bytes r.defined.items; unresolved = distinct_labels (all_made r).inlines.texts (all_made r).inlines.missed }
+
+-- at the end nothing is left
+pub none_left : (r : BlockReading) → IsHandable r → is_empty r ≡ true → (reading_left r).events ≡ []
+none_left r h empty =
+    let es : List Marked = map shown r.assembly.emission.events.items in
+    let none : es ≡ [] = ap (map shown) (nil_from_length r.assembly.emission.events.items (eqb-true (length r.assembly.emission.events.items) 0 empty)) in
+    ap (λ (l : List Block). (closed 0 (left_taken r.syntax r.text (entry_of r.definitions) r.blocks.items r.pieces.items l (progress (inlines.inlines_view r.assembly.inlines) (emission_view r.assembly.emission))).writing).events) (h.last empty)
+    ∙ ap (λ (s : List Open). es ++ closings 0 s) h.closed
+    ∙ append-nil es
+    ∙ none
+
+-- some events were handed out
+pub some_shown : (xs : List (ParserEvent × (ℕ × ℕ))) → (length xs == 0) ≡ false → map shown xs ≢ []
+some_shown xs h none = false≢true (sym h ∙ ap (λ n. n == 0) (sym (length-map xs shown) ∙ ap length none))
+
+no_more : (m n k : ℕ) → m ≡ n + k → (m == 0) ≡ true → (n == 0) ≡ true
+no_more m n k h e = grind (arith, nat_tests)
+
+-- where nothing is written in all, nothing was written before
+none_before : (ys xs : List (ParserEvent × (ℕ × ℕ))) (more : List Marked) → map shown ys ≡ map shown xs ++ more → (length ys == 0) ≡ true → (length xs == 0) ≡ true
+none_before ys xs more h none =
+    no_more (length ys) (length xs) (length more)
+    (sym (length-map ys shown) ∙ ap length h ∙ length-append (map shown xs) more ∙ ap (λ n. n + length more) (length-map xs shown))
+    none
+
+-- where the next block doesn't belong to what is made, all containers may be ended
+stops : (xs : List Block) (i : ℕ) → option_map_or begins_tree (slice_get xs i) true ≡ true → MayEnd (drop i xs)
+stops [] zero h = tt
+stops [] (suc i) h = tt
+stops (x ∷ xs) zero h = h
+stops (x ∷ xs) (suc i) h = stops xs i h
+
+past : (xs : List Block) (i : ℕ) → nat_lt i (length xs) ≡ false → drop i xs ≡ []
+past xs i h = drop_all i xs (grind (arith, nat_tests))
+
+pub tree_ended : (r : BlockReading) (e : Emission) → goes_on r ≡ false → emission_view e ≡ closed 0 (emission_view r.assembly.emission) → (reading_left (with_emission r e) ≡ reading_left r) × IsHandable (with_emission r e)
+tree_ended r e stop is =
+    let defined : List (List ℕ) = map string_bytes r.defined.items in
+    let find : Find = entry_of r.definitions in
+    let left : List Block = drop r.place r.blocks.items in
+    let found : inlines.State = inlines.inlines_view r.assembly.inlines in
+    let here : Progress = progress found (emission_view r.assembly.emission) in
+    let taken : Progress → Progress = left_taken r.syntax r.text find r.blocks.items r.pieces.items left in
+    let parts : MayEnd left × (is_empty r ≡ true → left ≡ []) = go (nat_lt r.place (length r.blocks.items)) (is_empty r) (is_at_tree r) refl refl refl stop in (
+      ap (λ (w : Writing). reading_at_end defined (taken (progress found w))) is
+          ∙ alike_readings defined (taken (ended here)) (taken here) (ended_before r.syntax r.text find r.blocks.items r.pieces.items left here parts.0),
+      record {
+        closed = ap (λ (w : Writing). w.stack) is;
+        last = λ none. parts.1 (none_before e.events.items r.assembly.emission.events.items (closings 0 r.assembly.emission.stack.items) (ap (λ (w : Writing). w.events) is) none);
+      },
+    )
+  where
+    go : (t n a : Bool) → nat_lt r.place (length r.blocks.items) ≡ t → is_empty r ≡ n → is_at_tree r ≡ a → (t && (n || not a)) ≡ false → MayEnd (drop r.place r.blocks.items) × (n ≡ true → drop r.place r.blocks.items ≡ [])
+    go false n a lt en at h = let none = past r.blocks.items r.place lt in (subst (λ (l : List Block). MayEnd l) (sym none) tt, λ x. none)
+    go true true a lt en at h = absurd (false≢true (sym h))
+    go true false true lt en at h = (stops r.blocks.items r.place at, λ x. absurd (false≢true x))
+    go true false false lt en at h = absurd (false≢true (sym h))
+
+-- the events of the next block are made: what is left stays the same
+pub block_made : (r : BlockReading) (b : Block) (unwrapped : Bool) (before after : Progress) → drop r.place r.blocks.items ≡ b ∷ drop (r.place + 1) r.blocks.items → unwrapped ≡ is_unwrapped r.blocks.items b → after ≡ written_by r.text (block_taken_in r.syntax r.text (entry_of r.definitions) r.pieces.items unwrapped b) before → left_taken r.syntax r.text (entry_of r.definitions) r.blocks.items r.pieces.items (drop (r.place + 1) r.blocks.items) after ≡ left_taken r.syntax r.text (entry_of r.definitions) r.blocks.items r.pieces.items (drop r.place r.blocks.items) before
+block_made r b unwrapped before after first u a =
+    let taken : List Block → Progress → Progress = left_taken r.syntax r.text (entry_of r.definitions) r.blocks.items r.pieces.items in
+    sym (first_behind r.syntax r.text (entry_of r.definitions) r.blocks.items r.pieces.items b (drop (r.place + 1) r.blocks.items) unwrapped before after u a)
+    ∙ ap (λ l. taken l before) (sym first)
+
+-- the same of a reading in which the next block was taken
+pub one_taken : (r : BlockReading) (a : Assembly) (n : ℕ) (blocks : List Block) (pieces : List Piece) (b : Block) (unwrapped : Bool) → n ≡ r.place + 1 → blocks ≡ r.blocks.items → pieces ≡ r.pieces.items → r.place < length r.blocks.items → get_or r.blocks.items r.place b ≡ b → unwrapped ≡ is_unwrapped blocks b → assembly_view a ≡ written_by r.text (block_taken_in r.syntax r.text (entry_of r.definitions) pieces unwrapped b) (assembly_view r.assembly) → reading_left (record r { assembly = a; place = n }) ≡ reading_left r
+one_taken r a n blocks pieces b unwrapped next same_blocks same_pieces lt is u made =
+    let all : List Block = r.blocks.items in
+    let taken : List Block → Progress → Progress = left_taken r.syntax r.text (entry_of r.definitions) all r.pieces.items in
+    let first : drop r.place all ≡ b ∷ drop (r.place + 1) all = drop_more all r.place b lt ∙ ap (λ (x : Block). x ∷ drop (r.place + 1) all) is in
+    let one : (ps : List Piece) → Progress = λ ps. written_by r.text (block_taken_in r.syntax r.text (entry_of r.definitions) ps unwrapped b) (assembly_view r.assembly) in
+    ap (λ (p : Progress). reading_at_end (map string_bytes r.defined.items) p)
+    (ap (λ (k : ℕ). taken (drop k all) (assembly_view a)) next
+    ∙ block_made r b unwrapped (assembly_view r.assembly) (assembly_view a) first (u ∙ ap (λ (l : List Block). is_unwrapped l b) same_blocks) (made ∙ ap one same_pieces))

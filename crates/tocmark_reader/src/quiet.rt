@@ -1,0 +1,149 @@
+//! Leaves whose lines have no mark in any reading: each line is a text.
+
+ghost use Rattle.std.specs.Prelude.{◌≡◌, ◌&&◌, OnOk};
+ghost use Rattle.std.specs.List.{flat_map, fold, list_all};
+ghost use Rattle.tocmark_read_scan.specs.Content.{is_behind};
+ghost use Rattle.tocmark_reader.specs.Emitted.{emission_view, step};
+ghost use Rattle.tocmark_reader.specs.Pages.{content_line};
+ghost use Rattle.tocmark_reader.specs.QuietLines.{is_text_byte, is_quiet_line, are_quiet_from, are_quiet_lines, further_nodes, quiet_nodes};
+
+use crate::emit::{Emission, Node, NodeKind};
+use crate::plain::last_byte;
+use crate::searched::SearchedText;
+use std::alloc::{AllocError, Global};
+use tocmark_read_leaves::definition::Piece;
+use tocmark_read_scan::basic::{byte_at, bytes_between};
+use tocmark_read_scan::class::{Class, is_in};
+
+// Each byte that is one of a text in each reading stands as a comma, but for U+0000.
+static TEXT_BYTES: [u8; 256] = *b"\
+    z,,,,,,,,,\n,,,,,,,,,,,,,,,,,,,,,\
+    ,!,,$,&,,,*,,,,,,,,,,,,,,,,,<,,,\
+    ,,,,,,,,,,,,,,,,,,,,,,,,,,,[\\]^_\
+    `,,,,,,,,,,,,,,,,,,,,,,,,,,,,,~,\
+    ,,,,,,,,,,,,,,,,,,,,,,,,,,,,,,,,\
+    ,,,,,,,,,,,,,,,,,,,,,,,,,,,,,,,,\
+    ,,,,,,,,,,,,,,,,,,,,,,,,,,,,,,,,\
+    ,,,,,,,,,,,,,,,,,,,,,,,,,,,,,,,,";
+
+/// Whether a byte is one of a text in each reading, and not U+0000.
+fn is_text_byte(byte: u8) -> bool
+    ensures { result ≡ is_text_byte byte }
+{
+    TEXT_BYTES[byte as usize] == b','
+}
+
+fn are_text_bytes(bytes: &[u8]) -> bool
+    ensures { result ≡ list_all is_text_byte bytes.now }
+{
+    bytes.iter().all(|byte| is_text_byte(*byte))
+}
+
+/// Whether a line has such bytes alone, and doesn't end in white space.
+#[tactic(auto, unfolding(crate::specs::QuietLines::is_quiet_line))]
+fn is_quiet_line(text: &[u8], line: Piece) -> bool
+    ensures { result ≡ is_quiet_line text.now line }
+{
+    let bytes = bytes_between(text, line.start, line.end);
+    are_text_bytes(bytes) && !is_in(Class::White, last_byte(bytes))
+}
+
+/// Whether a line begins just behind another, which ends with one line feed.
+#[tactic(auto, unfolding(tocmark_read_scan::specs::Content::is_behind, crate::specs::Pages::content_line))]
+fn is_behind(text: &[u8], line: Piece, next: Piece) -> bool
+    ensures { result ≡ is_behind text.now (content_line line) (content_line next) }
+{
+    let one = line.end < line.next && line.next == line.end.saturating_add(1);
+    let fed = byte_at(text, line.end) == b'\n';
+    one && fed && line.start <= line.end && next.start == line.next
+}
+
+/// Whether a line is a text, and another one begins just behind it.
+fn goes_on(text: &[u8], line: Piece, next: Piece) -> bool
+    ensures { result ≡ (is_quiet_line text.now line
+        && is_behind text.now (content_line line) (content_line next)) }
+{
+    is_quiet_line(text, line) && is_behind(text, line, next)
+}
+
+fn are_quiet_from(text: &[u8], line: Piece, others: &[Piece]) -> bool
+    ensures { result ≡ are_quiet_from text.now line others.now }
+{
+    let mut last = line;
+    for next in others {
+        if !goes_on(text, last, *next) {
+            return false;
+        }
+        last = *next;
+    }
+    is_quiet_line(text, last)
+}
+
+/// Whether a leaf has lines that have no mark in any reading, and stand one just behind the other.
+pub fn are_quiet_lines(text: &[u8], lines: &[Piece]) -> bool
+    ensures { result ≡ are_quiet_lines text.now lines.now }
+{
+    match lines.split_first() {
+        None => false,
+        Some((first, others)) => are_quiet_from(text, *first, others),
+    }
+}
+
+/// Writes a line behind another, with the soft break before it.
+fn write_further_line(
+    alloc: Global,
+    out: &mut Emission,
+    text: &SearchedText<'_>,
+    depth: usize,
+    line: Piece,
+) -> Result<(), AllocError>
+    ensures { OnOk result (emission_view out.new
+        ≡ fold (step text.now) (emission_view out.old) (further_nodes depth line)) }
+{
+    let node = Node {
+        depth,
+        item: NodeKind::SoftBreak,
+        start: line.start.saturating_sub(1),
+        end: line.start,
+    };
+    out.write(alloc, text, node)?;
+    out.write_source(alloc, text, depth, line.start, line.end)
+}
+
+/// Writes lines behind another one.
+fn write_further_lines(
+    alloc: Global,
+    out: &mut Emission,
+    text: &SearchedText<'_>,
+    depth: usize,
+    lines: &[Piece],
+) -> Result<(), AllocError>
+    ensures { OnOk result (emission_view out.new
+        ≡ fold (step text.now) (emission_view out.old)
+        (flat_map (further_nodes depth) lines.now)) }
+{
+    for line in lines {
+        write_further_line(alloc, out, text, depth, *line)?;
+    }
+    Ok(())
+}
+
+/// Writes a text for each line, and a soft break between two.
+pub fn write_quiet_lines(
+    alloc: Global,
+    out: &mut Emission,
+    text: &SearchedText<'_>,
+    depth: usize,
+    lines: &[Piece],
+) -> Result<(), AllocError>
+    ensures { OnOk result (emission_view out.new
+        ≡ fold (step text.now) (emission_view out.old) (quiet_nodes depth lines.now)) }
+{
+    match lines.split_first() {
+        None => Ok(()),
+        Some((first, others)) => {
+            out.write_source(alloc, text, depth, first.start, first.end)?;
+            write_further_lines(alloc, out, text, depth, others)
+        }
+    }
+}
