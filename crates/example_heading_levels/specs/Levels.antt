@@ -4,8 +4,8 @@ use Rattle.tocmark_event.specs.View.{EventView, Start, End, Heading}
 use Rattle.tocmark_event.specs.declared.event.HeadingLevel.{HeadingLevel}
 use Rattle.tocmark_event.specs.declared.event.HeadingLevel.TheVariants.{H1, H2, H3, H4, H5, H6}
 use Rattle.tocmark_event.specs.declared.event.TagEnd.TheVariants as end
-use Rattle.tocmark_rewrite_edits.specs.Edits.{number_of, shifted}
-use Rattle.tocmark_rewrite_edits.specs.declared.edits.Shift.TheVariants.{Down}
+use Rattle.tocmark_rewrite.specs.Edits.{number_of, shifted}
+use Rattle.tocmark_rewrite.specs.declared.edits.Shift.TheVariants.{Down}
 
 -- the headings before a place, the last one first: the level that each has, and the one that it gets
 abbrev pub Before : Type 0

@@ -4,12 +4,12 @@ ghost use Rattle.std.specs.Prelude.{◌≡◌, ◌∷◌, []};
 ghost use Rattle.tocmark_event.specs.Text.{text_of};
 ghost use Rattle.tocmark_event.specs.View.{event_view};
 ghost use Rattle.example_heading_levels.specs.Levels.{Before, level_behind, levels_behind, mended_event, with_heading};
-ghost use Rattle.tocmark_rewrite_edits.specs.Edits.{shifted};
-ghost use Rattle.tocmark_rewrite_edits.specs.declared.edits.Shift.TheVariants.{Down};
+ghost use Rattle.tocmark_rewrite.specs.Edits.{shifted};
+ghost use Rattle.tocmark_rewrite.specs.declared.edits.Shift.TheVariants.{Down};
 
 use std::alloc::AllocError;
 use tocmark::event::{Event, HeadingLevel, Tag, TagEnd};
-use tocmark_rewrite_edits::edits::{Shift, shifted};
+use tocmark_rewrite::edits::{Shift, shifted};
 
 /// For each level of a heading the one that it gets here.
 #[derive(Drop)]

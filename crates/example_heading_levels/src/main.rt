@@ -17,7 +17,7 @@ ghost use Rattle.std.specs.List.{All};
 ghost use Rattle.tocmark_event.specs.Merged.{merged};
 ghost use Rattle.tocmark_event.specs.Text.{text_of};
 ghost use Rattle.tocmark_event.specs.View.{event_view};
-ghost use Rattle.tocmark_rewrite_edits.specs.Given.{found_events, given_events};
+ghost use Rattle.tocmark_compare.specs.Given.{found_events, given_events};
 ghost use Rattle.tocmark_rewrite.specs.Kept.{IsTold};
 ghost use Rattle.tocmark_rewrite.specs.Parts.{IsMadeOf};
 ghost use Rattle.example_heading_levels.specs.Levels.{mended};
@@ -30,9 +30,9 @@ use std::process::ExitCode;
 use tocmark::Options;
 use tocmark::event::{Event, ParserOptions};
 use tocmark::reader::{Reader, Reading};
-use tocmark_extended_reader::ExtendedReader;
+use tocmark_reader::ExtendedReader;
+use tocmark_rewrite::edits::number_of;
 use tocmark_rewrite::{Fault, Rewritten, rewritten_slice};
-use tocmark_rewrite_edits::edits::number_of;
 
 /// Moves each heading that skips a level, and adds it to those that are moved.
 fn mend_all(

@@ -2,8 +2,8 @@
 use Rattle.std.specs.Prelude.{ℕ, List, ◌++◌, bytes_eq, codes, drop, if◌then◌else◌, map, take, Option, None, Some}
 use Rattle.tocmark_event.specs.View.{EventView, Start, Link, Image}
 use Rattle.tocmark_event.specs.Reading.{ReadingView}
-use Rattle.tocmark_rewrite_edits.specs.Edits.{with_destination}
-use Rattle.tocmark_rewrite_edits.specs.Given.{found_events}
+use Rattle.tocmark_rewrite.specs.Edits.{with_destination}
+use Rattle.tocmark_compare.specs.Given.{found_events}
 
 -- a destination; one that begins with `http:` begins with `https:`, and goes on as before
 abbrev pub by_https : List ℕ → List ℕ

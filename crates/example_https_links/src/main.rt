@@ -12,7 +12,7 @@ ghost use Rattle.std.specs.List.{All};
 ghost use Rattle.tocmark_event.specs.Merged.{merged};
 ghost use Rattle.tocmark_event.specs.Text.{text_of};
 ghost use Rattle.tocmark_event.specs.View.{event_view};
-ghost use Rattle.tocmark_rewrite_edits.specs.Given.{found_events, given_events};
+ghost use Rattle.tocmark_compare.specs.Given.{found_events, given_events};
 ghost use Rattle.tocmark_rewrite.specs.Kept.{IsTold};
 ghost use Rattle.tocmark_rewrite.specs.Parts.{IsMadeOf};
 ghost use Rattle.example_https_links.specs.Links.{by_https, destination, secured, secured_events};
@@ -23,9 +23,9 @@ use std::io::Read;
 use tocmark::Options;
 use tocmark::event::{CowStr, Event, ParserOptions, Tag};
 use tocmark::reader::{Reader, Reading};
-use tocmark_extended_reader::ExtendedReader;
+use tocmark_reader::ExtendedReader;
+use tocmark_rewrite::edits::set_destination;
 use tocmark_rewrite::{Fate, Fault, Rewritten, rewritten_slice};
-use tocmark_rewrite_edits::edits::set_destination;
 
 /// Where an event leads, if it begins a link or an image.
 fn destination_in<'e>(event: &'e Event<'static>) -> Option<&'e str>

@@ -9,7 +9,7 @@
 
 ghost use Rattle.std.specs.Prelude.{◌≡◌, IfOk, string_bytes};
 ghost use Rattle.tocmark_event.specs.Merged.{merged};
-ghost use Rattle.tocmark_rewrite_edits.specs.Given.{found_events, given_events};
+ghost use Rattle.tocmark_compare.specs.Given.{found_events, given_events};
 ghost use Rattle.tocmark_rewrite.specs.Parts.{IsMadeOf};
 ghost use Rattle.example_preprocessor.specs.Chapters.{lowered_events};
 
@@ -20,9 +20,9 @@ use std::io::Read;
 use tocmark::Options;
 use tocmark::event::ParserOptions;
 use tocmark::reader::{Reader, Reading};
-use tocmark_extended_reader::ExtendedReader;
+use tocmark_reader::ExtendedReader;
+use tocmark_rewrite::edits::{Shift, shift_headings};
 use tocmark_rewrite::{Fault, Rewritten, rewritten_slice};
-use tocmark_rewrite_edits::edits::{Shift, shift_headings};
 
 /// The extensions of mdBook's Markdown that the reader reads.
 fn flags() -> ParserOptions {

@@ -16,3 +16,4 @@ pub mod RulesOfManners
 pub mod Refusals
 pub mod RulesOfLetters
 pub mod Paragraphs
+pub mod Events

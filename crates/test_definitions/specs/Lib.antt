@@ -18,3 +18,6 @@ pub mod Refusals
 pub mod RulesOfLetters
 pub mod Tried
 pub mod Paragraphs
+pub mod Answers
+pub mod Behind
+pub mod Events

@@ -1,9 +1,10 @@
-//! Examples of what lists of events are written as (`written`), and of all the spellings that are tried for a unit
-//! (`tried`). The contract of each function is a table of them, and the definitions are computed on each; the
-//! functions do nothing.
+//! Examples of what lists of events are written as (`written`), of all the spellings that are tried for a unit (`tried`),
+//! and of calls with events and ranges (`calls`). The contract of each function is a table of them, and the definitions are
+//! computed on each; the functions do nothing.
 //!
-//! Below it stands `tocmark_render`; above it `test_definitions_calls` has examples of calls.
+//! Below it stand `tocmark_render`, `tocmark_state` and `tocmark`.
 #![tactic(auto)]
 
+pub mod calls;
 pub mod tried;
 pub mod written;

@@ -19,9 +19,9 @@ use tocmark::Options;
 use tocmark::core_reader::CoreReader;
 use tocmark::event::{CowStr, Event, ParserOptions, Tag, TagEnd};
 use tocmark::reader::Reader;
-use tocmark_extended_reader::ExtendedReader;
+use tocmark_reader::ExtendedReader;
+use tocmark_rewrite::edits::{Shift, set_destination, shift_headings};
 use tocmark_rewrite::{Fault, rewritten};
-use tocmark_rewrite_edits::edits::{Shift, set_destination, shift_headings};
 
 /// What is put behind each destination.
 const MARK: &str = "-marked";

@@ -4,9 +4,9 @@ ghost use Rattle.std.specs.Prelude.{◌≡◌, true};
 ghost use Rattle.tocmark_write_emphasis.specs.Low.{AsksLow};
 
 use std::alloc::Global;
-use tocmark_reader::CoreReader;
 use tocmark_event::event::{OwnedEvent, ParserOptions};
 use tocmark_event::options::{Error, Options};
+use tocmark_reader::CoreReader;
 use tocmark_spelling::plan::Delimiters;
 use tocmark_write_renderer::job::{Job, Manner};
 use tocmark_write_renderer::renderer::Renderer;

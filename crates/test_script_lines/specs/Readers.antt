@@ -7,8 +7,8 @@ use Rattle.tocmark_event.specs.View.{EventView, event_view}
 use Rattle.tocmark_event.specs.Reading.{ReadingView}
 use Rattle.tocmark_event.specs.declared.event.flags.ParserOptions.{ParserOptions}
 use Rattle.tocmark_reader.specs.Reading.{core_reading, reading_of}
-use Rattle.tocmark_extended_reader.specs.Flags.{syntax_of}
-use Rattle.tocmark_read_syntax.specs.declared.Names.TheVariants.{All}
+use Rattle.tocmark_reader.specs.Flags.{syntax_of}
+use Rattle.tocmark_read_scan.specs.declared.syntax.Names.TheVariants.{All}
 use Rattle.test_script_lines.specs.declared.readers.Table.{Table as ReadingTable}
 use Rattle.test_script_lines.specs.declared.readers.ScriptReader.{ScriptReader}
 use Rattle.test_script_lines.specs.declared.readers.ScriptReader.TheVariants.{Core, Labelled, Table, Extended}

@@ -7,10 +7,9 @@ ghost use Rattle.test_script_lines.specs.Readers.{labelled_reading, ranged_view}
 use std::alloc::{AllocError, Global};
 use std::cell::Cell;
 use std::collections::HashMap;
-use tocmark_reader::CoreReader;
 use tocmark_event::event::{Event, ParserOptions};
 use tocmark_event::reader::{Reader, Reading};
-use tocmark_extended_reader::ExtendedReader;
+use tocmark_reader::{CoreReader, ExtendedReader};
 
 /// The events that a text is read as, each with its range in bytes.
 pub type ReadEvents<'a> = Vec<(Event<'a>, (usize, usize))>;

@@ -3,10 +3,9 @@
 use std::alloc::{AllocError, Global};
 use std::io::{self, Write};
 use std::time::CpuClock;
-use tocmark_reader::CoreReader;
 use tocmark_event::event::ParserOptions;
 use tocmark_event::reader::{Reader, Reading};
-use tocmark_extended_reader::ExtendedReader;
+use tocmark_reader::{CoreReader, ExtendedReader};
 
 /// Reads a text as CommonMark, or with the extensions of flags.
 fn read(

@@ -2,10 +2,10 @@
 
 use std::alloc::{AllocError, Global};
 use tocmark::{Error, StringWriter, cmark, cmark_with_source_range};
+use tocmark_compare::event::same_events;
 use tocmark_event::event::{OwnedEvent, ParserOptions, merge_all};
 use tocmark_event::reader::{Reader, Reading};
-use tocmark_extended_reader::{ExtendedReader, Names};
-use tocmark_compare::event::same_events;
+use tocmark_reader::{ExtendedReader, Names};
 
 /// How texts are read: the names of character references that are known, and the flags of extensions.
 #[derive(Clone, Copy)]

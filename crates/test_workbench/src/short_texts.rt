@@ -6,10 +6,10 @@ use std::alloc::{AllocError, Global};
 use std::fmt;
 use std::io::{self, Write};
 use tocmark::cmark;
-use tocmark_reader::CoreReader;
+use tocmark_compare::event::same_events;
 use tocmark_event::event::{CowStr, Event, ParserOptions, Tag, TagEnd};
 use tocmark_event::reader::Reader;
-use tocmark_compare::event::same_events;
+use tocmark_reader::CoreReader;
 
 /// CommonMark alone.
 const FLAGS: ParserOptions = ParserOptions(0);

@@ -5,8 +5,8 @@ use crate::shape::events_of;
 use std::alloc::Global;
 use std::io::{self, Write};
 use tocmark::{Error, Options, State, cmark};
-use tocmark_reader::CoreReader;
 use tocmark_event::event::{Event, ParserOptions};
+use tocmark_reader::CoreReader;
 
 /// How a list of events is dealt with.
 #[derive(Clone, Copy)]

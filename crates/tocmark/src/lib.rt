@@ -41,13 +41,13 @@ ghost use Rattle.tocmark_state.specs.WorkView.{pairs, ranged_pairs, rendering};
 
 pub use crate::token_count::calculate_code_block_token_count;
 use std::alloc::Global;
-pub use tocmark_reader as core_reader;
 use tocmark_event::event::{Event, ParserOptions};
 pub use tocmark_event::options::{
     DEFAULT_CODE_BLOCK_TOKEN_COUNT, Error, Options, OptionsError, SUPPORTED_PARSER_OPTIONS,
 };
 use tocmark_event::reader::Reader;
 pub use tocmark_event::{event, reader};
+pub use tocmark_reader as core_reader;
 pub use tocmark_state::state::{DefinedLabel, State};
 pub use tocmark_state::string_writer::StringWriter;
 pub use tocmark_state::taker::Taker;

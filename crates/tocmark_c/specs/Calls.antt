@@ -14,10 +14,10 @@ use Rattle.tocmark_interchange.specs.Document.{IsChange, IsWrittenTheSame}
 use Rattle.tocmark_interchange.specs.Options.{is_options_object}
 use Rattle.tocmark_interchange.specs.Interchange.{AreOptions, IsNoList, IsTextOf, IsWrittenFrom, in_source, reading_json, writing}
 use Rattle.tocmark_reader.specs.Reading.{reading_of}
-use Rattle.tocmark_extended_reader.specs.Flags.{syntax_of}
-use Rattle.tocmark_read_syntax.specs.declared.Names.TheVariants.{All}
+use Rattle.tocmark_reader.specs.Flags.{syntax_of}
+use Rattle.tocmark_read_scan.specs.declared.syntax.Names.TheVariants.{All}
 use Rattle.tocmark_event.specs.Merged.{merged}
-use Rattle.tocmark_rewrite_edits.specs.Given.{found_events}
+use Rattle.tocmark_compare.specs.Given.{found_events}
 use Rattle.tocmark_c.specs.Style.{has_style}
 use Rattle.tocmark_c.specs.declared.style.TocmarkStyle.{TocmarkStyle}
 use Rattle.tocmark_c.specs.declared.cause.Cause.{Cause}

@@ -22,11 +22,11 @@ use std::alloc::Global;
 use style::{TocmarkStyle, style_of};
 use tocmark::Options;
 use tocmark::event::ParserOptions;
-use tocmark_extended_reader::{ExtendedReader, Names};
 use tocmark_format::formatted;
 use tocmark_interchange::{
     DocumentError, WriteError, options_from_text, read_json, write_checked, write_json,
 };
+use tocmark_reader::{ExtendedReader, Names};
 
 /// The version: the third number, 256 times the second and 65,536 times the first.
 #[unsafe(no_mangle)]

@@ -4,8 +4,8 @@ use std::alloc::Global;
 use std::fmt;
 use std::fmt::Write;
 use tocmark_event::event::ParserOptions;
-use tocmark_extended_reader::{EXTENSIONS, NAMED_EXTENSIONS};
 use tocmark_format::{Bullet, Delimiter, Escapes, Fence, Marker, Numbering, Style};
+use tocmark_reader::{EXTENSIONS, NAMED_EXTENSIONS};
 
 /// What a text is read as, and how it is to look.
 #[derive(Clone, Copy)]

@@ -1,3 +1,6 @@
 pub mod InParagraph
 pub mod Agrees
 pub mod Alike
+pub mod Apart
+pub mod Digest
+pub mod Given

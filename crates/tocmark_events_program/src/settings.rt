@@ -6,8 +6,8 @@ use std::fmt;
 use std::fmt::Write;
 use tocmark::Options;
 use tocmark::event::ParserOptions;
-use tocmark_extended_reader::{EXTENSIONS, NAMED_EXTENSIONS};
 use tocmark_interchange::{OptionFault, set_option};
+use tocmark_reader::{EXTENSIONS, NAMED_EXTENSIONS};
 
 /// Of what GitHub reads beside CommonMark, that which the reader reads.
 const GFM: ParserOptions = ParserOptions(

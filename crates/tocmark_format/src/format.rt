@@ -2,8 +2,8 @@
 
 ghost use Rattle.std.specs.Prelude.{◌≡◌, IfOk, IfSome, IsNone, IsTrue, string_bytes};
 ghost use Rattle.tocmark_event.specs.Merged.{merged};
-ghost use Rattle.tocmark_rewrite_edits.specs.Digest.{SaysFirst, says};
-ghost use Rattle.tocmark_rewrite_edits.specs.Given.{found_events};
+ghost use Rattle.tocmark_compare.specs.Digest.{SaysFirst, says};
+ghost use Rattle.tocmark_compare.specs.Given.{found_events};
 
 use crate::answer::{Formatted, Left, Reason};
 use crate::compose::composed;
@@ -11,12 +11,12 @@ use crate::parts::{PartReader, PartTaker};
 use crate::pieces::{Document, Piece, Texts, Trees, all_left};
 use crate::style::{Escapes, Style};
 use std::alloc::{AllocError, Global};
+use tocmark_compare::digest::Digest;
+use tocmark_compare::trees::Block;
 use tocmark_event::event::ParserOptions;
 use tocmark_event::options::Options;
 use tocmark_event::reader::{Reader, Reading};
 use tocmark_rewrite::pieces::Tools;
-use tocmark_rewrite_edits::digest::Digest;
-use tocmark_rewrite_edits::trees::Block;
 
 /// The byte order mark, which others take for no character, and readers of Markdown for one of the first line.
 const MARK: &str = "\u{feff}";

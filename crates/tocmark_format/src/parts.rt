@@ -4,15 +4,14 @@ ghost use Rattle.std.specs.Prelude.{◌++◌, List, OnOk};
 ghost use Rattle.tocmark_reader.specs.Left.{reading_left};
 ghost use Rattle.tocmark_event.specs.Reading.{reading_view};
 ghost use Rattle.tocmark_event.specs.View.{EventView};
-ghost use Rattle.tocmark_rewrite_edits.specs.Digest.{SaysFirst};
-ghost use Rattle.tocmark_rewrite_edits.specs.Given.{found_events};
+ghost use Rattle.tocmark_compare.specs.Digest.{SaysFirst};
+ghost use Rattle.tocmark_compare.specs.Given.{found_events};
 
 use std::alloc::{AllocError, Global};
-use tocmark_reader::{BlockReading, CoreReader};
+use tocmark_compare::digest::Digest;
 use tocmark_event::event::ParserOptions;
 use tocmark_event::reader::{Reader, Reading};
-use tocmark_extended_reader::ExtendedReader;
-use tocmark_rewrite_edits::digest::Digest;
+use tocmark_reader::{BlockReading, CoreReader, ExtendedReader};
 
 /// What takes the events of a text, part by part.
 pub trait PartTaker {

@@ -3,7 +3,7 @@ use Rattle.std.specs.Prelude.{◌≡◌, ℕ, List, Option}
 use Rattle.std.specs.Io.KnownBytes.{Appends}
 use Rattle.tocmark_event.specs.Merged.{merged}
 use Rattle.tocmark_event.specs.Reading.{ReadingView}
-use Rattle.tocmark_rewrite_edits.specs.Given.{found_events}
+use Rattle.tocmark_compare.specs.Given.{found_events}
 use Rattle.tocmark_format_program.specs.declared.fault.Fault.{Fault}
 use Rattle.tocmark_format_program.specs.declared.fault.Fault.TheVariants as fault
 

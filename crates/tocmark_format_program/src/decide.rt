@@ -4,8 +4,8 @@ ghost use Rattle.std.specs.Prelude.{◌≡◌, ◌≢◌, IfOk, IfSome, string_b
 ghost use Rattle.tocmark_format_program.specs.Formats.{SaysTheSame};
 
 use std::alloc::{AllocError, Global};
-use tocmark_format::{Formatted, Left, PartReader, formatted};
 use tocmark_command::settings::Settings;
+use tocmark_format::{Formatted, Left, PartReader, formatted};
 
 /// What becomes of a text.
 #[derive(Drop)]

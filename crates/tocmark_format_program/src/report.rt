@@ -4,8 +4,8 @@ use crate::fault::Fault;
 use crate::stream::Passed;
 use std::fmt;
 use std::io::Write;
-use tocmark_format::Left;
 use tocmark_command::arguments::Voice;
+use tocmark_format::Left;
 
 /// How many files there were, and what became of them.
 #[derive(Clone, Copy, Drop)]

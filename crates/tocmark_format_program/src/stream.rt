@@ -8,9 +8,9 @@ use crate::decide::{Decision, decided};
 use crate::fault::Fault;
 use std::alloc::Global;
 use std::io::{Read, Write};
-use tocmark_extended_reader::{ExtendedReader, Names};
-use tocmark_format::{Left, PartReader};
 use tocmark_command::settings::Settings;
+use tocmark_format::{Left, PartReader};
+use tocmark_reader::{ExtendedReader, Names};
 
 /// The reader of all documents.
 pub const READER: ExtendedReader = ExtendedReader { names: Names::All };

@@ -7,9 +7,9 @@ use Rattle.tocmark_event.specs.Text.{ParserEvent, text_of}
 use Rattle.tocmark_event.specs.View.{EventView, event_view}
 use Rattle.tocmark_event.specs.declared.event.flags.ParserOptions.{ParserOptions}
 use Rattle.tocmark_event.specs.declared.reader.Reading.{Reading}
-use Rattle.tocmark_extended_reader.specs.Flags.{syntax_of}
+use Rattle.tocmark_reader.specs.Flags.{syntax_of}
 use Rattle.tocmark_json.specs.Json.{pair_view}
-use Rattle.tocmark_read_syntax.specs.declared.Names.TheVariants.{All}
+use Rattle.tocmark_read_scan.specs.declared.syntax.Names.TheVariants.{All}
 use Rattle.tocmark_interchange.specs.Document.{events_in, events_read, without_range}
 
 -- the events of a reading are those that the reader finds

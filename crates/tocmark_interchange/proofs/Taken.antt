@@ -7,8 +7,8 @@ use Rattle.std.specs.List.{FoldsTo, concat}
 use Rattle.tocmark_event.specs.Text.{ParserEvent}
 use Rattle.tocmark_event.specs.declared.event.flags.ParserOptions.{ParserOptions}
 use Rattle.tocmark_reader.specs.Reading.{reading_of}
-use Rattle.tocmark_extended_reader.specs.Flags.{syntax_of}
-use Rattle.tocmark_read_syntax.specs.declared.Names.TheVariants.{All}
+use Rattle.tocmark_reader.specs.Flags.{syntax_of}
+use Rattle.tocmark_read_scan.specs.declared.syntax.Names.TheVariants.{All}
 use Rattle.tocmark_laws.proofs.Handed.{drained, written_in_parts}
 use Rattle.tocmark_event.specs.Options.{OptionsView}
 use Rattle.tocmark_event.specs.Reading.{lent_pair}

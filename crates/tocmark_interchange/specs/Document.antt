@@ -2,8 +2,8 @@
 use Rattle.std.specs.Prelude.{◌≡◌, ◌+◌, ◌<◌, ◌&&◌, ℕ, List, ◌∷◌, Bool, false, drop, length, map}
 use Rattle.std.specs.List.{common_prefix_len}
 use Rattle.tocmark_reader.specs.Reading.{reading_of}
-use Rattle.tocmark_extended_reader.specs.Flags.{syntax_of}
-use Rattle.tocmark_read_syntax.specs.declared.Names.TheVariants.{All}
+use Rattle.tocmark_reader.specs.Flags.{syntax_of}
+use Rattle.tocmark_read_scan.specs.declared.syntax.Names.TheVariants.{All}
 use Rattle.tocmark_event.specs.Merged.{merged}
 use Rattle.tocmark_event.specs.Options.{OptionsView}
 use Rattle.tocmark_event.specs.Text.{ParserEvent, text_of}

@@ -7,8 +7,8 @@ use Rattle.serde_json.specs.Data.{Data}
 use Rattle.serde_json.specs.Read.{read}
 use Rattle.serde_json.specs.Written.{IsInOrder}
 use Rattle.tocmark_reader.specs.Reading.{reading_of}
-use Rattle.tocmark_extended_reader.specs.Flags.{syntax_of}
-use Rattle.tocmark_read_syntax.specs.declared.Names.TheVariants.{All}
+use Rattle.tocmark_reader.specs.Flags.{syntax_of}
+use Rattle.tocmark_read_scan.specs.declared.syntax.Names.TheVariants.{All}
 use Rattle.tocmark_event.specs.Options.{OptionsView, default_options}
 use Rattle.tocmark_event.specs.Text.{text_of}
 use Rattle.tocmark_event.specs.Validation.{fault_of, validation}

@@ -12,8 +12,8 @@ use serde_json::Value;
 use std::alloc::Global;
 use tocmark::event::Event;
 use tocmark_json::fault::JsonError;
+use tocmark_json::printing::{events_to_text, pairs_to_text};
 use tocmark_json::reading::{events_from_json, pairs_from_json};
-use tocmark_json_text::printing::{events_to_text, pairs_to_text};
 
 fn plain_again(alloc: Global, value: &Value) -> Result<String, JsonError>
     ensures again { IfOk result (λ output. IsInOrder (string_bytes output) (view value.now)) }

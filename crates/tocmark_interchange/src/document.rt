@@ -18,8 +18,8 @@ use std::alloc::{AllocError, Global};
 use tocmark::Options;
 use tocmark::event::{Event, ParserOptions, merge_texts};
 use tocmark::reader::Reader;
-use tocmark_extended_reader::{ExtendedReader, Names};
 use tocmark_compare::event::{same_event, same_events};
+use tocmark_reader::{ExtendedReader, Names};
 
 /// What a reader found: events with their ranges.
 type Found<'f> = (Event<'f>, (usize, usize));

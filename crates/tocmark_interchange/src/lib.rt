@@ -1,10 +1,10 @@
 //! Markdown to the JSON text of its events, and such a text to Markdown: what other languages reach, through a library or a
 //! program.
 //!
-//! Below it stand the library (`tocmark`), the reader of extensions, `tocmark_json` and `tocmark_json_text`; above it stand
-//! `tocmark_events_program` and `tocmark_c`. Enter at `read_json` (`reading`) and `write_json` (`writing`); `checking` has
-//! events in the one form of their JSON, `document` writes what is read again as a whole, `options` the writer's options from their JSON text, `option_values` those of a
-//! JSON value, `fault` says why a text is refused, `pairs` lends the events that are written.
+//! Below it stand the library (`tocmark`), the readers and `tocmark_json`; above it stand `tocmark_events_program` and
+//! `tocmark_c`. Enter at `read_json` (`reading`) and `write_json` (`writing`); `checking` has events in the one form of their
+//! JSON, `document` writes what is read again as a whole, `options` the writer's options from their JSON text,
+//! `option_values` those of a JSON value, `fault` says why a text is refused, `pairs` lends the events that are written.
 //!
 //! ```
 //! let flags = ParserOptions::ENABLE_STRIKETHROUGH;

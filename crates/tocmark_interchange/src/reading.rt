@@ -7,8 +7,8 @@ ghost use Rattle.tocmark_interchange.specs.Interchange.{reading_json};
 use std::alloc::{AllocError, Global};
 use tocmark::event::ParserOptions;
 use tocmark::reader::Reader;
-use tocmark_extended_reader::{ExtendedReader, Names};
-use tocmark_json_text::printing::ranged_to_text;
+use tocmark_json::printing::ranged_to_text;
+use tocmark_reader::{ExtendedReader, Names};
 
 /// The JSON text of the events that the reader of extensions finds in a text under these flags: an
 /// array of events with their ranges in bytes.

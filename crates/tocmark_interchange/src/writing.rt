@@ -16,9 +16,9 @@ use serde_json::Value;
 use std::alloc::{AllocError, Global};
 use tocmark::event::{Event, ParserOptions};
 use tocmark::{Error, Options, cmark_with_source_range_and_options};
-use tocmark_extended_reader::{ExtendedReader, Names};
 use tocmark_json::fault::JsonError;
 use tocmark_json::reading::{events_from_json, pairs_from_json};
+use tocmark_reader::{ExtendedReader, Names};
 
 fn without_ranges(
     alloc: Global,

@@ -2,3 +2,4 @@ pub mod Lists
 pub mod Numbers
 pub mod Inverse
 pub mod Places
+pub mod Adding

@@ -26,7 +26,7 @@ use Rattle.tocmark_reader.proofs.PlainEvents.{viewed}
 use Rattle.tocmark_reader.proofs.PlainReading.{IsPrintable, IsPlainLine, spelled_text}
 use Rattle.tocmark_reader.specs.PlainTexts.{text_parts}
 use Rattle.tocmark_reader.proofs.PlainSources.{all_behind, all_implied}
-use Rattle.tocmark_read_syntax.specs.declared.TheConstants.{CORE}
+use Rattle.tocmark_read_scan.specs.declared.syntax.TheConstants.{CORE}
 use Rattle.tocmark_read_blocks.proofs.PlainFronts.{BeginsPlainly}
 use Rattle.tocmark_laws.specs.TextBlocks.{Kind, ParagraphKind, HeadingKind, mark_of, tag_of}
 use Rattle.tocmark_laws.proofs.DocumentBlocks.{block}

@@ -6,7 +6,7 @@ use Rattle.tocmark_read_lines.specs.Cells.{is_blank_at}
 use Rattle.tocmark_read_lines.specs.Containers.{container_at, container_in}
 use Rattle.tocmark_read_lines.specs.DefinitionLists.{begins_definition, definition_start}
 use Rattle.tocmark_read_lines.specs.Notes.{note_start}
-use Rattle.tocmark_read_syntax.specs.declared.Syntax.{Syntax}
+use Rattle.tocmark_read_scan.specs.declared.syntax.Syntax.{Syntax}
 use Rattle.tocmark_read_leaves.specs.Leaves.{leaf_at}
 use Rattle.tocmark_read_lines.specs.Marks.{tail_of}
 use Rattle.tocmark_read_lines.specs.declared.cell.Cell.{Cell}

@@ -8,8 +8,8 @@ use Rattle.tocmark_event.specs.declared.event.MetadataBlockKind.{MetadataBlockKi
 use Rattle.tocmark_event.specs.declared.event.MetadataBlockKind.TheVariants as metadata
 use Rattle.tocmark_read_scan.specs.Basic.{plus, bytes_between}
 use Rattle.tocmark_read_scan.specs.Repeat.{repeated}
-use Rattle.tocmark_read_syntax.specs.declared.Syntax.{Syntax}
-use Rattle.tocmark_read_syntax.specs.declared.TheConstants.{CORE}
+use Rattle.tocmark_read_scan.specs.declared.syntax.Syntax.{Syntax}
+use Rattle.tocmark_read_scan.specs.declared.syntax.TheConstants.{CORE}
 use Rattle.tocmark_read_leaves.specs.Attributes.{before_braces, braces_in, heading_braces, placed_braces}
 use Rattle.tocmark_read_lines.specs.Lines.{lines_of}
 use Rattle.tocmark_read_lines.specs.Notes.{note_at}

@@ -29,7 +29,7 @@ use tocmark_read_open_blocks::line_start::{LineStart, Row};
 use tocmark_read_open_blocks::page::{Block, BlocksSoFar};
 use tocmark_read_scan::basic::bytes_between;
 use tocmark_read_scan::class::has_byte;
-use tocmark_read_syntax::Syntax;
+use tocmark_read_scan::syntax::Syntax;
 
 /// What a text is made of, but for the inlines of paragraphs and headings.
 #[derive(Drop)]

@@ -1,9 +1,9 @@
 -- Where no extension has a say in the inlines of a leaf, the first pass over it is that of CommonMark.
 use Rattle.std.proofs.Common.{◌≡◌, ℕ, Bool, true, false, ◌||◌, List, [], ◌∷◌, Option, refl, ap, ◌∙◌, true≢false}
 use Rattle.std.specs.List.{fold}
-use Rattle.tocmark_read_syntax.specs.declared.Syntax.{Syntax}
-use Rattle.tocmark_read_syntax.specs.declared.Names.{Names}
-use Rattle.tocmark_read_syntax.specs.declared.Names.TheVariants.{Four, All}
+use Rattle.tocmark_read_scan.specs.declared.syntax.Syntax.{Syntax}
+use Rattle.tocmark_read_scan.specs.declared.syntax.Names.{Names}
+use Rattle.tocmark_read_scan.specs.declared.syntax.Names.TheVariants.{Four, All}
 use Rattle.tocmark_read_inlines.specs.Scan as s
 use Rattle.tocmark_read_spans.specs.declared.definitions.Entry.{Entry}
 

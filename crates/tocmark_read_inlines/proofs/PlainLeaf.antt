@@ -1,7 +1,7 @@
 -- The inlines of a leaf whose text is made of parts that are read as they are meant: its nodes, with ranges in the source.
 use Rattle.std.proofs.Common.{◌≡◌, ℕ, zero, suc, ◌+◌, ◌-◌, ◌^◌, ◌<◌, ◌≤◌, List, [], ◌∷◌, ◌++◌, length, map, slice_get, Option, Some, None, refl, ap, ◌∙◌, arith, length-append}
 use Rattle.std.proofs.lemmas.List.{map-append}
-use Rattle.tocmark_read_syntax.specs.declared.TheConstants.{CORE}
+use Rattle.tocmark_read_scan.specs.declared.syntax.TheConstants.{CORE}
 use Rattle.tocmark_read_tokens.specs.Html.{last_ends}
 use Rattle.tocmark_read_scan.specs.Content as content
 use Rattle.tocmark_read_scan.proofs.PlainContent.{places_of}

@@ -3,7 +3,7 @@ use Rattle.std.proofs.Common.{◌≡◌, ℕ, suc, ◌+◌, ◌^◌, ◌<◌, Bo
 use Rattle.std.specs.List.{fold, prefix_len}
 use Rattle.tocmark_read_scan.proofs.PlainTests.{both_false, is_not}
 use Rattle.tocmark_read_scan.specs.Basic.{plus}
-use Rattle.tocmark_read_syntax.specs.declared.Syntax.{Syntax}
+use Rattle.tocmark_read_scan.specs.declared.syntax.Syntax.{Syntax}
 use Rattle.tocmark_read_inlines.specs.Scan.{State, Known, is_mark, is_any_mark, is_quiet, is_tilde_in, is_caret_in, is_dollar_in, is_mark_in, with_place, scan_step_in}
 use Rattle.tocmark_read_spans.specs.declared.definitions.Entry.{Entry}
 

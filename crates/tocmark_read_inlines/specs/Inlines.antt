@@ -3,8 +3,8 @@ use Rattle.std.specs.Prelude.{ℕ, ◌==◌, if◌then◌else◌, List, [], ◌+
 use Rattle.std.specs.List.{fold}
 use Rattle.tocmark_read_scan.specs.Basic.{plus}
 use Rattle.tocmark_read_scan.specs.Content as content
-use Rattle.tocmark_read_syntax.specs.declared.TheConstants.{CORE}
-use Rattle.tocmark_read_syntax.specs.declared.Syntax.{Syntax}
+use Rattle.tocmark_read_scan.specs.declared.syntax.TheConstants.{CORE}
+use Rattle.tocmark_read_scan.specs.declared.syntax.Syntax.{Syntax}
 use Rattle.tocmark_read_inlines.specs.Scan as scan
 use Rattle.tocmark_read_inlines.specs.Write.{written, moved}
 use Rattle.tocmark_read_spans.specs.declared.definitions.Entry.{Entry}

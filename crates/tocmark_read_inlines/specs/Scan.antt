@@ -3,16 +3,16 @@ use Rattle.std.specs.Prelude.{ℕ, Bool, true, false, not, ◌-◌, ◌==◌, �
 use Rattle.std.specs.List.{list_any}
 use Rattle.std.specs.Option.{option_or, option_and_then}
 use Rattle.tocmark_read_scan.specs.Basic.{plus, byte_at, bytes_between, starts_at}
-use Rattle.tocmark_read_syntax.specs.declared.TheConstants.{CORE}
-use Rattle.tocmark_read_syntax.specs.declared.Syntax.{Syntax}
+use Rattle.tocmark_read_scan.specs.declared.syntax.TheConstants.{CORE}
+use Rattle.tocmark_read_scan.specs.declared.syntax.Syntax.{Syntax}
 use Rattle.tocmark_read_scan.specs.Class.{run_end}
 use Rattle.tocmark_read_scan.specs.Repeat.{iterated}
 use Rattle.tocmark_read_tokens.specs.Html.{last_ends, raw_html}
 use Rattle.tocmark_read_tokens.specs.Autolink.{uri_end, mail_end}
 use Rattle.tocmark_read_tokens.specs.Reference.{is_escape, reference_at, unescaped_in}
 use Rattle.tocmark_read_tokens.specs.Name.{Named, named_in}
-use Rattle.tocmark_read_syntax.specs.declared.Names.{Names}
-use Rattle.tocmark_read_syntax.specs.declared.Names.TheVariants.{Four, All}
+use Rattle.tocmark_read_scan.specs.declared.syntax.Names.{Names}
+use Rattle.tocmark_read_scan.specs.declared.syntax.Names.TheVariants.{Four, All}
 use Rattle.tocmark_read_tokens.specs.Label.{collapsed, key_of}
 use Rattle.tocmark_read_scan.specs.declared.class.Class.TheVariants.{Only}
 use Rattle.tocmark_read_tokens.specs.declared.html.LastEnds.{LastEnds}

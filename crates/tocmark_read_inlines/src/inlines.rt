@@ -13,11 +13,11 @@ use crate::scan::Scanner;
 use crate::write::{Node, write_behind};
 use std::alloc::{AllocError, Global};
 use tocmark_read_scan::content::Content;
+use tocmark_read_scan::syntax::Syntax;
 use tocmark_read_spans::definitions::Definitions;
 use tocmark_read_spans::link::Bracket;
 use tocmark_read_spans::role::{MarkedByte, Role, Roles, Stretch, Target};
 use tocmark_read_spans::run::Run;
-use tocmark_read_syntax::Syntax;
 
 /// Lists of which nothing but their room counts: each leaf is read in those of the one before it.
 #[derive(Drop)]

@@ -7,11 +7,11 @@ ghost use Rattle.tocmark_read_inlines.specs.Scan.{scan, noted, note_looked_up, c
 use crate::scan::Scanner;
 use std::alloc::{AllocError, Global};
 use tocmark_read_scan::basic::bytes_between;
+use tocmark_read_scan::syntax::Names;
 use tocmark_read_spans::definitions::Definitions;
 use tocmark_read_spans::link::{Bracket, inline_target};
 use tocmark_read_spans::note::{Sought, label_sought, note_key};
 use tocmark_read_spans::role::{Leaf, Role, Stretch};
-use tocmark_read_syntax::Names;
 use tocmark_read_tokens::label::collapsed;
 use tocmark_read_tokens::word::Word;
 

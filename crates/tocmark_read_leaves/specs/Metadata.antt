@@ -4,7 +4,7 @@ use Rattle.std.specs.List.{fold}
 use Rattle.tocmark_event.specs.declared.event.MetadataBlockKind.{MetadataBlockKind}
 use Rattle.tocmark_event.specs.declared.event.MetadataBlockKind.TheVariants as kind
 use Rattle.tocmark_read_scan.specs.Basic.{plus, byte_at}
-use Rattle.tocmark_read_syntax.specs.declared.Syntax.{Syntax}
+use Rattle.tocmark_read_scan.specs.declared.syntax.Syntax.{Syntax}
 use Rattle.tocmark_read_lines.specs.declared.line.Line.{Line}
 use Rattle.tocmark_read_leaves.specs.declared.metadata.Known.{Known}
 

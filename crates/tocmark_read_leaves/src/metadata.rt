@@ -6,7 +6,7 @@ ghost use Rattle.tocmark_read_leaves.specs.Metadata.{is_triple, behind_spaces, b
 use tocmark_event::event::MetadataBlockKind;
 use tocmark_read_lines::line::Line;
 use tocmark_read_scan::basic::{byte_at, rest};
-use tocmark_read_syntax::Syntax;
+use tocmark_read_scan::syntax::Syntax;
 
 /// What is known of a text before its lines are read.
 #[derive(Clone, Copy)]

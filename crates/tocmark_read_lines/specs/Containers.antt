@@ -7,7 +7,7 @@ use Rattle.tocmark_read_lines.specs.Cells.{cell_byte, first_cursor, indent_of, i
 use Rattle.tocmark_read_lines.specs.Marks.{is_rule, marker_at}
 use Rattle.tocmark_read_lines.specs.DefinitionLists.{definition_start}
 use Rattle.tocmark_read_lines.specs.Notes.{note_start}
-use Rattle.tocmark_read_syntax.specs.declared.Syntax.{Syntax}
+use Rattle.tocmark_read_scan.specs.declared.syntax.Syntax.{Syntax}
 use Rattle.tocmark_read_lines.specs.declared.cell.Cell.{Cell}
 use Rattle.tocmark_read_lines.specs.declared.cell.Cursor.{Cursor}
 use Rattle.tocmark_read_lines.specs.declared.beginnings.Marker.{Marker}

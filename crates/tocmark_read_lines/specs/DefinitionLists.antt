@@ -1,7 +1,7 @@
 -- The definitions of definition lists.
 use Rattle.std.specs.Prelude.{◌-◌, min, Bool, not, ◌==◌, ◌&&◌, nat_le, if◌then◌else◌, List, length, Option, Some, None}
 use Rattle.tocmark_read_scan.specs.Basic.{plus}
-use Rattle.tocmark_read_syntax.specs.declared.Syntax.{Syntax}
+use Rattle.tocmark_read_scan.specs.declared.syntax.Syntax.{Syntax}
 use Rattle.tocmark_read_lines.specs.Cells.{cell_byte, indent_of, ink_from, is_blank_at}
 use Rattle.tocmark_read_lines.specs.declared.cell.Cell.{Cell}
 use Rattle.tocmark_read_lines.specs.declared.cell.Cursor.{Cursor}

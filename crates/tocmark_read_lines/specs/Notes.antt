@@ -1,7 +1,7 @@
 -- The definitions of footnotes.
 use Rattle.std.specs.Prelude.{ℕ, not, ◌==◌, ◌&&◌, nat_le, if◌then◌else◌, List, Option, Some, None}
 use Rattle.tocmark_read_scan.specs.Basic.{plus}
-use Rattle.tocmark_read_syntax.specs.declared.Syntax.{Syntax}
+use Rattle.tocmark_read_scan.specs.declared.syntax.Syntax.{Syntax}
 use Rattle.tocmark_read_tokens.specs.Notes.{note_label}
 use Rattle.tocmark_read_tokens.specs.declared.word.Word.{Word}
 use Rattle.tocmark_read_lines.specs.Cells.{bytes_of, cell_byte, indent_of, ink_from, is_blank_at}

@@ -9,7 +9,7 @@ use crate::cell::{
 };
 use crate::definition_list::{DefinitionStart, definition_start};
 use crate::note::{NoteStart, note_start};
-use tocmark_read_syntax::Syntax;
+use tocmark_read_scan::syntax::Syntax;
 
 /// What other blocks stand in.
 #[derive(Clone, Copy)]

@@ -4,7 +4,7 @@ ghost use Rattle.std.specs.Prelude.{◌≡◌};
 ghost use Rattle.tocmark_read_lines.specs.Notes.{note_at, note_start};
 
 use crate::cell::{Cells, Cursor, cell_byte, indent_of, ink_from, is_blank_at};
-use tocmark_read_syntax::Syntax;
+use tocmark_read_scan::syntax::Syntax;
 use tocmark_read_tokens::note::note_label;
 
 /// The definition of a footnote that a line begins.

@@ -1,13 +1,14 @@
-//! What the blocks and the inlines of a Markdown text are scanned with. Texts are bytes, places are byte offsets, and
-//! each function answers at every argument: past the end of a text stands a line feed.
+//! What the blocks and the inlines of a Markdown text are scanned with, and which extensions a reading takes. Texts are
+//! bytes, places are byte offsets, and each function answers at every argument: past the end of a text stands a line feed.
 //!
-//! It is the lowest crate of the core reader; `tocmark_read_tokens` stands on it, and all others above that. Enter at
-//! `basic` for bytes and places, at `class` for classes of characters, at `side` for what stands beside a run, and at
-//! `content` for the content of a block without the prefixes of its containers.
+//! It is the lowest crate of the reader; all others stand on it. Enter at `basic` for bytes and places, at `class` for
+//! classes of characters, at `side` for what stands beside a run, at `content` for the content of a block without the
+//! prefixes of its containers, and at `syntax` for the extensions.
 #![tactic(auto)]
 
 pub mod basic;
 pub mod class;
 pub mod content;
 pub mod side;
+pub mod syntax;
 pub mod table_cell;

@@ -5,7 +5,7 @@ use Rattle.std.specs.Str.Lossy.{utf8_lossy}
 use Rattle.tocmark_read_scan.specs.Basic.{bytes_between}
 use Rattle.tocmark_read_tokens.specs.Label.{collapsed, key_of, distinct_from}
 use Rattle.tocmark_read_tokens.specs.Reference.{unescaped_in}
-use Rattle.tocmark_read_syntax.specs.declared.Names.{Names}
+use Rattle.tocmark_read_scan.specs.declared.syntax.Names.{Names}
 use Rattle.tocmark_read_spans.specs.Notes.{note_key}
 use Rattle.tocmark_read_tokens.specs.declared.word.Definition.{Definition}
 use Rattle.tocmark_read_spans.specs.declared.definitions.Definitions.{Definitions}

@@ -6,7 +6,7 @@ use Rattle.tocmark_read_scan.specs.Side.{side_at, side_before}
 use Rattle.tocmark_read_scan.specs.declared.class.Class.TheVariants.{Only}
 use Rattle.tocmark_read_scan.specs.declared.side.Side.{Side}
 use Rattle.tocmark_read_scan.specs.declared.side.Side.TheVariants.{Space, Punctuation, Other}
-use Rattle.tocmark_read_syntax.specs.declared.Syntax.{Syntax}
+use Rattle.tocmark_read_scan.specs.declared.syntax.Syntax.{Syntax}
 use Rattle.tocmark_read_spans.specs.declared.run.Run.{Run}
 
 -- white space

@@ -9,7 +9,7 @@ use crate::role::Stretch;
 use std::alloc::{AllocError, Global};
 use std::collections::HashMap;
 use tocmark_read_scan::basic::bytes_between;
-use tocmark_read_syntax::Names;
+use tocmark_read_scan::syntax::Names;
 use tocmark_read_tokens::label::{collapsed, distinct, key_of};
 use tocmark_read_tokens::reference::unescaped;
 use tocmark_read_tokens::word::Definition;

@@ -6,7 +6,7 @@ ghost use Rattle.tocmark_read_spans.specs.Run.{is_space, is_punctuation, flanks,
 use tocmark_read_scan::basic::byte_at;
 use tocmark_read_scan::class::{Class, run_end};
 use tocmark_read_scan::side::{Side, side_at, side_before};
-use tocmark_read_syntax::Syntax;
+use tocmark_read_scan::syntax::Syntax;
 
 /// A run of delimiters: its place and length now, and what it was.
 #[derive(Clone, Copy)]

@@ -5,8 +5,8 @@ use Rattle.std.specs.List.{fold, list_any}
 use Rattle.tocmark_read_scan.specs.Basic.{plus, byte_at, starts_at}
 use Rattle.tocmark_read_scan.proofs.PlainPlaces.{drop_at, byte_dropped}
 use Rattle.tocmark_read_scan.proofs.PlainTests.{both_false}
-use Rattle.tocmark_read_syntax.specs.declared.Names.{Names}
-use Rattle.tocmark_read_syntax.specs.declared.Names.TheVariants.{Four, All}
+use Rattle.tocmark_read_scan.specs.declared.syntax.Names.{Names}
+use Rattle.tocmark_read_scan.specs.declared.syntax.Names.TheVariants.{Four, All}
 use Rattle.tocmark_read_tokens.specs.Name as name
 use Rattle.tocmark_read_tokens.specs.Reference.{State, is_escape, reference_at, named, unescape_at, unescape_at_in, unescape_step_in, unescaped_in}
 

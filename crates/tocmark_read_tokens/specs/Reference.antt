@@ -4,7 +4,7 @@ use Rattle.std.specs.Char.{is_ascii_punctuation}
 use Rattle.tocmark_read_scan.specs.Basic.{plus, byte_at, character_of, bytes_between, starts_at}
 use Rattle.tocmark_read_scan.specs.Class.{run_end}
 use Rattle.tocmark_read_scan.specs.declared.class.Class.TheVariants.{Digit, HexDigit}
-use Rattle.tocmark_read_syntax.specs.declared.Names.{Names}
+use Rattle.tocmark_read_scan.specs.declared.syntax.Names.{Names}
 use Rattle.tocmark_read_tokens.specs.Name.{Named, named_in}
 use Rattle.tocmark_read_tokens.specs.declared.reference.Reference.{Reference}
 use Rattle.tocmark_read_tokens.specs.declared.reference.Unescaping.{Unescaping}

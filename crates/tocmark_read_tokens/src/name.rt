@@ -7,7 +7,7 @@ ghost use Rattle.tocmark_read_tokens.specs.Name.{name_end, name_at, named, named
 use tocmark_read_names::characters_of;
 use tocmark_read_scan::basic::{byte_at, bytes_between};
 use tocmark_read_scan::class::{Class, run_end};
-use tocmark_read_syntax::Names;
+use tocmark_read_scan::syntax::Names;
 
 /// What a named reference stands for, and the place behind it.
 #[derive(Clone, Copy)]

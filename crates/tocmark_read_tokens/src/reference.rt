@@ -7,7 +7,7 @@ use crate::name::named_in;
 use std::alloc::{AllocError, Global};
 use tocmark_read_scan::basic::{byte_at, bytes_between, character_of, starts_at};
 use tocmark_read_scan::class::{Class, run_end};
-use tocmark_read_syntax::Names;
+use tocmark_read_scan::syntax::Names;
 
 /// A character, and the place behind its reference.
 #[derive(Clone, Copy)]

@@ -13,7 +13,7 @@ use Rattle.tocmark_event.specs.View as view
 use Rattle.tocmark_read_scan.specs.Basic.{plus}
 use Rattle.tocmark_read_scan.specs.Content as content
 use Rattle.tocmark_read_scan.specs.TableCell.{cell_content}
-use Rattle.tocmark_read_syntax.specs.declared.Syntax.{Syntax}
+use Rattle.tocmark_read_scan.specs.declared.syntax.Syntax.{Syntax}
 use Rattle.tocmark_read_leaves.specs.declared.definition.Piece.{Piece}
 use Rattle.tocmark_read_open_blocks.specs.declared.page.Block.{Block}
 use Rattle.tocmark_read_open_blocks.specs.declared.page.BlockKind.{BlockKind}

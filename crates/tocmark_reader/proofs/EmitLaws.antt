@@ -15,7 +15,7 @@ use Rattle.tocmark_event.specs.declared.reader.Reading.{Reading}
 use Rattle.tocmark_event.specs.Forest.{Forest, empty, leaf, node, flat_onto, flat, IsBalanced}
 use Rattle.tocmark_event.specs.declared.event.TagEnd.{TagEnd}
 use Rattle.tocmark_reader.specs.Emitted.{ItemView, Container, Source, Given, NodeView, shown, end_event, closings, step, put, closed, emitted, Writing}
-use Rattle.tocmark_read_syntax.specs.declared.Syntax.{Syntax}
+use Rattle.tocmark_read_scan.specs.declared.syntax.Syntax.{Syntax}
 use Rattle.tocmark_reader.specs.Reading.{reading_of, found_under}
 use Rattle.tocmark_reader.specs.Range.{is_cut, snapped, IsGoodRange, HasGoodRanges}
 use Rattle.tocmark_reader.specs.declared.emit.Open.{Open}

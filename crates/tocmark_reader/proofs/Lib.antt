@@ -17,3 +17,4 @@ pub mod PlacedParts
 pub mod QuietInlines
 pub mod QuietContent
 pub mod QuietLeaf
+pub mod Core

@@ -3,10 +3,10 @@ use Rattle.std.proofs.Common.{◌≡◌, ℕ, Bool, true, false, ◌==◌, ◌&&
 use Rattle.std.specs.List.{AllByRecursion, fold}
 use Rattle.tocmark_read_scan.proofs.PlainTests.{both_false, is_not}
 use Rattle.tocmark_read_scan.specs.Content as content
-use Rattle.tocmark_read_syntax.specs.declared.Names.{Names}
-use Rattle.tocmark_read_syntax.specs.declared.Names.TheVariants.{Four, All}
-use Rattle.tocmark_read_syntax.specs.declared.Syntax.{Syntax}
-use Rattle.tocmark_read_syntax.specs.declared.TheConstants.{CORE}
+use Rattle.tocmark_read_scan.specs.declared.syntax.Names.{Names}
+use Rattle.tocmark_read_scan.specs.declared.syntax.Names.TheVariants.{Four, All}
+use Rattle.tocmark_read_scan.specs.declared.syntax.Syntax.{Syntax}
+use Rattle.tocmark_read_scan.specs.declared.syntax.TheConstants.{CORE}
 use Rattle.tocmark_read_inlines.specs.Scan as s
 use Rattle.tocmark_read_inlines.specs.Inlines as inlines
 use Rattle.tocmark_read_spans.specs.declared.definitions.Entry.{Entry}

@@ -2,7 +2,7 @@
 use Rattle.std.proofs.Common.{◌≡◌, ◌∙◌, sym, ap, ℕ, ◌+◌, ◌<◌, List, [], ◌∷◌, ◌++◌, append_assoc, drop, get_or, length, map, slice_get, unwrap_or}
 use Rattle.std.proofs.lemmas.List.{drop_more, map-append}
 use Rattle.tocmark_read_scan.specs.Basic.{plus}
-use Rattle.tocmark_read_syntax.specs.declared.Names.{Names}
+use Rattle.tocmark_read_scan.specs.declared.syntax.Names.{Names}
 use Rattle.tocmark_read_leaves.specs.Definitions.{definition_view}
 use Rattle.tocmark_read_leaves.specs.declared.definition.LinkDefinition.{LinkDefinition}
 use Rattle.tocmark_reader.specs.Definitions.{SaidDefinition, no_place, said_at, said_from, said_view}

@@ -5,8 +5,8 @@ use Rattle.std.specs.Option.{option_map_or}
 use Rattle.std.specs.Str.Lossy.{utf8_lossy}
 use Rattle.tocmark_read_scan.specs.Basic.{plus, bytes_between}
 use Rattle.tocmark_read_scan.specs.Repeat.{repeated}
-use Rattle.tocmark_read_syntax.specs.declared.Names.{Names}
-use Rattle.tocmark_read_syntax.specs.declared.Syntax.{Syntax}
+use Rattle.tocmark_read_scan.specs.declared.syntax.Names.{Names}
+use Rattle.tocmark_read_scan.specs.declared.syntax.Syntax.{Syntax}
 use Rattle.tocmark_read_tokens.specs.Label.{collapsed}
 use Rattle.tocmark_read_tokens.specs.Reference.{unescaped_in}
 use Rattle.tocmark_read_tokens.specs.Word.{definition_at}

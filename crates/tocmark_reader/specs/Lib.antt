@@ -9,3 +9,4 @@ pub mod Reading
 pub mod Left
 pub mod PlainTexts
 pub mod QuietLines
+pub mod Flags

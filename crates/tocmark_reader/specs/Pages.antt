@@ -4,9 +4,9 @@ use Rattle.std.specs.List.{fold, flat_map}
 use Rattle.std.specs.Option.{option_map_or}
 use Rattle.tocmark_event.specs.View as view
 use Rattle.tocmark_read_scan.specs.Basic.{plus, bytes_between}
-use Rattle.tocmark_read_syntax.specs.declared.TheConstants.{CORE}
-use Rattle.tocmark_read_syntax.specs.declared.Syntax.{Syntax}
-use Rattle.tocmark_read_syntax.specs.declared.Names.{Names}
+use Rattle.tocmark_read_scan.specs.declared.syntax.TheConstants.{CORE}
+use Rattle.tocmark_read_scan.specs.declared.syntax.Syntax.{Syntax}
+use Rattle.tocmark_read_scan.specs.declared.syntax.Names.{Names}
 use Rattle.tocmark_read_leaves.specs.Rows.{alignments_of}
 use Rattle.tocmark_read_scan.specs.TableCell.{cell_content}
 use Rattle.tocmark_read_scan.specs.Content as content

@@ -8,9 +8,9 @@ use Rattle.tocmark_read_scan.specs.Basic.{bytes_between}
 use Rattle.tocmark_read_open_blocks.specs.declared.page.Block.{Block}
 use Rattle.tocmark_read_open_blocks.specs.declared.page.BlockKind.{BlockKind}
 use Rattle.tocmark_read_open_blocks.specs.declared.page.BlockKind.TheVariants as kind
-use Rattle.tocmark_read_syntax.specs.declared.TheConstants.{CORE}
-use Rattle.tocmark_read_syntax.specs.declared.Syntax.{Syntax}
-use Rattle.tocmark_read_syntax.specs.declared.Names.{Names}
+use Rattle.tocmark_read_scan.specs.declared.syntax.TheConstants.{CORE}
+use Rattle.tocmark_read_scan.specs.declared.syntax.Syntax.{Syntax}
+use Rattle.tocmark_read_scan.specs.declared.syntax.Names.{Names}
 use Rattle.tocmark_read_leaves.specs.Definitions.{DefinitionView, replaced}
 use Rattle.tocmark_read_spans.specs.Definitions as defs
 use Rattle.tocmark_read_spans.specs.declared.definitions.Entry.{Entry}

@@ -3,8 +3,8 @@ use Rattle.std.specs.Prelude.{ℕ, Bool, if◌then◌else◌, List, [], ◌∷�
 use Rattle.std.specs.List.{flat_map}
 use Rattle.std.specs.Str.Lossy.{utf8_lossy}
 use Rattle.tocmark_read_tokens.specs.Reference.{unescaped_in}
-use Rattle.tocmark_read_syntax.specs.declared.Names.{Names}
-use Rattle.tocmark_read_syntax.specs.declared.Names.TheVariants.{Four}
+use Rattle.tocmark_read_scan.specs.declared.syntax.Names.{Names}
+use Rattle.tocmark_read_scan.specs.declared.syntax.Names.TheVariants.{Four}
 use Rattle.tocmark_read_tokens.specs.Label.{collapsed}
 use Rattle.tocmark_read_leaves.specs.Definitions.{replaced}
 

@@ -24,9 +24,9 @@ use tocmark_read_leaves::row::alignments;
 use tocmark_read_open_blocks::page::{Block, BlockKind, Task};
 use tocmark_read_scan::basic::bytes_between;
 use tocmark_read_scan::content::{Content, ContentLine, content_of};
+use tocmark_read_scan::syntax::{Names, Syntax};
 use tocmark_read_scan::table_cell::cell_content;
 use tocmark_read_spans::definitions::Definitions;
-use tocmark_read_syntax::{Names, Syntax};
 
 /// The pieces of a range, none where it is none of the list.
 fn pieces_of(pieces: &[Piece], first: usize, last: usize) -> &[Piece]

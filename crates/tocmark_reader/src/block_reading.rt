@@ -12,8 +12,8 @@ use std::mem;
 use tocmark_event::reader::Reading;
 use tocmark_read_leaves::definition::Piece;
 use tocmark_read_open_blocks::page::{Block, BlockKind};
+use tocmark_read_scan::syntax::Syntax;
 use tocmark_read_spans::definitions::{Definitions, distinct_labels};
-use tocmark_read_syntax::Syntax;
 
 /// A text whose blocks are found, and whose events are made and handed out block by block.
 ///

@@ -15,7 +15,7 @@ use tocmark_read_blocks::{Blocks, read_blocks};
 use tocmark_read_leaves::definition::{LinkDefinition, Piece};
 use tocmark_read_open_blocks::page::Block;
 use tocmark_read_scan::basic::bytes_between;
-use tocmark_read_syntax::{Names, Syntax};
+use tocmark_read_scan::syntax::{Names, Syntax};
 use tocmark_read_tokens::label::collapsed;
 use tocmark_read_tokens::reference::unescaped;
 use tocmark_read_tokens::word::{Definition, Word, definition_at};

@@ -19,8 +19,8 @@ use tocmark_read_blocks::{Blocks, read_blocks};
 use tocmark_read_leaves::definition::LinkDefinition;
 use tocmark_read_open_blocks::page::{Block, BlockKind};
 use tocmark_read_scan::basic::bytes_between;
+use tocmark_read_scan::syntax::{CORE, Names, Syntax};
 use tocmark_read_spans::definitions::{Collected, Definitions, Entry, distinct_labels};
-use tocmark_read_syntax::{CORE, Names, Syntax};
 use tocmark_read_tokens::label::first_places;
 
 /// Reads CommonMark 0.31.2, under all flags alike.

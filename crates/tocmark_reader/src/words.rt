@@ -15,8 +15,8 @@ use std::alloc::{AllocError, Global};
 use tocmark_event::event::CowStr;
 use tocmark_read_scan::basic::bytes_between;
 use tocmark_read_scan::class::has_byte;
+use tocmark_read_scan::syntax::Names;
 use tocmark_read_spans::role::Stretch;
-use tocmark_read_syntax::Names;
 use tocmark_read_tokens::label::collapsed;
 use tocmark_read_tokens::reference::unescaped;
 

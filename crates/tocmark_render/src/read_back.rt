@@ -9,11 +9,11 @@ ghost use Rattle.tocmark_render.specs.ReadsBack.{found_in};
 ghost use Rattle.tocmark_spelling.specs.Buffered.{buffered_view};
 
 use std::alloc::{AllocError, Global};
+use tocmark_compare::agrees::agrees;
 use tocmark_event::event::ParserOptions;
 use tocmark_event::reader::{Reader, Reading};
 use tocmark_spelling::buffered::BufferedEvent;
 use tocmark_write_labels::taken::Taken;
-use tocmark_compare::agrees::agrees;
 
 /// What is known of a spelling that is read back.
 #[derive(Drop)]

@@ -1,3 +1,4 @@
 pub mod Parts
 pub mod Readings
 pub mod Slices
+pub mod Fronts

@@ -5,7 +5,7 @@ use Rattle.tocmark_event.specs.Reading.{reading_view}
 use Rattle.tocmark_event.specs.Text.{ParserEvent, text_of}
 use Rattle.tocmark_event.specs.View.{EventView, event_view}
 use Rattle.tocmark_event.specs.declared.reader.Reading.{Reading}
-use Rattle.tocmark_rewrite_edits.specs.Given.{found_events, given_events}
+use Rattle.tocmark_compare.specs.Given.{found_events, given_events}
 use Rattle.tocmark_rewrite.proofs.Slices.{slice-map}
 
 pub found-given : (r : Reading) → found_events (reading_view r) ≡ given_events r.events.items

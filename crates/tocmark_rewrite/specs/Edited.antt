@@ -6,7 +6,7 @@ use Rattle.tocmark_event.specs.Merged.{merged}
 use Rattle.tocmark_event.specs.Reading.{ReadingView}
 use Rattle.tocmark_event.specs.Text.{ParserEvent, text_of}
 use Rattle.tocmark_event.specs.View.{EventView, event_view}
-use Rattle.tocmark_rewrite_edits.specs.Given.{found_events}
+use Rattle.tocmark_compare.specs.Given.{found_events}
 use Rattle.tocmark_rewrite.specs.Kept.{IsTold}
 use Rattle.tocmark_rewrite.specs.declared.answer.Rewritten.{Rewritten}
 

@@ -1,3 +1,4 @@
 pub mod Edited
 pub mod Kept
 pub mod Parts
+pub mod Edits

@@ -5,7 +5,7 @@ ghost use Rattle.std.specs.Borrow.{Bor};
 ghost use Rattle.std.specs.Iterator.{Drains, IsFinite};
 ghost use Rattle.tocmark_event.specs.Text.{ParserEvent};
 ghost use Rattle.tocmark_rewrite.specs.Edited.{edited_events};
-ghost use Rattle.tocmark_rewrite_edits.specs.Given.{given_events};
+ghost use Rattle.tocmark_compare.specs.Given.{given_events};
 
 use std::alloc::{AllocError, Global};
 use tocmark_event::event::Event;

@@ -3,15 +3,15 @@
 //! As in `patch`, what is made here is tried, and no more.
 
 use crate::collect::lent;
+use crate::patch::Patch;
 use crate::pieces::{Piece, Tools, write_tree};
 use std::alloc::{AllocError, Global};
+use tocmark_compare::event::same_event;
+use tocmark_compare::same::{are_same, differ};
+use tocmark_compare::trees::{line_start, lines_end, trees};
 use tocmark_event::event::{Event, Tag, TagEnd};
 use tocmark_event::options::Error;
 use tocmark_event::reader::Reader;
-use tocmark_rewrite_edits::patch::Patch;
-use tocmark_rewrite_edits::same::{are_same, differ};
-use tocmark_rewrite_edits::trees::{line_start, lines_end, trees};
-use tocmark_compare::event::same_event;
 
 /// A stretch of the events that the reader found, and the one that was given in its place.
 #[derive(Clone, Copy, Debug)]

@@ -4,11 +4,11 @@ ghost use Rattle.std.specs.Prelude.{IfOk, OnOk};
 ghost use Rattle.tocmark_rewrite.specs.Parts.{Builds};
 
 use crate::output::Output;
+use crate::patch::Patch;
 use crate::pieces::{Definitions, Piece};
 use crate::plan::Plan;
 use std::alloc::{AllocError, Global};
-use tocmark_rewrite_edits::patch::Patch;
-use tocmark_rewrite_edits::trees::{Block, has_text, trimmed};
+use tocmark_compare::trees::{Block, has_text, trimmed};
 
 /// The source with its patches, whose places grow; none that begins before the end of another is made.
 pub(crate) fn patched(

@@ -2,11 +2,11 @@
 //! events.
 //!
 //! Below it stand the writer (`tocmark_state`), of which it takes the text of blocks that it has to write, and
-//! `tocmark_rewrite_edits`, which says where edits stand in a source; above it stand programs that change documents.
-//! Enter at `rewritten` (`rewrite`). `plan` finds which trees stand in the source as they are, `inner` writes the
-//! blocks in a tree that were changed, `pieces` and `join` write changed trees and put them between the kept ones;
-//! all leave a list of parts (`output`), which is read back. `answer` says what became of each tree, and `fault` why
-//! there is no answer.
+//! `tocmark_compare`; above it stand programs that change documents. Enter at `edits`, the changes of events that filters
+//! make, and at `rewritten` (`rewrite`). `plan` finds which trees stand in the source as they are, `patch` replaces the
+//! bytes of single events, `inner` writes the blocks in a tree that were changed, `pieces` and `join` write changed trees
+//! and put them between the kept ones; all leave a list of parts (`output`), which is read back. `answer` says what became
+//! of each tree, and `fault` why there is no answer.
 //!
 //! ```
 //! let mut reading = CoreReader.read(alloc, source, flags)?;
@@ -17,10 +17,12 @@
 
 pub mod answer;
 mod collect;
+pub mod edits;
 pub mod fault;
 mod inner;
 mod join;
 pub mod output;
+pub mod patch;
 pub mod pieces;
 mod plan;
 pub mod rewrite;

@@ -1,20 +1,20 @@
 //! The trees that were changed, each written by itself.
 
 use crate::fault::Fault;
+use crate::patch::Patch;
 use crate::plan::{Plan, place_of};
 use crate::texts::Texts;
 use std::alloc::{AllocError, Global};
 use std::collections::{HashMap, HashSet};
-use tocmark_reader::ReferenceDefinition;
+use tocmark_compare::given::{GivenEvents, GivenPairs};
+use tocmark_compare::trees::{Block, Tree};
 use tocmark_event::event::{Event, ParserOptions};
 use tocmark_event::options::{Error, Options};
 use tocmark_event::reader::Reader;
 use tocmark_read_scan::basic::bytes_between;
 use tocmark_read_tokens::label::key_of;
 use tocmark_read_tokens::word::definition_at;
-use tocmark_rewrite_edits::given::{GivenEvents, GivenPairs};
-use tocmark_rewrite_edits::patch::Patch;
-use tocmark_rewrite_edits::trees::{Block, Tree};
+use tocmark_reader::ReferenceDefinition;
 use tocmark_state::state::State;
 
 /// What reading and writing take beside a text or its events.

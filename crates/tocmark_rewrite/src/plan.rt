@@ -2,14 +2,14 @@
 
 ghost use Rattle.std.specs.Prelude.{IfOk, IfSome, IsTrue};
 ghost use Rattle.std.specs.List.{All};
-ghost use Rattle.tocmark_rewrite_edits.specs.Given.{given_events};
+ghost use Rattle.tocmark_compare.specs.Given.{given_events};
 ghost use Rattle.tocmark_rewrite.specs.Kept.{AreSame, HasEventsOf, IsHonest};
 
 use crate::fault::Place;
 use std::alloc::{AllocError, Global};
+use tocmark_compare::same::{are_same, differ};
+use tocmark_compare::trees::{Block, Tree};
 use tocmark_event::event::Event;
-use tocmark_rewrite_edits::same::{are_same, differ};
-use tocmark_rewrite_edits::trees::{Block, Tree};
 
 /// What becomes of a tree of the edited events.
 #[derive(Clone, Copy, Debug)]

@@ -7,7 +7,7 @@ ghost use Rattle.std.specs.List.{All};
 ghost use Rattle.tocmark_event.specs.Merged.{merged};
 ghost use Rattle.tocmark_event.specs.Text.{ParserEvent};
 ghost use Rattle.tocmark_event.specs.View.{EventView};
-ghost use Rattle.tocmark_rewrite_edits.specs.Given.{found_events, given_events};
+ghost use Rattle.tocmark_compare.specs.Given.{found_events, given_events};
 ghost use Rattle.tocmark_rewrite.specs.Edited.{IsWrittenFor, edited_events};
 ghost use Rattle.tocmark_rewrite.specs.Kept.{IsHonest, IsTold};
 ghost use Rattle.tocmark_rewrite.specs.Parts.{Builds, IsMadeOf};
@@ -18,16 +18,16 @@ use crate::fault::{Fault, Place};
 use crate::inner::{block_patch, innermost};
 use crate::join::{Manner, Written, joined, patched};
 use crate::output::{Output, Part};
+use crate::patch::{Patch, Patches};
 use crate::pieces::{Definitions, Tools, events_of, make_pieces, write_tree};
 use crate::plan::{Plan, place_of, planned};
 use std::alloc::{AllocError, Global};
+use tocmark_compare::same::{are_same, differ};
+use tocmark_compare::trees::{Block, Tree, blocks, trees};
 use tocmark_event::event::{Event, ParserOptions};
 use tocmark_event::options::Options;
 use tocmark_event::reader::Reader;
-use tocmark_extended_reader::ExtendedReader;
-use tocmark_rewrite_edits::patch::{Patch, Patches};
-use tocmark_rewrite_edits::same::{are_same, differ};
-use tocmark_rewrite_edits::trees::{Block, Tree, blocks, trees};
+use tocmark_reader::ExtendedReader;
 
 /// The source as it was read, and what becomes of the trees that were given.
 #[derive(Clone, Copy)]

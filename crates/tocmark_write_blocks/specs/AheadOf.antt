@@ -1,6 +1,6 @@
 -- What an opening is told of its body and of what follows, and which openings are written.
 use Rattle.std.specs.Prelude.{◌≡◌, ℕ, Bool, true, false}
-use Rattle.tocmark_write_lookahead.specs.BodyFacts.{IsForeseen}
+use Rattle.tocmark_write_pending.specs.BodyFacts.{IsForeseen}
 use Rattle.tocmark_event.specs.Options.{OptionsView}
 use Rattle.tocmark_event.specs.View.{TagView, Paragraph, BlockQuote, CodeBlock, CodeView, Indented, Fenced, HtmlBlock, FootnoteDefinition, DefinitionList, DefinitionListTitle, Table, TableHead, TableRow, TableCell, Emphasis, Strong, Link, Image, MetadataBlock}
 use Rattle.tocmark_write_texts.specs.Texts.{IsLongest}

@@ -1,7 +1,7 @@
 //! What an opening is told of its body and of what follows it.
 
 use tocmark_event::event::OwnedEvent;
-use tocmark_write_lookahead::body_facts::BodyFacts;
+use tocmark_write_pending::body_facts::BodyFacts;
 
 /// What an opening is told of its body and of what follows it.
 #[derive(Clone, Copy)]

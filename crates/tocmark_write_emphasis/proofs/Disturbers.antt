@@ -6,9 +6,9 @@ use Rattle.tocmark_event.specs.View.{SourcedEvent, TagView, Start, End, Leaf}
 use Rattle.tocmark_spelling.specs.Plan.{Setting}
 use Rattle.tocmark_spelling.specs.Runs.{start_width, close_width, counts, disturbs_at}
 use Rattle.tocmark_spelling.specs.Scans.{span}
-use Rattle.tocmark_write_lookahead.specs.Ahead.{behind_body, character_before, character_after, starts_disturber, disturbers}
+use Rattle.tocmark_write_pending.specs.Ahead.{behind_body, character_before, character_after, starts_disturber, disturbers}
 use Rattle.tocmark_write_emphasis.specs.Marks.{mark_of}
-use Rattle.tocmark_write_lookahead.proofs.Ahead.{place-rest, place-before}
+use Rattle.tocmark_write_pending.proofs.Ahead.{place-rest, place-before}
 
 mark-is : (s : Setting) (runs : Bool) (e : SourcedEvent) (before rest : List SourcedEvent) (b f a : Option ℕ)
     → b ≡ character_before runs before → f ≡ character_after runs start_width rest

@@ -6,3 +6,4 @@ pub mod RoundRuns
 pub mod Nodes
 pub mod Lowness
 pub mod Opened
+pub mod Boundaries

@@ -5,7 +5,7 @@ use Rattle.std.proofs.lemmas.Bool.{cases_lt, lt-ltb, le-ltb}
 use Rattle.std.specs.Prelude.{unwrap_or}
 use Rattle.std.proofs.lemmas.List.{drop_more, drop_all, length-drop}
 use Rattle.std.proofs.Math.ListN.{set}
-use Rattle.tocmark_write_lookahead.specs.Ahead.{first_mark, comes_before}
+use Rattle.tocmark_write_pending.specs.Ahead.{first_mark, comes_before}
 
 -- so many places from i on are left before the end
 mark-before : (ms : List Bool) (i e n : ℕ) → n ≡ e - i → comes_before (first_mark i ms) (Some e) ≡ list_any (λ b. b) (take n ms)

@@ -22,11 +22,11 @@ use Rattle.tocmark_spelling.specs.Scans.{span}
 use Rattle.tocmark_spelling.specs.Words.{or_else}
 use Rattle.tocmark_spelling.specs.declared.buffered.BufferedEvent.{BufferedEvent}
 use Rattle.tocmark_spelling.proofs.Turns.{before-event, drop-all, drop-event, events-take, length-events}
-use Rattle.tocmark_write_lookahead.specs.Ahead.{behind_body, body_in, closing_ahead, opening_ahead, up_to_end, width_ahead_of, is_disturbed, IsNested}
+use Rattle.tocmark_write_pending.specs.Ahead.{behind_body, body_in, closing_ahead, opening_ahead, up_to_end, width_ahead_of, is_disturbed, IsNested}
 use Rattle.tocmark_write_pending.specs.OpenContainers.{left_open}
 use Rattle.tocmark_write_pending.specs.RunColumn.{Ends, Starts, is_counted, run_here, run_view}
 use Rattle.tocmark_write_pending.specs.WidthColumn.{width_at}
-use Rattle.tocmark_write_lookahead.proofs.Ahead.{place-rest, place-before, opening-look, closing-look, width-look, prefers-look}
+use Rattle.tocmark_write_pending.proofs.Ahead.{place-rest, place-before, opening-look, closing-look, width-look, prefers-look}
 use Rattle.tocmark_write_emphasis.specs.Facts.{Readings, tag_of, tag_at}
 use Rattle.tocmark_write_emphasis.specs.declared.facts.EmphasisEvents.{EmphasisEvents}
 use Rattle.tocmark_write_emphasis.specs.ColumnsOf.{AreColumns}

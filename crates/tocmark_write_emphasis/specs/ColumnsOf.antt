@@ -4,7 +4,7 @@ use Rattle.tocmark_event.specs.Options.{OptionsView}
 use Rattle.tocmark_event.specs.View.{SourcedEvent}
 use Rattle.tocmark_event.specs.declared.event.flags.ParserOptions.{ParserOptions}
 use Rattle.tocmark_spelling.specs.PlanOf.{setting_of}
-use Rattle.tocmark_write_lookahead.specs.Ahead.{AreDisturbed}
+use Rattle.tocmark_write_pending.specs.Ahead.{AreDisturbed}
 use Rattle.tocmark_write_emphasis.specs.Facts.{Readings}
 use Rattle.tocmark_write_emphasis.specs.declared.columns.Columns.{Columns}
 

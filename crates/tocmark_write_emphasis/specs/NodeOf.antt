@@ -9,7 +9,7 @@ use Rattle.tocmark_spelling.specs.Machine.{kids_of, around}
 use Rattle.tocmark_spelling.specs.Plan.{Setting, Manner}
 use Rattle.tocmark_spelling.specs.PlanOf.{setting_of}
 use Rattle.tocmark_spelling.specs.Runs.{Run}
-use Rattle.tocmark_write_lookahead.specs.Ahead.{behind_body, IsNested}
+use Rattle.tocmark_write_pending.specs.Ahead.{behind_body, IsNested}
 use Rattle.tocmark_write_emphasis.specs.Facts.{IsNode, Readings, tag_at}
 use Rattle.tocmark_write_emphasis.specs.declared.facts.EmphasisEvents.{EmphasisEvents}
 

@@ -3,9 +3,11 @@
 //! Below it stand `tocmark_write_inlines` and `tocmark_write_pending`, above it `tocmark_write_unit`. Enter at
 //! `opening`. `marker` has the marker in each layout, from plain facts of the unit, of the text that is written, and of
 //! the open containers (`facts`). `node` has these facts of the unit, from what is kept beside its events and from what
-//! the reader says of them (`columns`, and `preferences` for each of these).
+//! the reader says of them (`columns`, and `preferences` for each of these). `boundary` says whether an underscore may
+//! stand beside a character.
 #![tactic(auto)]
 
+pub mod boundary;
 pub mod columns;
 mod ends;
 pub mod facts;

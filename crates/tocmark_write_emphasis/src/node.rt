@@ -5,7 +5,7 @@ ghost use Rattle.tocmark_event.specs.View.{event_view, unsourced, SourcedEvent, 
 ghost use Rattle.tocmark_write_emphasis.specs.ColumnsOf.{AreColumns};
 ghost use Rattle.tocmark_write_emphasis.specs.Low.{HasLowLiterals};
 ghost use Rattle.tocmark_write_emphasis.specs.NodeOf.{Begins, IsNodeAt, no_run};
-ghost use Rattle.tocmark_write_lookahead.specs.Ahead.{behind_body};
+ghost use Rattle.tocmark_write_pending.specs.Ahead.{behind_body};
 ghost use Rattle.tocmark_write_emphasis.specs.Facts.{Readings};
 ghost use Rattle.tocmark_write_pending.specs.RunColumn.{run_view};
 ghost use Rattle.tocmark_spelling.specs.Buffered.{buffered_view, following_view};
@@ -21,8 +21,8 @@ use crate::facts::EmphasisEvents;
 use tocmark_event::event::{EventOf, OwnedEvent, TagEnd, TagOf};
 use tocmark_spelling::buffered::BufferedEvent;
 use tocmark_spelling::kinds::{is_inline_end, is_inline_tag};
-use tocmark_write_lookahead::ends::body_end;
 use tocmark_write_pending::edges::{first_character, inline_edge};
+use tocmark_write_pending::ends::body_end;
 use tocmark_write_pending::pending::Pending;
 use tocmark_write_pending::runs::Run;
 

@@ -16,12 +16,12 @@ ghost use Rattle.tocmark_spelling.specs.Runs.{last_run, run_around};
 use crate::ends::last_byte;
 use crate::facts::{NodeSurroundings, Parent, asks_runs};
 use std::alloc::{AllocError, Global};
+use tocmark_compare::number::end_number;
 use tocmark_event::event::{EventOf, OwnedEvent, TagOf};
 use tocmark_spelling::plan::{Delimiters, Layout};
 use tocmark_write_containers::content::OpeningChoice;
 use tocmark_write_containers::frame::Frame;
 use tocmark_write_pending::edges::last_character;
-use tocmark_compare::number::end_number;
 use tocmark_write_renderer::renderer::Renderer;
 
 /// What stands before the body of a delimited container.

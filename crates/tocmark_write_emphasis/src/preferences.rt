@@ -2,7 +2,7 @@
 
 ghost use Rattle.std.specs.Prelude.{◌≡◌, ℕ, ◌+◌, ◌≤◌, ◌<◌, ◌∷◌, map, option_map, not, ◌&&◌, ◌||◌, Option, None, string_bytes, if◌then◌else◌, Bool, List, [], Some, IfOk, length, false, take, drop, reverse, is_some};
 ghost use Rattle.std.specs.Option.{option_copied};
-ghost use Rattle.tocmark_write_lookahead.specs.Ahead.{character_after, character_before, comes_before, disturbers, HoldMarks, AreDisturbed};
+ghost use Rattle.tocmark_write_pending.specs.Ahead.{character_after, character_before, comes_before, disturbers, HoldMarks, AreDisturbed};
 ghost use Rattle.tocmark_event.specs.Options.{OptionsView};
 ghost use Rattle.tocmark_event.specs.View.{SourcedEvent, tag_view};
 ghost use Rattle.tocmark_event.specs.declared.event.flags.ParserOptions.{ParserOptions};
@@ -17,13 +17,13 @@ ghost use Rattle.tocmark_write_pending.specs.RunColumn.{run_here, run_view};
 ghost use Rattle.tocmark_spelling.specs.Plan.{Setting};
 ghost use Rattle.tocmark_spelling.specs.Scans.{AreEnds};
 
+use crate::boundary::is_boundary;
 use std::alloc::{AllocError, Global};
 use tocmark_event::event::{EventOf, TagOf};
 use tocmark_event::reader::Reader;
 use tocmark_spelling::buffered::BufferedEvent;
-use tocmark_write_lookahead::boundary::is_boundary;
-use tocmark_write_lookahead::ends::{body_end, end_at};
 use tocmark_write_pending::edges::{first_edge, last_edge};
+use tocmark_write_pending::ends::{body_end, end_at};
 use tocmark_write_pending::pending::Pending;
 use tocmark_write_pending::runs::{Run, is_finish, is_start};
 

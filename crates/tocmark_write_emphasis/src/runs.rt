@@ -9,10 +9,10 @@ ghost use Rattle.tocmark_spelling.specs.Marker.{fits_underscore, beside_parent, 
 ghost use Rattle.tocmark_spelling.specs.Words.{same_truth};
 ghost use Rattle.tocmark_write_emphasis.specs.Facts.{IsNode, IsNearest, IsPlace, Gives};
 
+use crate::boundary::is_boundary;
 use crate::facts::{EmphasisEvents, NodeSurroundings, Parent, other_marker};
 use std::alloc::{AllocError, Global};
 use tocmark_event::reader::Reader;
-use tocmark_write_lookahead::boundary::is_boundary;
 
 /// Whether `_` may stand between these characters.
 pub fn fits_underscore<R: Reader>(

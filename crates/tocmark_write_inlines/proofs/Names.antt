@@ -11,8 +11,8 @@ use Rattle.tocmark_event.specs.View.{LeafView, TagView, Link, Image, Paragraph, 
 use Rattle.tocmark_event.specs.declared.event.TagEnd.{TagEnd}
 use Rattle.tocmark_event.specs.declared.event.TagEnd.TheVariants as end
 use Rattle.tocmark_event.specs.declared.reader.Reading.{Reading}
-use Rattle.tocmark_write_lookahead.proofs.Ahead.{place-rest}
-use Rattle.tocmark_write_lookahead.specs.Ahead.{body_in, is_named_by_id, reads_back}
+use Rattle.tocmark_write_pending.proofs.Ahead.{place-rest}
+use Rattle.tocmark_write_pending.specs.Ahead.{body_in, is_named_by_id, reads_back}
 use Rattle.tocmark_spelling.specs.Buffered.{buffered_view, event_of, sourced}
 use Rattle.tocmark_spelling.specs.ById.{events_of, is_one_link, is_same_kind}
 use Rattle.tocmark_spelling.specs.Plan.{Setting}

@@ -6,7 +6,7 @@ use Rattle.tocmark_event.specs.declared.event.flags.ParserOptions.{ParserOptions
 use Rattle.tocmark_spelling.specs.ById.{goes_by_id, is_same_kind}
 use Rattle.tocmark_spelling.specs.Plan.{Setting}
 use Rattle.tocmark_spelling.specs.PlanOf.{setting_of}
-use Rattle.tocmark_write_lookahead.specs.Ahead.{body_in, is_named_by_id}
+use Rattle.tocmark_write_pending.specs.Ahead.{body_in, is_named_by_id}
 use Rattle.tocmark_write_renderer.specs.JobOf.{Reading}
 
 -- a link or image of a type that lets its id stand in place of its body

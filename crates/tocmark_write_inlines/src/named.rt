@@ -2,7 +2,7 @@
 
 ghost use Rattle.std.specs.Prelude.{◌≡◌, ◌<◌, ◌-◌, ◌+◌, ◌++◌, ◌∷◌, [], ℕ, List, Option, codes, drop, length, map, string_bytes, take, IfOk};
 ghost use Rattle.std.specs.List.{list_any};
-ghost use Rattle.tocmark_write_lookahead.specs.Ahead.{body_in, is_named_by_id, reads_back};
+ghost use Rattle.tocmark_write_pending.specs.Ahead.{body_in, is_named_by_id, reads_back};
 ghost use Rattle.tocmark_event.specs.Merged.{merged};
 ghost use Rattle.tocmark_event.specs.Options.{OptionsView};
 ghost use Rattle.tocmark_event.specs.Text.{text_of};
@@ -18,11 +18,11 @@ ghost use Rattle.tocmark_spelling.specs.Scans.{AreEnds};
 
 use crate::links::id_of;
 use std::alloc::{AllocError, Global};
+use tocmark_compare::alike::alike;
 use tocmark_event::event::{Event, EventOf, LinkType, OwnedEvent, ParserOptions, TagEnd, TagOf};
 use tocmark_event::reader::Reader;
 use tocmark_spelling::buffered::BufferedEvent;
-use tocmark_write_lookahead::ends::body_end;
-use tocmark_compare::alike::alike;
+use tocmark_write_pending::ends::body_end;
 
 /// Whether the id of a link or image of this type may stand in place of its body.
 fn goes_by_id(kind: LinkType) -> bool

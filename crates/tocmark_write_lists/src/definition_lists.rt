@@ -11,7 +11,7 @@ ghost use Rattle.tocmark_spelling.specs.Opening.{open_definition, open_title};
 ghost use Rattle.tocmark_spelling.specs.Page.{filled_to, written};
 ghost use Rattle.tocmark_spelling.specs.Places.{at_item_start};
 ghost use Rattle.tocmark_write_blocks.specs.Leads.{Closes, Leads, OnPage};
-ghost use Rattle.tocmark_write_lookahead.specs.BodyFacts.{IsForeseen};
+ghost use Rattle.tocmark_write_pending.specs.BodyFacts.{IsForeseen};
 ghost use Rattle.tocmark_write_renderer.specs.WriterOf.{levels_of, page_of, Arrives, Stands};
 
 use std::alloc::{AllocError, Global};
@@ -23,7 +23,7 @@ use tocmark_write_blocks::paragraphs::open_plain;
 use tocmark_write_blocks::trail::end_block;
 use tocmark_write_containers::content::OpeningChoice;
 use tocmark_write_containers::prefix::Prefix;
-use tocmark_write_lookahead::body_facts::BodyFacts;
+use tocmark_write_pending::body_facts::BodyFacts;
 use tocmark_write_renderer::renderer::Renderer;
 
 /// Begins a line for a title where none begins here, but not at the front of a unit or right behind

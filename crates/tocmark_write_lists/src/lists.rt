@@ -12,7 +12,7 @@ ghost use Rattle.tocmark_write_blocks.specs.Leads.{Leads, OnPage};
 ghost use Rattle.tocmark_write_containers.specs.FrameOf.{content_view};
 ghost use Rattle.tocmark_write_lists.specs.Items.{is_before_code};
 ghost use Rattle.tocmark_write_lists.specs.Lists.{IsListPlace};
-ghost use Rattle.tocmark_write_lookahead.specs.BodyFacts.{IsForeseen};
+ghost use Rattle.tocmark_write_pending.specs.BodyFacts.{IsForeseen};
 ghost use Rattle.tocmark_write_renderer.specs.JobOf.{options_in};
 ghost use Rattle.tocmark_write_renderer.specs.WriterOf.{levels_of, page_of, Arrives};
 

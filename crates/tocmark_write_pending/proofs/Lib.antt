@@ -12,3 +12,8 @@ pub mod RunPlaces
 pub mod DelimiterColumn
 pub mod Joined
 pub mod Ambiguous
+pub mod Ahead
+pub mod Closers
+pub mod FactLemmas
+pub mod Feeds
+pub mod Gathered

@@ -9,7 +9,7 @@ use Rattle.std.proofs.lemmas.Option.{slice_get-get_or, slice_get-map, slice_get_
 use Rattle.std.specs.Prelude.{◌==◌, option_map, slice_get}
 use Rattle.tocmark_event.specs.View.{SourcedEvent, Start, End, Leaf}
 use Rattle.tocmark_spelling.specs.Runs.{Run, close_width, end_width, run_at, start_width, tag_width}
-use Rattle.tocmark_write_lookahead.proofs.Ahead.{place-within}
+use Rattle.tocmark_write_pending.proofs.Ahead.{place-within}
 use Rattle.tocmark_write_pending.specs.DelimiterColumn.{AreNumbered}
 use Rattle.tocmark_write_pending.specs.RunColumn.{Counted, Starts, Ends, AreRuns, HoldRuns, IsRunAt, begins_in_run, is_counted, run_here, run_numbered, run_view, runs_begun, width_of}
 use Rattle.tocmark_write_pending.specs.declared.runs.Run as declared

@@ -10,7 +10,7 @@ use Rattle.tocmark_event.specs.declared.event.TagEnd.{TagEnd}
 use Rattle.tocmark_spelling.specs.Kinds.{is_emphasis_or_strong}
 use Rattle.tocmark_spelling.specs.Runs.{start_width, tag_width}
 use Rattle.tocmark_spelling.specs.Scans.{end_at, span}
-use Rattle.tocmark_write_lookahead.specs.Ahead.{behind_body, ends_here, first_width, width_ahead_of, width_in}
+use Rattle.tocmark_write_pending.specs.Ahead.{behind_body, ends_here, first_width, width_ahead_of, width_in}
 use Rattle.tocmark_write_pending.specs.OpenContainers.{EndsAt, IsOpenAt, left_open}
 use Rattle.tocmark_write_pending.specs.RunColumn.{begins_in_run, in_run}
 use Rattle.tocmark_write_pending.specs.WidthColumn.{AreWidths, added_by, first_added, is_last, is_none_left, width_at, width_by, width_ended, width_now}

@@ -8,3 +8,5 @@ pub mod OpenContainers
 pub mod EndedLists
 pub mod Units
 pub mod Waiting
+pub mod Ahead
+pub mod BodyFacts

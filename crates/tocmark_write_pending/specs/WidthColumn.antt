@@ -2,7 +2,7 @@
 use Rattle.std.specs.Prelude.{◌≡◌, ℕ, ◌+◌, ◌-◌, Bool, true, false, if◌then◌else◌, ◌==◌, ◌&&◌, nat_lt, is_none, Option, Some, None, List, [], ◌∷◌, drop, slice_index_or}
 use Rattle.tocmark_event.specs.View.{SourcedEvent, Emphasis, Strong, Start}
 use Rattle.tocmark_spelling.specs.Runs.{start_width}
-use Rattle.tocmark_write_lookahead.specs.Ahead.{behind_body, width_ahead_of}
+use Rattle.tocmark_write_pending.specs.Ahead.{behind_body, width_ahead_of}
 use Rattle.tocmark_write_pending.specs.OpenContainers.{left_open}
 
 -- whether the container has ended behind whose Start these events stand

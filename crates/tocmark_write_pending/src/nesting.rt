@@ -7,8 +7,8 @@ ghost use Rattle.tocmark_write_pending.specs.OpenContainers.{ended_by, ends_with
 ghost use Rattle.tocmark_write_pending.specs.Pending.{closed, nested};
 ghost use Rattle.tocmark_write_pending.specs.PendingOf.{ends_awaited, places_of};
 
-use tocmark_event::event::{Event, EventOf, OwnedEvent, TagEnd};
 use tocmark_compare::number::end_number;
+use tocmark_event::event::{Event, EventOf, OwnedEvent, TagEnd};
 
 /// A container that is open.
 #[derive(Clone, Copy)]

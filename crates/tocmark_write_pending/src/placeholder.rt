@@ -10,10 +10,10 @@ ghost use Rattle.tocmark_write_pending.specs.OpenContainers.{EndsAt};
 ghost use Rattle.tocmark_write_pending.specs.Placeholder.{is_inline_end_or_leaf};
 ghost use Rattle.tocmark_write_pending.specs.Waiting.{has_ambiguous_list, is_end};
 
+use crate::ends::end_at;
 use tocmark_event::event::{EventOf, TagOf};
 use tocmark_spelling::buffered::BufferedEvent;
 use tocmark_spelling::kinds::is_inline_end;
-use tocmark_write_lookahead::ends::end_at;
 
 /// Whether inline content stands before what follows the event.
 fn is_inline_end_or_leaf(event: &BufferedEvent) -> bool

@@ -10,11 +10,11 @@ ghost use Rattle.tocmark_write_pending.specs.OpenContainers.{EndsAt, IsOpenAt};
 ghost use Rattle.tocmark_write_pending.specs.WidthColumn.{AreWidths, added_by, is_last, width_by, width_ended, width_now};
 
 use crate::delimiters::{Delimiter, width_at};
+use crate::ends::end_at;
 use crate::placeholder::rest_of;
 use std::alloc::AllocError;
 use tocmark_event::event::{EventOf, TagOf};
 use tocmark_spelling::buffered::BufferedEvent;
-use tocmark_write_lookahead::ends::end_at;
 
 fn start_width(event: &BufferedEvent) -> usize
     ensures { result ≡ start_width (buffered_view event.now) }

@@ -2,7 +2,7 @@
 use Rattle.std.proofs.Common.{◌≡◌, ℕ, ◌+◌, ◌-◌, ◌<◌, ◌≤◌, Bool, List, ◌∷◌, ◌++◌, Option, Some, refl, sym, ap, ◌∙◌, subst, map, drop, take, reverse, length, get_or, arith}
 use Rattle.std.proofs.Math.Seq.{take-add}
 use Rattle.std.proofs.lemmas.List.{drop-drop, drop_all, reverse-append}
-use Rattle.tocmark_write_lookahead.proofs.Ahead.{all-seen, place-before}
+use Rattle.tocmark_write_pending.proofs.Ahead.{all-seen, place-before}
 use Rattle.tocmark_write_emphasis.proofs.Nodes as nodes
 use Rattle.tocmark_event.specs.Forest.{flat}
 use Rattle.tocmark_event.specs.Options.{OptionsView}

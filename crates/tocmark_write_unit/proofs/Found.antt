@@ -3,8 +3,8 @@ use Rattle.std.proofs.Common.{◌≡◌, ℕ, zero, suc, Bool, true, false, List
 use Rattle.std.specs.Prelude.{◌||◌}
 use Rattle.std.specs.List.{list_any}
 use Rattle.std.proofs.lemmas.Bool.{false≢true}
-use Rattle.tocmark_write_lookahead.proofs.Ahead.{nested-at}
-use Rattle.tocmark_write_lookahead.specs.Ahead.{AreNested}
+use Rattle.tocmark_write_pending.proofs.Ahead.{nested-at}
+use Rattle.tocmark_write_pending.specs.Ahead.{AreNested}
 use Rattle.tocmark_write_emphasis.specs.NodeOf.{Begins}
 use Rattle.tocmark_event.specs.Forest.{flat}
 use Rattle.tocmark_event.specs.View.{TagView, Emphasis, Strong, SourcedEvent, Start}

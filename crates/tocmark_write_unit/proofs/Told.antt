@@ -6,10 +6,10 @@ use Rattle.tocmark_event.specs.Options.{OptionsView}
 use Rattle.tocmark_event.specs.View.{TagView, Paragraph, Heading, BlockQuote, Indented, Fenced, CodeBlock, HtmlBlock, ListOf, Item, FootnoteDefinition, DefinitionList, DefinitionListTitle, DefinitionListDefinition, Table, TableHead, TableRow, TableCell, Emphasis, Strong, Strikethrough, Superscript, Subscript, Link, Image, MetadataBlock}
 use Rattle.tocmark_write_blocks.specs.AheadOf.{IsTextAhead}
 use Rattle.tocmark_write_blocks.specs.declared.ahead.Ahead.{Ahead}
-use Rattle.tocmark_write_lookahead.specs.BodyFacts.{IsForeseen}
-use Rattle.tocmark_write_lookahead.specs.declared.body_facts.BodyFacts.{BodyFacts}
-use Rattle.tocmark_write_raw_blocks.specs.Raw.{IsRawTag}
-use Rattle.tocmark_write_raw_blocks.specs.declared.raw_facts.RawFacts.{RawFacts}
+use Rattle.tocmark_write_pending.specs.BodyFacts.{IsForeseen}
+use Rattle.tocmark_write_pending.specs.declared.body_facts.BodyFacts.{BodyFacts}
+use Rattle.tocmark_write_blocks.specs.Raw.{IsRawTag}
+use Rattle.tocmark_write_blocks.specs.declared.raw_facts.RawFacts.{RawFacts}
 use Rattle.tocmark_spelling.specs.Body.{Trees}
 use Rattle.tocmark_spelling.specs.Look.{Look, look}
 use Rattle.tocmark_spelling.specs.Opening.{link_mark, open_named, opening_of}

@@ -9,9 +9,9 @@ use Rattle.tocmark_event.specs.declared.event.flags.ParserOptions.{ParserOptions
 use Rattle.tocmark_spelling.specs.PlanOf.{setting_of}
 use Rattle.tocmark_write_inlines.proofs.Names.{none-named}
 use Rattle.tocmark_write_inlines.specs.Named.{asks_reader, may_be_named, AreNamed}
-use Rattle.tocmark_write_raw_blocks.proofs.RawLemmas.{left-false, no-raw, right-false}
-use Rattle.tocmark_write_raw_blocks.specs.Kinds.{is_fenced, is_html_block, opens}
-use Rattle.tocmark_write_raw_blocks.specs.Raw.{AreRaw}
+use Rattle.tocmark_write_blocks.proofs.RawLemmas.{left-false, no-raw, right-false}
+use Rattle.tocmark_write_blocks.specs.Kinds.{is_fenced, is_html_block, opens}
+use Rattle.tocmark_write_blocks.specs.Raw.{AreRaw}
 use Rattle.tocmark_write_renderer.specs.JobOf.{Reading}
 use Rattle.tocmark_write_unit.specs.CensusOf.{is_link_or_image, is_raw_block}
 

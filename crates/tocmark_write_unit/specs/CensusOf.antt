@@ -3,7 +3,7 @@ use Rattle.std.specs.Prelude.{◌≡◌, Bool, true, false, List, is_some}
 use Rattle.std.specs.List.{list_any}
 use Rattle.tocmark_event.specs.View.{TagView, Heading, CodeBlock, HtmlBlock, ListOf, Item, DefinitionListDefinition, Emphasis, Strong, Strikethrough, Superscript, Subscript, Link, Image, LeafView, InlineMath, DisplayMath, SourcedLeaf, SourcedEvent, Start, End, Leaf, unsourced}
 use Rattle.tocmark_spelling.specs.Kinds.{is_emphasis_or_strong, starts}
-use Rattle.tocmark_write_raw_blocks.specs.Kinds.{opens}
+use Rattle.tocmark_write_blocks.specs.Kinds.{opens}
 use Rattle.tocmark_write_unit.specs.declared.census.Census.{Census}
 
 -- emphasis, strong emphasis (CommonMark, section 6.2), strikethrough (GFM, section 6.5), super- or subscript

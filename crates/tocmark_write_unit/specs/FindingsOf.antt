@@ -1,14 +1,14 @@
 -- What is found out of a unit's events once.
 use Rattle.std.specs.Prelude.{◌≡◌, true, List}
 use Rattle.std.specs.List.{list_any}
-use Rattle.tocmark_write_lookahead.specs.BodyFacts.{AreFacts}
+use Rattle.tocmark_write_pending.specs.BodyFacts.{AreFacts}
 use Rattle.tocmark_write_emphasis.specs.ColumnsOf.{AreColumns}
 use Rattle.tocmark_event.specs.Options.{OptionsView}
 use Rattle.tocmark_event.specs.View.{SourcedEvent}
 use Rattle.tocmark_event.specs.declared.event.flags.ParserOptions.{ParserOptions}
 use Rattle.tocmark_write_inlines.specs.Named.{AreNamed}
-use Rattle.tocmark_write_raw_blocks.specs.Kinds.{opens}
-use Rattle.tocmark_write_raw_blocks.specs.Raw.{AreRaw}
+use Rattle.tocmark_write_blocks.specs.Kinds.{opens}
+use Rattle.tocmark_write_blocks.specs.Raw.{AreRaw}
 use Rattle.tocmark_write_renderer.specs.JobOf.{Reading}
 use Rattle.tocmark_write_unit.specs.CensusOf.{asks_body, has_emphasis, IsCensus}
 use Rattle.tocmark_write_unit.specs.declared.findings.Findings.{Findings}

@@ -6,8 +6,8 @@ use Rattle.tocmark_spelling.specs.Buffered.{following_view}
 use Rattle.tocmark_spelling.specs.Look.{Look}
 use Rattle.tocmark_write_blocks.specs.AheadOf.{IsTextAhead}
 use Rattle.tocmark_write_blocks.specs.declared.ahead.Ahead.{Ahead}
-use Rattle.tocmark_write_lookahead.specs.BodyFacts.{IsForeseen}
-use Rattle.tocmark_write_lookahead.specs.declared.body_facts.BodyFacts.{BodyFacts}
+use Rattle.tocmark_write_pending.specs.BodyFacts.{IsForeseen}
+use Rattle.tocmark_write_pending.specs.declared.body_facts.BodyFacts.{BodyFacts}
 
 -- what is told of the body of a container with this tag; nothing where its opening doesn't ask what it is like
 abbrev pub IsBodyAhead : TagView → Look → BodyFacts → Type 0

@@ -9,7 +9,10 @@ ghost use Rattle.tocmark_write_blocks.specs.Leads.{Closes, is_closed};
 use std::alloc::{AllocError, Global};
 use tocmark_event::event::TagOf;
 use tocmark_event::options::Options;
+use tocmark_write_blocks::code::close_code;
 use tocmark_write_blocks::headings::close_heading;
+use tocmark_write_blocks::html::close_html;
+use tocmark_write_blocks::metadata::close_metadata;
 use tocmark_write_blocks::paragraphs::close_paragraph;
 use tocmark_write_blocks::quotes::close_quote;
 use tocmark_write_containers::frame::Frame;
@@ -18,11 +21,8 @@ use tocmark_write_lists::definition_lists::{close_definition, close_definition_l
 use tocmark_write_lists::footnotes::close_footnote;
 use tocmark_write_lists::items::close_item;
 use tocmark_write_lists::lists::close_list;
-use tocmark_write_lists::metadata::close_metadata;
-use tocmark_write_lists::tables::{close_cell, close_head, close_row, close_table};
-use tocmark_write_raw_blocks::code::close_code;
-use tocmark_write_raw_blocks::html::close_html;
 use tocmark_write_renderer::renderer::Renderer;
+use tocmark_write_tables::tables::{close_cell, close_head, close_row, close_table};
 
 /// The end of a container that is neither a link nor an image, in the containers outside.
 ///

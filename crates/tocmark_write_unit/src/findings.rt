@@ -5,9 +5,9 @@ ghost use Rattle.std.specs.List.{list_any};
 ghost use Rattle.tocmark_event.specs.Options.{options_view};
 ghost use Rattle.tocmark_write_emphasis.specs.ColumnsOf.{AreColumns};
 ghost use Rattle.tocmark_write_inlines.specs.Named.{AreNamed};
-ghost use Rattle.tocmark_write_lookahead.specs.BodyFacts.{AreFacts};
-ghost use Rattle.tocmark_write_raw_blocks.specs.Kinds.{opens};
-ghost use Rattle.tocmark_write_raw_blocks.specs.Raw.{AreRaw};
+ghost use Rattle.tocmark_write_pending.specs.BodyFacts.{AreFacts};
+ghost use Rattle.tocmark_write_blocks.specs.Kinds.{opens};
+ghost use Rattle.tocmark_write_blocks.specs.Raw.{AreRaw};
 ghost use Rattle.tocmark_write_unit.specs.CensusOf.{is_link_or_image, is_raw_block};
 ghost use Rattle.tocmark_write_unit.specs.FindingsOf.{AreFindings};
 
@@ -16,11 +16,11 @@ use std::alloc::{AllocError, Global};
 use tocmark_event::event::flags::ParserOptions;
 use tocmark_event::options::Options;
 use tocmark_event::reader::Reader;
+use tocmark_write_blocks::raw_facts::{RawFacts, raw_facts};
 use tocmark_write_emphasis::columns::{Columns, columns_of};
 use tocmark_write_inlines::named::named;
-use tocmark_write_lookahead::body_facts::{BodyFacts, body_facts};
+use tocmark_write_pending::body_facts::{BodyFacts, body_facts};
 use tocmark_write_pending::pending::Pending;
-use tocmark_write_raw_blocks::raw_facts::{RawFacts, raw_facts};
 
 /// What is found out of a unit's events once, before they are written in one manner or another. A list that no
 /// event of the unit asks for is empty.

@@ -15,7 +15,10 @@ use tocmark_event::event::TagOf;
 use tocmark_event::options::Error;
 use tocmark_spelling::trail::Last;
 use tocmark_write_blocks::ahead::Ahead;
+use tocmark_write_blocks::code::open_code;
 use tocmark_write_blocks::headings::open_heading;
+use tocmark_write_blocks::html::open_html;
+use tocmark_write_blocks::metadata::open_metadata;
 use tocmark_write_blocks::paragraphs::open_plain;
 use tocmark_write_blocks::quotes::open_quote;
 use tocmark_write_inlines::delimiters::open_delimited;
@@ -23,12 +26,9 @@ use tocmark_write_lists::definition_lists::{open_definition, open_title};
 use tocmark_write_lists::footnotes::open_footnote;
 use tocmark_write_lists::items::open_item;
 use tocmark_write_lists::lists::open_list;
-use tocmark_write_lists::metadata::open_metadata;
-use tocmark_write_lists::tables::{open_cell, open_head, open_table};
-use tocmark_write_raw_blocks::code::open_code;
-use tocmark_write_raw_blocks::html::open_html;
 use tocmark_write_renderer::job::{Job, Manner};
 use tocmark_write_renderer::renderer::Renderer;
+use tocmark_write_tables::tables::{open_cell, open_head, open_table};
 
 /// Opens a block whose opening asks nothing of its body and of what follows.
 ///

@@ -35,15 +35,15 @@ use tocmark_spelling::kinds::is_text;
 use tocmark_spelling::plan::Layout;
 use tocmark_spelling::trail::Last;
 use tocmark_write_blocks::ahead::Ahead;
+use tocmark_write_blocks::raw_facts::raw_at;
 use tocmark_write_containers::frame::Frame;
 use tocmark_write_emphasis::node::{following, next_in_unit, node_at};
 use tocmark_write_emphasis::opening::open_emphasis;
 use tocmark_write_inlines::leaf::{Beside, write_leaf};
 use tocmark_write_inlines::links::{close_named, open_image, open_link, write_id};
-use tocmark_write_lookahead::body_facts::facts_at;
-use tocmark_write_lookahead::ends::{body_end, end_at};
+use tocmark_write_pending::body_facts::facts_at;
+use tocmark_write_pending::ends::{body_end, end_at};
 use tocmark_write_pending::pending::Pending;
-use tocmark_write_raw_blocks::raw_facts::raw_at;
 use tocmark_write_renderer::job::{Job, Manner};
 use tocmark_write_renderer::renderer::Renderer;
 

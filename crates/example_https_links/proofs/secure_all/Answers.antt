@@ -4,7 +4,7 @@ use mathlib.Core.List.{map-map}
 use Rattle.tocmark_event.specs.Text.{text_of}
 use Rattle.tocmark_event.specs.View.{event_view}
 use Rattle.example_https_links.specs.Links.{secured}
-use Rattle.tocmark_rewrite_edits.proofs.Fronts.{all-changed, one-more}
+use Rattle.tocmark_rewrite.proofs.Fronts.{all-changed, one-more}
 use Rattle.example_https_links.proofs.secure_all.Goals as goal
 
 pub loop-event-preserved : goal.loop-event-preserved

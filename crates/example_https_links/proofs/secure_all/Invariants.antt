@@ -2,7 +2,7 @@ use Rattle.std.proofs.Common.{◌≡◌, map}
 use Rattle.tocmark_event.specs.Text.{text_of}
 use Rattle.tocmark_event.specs.View.{event_view}
 use Rattle.example_https_links.specs.Links.{secured}
-use Rattle.tocmark_rewrite_edits.proofs.Fronts.{front}
+use Rattle.tocmark_rewrite.proofs.Fronts.{front}
 use Rattle.example_https_links.proofs.secure_all.Given as goal
 
 abbrev pub invariant-loop-event : goal.invariant-loop-event

@@ -2,7 +2,7 @@ use Rattle.std.proofs.Common.{◌∙◌, List, ap, subst}
 use Rattle.std.specs.List.{All}
 use Rattle.tocmark_event.specs.Merged.{merged}
 use Rattle.tocmark_event.specs.View.{EventView}
-use Rattle.tocmark_rewrite_edits.specs.Given.{found_events, given_events}
+use Rattle.tocmark_compare.specs.Given.{found_events, given_events}
 use Rattle.tocmark_rewrite.specs.Kept.{IsTold}
 use Rattle.example_https_links.proofs.with_https.Goals as goal
 

@@ -1,6 +1,6 @@
 use Rattle.std.proofs.Common.{◌∙◌, ap}
 use Rattle.tocmark_event.specs.Merged.{merged}
-use Rattle.tocmark_rewrite_edits.specs.Given.{given_events}
+use Rattle.tocmark_compare.specs.Given.{given_events}
 use Rattle.example_preprocessor.proofs.lowered.Goals as goal
 
 pub returns-clause-same : goal.returns-clause-same

@@ -1,6 +1,6 @@
 use Rattle.std.proofs.Common.{[]}
-use Rattle.tocmark_rewrite_edits.specs.Given.{found_events}
-use Rattle.tocmark_rewrite_edits.proofs.Digests.{says-all}
+use Rattle.tocmark_compare.specs.Given.{found_events}
+use Rattle.tocmark_compare.proofs.Digests.{says-all}
 use Rattle.tocmark_format.proofs.format.kept_of_source.Goals as goal
 
 pub returns : goal.returns

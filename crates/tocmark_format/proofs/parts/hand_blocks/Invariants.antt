@@ -1,7 +1,7 @@
 use Rattle.std.proofs.Common.{List, length, ◌++◌}
 use Rattle.tocmark_reader.specs.Left.{reading_left}
 use Rattle.tocmark_event.specs.View.{EventView}
-use Rattle.tocmark_rewrite_edits.specs.Given.{found_events}
+use Rattle.tocmark_compare.specs.Given.{found_events}
 use Rattle.tocmark_format.proofs.Handing.{IsHanding}
 use Rattle.tocmark_format.proofs.parts.hand_blocks.Given as goal
 

@@ -1,6 +1,6 @@
 use Rattle.std.proofs.Common.{◌≡◌}
 use Rattle.tocmark_rewrite.specs.Edited.{edited_events}
-use Rattle.tocmark_rewrite_edits.specs.Given.{given_events}
+use Rattle.tocmark_compare.specs.Given.{given_events}
 use Rattle.tocmark_rewrite.proofs.collect.collected.Given as goal
 
 abbrev pub invariant-loop-event : goal.invariant-loop-event

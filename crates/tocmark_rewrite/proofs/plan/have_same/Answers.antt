@@ -1,6 +1,6 @@
 use Rattle.std.proofs.Common.{◌≡◌, ◌∙◌, ap, sym}
 use Rattle.tocmark_event.specs.Merged.{merged}
-use Rattle.tocmark_rewrite_edits.specs.Given.{given_events}
+use Rattle.tocmark_compare.specs.Given.{given_events}
 use Rattle.tocmark_rewrite.proofs.Readings.{events-between}
 use Rattle.tocmark_rewrite.proofs.plan.have_same.Goals as goal
 

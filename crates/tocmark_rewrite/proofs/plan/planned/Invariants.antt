@@ -1,5 +1,5 @@
 use Rattle.std.specs.List.{All}
-use Rattle.tocmark_rewrite_edits.specs.Given.{given_events}
+use Rattle.tocmark_compare.specs.Given.{given_events}
 use Rattle.tocmark_rewrite.specs.Kept.{IsHonest}
 use Rattle.tocmark_rewrite.proofs.plan.planned.Given as goal
 

@@ -1,7 +1,7 @@
 use Rattle.std.proofs.Common.{◌≡◌, ◌∙◌, ap, sym, true≢false}
 use Rattle.tocmark_event.specs.Merged.{merged}
-use Rattle.tocmark_rewrite_edits.specs.Given.{found_events, given_events}
-use Rattle.tocmark_rewrite_edits.proofs.Apart.{apart_differ}
+use Rattle.tocmark_compare.specs.Given.{found_events, given_events}
+use Rattle.tocmark_compare.proofs.Apart.{apart_differ}
 use Rattle.tocmark_rewrite.proofs.rewrite.new_text.Goals as goal
 use Rattle.tocmark_rewrite.proofs.rewrite.new_text.Goals.{else-not-differ-via-then-not-differ+in_ok-are_same+else-branch, else-not-differ-via-else-not-differ}
 

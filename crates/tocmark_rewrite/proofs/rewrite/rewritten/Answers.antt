@@ -1,6 +1,6 @@
 use Rattle.std.proofs.Common.{◌≡◌, ◌∙◌, List, ap, subst}
 use Rattle.tocmark_event.specs.View.{EventView}
-use Rattle.tocmark_rewrite_edits.specs.Given.{given_events}
+use Rattle.tocmark_compare.specs.Given.{given_events}
 use Rattle.tocmark_rewrite.specs.Edited.{IsWrittenFor, edited_events}
 use Rattle.tocmark_rewrite.proofs.rewrite.rewritten.Goals as goal
 

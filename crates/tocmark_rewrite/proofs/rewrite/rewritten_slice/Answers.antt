@@ -1,7 +1,7 @@
 use Rattle.std.proofs.Common.{◌≡◌, ◌∙◌, List, ap, subst, sym}
 use Rattle.std.specs.List.{All}
 use Rattle.tocmark_event.specs.View.{EventView}
-use Rattle.tocmark_rewrite_edits.specs.Given.{found_events, given_events}
+use Rattle.tocmark_compare.specs.Given.{found_events, given_events}
 use Rattle.tocmark_rewrite.specs.Kept.{IsHonest, IsTold}
 use Rattle.tocmark_rewrite.proofs.Readings.{found-given}
 use Rattle.tocmark_rewrite.proofs.rewrite.rewritten_slice.Goals as goal

@@ -1,7 +1,7 @@
 use Rattle.std.proofs.Common.{List, subst, true, false}
 use Rattle.tocmark_event.specs.View.{SourcedEvent}
 use Rattle.tocmark_spelling.specs.PlanOf.{setting_of}
-use Rattle.tocmark_write_lookahead.specs.Ahead.{AreDisturbed}
+use Rattle.tocmark_write_pending.specs.Ahead.{AreDisturbed}
 use Rattle.tocmark_write_emphasis.proofs.columns.columns_of.Goals as goal
 
 pub returns : goal.returns

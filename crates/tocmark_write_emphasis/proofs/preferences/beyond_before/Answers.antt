@@ -3,7 +3,7 @@ use Rattle.tocmark_event.specs.View.{SourcedEvent}
 use Rattle.tocmark_spelling.specs.Buffered.{buffered_view}
 use Rattle.tocmark_spelling.specs.Runs.{run_before, start_width}
 use Rattle.tocmark_spelling.proofs.Turns.{drop-event, length-events}
-use Rattle.tocmark_write_lookahead.proofs.Ahead.{place-before}
+use Rattle.tocmark_write_pending.proofs.Ahead.{place-before}
 use Rattle.tocmark_write_emphasis.proofs.preferences.beyond_before.Goals as goal
 
 pub returns-else-place-eq0 : goal.returns-else-place-eq0

@@ -5,7 +5,7 @@ use Rattle.std.specs.Option.{option_copied}
 use Rattle.tocmark_spelling.specs.Buffered.{buffered_view}
 use Rattle.tocmark_spelling.specs.Runs.{start_width, close_width}
 use Rattle.tocmark_spelling.proofs.Turns.{length-events}
-use Rattle.tocmark_write_lookahead.specs.Ahead.{character_before, character_after}
+use Rattle.tocmark_write_pending.specs.Ahead.{character_before, character_after}
 use Rattle.tocmark_write_emphasis.specs.Marks.{AreEventsOf}
 use Rattle.tocmark_write_pending.specs.Pending.{PendingView}
 use Rattle.tocmark_event.specs.View.{SourcedEvent}

@@ -1,7 +1,7 @@
 use Rattle.std.proofs.Common.{◌≡◌, ◌∙◌, ◌+◌, ◌++◌, ◌∷◌, [], sym, ap, Bool, length, map, drop, take, reverse, arith, length-append}
 use Rattle.std.specs.Prelude.{is_some}
 use Rattle.std.proofs.lemmas.List.{append-nil, drop_all}
-use Rattle.tocmark_write_lookahead.specs.Ahead.{character_after, character_before, disturbers}
+use Rattle.tocmark_write_pending.specs.Ahead.{character_after, character_before, disturbers}
 use Rattle.tocmark_event.specs.View.{TagView, Start}
 use Rattle.tocmark_spelling.specs.Scans.{span}
 use Rattle.tocmark_spelling.specs.Buffered.{buffered_view}

@@ -2,7 +2,7 @@ use Rattle.std.proofs.Common.{◌≡◌, length, map, ℕ, List, [], Option, ◌
 use Rattle.std.specs.Prelude.{is_some}
 use Rattle.tocmark_event.specs.Options.{OptionsView}
 use Rattle.tocmark_event.specs.declared.event.flags.ParserOptions.{ParserOptions}
-use Rattle.tocmark_write_lookahead.specs.Ahead.{disturbers}
+use Rattle.tocmark_write_pending.specs.Ahead.{disturbers}
 use Rattle.tocmark_spelling.specs.Buffered.{buffered_view}
 use Rattle.tocmark_spelling.specs.PlanOf.{setting_of}
 use Rattle.tocmark_write_emphasis.proofs.preferences.disturbers.Given as goal

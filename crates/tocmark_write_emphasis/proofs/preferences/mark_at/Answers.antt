@@ -5,7 +5,7 @@ use Rattle.tocmark_event.specs.View.{event_view, tag_view}
 use Rattle.tocmark_spelling.specs.Buffered.{buffered_view, sourced}
 use Rattle.tocmark_spelling.specs.PlanOf.{setting_of}
 use Rattle.tocmark_spelling.specs.Runs.{counts, disturbs_at, start_width, close_width}
-use Rattle.tocmark_write_lookahead.specs.Ahead.{character_before, character_after}
+use Rattle.tocmark_write_pending.specs.Ahead.{character_before, character_after}
 use Rattle.tocmark_write_emphasis.specs.Marks.{mark_of}
 use Rattle.tocmark_write_emphasis.proofs.preferences.mark_at.Goals as goal
 

@@ -1,9 +1,9 @@
 use Rattle.std.proofs.Common.{◌≡◌, ◌+◌, ◌-◌, ◌<◌, ◌≤◌, ℕ, Bool, false, None, ap, ◌∙◌, take, drop, length, get_or, arith, subst, length-set, rules}
 use Rattle.std.specs.Prelude.{unwrap_or}
 use Rattle.std.specs.List.{list_any}
-use Rattle.tocmark_write_lookahead.specs.Ahead.{comes_before}
+use Rattle.tocmark_write_pending.specs.Ahead.{comes_before}
 use Rattle.tocmark_write_emphasis.proofs.Nearest.{nearest-step, nearest-none, found-at, found-step}
-use Rattle.tocmark_write_lookahead.proofs.Ahead.{are-disturbed}
+use Rattle.tocmark_write_pending.proofs.Ahead.{are-disturbed}
 use Rattle.tocmark_write_emphasis.proofs.preferences.marks_within.Goals as goal
 
 pub loop-i-init : goal.loop-i-init

@@ -1,7 +1,7 @@
 use Rattle.std.proofs.Common.{◌≡◌, length, ℕ, ◌+◌, ◌-◌, ◌<◌, ◌≤◌, false, None, take, drop, slice_index_or}
 use Rattle.std.specs.Prelude.{unwrap_or}
 use Rattle.std.specs.List.{list_any}
-use Rattle.tocmark_write_lookahead.specs.Ahead.{first_mark}
+use Rattle.tocmark_write_pending.specs.Ahead.{first_mark}
 use Rattle.tocmark_write_emphasis.proofs.preferences.marks_within.Given as goal
 
 abbrev pub invariant-loop-i : goal.invariant-loop-i

@@ -1,6 +1,6 @@
 use Rattle.std.proofs.Common.{◌≡◌, ◌∷◌, ◌∙◌, ap, sym, map, string_bytes}
 use Rattle.std.specs.Option.{option_map}
-use Rattle.tocmark_write_lookahead.specs.Ahead.{is_named_by_id}
+use Rattle.tocmark_write_pending.specs.Ahead.{is_named_by_id}
 use Rattle.tocmark_event.specs.View.{TagView, Start, event_view, tag_view}
 use Rattle.tocmark_spelling.specs.Buffered.{buffered_view, sourced}
 use Rattle.tocmark_spelling.specs.Plan.{Setting}

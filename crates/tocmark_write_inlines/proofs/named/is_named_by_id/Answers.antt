@@ -1,6 +1,6 @@
 use Rattle.std.proofs.Common.{◌∙◌, sym, map, string_bytes, List}
 use Rattle.tocmark_event.specs.View.{SourcedEvent, TagView, tag_view}
-use Rattle.tocmark_write_lookahead.specs.Ahead.{is_named_by_id, reads_back}
+use Rattle.tocmark_write_pending.specs.Ahead.{is_named_by_id, reads_back}
 use Rattle.tocmark_spelling.specs.Buffered.{buffered_view}
 use Rattle.tocmark_spelling.specs.Plan.{Setting}
 use Rattle.tocmark_spelling.specs.PlanOf.{setting_of}

@@ -1,7 +1,7 @@
 use Rattle.std.proofs.Common.{◌∙◌, List, subst, sym}
 use Rattle.tocmark_event.specs.Options.{options_view}
-use Rattle.tocmark_write_raw_blocks.specs.Raw.{AreRaw}
-use Rattle.tocmark_write_raw_blocks.specs.declared.raw_facts.RawFacts.{RawFacts}
+use Rattle.tocmark_write_blocks.specs.Raw.{AreRaw}
+use Rattle.tocmark_write_blocks.specs.declared.raw_facts.RawFacts.{RawFacts}
 use Rattle.tocmark_write_unit.proofs.Unasked.{raw-unasked}
 use Rattle.tocmark_write_unit.proofs.findings.raw_if.Goals as goal
 

@@ -1,18 +1,18 @@
 use Rattle.std.proofs.Common.{◌≡◌, ◌+◌, ◌∙◌, ap, sym, subst, refl, slice_index_or}
-use Rattle.tocmark_write_lookahead.proofs.FactLemmas.{foreseen}
-use Rattle.tocmark_write_lookahead.specs.Ahead.{behind_body}
-use Rattle.tocmark_write_lookahead.specs.BodyFacts.{IsForeseen, no_facts}
-use Rattle.tocmark_write_lookahead.specs.declared.body_facts.BodyFacts.{BodyFacts}
+use Rattle.tocmark_write_pending.proofs.FactLemmas.{foreseen}
+use Rattle.tocmark_write_pending.specs.Ahead.{behind_body}
+use Rattle.tocmark_write_pending.specs.BodyFacts.{IsForeseen, no_facts}
+use Rattle.tocmark_write_pending.specs.declared.body_facts.BodyFacts.{BodyFacts}
 use Rattle.tocmark_write_emphasis.proofs.Nodes.{behind-end}
 use Rattle.tocmark_event.specs.View.{Start}
 use Rattle.tocmark_write_blocks.specs.declared.ahead.Ahead.{Ahead}
-use Rattle.tocmark_write_raw_blocks.specs.Raw.{IsRaw, no_raw}
-use Rattle.tocmark_write_raw_blocks.specs.declared.raw_facts.RawFacts.{RawFacts}
+use Rattle.tocmark_write_blocks.specs.Raw.{IsRaw, no_raw}
+use Rattle.tocmark_write_blocks.specs.declared.raw_facts.RawFacts.{RawFacts}
 use Rattle.tocmark_spelling.specs.Machine.{around, kids_of}
 use Rattle.tocmark_spelling.specs.Page.{front}
 use Rattle.tocmark_spelling.specs.Scans.{span}
 use Rattle.tocmark_spelling.specs.Words.{or_else}
-use Rattle.tocmark_write_raw_blocks.specs.Kinds.{opens}
+use Rattle.tocmark_write_blocks.specs.Kinds.{opens}
 use Rattle.tocmark_write_unit.proofs.Found.{some-at}
 use Rattle.tocmark_write_unit.proofs.Told.{body-told, text-told}
 use Rattle.tocmark_write_unit.specs.CensusOf.{asks_body}

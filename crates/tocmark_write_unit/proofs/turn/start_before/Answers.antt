@@ -1,6 +1,6 @@
 use Rattle.std.proofs.Common.{◌≡◌, ◌<◌, ◌∙◌, sym, length, arith, string_bytes}
 use Rattle.std.proofs.lemmas.Result.{err_from_is_err_and}
-use Rattle.tocmark_write_lookahead.proofs.Closers.{end-missing, end-place}
+use Rattle.tocmark_write_pending.proofs.Closers.{end-missing, end-place}
 use Rattle.tocmark_event.specs.View.{tag_view}
 use Rattle.tocmark_write_renderer.specs.JobOf.{label_in, manner_view, options_in, setting_in}
 use Rattle.tocmark_write_renderer.specs.WriterOf.{site_of}

@@ -1,5 +1,5 @@
 use Rattle.std.proofs.Common.{arith, ◌∙◌}
-use Rattle.tocmark_read_syntax.specs.declared.TheConstants.{CORE}
+use Rattle.tocmark_read_scan.specs.declared.syntax.TheConstants.{CORE}
 use Rattle.tocmark_read_spans.specs.Definitions.{entry_of}
 use Rattle.tocmark_read_inlines.specs.Scan.{scan, ahead_view}
 use Rattle.tocmark_read_inlines.proofs.Quiet.{begun, jumped}

@@ -1,5 +1,0 @@
-use Rattle.test_definitions_calls.proofs.Events.{calls-answered}
-use Rattle.test_definitions_calls.proofs.calls.calls_are_answered.Goals as goal
-
-pub returns : goal.returns
-returns c = calls-answered

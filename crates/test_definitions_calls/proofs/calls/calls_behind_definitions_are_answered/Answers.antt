@@ -1,5 +1,0 @@
-use Rattle.test_definitions_calls.proofs.Events.{behind-answered}
-use Rattle.test_definitions_calls.proofs.calls.calls_behind_definitions_are_answered.Goals as goal
-
-pub returns : goal.returns
-returns c = behind-answered

@@ -1,0 +1,136 @@
+-- A digest that grows.
+use Rattle.std.proofs.Common.{◌≡◌, ◌∙◌, sym, ap, ap₂, refl, ℕ, Bool, true, false, ◌||◌, List, [], ◌∷◌, ◌++◌, ◌==◌, map, length, Some, None, is_some, if◌then◌else◌, inl, inr}
+use Rattle.std.proofs.lemmas.Bool.{false≢true}
+use Rattle.std.proofs.lemmas.Bool.Decides.{eqb_tells}
+use Rattle.std.proofs.lemmas.List.{append-nil, append_assoc}
+use Rattle.std.specs.List.{list_any}
+use Rattle.tocmark_event.specs.Merged.{after_text, merged}
+use Rattle.tocmark_event.specs.Text.{text_of}
+use Rattle.tocmark_event.specs.View.{LeafView, Text, Code, InlineMath, DisplayMath, Html, InlineHtml, FootnoteReference, SoftBreak, HardBreak, Rule, TaskListMarker, EventView, Start, End, Leaf, event_view}
+use Rattle.tocmark_event.proofs.Merging.{after_text-twice}
+use Rattle.tocmark_compare.specs.declared.digest.Digest.{Digest}
+use Rattle.tocmark_compare.specs.Digest.{IsSpanOf, IsTextOf, SaysFirst, Texts, Mark, Span, marked, next_said, said, says}
+
+-- what is merged behind further events
+pub merged-behind : (zs xs ys : List EventView) → merged xs ≡ merged ys → merged (zs ++ xs) ≡ merged (zs ++ ys)
+merged-behind [] xs ys h = h
+merged-behind (Start t ∷ zs) xs ys h = ap (λ es. Start t ∷ es) (merged-behind zs xs ys h)
+merged-behind (End k ∷ zs) xs ys h = ap (λ es. End k ∷ es) (merged-behind zs xs ys h)
+merged-behind (Leaf (Text t) ∷ zs) xs ys h = ap (after_text t) (merged-behind zs xs ys h)
+merged-behind (Leaf (Code t) ∷ zs) xs ys h = ap (λ es. Leaf (Code t) ∷ es) (merged-behind zs xs ys h)
+merged-behind (Leaf (InlineMath t) ∷ zs) xs ys h = ap (λ es. Leaf (InlineMath t) ∷ es) (merged-behind zs xs ys h)
+merged-behind (Leaf (DisplayMath t) ∷ zs) xs ys h = ap (λ es. Leaf (DisplayMath t) ∷ es) (merged-behind zs xs ys h)
+merged-behind (Leaf (Html t) ∷ zs) xs ys h = ap (λ es. Leaf (Html t) ∷ es) (merged-behind zs xs ys h)
+merged-behind (Leaf (InlineHtml t) ∷ zs) xs ys h = ap (λ es. Leaf (InlineHtml t) ∷ es) (merged-behind zs xs ys h)
+merged-behind (Leaf (FootnoteReference t) ∷ zs) xs ys h = ap (λ es. Leaf (FootnoteReference t) ∷ es) (merged-behind zs xs ys h)
+merged-behind (Leaf SoftBreak ∷ zs) xs ys h = ap (λ es. Leaf SoftBreak ∷ es) (merged-behind zs xs ys h)
+merged-behind (Leaf HardBreak ∷ zs) xs ys h = ap (λ es. Leaf HardBreak ∷ es) (merged-behind zs xs ys h)
+merged-behind (Leaf Rule ∷ zs) xs ys h = ap (λ es. Leaf Rule ∷ es) (merged-behind zs xs ys h)
+merged-behind (Leaf (TaskListMarker b) ∷ zs) xs ys h = ap (λ es. Leaf (TaskListMarker b) ∷ es) (merged-behind zs xs ys h)
+
+-- a byte as a text
+single : ℕ → EventView
+single b = Leaf (Text (b ∷ []))
+
+neither : (a b : Bool) → (a || b) ≡ false → (a ≡ false) × (b ≡ false)
+neither true b h = absurd (false≢true (sym h))
+neither false b h = (refl, h)
+
+-- bytes of a text are read as texts of one byte each
+singles-said : (t : List ℕ) → list_any (λ b. b == 255) t ≡ false → (bytes : List ℕ) (others : List EventView) → said Texts (t ++ bytes) others ≡ map single t ++ said Texts bytes others
+unfolding single
+singles-said [] h bytes others = refl
+singles-said (b ∷ t) h bytes others =
+    let parts = neither (b == 255) (list_any (λ c. c == 255) t) h in
+    ap (λ c. if c then said Mark (t ++ bytes) others else Leaf (Text (b ∷ [])) ∷ said Texts (t ++ bytes) others) parts.0
+    ∙ ap (λ es. Leaf (Text (b ∷ [])) ∷ es) (singles-said t parts.1 bytes others)
+
+-- and these are merged to the text
+singles-merged : (b : ℕ) (t : List ℕ) (es : List EventView) → merged (map single (b ∷ t) ++ es) ≡ after_text (b ∷ t) (merged es)
+unfolding single
+singles-merged b [] es = refl
+singles-merged b (c ∷ t) es = ap (after_text (b ∷ [])) (singles-merged c t es) ∙ after_text-twice (b ∷ []) (c ∷ t) (merged es)
+
+none-some : (e : EventView) → None ≡ Some e → ⊥
+none-some e h = false≢true (ap is_some h)
+
+-- bytes and events that are read as an event
+abbrev pub Spells : List ℕ → List EventView → EventView → Type 0
+Spells more further e =
+    (bytes : List ℕ) (others : List EventView) → merged (said Texts (more ++ bytes) (further ++ others)) ≡ merged (e ∷ said Texts bytes others)
+
+spells-text : (t : List ℕ) (e : EventView) → IsTextOf t e → Spells t [] e
+spells-text [] e h bytes others = absurd (false≢true (sym h.some))
+spells-text (b ∷ t) e h bytes others =
+    ap merged (singles-said (b ∷ t) h.plain bytes others)
+    ∙ singles-merged b t (said Texts bytes others)
+    ∙ ap (λ f. merged (f ∷ said Texts bytes others)) (sym h.text)
+
+-- no event has the mark of code spans
+not-span : (m : ℕ) (e : EventView) → marked m ≡ Some e → (m == 75) ≡ false
+not-span m e h = elim (eqb_tells m 75) [ inl t ↦ absurd (none-some e (sym (ap marked t.1) ∙ h)) | inr f ↦ f.0 ]
+
+spells-mark : (m : ℕ) (e : EventView) → marked m ≡ Some e → Spells (255 ∷ m ∷ []) [] e
+spells-mark m e h bytes others =
+    ap merged
+    (ap (λ c. if c then said (Span []) bytes others else next_said (marked m) (said Texts bytes) others) (not-span m e h)
+    ∙ ap (λ o. next_said o (said Texts bytes) others) h)
+
+-- the rest of a code span
+span-said : (t u : List ℕ) → list_any (λ b. b == 255) t ≡ false → (bytes : List ℕ) (others : List EventView) → said (Span u) (t ++ 255 ∷ bytes) others ≡ Leaf (Code (u ++ t)) ∷ said Texts bytes others
+span-said [] u h bytes others = ap (λ t. Leaf (Code t) ∷ said Texts bytes others) (sym (append-nil u))
+span-said (b ∷ t) u h bytes others =
+    let parts = neither (b == 255) (list_any (λ c. c == 255) t) h in
+    ap (λ c. if c then Leaf (Code u) ∷ said Texts (t ++ 255 ∷ bytes) others else said (Span (u ++ b ∷ [])) (t ++ 255 ∷ bytes) others) parts.0
+    ∙ span-said t (u ++ b ∷ []) parts.1 bytes others
+    ∙ ap (λ v. Leaf (Code v) ∷ said Texts bytes others) (append_assoc u (b ∷ []) t)
+
+spells-span : (t : List ℕ) (e : EventView) → IsSpanOf t e → Spells (((255 ∷ 75 ∷ []) ++ t) ++ 255 ∷ []) [] e
+spells-span t e h bytes others =
+    ap (λ xs. merged (said (Span []) xs others)) (append_assoc t (255 ∷ []) bytes)
+    ∙ ap merged (span-said t [] h.plain bytes others)
+    ∙ ap (λ f. merged (f ∷ said Texts bytes others)) (sym h.span)
+
+spells-other : (e : EventView) → Spells (255 ∷ 76 ∷ []) (e ∷ []) e
+spells-other e bytes others = refl
+
+-- one more event
+says-more : (old new : Digest) (more : List ℕ) (further : List EventView) (e : EventView) → new.bytes.items ≡ old.bytes.items ++ more → map (event_view text_of) new.others.items ≡ map (event_view text_of) old.others.items ++ further → Spells more further e → (events : List EventView) → SaysFirst old events → SaysFirst new (events ++ e ∷ [])
+says-more old new more further e longer wider spelled events before = λ bytes others.
+    ap (λ xs. merged (said Texts (xs ++ bytes) (map (event_view text_of) new.others.items ++ others))) longer
+    ∙ ap (λ os. merged (said Texts ((old.bytes.items ++ more) ++ bytes) (os ++ others))) wider
+    ∙ ap (λ xs. merged (said Texts xs ((map (event_view text_of) old.others.items ++ further) ++ others))) (append_assoc old.bytes.items more bytes)
+    ∙ ap (λ os. merged (said Texts (old.bytes.items ++ (more ++ bytes)) os)) (append_assoc (map (event_view text_of) old.others.items) further others)
+    ∙ before (more ++ bytes) (further ++ others)
+    ∙ merged-behind events (said Texts (more ++ bytes) (further ++ others)) (e ∷ said Texts bytes others) (spelled bytes others)
+    ∙ ap merged (sym (append_assoc events (e ∷ []) (said Texts bytes others)))
+
+pub text-put : (old new : Digest) (t : List ℕ) (e : EventView) → IsTextOf t e → new.bytes.items ≡ old.bytes.items ++ t → new.others ≡ old.others → (events : List EventView) → SaysFirst old events → SaysFirst new (events ++ e ∷ [])
+text-put old new t e is longer same =
+    says-more old new t [] e longer
+    (ap (λ os. map (event_view text_of) os.items) same ∙ sym (append-nil (map (event_view text_of) old.others.items)))
+    (spells-text t e is)
+
+pub mark-put : (old new : Digest) (m : ℕ) (e : EventView) → marked m ≡ Some e → new.bytes.items ≡ old.bytes.items ++ 255 ∷ m ∷ [] → new.others ≡ old.others → (events : List EventView) → SaysFirst old events → SaysFirst new (events ++ e ∷ [])
+mark-put old new m e is longer same =
+    says-more old new (255 ∷ m ∷ []) [] e longer
+    (ap (λ os. map (event_view text_of) os.items) same ∙ sym (append-nil (map (event_view text_of) old.others.items)))
+    (spells-mark m e is)
+
+pub span-put : (old new : Digest) (t : List ℕ) (e : EventView) → IsSpanOf t e → new.bytes.items ≡ ((old.bytes.items ++ 255 ∷ 75 ∷ []) ++ t) ++ 255 ∷ [] → new.others ≡ old.others → (events : List EventView) → SaysFirst old events → SaysFirst new (events ++ e ∷ [])
+span-put old new t e is longer same =
+    says-more old new (((255 ∷ 75 ∷ []) ++ t) ++ 255 ∷ []) [] e
+    (longer
+    ∙ ap (λ xs. xs ++ 255 ∷ []) (append_assoc old.bytes.items (255 ∷ 75 ∷ []) t)
+    ∙ append_assoc old.bytes.items ((255 ∷ 75 ∷ []) ++ t) (255 ∷ []))
+    (ap (λ os. map (event_view text_of) os.items) same ∙ sym (append-nil (map (event_view text_of) old.others.items)))
+    (spells-span t e is)
+
+pub other-put : (old new : Digest) (e : EventView) → new.bytes.items ≡ old.bytes.items ++ 255 ∷ 76 ∷ [] → map (event_view text_of) new.others.items ≡ map (event_view text_of) old.others.items ++ e ∷ [] → (events : List EventView) → SaysFirst old events → SaysFirst new (events ++ e ∷ [])
+other-put old new e longer wider = says-more old new (255 ∷ 76 ∷ []) (e ∷ []) e longer wider (spells-other e)
+
+pub says-all : (d : Digest) (events : List EventView) → SaysFirst d events → says d ≡ merged events
+says-all d events all =
+    ap₂ (λ xs os. merged (said Texts xs os)) (sym (append-nil d.bytes.items)) (sym (append-nil (map (event_view text_of) d.others.items)))
+    ∙ all [] []
+    ∙ ap merged (append-nil events)

@@ -1,0 +1,85 @@
+-- The marks of Ends and Starts.
+use Rattle.std.proofs.Common.{◌≡◌, refl, ℕ, ◌+◌, ◌-◌, ◌^◌, min, Some, None, true, false}
+use Rattle.tocmark_event.specs.Ends.{end_code}
+use Rattle.tocmark_event.specs.View.{EventView, Start, End}
+use Rattle.tocmark_event.specs.declared.event.BlockQuoteKind.TheVariants as quote
+use Rattle.tocmark_event.specs.declared.event.HeadingLevel.TheVariants as level
+use Rattle.tocmark_event.specs.declared.event.MetadataBlockKind.TheVariants as metadata
+use Rattle.tocmark_event.specs.declared.event.TagEnd.{TagEnd}
+use Rattle.tocmark_event.specs.declared.event.TagEnd.TheVariants as end
+use Rattle.tocmark_compare.specs.Digest.{marked, plain_start}
+
+-- each End has a mark, and so has the container that it says all of
+pub end-marked : (k : TagEnd) → marked (end_code k) ≡ Some (End k)
+end-marked end.Paragraph = refl
+end-marked (end.Heading level.H1) = refl
+end-marked (end.Heading level.H2) = refl
+end-marked (end.Heading level.H3) = refl
+end-marked (end.Heading level.H4) = refl
+end-marked (end.Heading level.H5) = refl
+end-marked (end.Heading level.H6) = refl
+end-marked (end.BlockQuote None) = refl
+end-marked (end.BlockQuote (Some quote.Note)) = refl
+end-marked (end.BlockQuote (Some quote.Tip)) = refl
+end-marked (end.BlockQuote (Some quote.Important)) = refl
+end-marked (end.BlockQuote (Some quote.Warning)) = refl
+end-marked (end.BlockQuote (Some quote.Caution)) = refl
+end-marked end.CodeBlock = refl
+end-marked end.HtmlBlock = refl
+end-marked (end.List true) = refl
+end-marked (end.List false) = refl
+end-marked end.Item = refl
+end-marked end.FootnoteDefinition = refl
+end-marked end.DefinitionList = refl
+end-marked end.DefinitionListTitle = refl
+end-marked end.DefinitionListDefinition = refl
+end-marked end.Table = refl
+end-marked end.TableHead = refl
+end-marked end.TableRow = refl
+end-marked end.TableCell = refl
+end-marked end.Emphasis = refl
+end-marked end.Strong = refl
+end-marked end.Strikethrough = refl
+end-marked end.Superscript = refl
+end-marked end.Subscript = refl
+end-marked end.Link = refl
+end-marked end.Image = refl
+end-marked (end.MetadataBlock metadata.YamlStyle) = refl
+end-marked (end.MetadataBlock metadata.PlusesStyle) = refl
+
+pub start-marked : (k : TagEnd) → marked (min (end_code k + 35) (2 ^ 8 - 1)) ≡ Some (Start (plain_start k))
+start-marked end.Paragraph = refl
+start-marked (end.Heading level.H1) = refl
+start-marked (end.Heading level.H2) = refl
+start-marked (end.Heading level.H3) = refl
+start-marked (end.Heading level.H4) = refl
+start-marked (end.Heading level.H5) = refl
+start-marked (end.Heading level.H6) = refl
+start-marked (end.BlockQuote None) = refl
+start-marked (end.BlockQuote (Some quote.Note)) = refl
+start-marked (end.BlockQuote (Some quote.Tip)) = refl
+start-marked (end.BlockQuote (Some quote.Important)) = refl
+start-marked (end.BlockQuote (Some quote.Warning)) = refl
+start-marked (end.BlockQuote (Some quote.Caution)) = refl
+start-marked end.CodeBlock = refl
+start-marked end.HtmlBlock = refl
+start-marked (end.List true) = refl
+start-marked (end.List false) = refl
+start-marked end.Item = refl
+start-marked end.FootnoteDefinition = refl
+start-marked end.DefinitionList = refl
+start-marked end.DefinitionListTitle = refl
+start-marked end.DefinitionListDefinition = refl
+start-marked end.Table = refl
+start-marked end.TableHead = refl
+start-marked end.TableRow = refl
+start-marked end.TableCell = refl
+start-marked end.Emphasis = refl
+start-marked end.Strong = refl
+start-marked end.Strikethrough = refl
+start-marked end.Superscript = refl
+start-marked end.Subscript = refl
+start-marked end.Link = refl
+start-marked end.Image = refl
+start-marked (end.MetadataBlock metadata.YamlStyle) = refl
+start-marked (end.MetadataBlock metadata.PlusesStyle) = refl

@@ -1,0 +1,346 @@
+//! What a list of events says, in little memory: for a comparison when the list itself is gone.
+
+ghost use Rattle.std.specs.Prelude.{◌≡◌, ◌++◌, ◌∷◌, [], IfOk, IfSome, IsTrue, List, OnOk, Some, map};
+ghost use Rattle.tocmark_event.specs.Merged.{merged};
+ghost use Rattle.tocmark_event.specs.Text.{text_of};
+ghost use Rattle.tocmark_event.specs.View.{End, EventView, Start, end_of, event_view, tag_view};
+ghost use Rattle.tocmark_compare.specs.Digest.{IsSpanOf, IsTextOf, SaysFirst, marked, plain_start, says};
+ghost use Rattle.tocmark_compare.specs.Given.{given_events};
+
+use crate::event::same_events;
+use crate::number::end_number;
+use std::alloc::{AllocError, Global};
+use tocmark_event::event::{CodeBlockKind, Event, Tag, TagEnd};
+
+/// What stands before a mark. No text has such a byte.
+const SIGN: u8 = 255;
+/// How many marks Ends have, and as many Starts behind them.
+const ENDS: u8 = 35;
+/// The marks of leaves without a text.
+const SOFT_BREAK: u8 = 70;
+
+const HARD_BREAK: u8 = 71;
+
+const RULE: u8 = 72;
+
+const UNCHECKED: u8 = 73;
+
+const CHECKED: u8 = 74;
+/// The mark of a code span, behind which stand its text and a sign.
+const SPAN: u8 = 75;
+/// The mark of an event that stands among the others.
+const OTHER: u8 = 76;
+
+/// What a list of events says: a byte for each byte of its texts, two for most other events, and an event of its own for
+/// one with more to it, as a link.
+#[derive(Drop)]
+pub struct Digest {
+    bytes: Vec<u8>,
+    /// The events without a mark, in their order.
+    others: Vec<Event<'static>>,
+}
+
+/// Where a tree at the top ends: the byte and the other event behind it.
+#[derive(Clone, Copy)]
+pub struct TreeEnd {
+    byte: usize,
+    other: usize,
+}
+
+/// Whether the End of a container says all of its Start.
+fn is_plain(tag: &Tag<'_>) -> bool
+    ensures { IsTrue result
+        → plain_start (end_of (tag_view text_of tag.now)) ≡ tag_view text_of tag.now }
+{
+    match tag {
+        Tag::Heading {
+            id,
+            classes,
+            attrs,
+            ..
+        } => id.is_none() && classes.is_empty() && attrs.is_empty(),
+        Tag::CodeBlock(CodeBlockKind::Indented) => true,
+        Tag::CodeBlock(CodeBlockKind::Fenced(_)) => false,
+        Tag::List(None) => true,
+        Tag::List(Some(_)) => false,
+        Tag::FootnoteDefinition(_) => false,
+        Tag::Table(_) => false,
+        Tag::Link { .. } => false,
+        Tag::Image { .. } => false,
+        _ => true,
+    }
+}
+
+/// The mark of a Start of which its End says all.
+fn start_mark(end: TagEnd) -> u8
+    ensures { marked result ≡ Some (Start (plain_start end)) }
+{
+    end_number(end).saturating_add(ENDS)
+}
+
+/// The mark of an End.
+fn end_mark(end: TagEnd) -> u8
+    ensures { marked result ≡ Some (End end) }
+{
+    end_number(end)
+}
+
+/// The mark of an event, if it has one.
+fn mark_of(event: &Event<'_>) -> Option<u8>
+    ensures { IfSome result (λ mark. marked mark ≡ Some (event_view text_of event.now)) }
+{
+    match event {
+        Event::Start(tag) if is_plain(tag) => Some(start_mark(tag.to_end())),
+        Event::End(end) => Some(end_mark(*end)),
+        Event::SoftBreak => Some(SOFT_BREAK),
+        Event::HardBreak => Some(HARD_BREAK),
+        Event::Rule => Some(RULE),
+        Event::TaskListMarker(false) => Some(UNCHECKED),
+        Event::TaskListMarker(true) => Some(CHECKED),
+        _ => None,
+    }
+}
+
+/// The bytes of a text that can stand among the bytes of a digest.
+fn bytes_of<'e>(event: &'e Event<'_>) -> Option<&'e [u8]>
+    ensures { IfSome result (λ bytes. IsTextOf bytes.now (event_view text_of event.now)) }
+{
+    let Event::Text(text) = event else {
+        return None;
+    };
+    let bytes = text.as_ref().as_bytes();
+    if bytes.is_empty() {
+        return None;
+    }
+    if bytes.contains(&SIGN) {
+        return None;
+    }
+    Some(bytes)
+}
+
+/// The bytes of a code span that can stand among the bytes of a digest.
+fn span_of<'e>(event: &'e Event<'_>) -> Option<&'e [u8]>
+    ensures { IfSome result (λ bytes. IsSpanOf bytes.now (event_view text_of event.now)) }
+{
+    let Event::Code(text) = event else {
+        return None;
+    };
+    let bytes = text.as_ref().as_bytes();
+    if bytes.contains(&SIGN) {
+        return None;
+    }
+    Some(bytes)
+}
+
+/// What a byte is that comes next.
+#[derive(Clone, Copy, PartialEq, Eq)]
+enum Next {
+    Text,
+    Mark,
+    /// A byte of a code span.
+    Span,
+}
+
+/// How deep a byte stands, and how many of the other events stand before it.
+#[derive(Clone, Copy)]
+struct Walk {
+    next: Next,
+    depth: usize,
+    other: usize,
+}
+
+impl Walk {
+    /// Takes an event that has no mark.
+    fn pass(&mut self, others: &[Event<'static>]) {
+        if let Some(Event::Start(_)) = others.get(self.other) {
+            self.depth = self.depth.saturating_add(1);
+        }
+        self.other = self.other.saturating_add(1);
+    }
+
+    /// Takes a mark.
+    fn take_mark(&mut self, mark: u8, others: &[Event<'static>]) {
+        self.next = if mark == SPAN { Next::Span } else { Next::Text };
+        if mark < ENDS {
+            self.depth = self.depth.saturating_sub(1);
+        } else if mark < SOFT_BREAK {
+            self.depth = self.depth.saturating_add(1);
+        } else if mark >= OTHER {
+            self.pass(others);
+        }
+    }
+
+    /// Takes a byte; true if it ends a tree at the top.
+    fn take(&mut self, byte: u8, others: &[Event<'static>]) -> bool {
+        match self.next {
+            Next::Mark => {
+                self.take_mark(byte, others);
+                self.depth == 0 && self.next == Next::Text
+            }
+            Next::Text => {
+                if byte == SIGN {
+                    self.next = Next::Mark;
+                }
+                false
+            }
+            Next::Span => {
+                if byte == SIGN {
+                    self.next = Next::Text;
+                }
+                byte == SIGN && self.depth == 0
+            }
+        }
+    }
+}
+
+impl Digest {
+    fn put_bytes(&mut self, bytes: &[u8]) -> Result<(), AllocError>
+        ensures bytes { OnOk result (self.new.bytes.items ≡ self.old.bytes.items ++ bytes.now) }
+        ensures others { self.new.others ≡ self.old.others }
+    {
+        self.bytes.extend_from_slice(bytes)
+    }
+
+    fn put_mark(&mut self, mark: u8) -> Result<(), AllocError>
+        ensures bytes { OnOk result (self.new.bytes.items
+            ≡ self.old.bytes.items ++ 255 ∷ mark ∷ []) }
+        ensures others { self.new.others ≡ self.old.others }
+    {
+        self.put_bytes(&[SIGN, mark])
+    }
+
+    fn put_span(&mut self, text: &[u8]) -> Result<(), AllocError>
+        ensures bytes { OnOk result (self.new.bytes.items
+            ≡ ((self.old.bytes.items ++ 255 ∷ 75 ∷ []) ++ text.now) ++ 255 ∷ []) }
+        ensures others { self.new.others ≡ self.old.others }
+    {
+        self.put_bytes(&[SIGN, SPAN])?;
+        self.put_bytes(text)?;
+        self.put_bytes(&[SIGN])
+    }
+
+    fn put_other(&mut self, alloc: Global, event: &Event<'_>) -> Result<(), AllocError>
+        ensures bytes { self.new.bytes ≡ self.old.bytes }
+        ensures others { OnOk result (map (event_view text_of) self.new.others.items
+            ≡ map (event_view text_of) self.old.others.items
+            ++ event_view text_of event.now ∷ []) }
+    {
+        let copy = event.to_static(alloc)?;
+        self.others.push(copy)?;
+        Ok(())
+    }
+
+    /// Puts an event behind the others.
+    fn put(&mut self, alloc: Global, event: &Event<'_>) -> Result<(), AllocError>
+        ensures { OnOk result ((events : List EventView) → SaysFirst self.old events
+            → SaysFirst self.new (events ++ event_view text_of event.now ∷ [])) }
+    {
+        if let Some(bytes) = bytes_of(event) {
+            self.put_bytes(bytes)?;
+            return Ok(());
+        }
+        if let Some(text) = span_of(event) {
+            self.put_span(text)?;
+            return Ok(());
+        }
+        if let Some(mark) = mark_of(event) {
+            self.put_mark(mark)?;
+            return Ok(());
+        }
+        self.put_mark(OTHER)?;
+        self.put_other(alloc, event)?;
+        Ok(())
+    }
+
+    /// A digest to which events are added, of which there are none yet.
+    pub fn new(alloc: Global) -> Digest
+        ensures { SaysFirst result [] }
+    {
+        Digest {
+            bytes: Vec::new(alloc),
+            others: Vec::new(alloc),
+        }
+    }
+
+    /// Adds what further events say. If memory runs out, the digest says some of it.
+    pub fn add(
+        &mut self,
+        alloc: Global,
+        events: &[(Event<'_>, (usize, usize))],
+    ) -> Result<(), AllocError>
+        ensures { OnOk result ((before : List EventView) → SaysFirst self.old before
+            → SaysFirst self.new (before ++ given_events events.now)) }
+    {
+        for pair in events {
+            self.put(alloc, &pair.0)?;
+        }
+        Ok(())
+    }
+
+    /// What a list of events says.
+    pub fn of(alloc: Global, events: &[(Event<'_>, (usize, usize))]) -> Result<Digest, AllocError>
+        ensures { IfOk result (λ digest. says digest ≡ merged (given_events events.now)) }
+    {
+        let mut digest = Digest::new(alloc);
+        digest.add(alloc, events)?;
+        Ok(digest)
+    }
+
+    /// Whether two digests are the same: then they say the same, with each longest stretch of texts as one.
+    pub fn is_same(&self, other: &Digest) -> bool
+        ensures { IsTrue result → says self.now ≡ says other.now }
+    {
+        if self.bytes.as_slice() == other.bytes.as_slice() {
+            same_events(&self.others, &other.others)
+        } else {
+            false
+        }
+    }
+
+    /// Where each tree at the top ends.
+    pub fn tree_ends(&self, alloc: Global) -> Result<Vec<TreeEnd>, AllocError> {
+        let mut ends = Vec::new(alloc);
+        let mut walk = Walk {
+            next: Next::Text,
+            depth: 0,
+            other: 0,
+        };
+        for (at, byte) in self.bytes.iter().enumerate() {
+            if walk.take(*byte, &self.others) {
+                ends.push(TreeEnd {
+                    byte: at.saturating_add(1),
+                    other: walk.other,
+                })?;
+            }
+        }
+        Ok(ends)
+    }
+
+    /// The part of a tree: its bytes and its other events.
+    fn tree(&self, ends: &[TreeEnd], at: usize) -> (&[u8], &[Event<'static>]) {
+        let first = match at.checked_sub(1) {
+            None => Some(TreeEnd { byte: 0, other: 0 }),
+            Some(before) => ends.get(before).copied(),
+        };
+        match (first, ends.get(at)) {
+            (Some(first), Some(past)) => (
+                self.bytes.get(first.byte..past.byte).unwrap_or(&[]),
+                self.others.get(first.other..past.other).unwrap_or(&[]),
+            ),
+            _ => (&[], &[]),
+        }
+    }
+
+    /// Whether the trees at a place are the same, where `ends` and `other_ends` say where trees end.
+    pub fn has_same_tree(
+        &self,
+        ends: &[TreeEnd],
+        other: &Digest,
+        other_ends: &[TreeEnd],
+        at: usize,
+    ) -> bool {
+        let (bytes, events) = self.tree(ends, at);
+        let (other_bytes, other_events) = other.tree(other_ends, at);
+        bytes == other_bytes && same_events(events, other_events)
+    }
+}

@@ -1,0 +1,82 @@
+//! Whether two lists of events are the same.
+
+ghost use Rattle.std.specs.Prelude.{◌≡◌, ◌↔◌, map, IfOk, IsTrue};
+ghost use Rattle.tocmark_event.specs.Merged.{merged};
+ghost use Rattle.tocmark_event.specs.Text.{text_of};
+ghost use Rattle.tocmark_event.specs.View.{event_view};
+ghost use Rattle.tocmark_spelling.specs.SameEvents.{same_events};
+ghost use Rattle.tocmark_compare.specs.Apart.{are_apart, is_text_event};
+ghost use Rattle.tocmark_compare.specs.Given.{given_events};
+
+use crate::event::{same_event, same_events};
+use crate::given::merged_events;
+use std::alloc::{AllocError, Global};
+use tocmark_event::event::Event;
+
+fn is_text(event: &Event<'_>) -> bool
+    ensures { result ≡ is_text_event (event_view text_of event.now) }
+{
+    match event {
+        Event::Text(_) => true,
+        _ => false,
+    }
+}
+
+/// Whether two lists have the same events, one by one. It takes no memory.
+fn are_equal(found: &[(Event<'_>, (usize, usize))], given: &[(Event<'_>, (usize, usize))]) -> bool
+    ensures { result ≡ same_events (given_events found.now) (given_events given.now) }
+{
+    if found.len() != given.len() {
+        return false;
+    }
+    for i in 0..found.len() {
+        if !same_event(&found[i].0, &given[i].0) {
+            return false;
+        }
+    }
+    true
+}
+
+/// The same where stretches of texts are cut otherwise.
+fn are_alike(
+    alloc: Global,
+    found: &[(Event<'_>, (usize, usize))],
+    given: &[(Event<'_>, (usize, usize))],
+) -> Result<bool, AllocError>
+    ensures { IfOk result (λ same. IsTrue same
+        ↔ (merged (given_events found.now) ≡ merged (given_events given.now))) }
+{
+    let found = merged_events(alloc, found)?;
+    let given = merged_events(alloc, given)?;
+    Ok(same_events(&found, &given))
+}
+
+/// Whether two lists have the same events, on either side with each longest stretch of texts as one. It
+/// takes memory only where texts are cut otherwise; an `Err` says that it ran out.
+pub fn are_same(
+    alloc: Global,
+    found: &[(Event<'_>, (usize, usize))],
+    given: &[(Event<'_>, (usize, usize))],
+) -> Result<bool, AllocError>
+    ensures { IfOk result (λ same. IsTrue same
+        ↔ (merged (given_events found.now) ≡ merged (given_events given.now))) }
+{
+    if are_equal(found, given) {
+        return Ok(true);
+    }
+    are_alike(alloc, found, given)
+}
+
+/// Whether the first events in which two lists differ are there on both sides, and neither is a text: then
+/// the lists say different things however texts are cut. It takes no memory.
+pub fn differ(found: &[(Event<'_>, (usize, usize))], given: &[(Event<'_>, (usize, usize))]) -> bool
+    ensures { result ≡ are_apart (given_events found.now) (given_events given.now) }
+{
+    let count = found.len().min(given.len());
+    for i in 0..count {
+        if !same_event(&found[i].0, &given[i].0) {
+            return !is_text(&found[i].0) && !is_text(&given[i].0);
+        }
+    }
+    false
+}

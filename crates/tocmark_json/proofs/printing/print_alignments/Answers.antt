@@ -1,0 +1,12 @@
+use Rattle.std.proofs.Common.{map, refl}
+use Rattle.tocmark_json.specs.Json.{alignment_json}
+use Rattle.tocmark_json.proofs.Adding.{begun, all_added}
+use Rattle.tocmark_json.proofs.printing.print_alignments.Goals as goal
+
+pub loop-alignment-init : goal.loop-alignment-init
+loop-alignment-init c = begun (map alignment_json c.args.alignments.now) c.print_token.new.out
+
+pub returns : goal.returns
+returns c =
+    let l = c.loop-alignment in
+    all_added alignment_json (λ ys. map alignment_json ys) (λ x ys. refl) refl c.args.alignments.now l.alignment-index c.print_token.new.out l.out c.print_token-2.new.out l.invariant c.print_token-2.result c.args.out.now c.loop-alignment-test.false c.in_ok-print_token.ensures c.print_token-2.ensures

@@ -1,7 +1,0 @@
-use Rattle.std.proofs.Common.{map, drop}
-use Rattle.serde_json.specs.Data.{string}
-use Rattle.tocmark_json_text.proofs.Adding.{Goes}
-use Rattle.tocmark_json_text.proofs.printing.print_classes.Given as goal
-
-abbrev pub invariant-loop-class : goal.invariant-loop-class
-invariant-loop-class g l = Goes (map string (map g.T.Words.bytes l.classes)) (map string (map g.T.Words.bytes (drop l.class-index l.classes))) l.initial.out l.out

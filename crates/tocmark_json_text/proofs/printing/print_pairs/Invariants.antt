@@ -1,7 +1,0 @@
-use Rattle.std.proofs.Common.{map, drop}
-use Rattle.tocmark_json.specs.Json.{pair_json, pair_view}
-use Rattle.tocmark_json_text.proofs.Adding.{Goes}
-use Rattle.tocmark_json_text.proofs.printing.print_pairs.Given as goal
-
-abbrev pub invariant-loop-pair : goal.invariant-loop-pair
-invariant-loop-pair g l = Goes (map pair_json (map (pair_view g.T.Words.bytes) l.pairs)) (map pair_json (map (pair_view g.T.Words.bytes) (drop l.pair-index l.pairs))) l.initial.out l.out

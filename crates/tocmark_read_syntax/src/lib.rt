@@ -1,3 +1,0 @@
-#![tactic(auto)]
-
-pub mod syntax;

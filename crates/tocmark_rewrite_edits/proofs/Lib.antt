@@ -1,4 +1,0 @@
-pub mod Digests
-pub mod Fronts
-pub mod Marks
-pub mod Apart

@@ -1,4 +1,0 @@
-pub mod Digest
-pub mod Edits
-pub mod Given
-pub mod Apart

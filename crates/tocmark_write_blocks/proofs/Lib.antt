@@ -1,0 +1,11 @@
+pub mod RunLayers
+pub mod RunLemmas
+pub mod ClosedLemmas
+pub mod Found
+pub mod HtmlLemmas
+pub mod Parts
+pub mod PlaceLemmas
+pub mod RawLemmas
+pub mod Silent
+pub mod Texts
+pub mod TrimLemmas

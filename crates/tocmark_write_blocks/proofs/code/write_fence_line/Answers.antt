@@ -1,0 +1,11 @@
+use Rattle.std.proofs.Common.{◌++◌, codes, flat_map}
+use Rattle.tocmark_spelling.specs.Opening.{info_byte}
+use Rattle.tocmark_write_renderer.specs.WriterOf.{levels_of, page_of}
+use Rattle.tocmark_write_blocks.proofs.Parts.{part-written}
+use Rattle.tocmark_write_blocks.proofs.code.write_fence_line.Goals as goal
+
+pub returns-clause-stands : goal.returns-clause-stands
+returns-clause-stands c =
+    let here = c.args.renderer.now in
+    part-written c.write.result c.write_fence.new.renderer c.write.new.self (levels_of here) (page_of here)
+    (c.args.fence.now ++ flat_map info_byte c.args.info.now) (codes "\n") c.in_ok-write_fence.ensures.stands c.write.ensures.written

@@ -1,3 +1,0 @@
-pub mod Ahead
-pub mod BodyFacts
-pub mod TokenRuns

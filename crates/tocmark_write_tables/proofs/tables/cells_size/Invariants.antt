@@ -1,0 +1,10 @@
+use Rattle.std.proofs.Common.{◌≡◌, ◌+◌, length}
+use Rattle.std.specs.Iterator.Adapters.{zip_first, zip_second}
+use Rattle.std.specs.Slice.Iter.{iter_rest}
+use Rattle.tocmark_spelling.specs.Closing.{alignment_cells}
+use Rattle.tocmark_write_tables.proofs.tables.cells_size.Given as goal
+
+abbrev pub invariant-loop-alignment : goal.invariant-loop-alignment
+invariant-loop-alignment l =
+    l.size + length (alignment_cells (iter_rest (zip_first l.alignment-iterator)) (iter_rest (zip_second l.alignment-iterator)))
+    ≡ length (alignment_cells l.alignments l.widths)
