@@ -9,8 +9,8 @@ use Rattle.tocmark_read_scan.specs.declared.class.Class.TheVariants.{White}
 use Rattle.tocmark_read_scan.specs.PlainParts.{Part, spelled, last_byte}
 use Rattle.tocmark_read_scan.proofs.PlainContent.{length_places, places_of, put_bytes_plain, take_front, trimmed_feed}
 use Rattle.tocmark_read_scan.proofs.PlainPieces.{feed_joined, piece_between, drop_behind, AreNoZeros}
-use Rattle.tocmark_read_leaves.specs.declared.definition.Piece.{Piece}
-use Rattle.tocmark_read_open_blocks.specs.declared.page.Block.{Block}
+use Rattle.tocmark_read_page.specs.declared.piece.Piece.{Piece}
+use Rattle.tocmark_read_page.specs.declared.page.Block.{Block}
 use Rattle.tocmark_read_blocks.specs.Blocks.{BlocksView}
 use Rattle.tocmark_read_spans.specs.Definitions as defs
 use Rattle.tocmark_read_spans.specs.declared.definitions.Entry.{Entry}

@@ -14,16 +14,18 @@ use Rattle.tocmark_read_lines.specs.Lines.{line}
 use Rattle.tocmark_read_lines.specs.Containers.{raised_at}
 use Rattle.tocmark_read_lines.specs.declared.cell.Cell.{Cell}
 use Rattle.tocmark_read_lines.specs.declared.line.Line.{Line}
-use Rattle.tocmark_read_leaves.specs.Codes.{piece_of, text_piece}
-use Rattle.tocmark_read_leaves.specs.Definitions.{begins_definition, definitions_from}
-use Rattle.tocmark_read_leaves.specs.Leaves.{is_paragraph, leaf_turn}
-use Rattle.tocmark_read_leaves.specs.declared.definition.Piece.{Piece}
-use Rattle.tocmark_read_leaves.specs.declared.leaf.Leaf.TheVariants as leaf
-use Rattle.tocmark_read_leaves.specs.declared.row.HeaderLine.TheVariants.{Never}
-use Rattle.tocmark_read_open_blocks.specs.Pages.{State, leaf_closed, closed_to, times, leaf_finished, finished, settled, shortened, piece_taken, one_closed}
-use Rattle.tocmark_read_open_blocks.specs.declared.page.Block.{Block}
-use Rattle.tocmark_read_open_blocks.specs.declared.page.BlockKind.TheVariants as kind
-use Rattle.tocmark_read_blocks.specs.Blocks.{cells_taken, cells_taken_in, line_taken, line_taken_in, leaf_started, passed_in, text_taken, text_started, touched, turn_in, turn_of}
+use Rattle.tocmark_read_page.specs.Pieces.{piece_of, text_piece}
+use Rattle.tocmark_read_page.specs.Definitions.{begins_definition, definitions_from}
+use Rattle.tocmark_read_page.specs.Leaves.{is_paragraph}
+use Rattle.tocmark_read_blocks.specs.Leaves.{leaf_turn}
+use Rattle.tocmark_read_page.specs.declared.piece.Piece.{Piece}
+use Rattle.tocmark_read_page.specs.declared.leaf.Leaf.TheVariants as leaf
+use Rattle.tocmark_read_page.specs.declared.page.HeaderLine.TheVariants.{Never}
+use Rattle.tocmark_read_page.specs.Pages.{State, leaf_closed, closed_to, times, leaf_finished, finished, settled, shortened, piece_taken, one_closed}
+use Rattle.tocmark_read_page.specs.declared.page.Block.{Block}
+use Rattle.tocmark_read_page.specs.declared.page.BlockKind.TheVariants as kind
+use Rattle.tocmark_read_blocks.specs.Blocks.{cells_taken, cells_taken_in, line_taken, line_taken_in, leaf_started, passed_in, touched, turn_in, turn_of}
+use Rattle.tocmark_read_blocks.specs.Paragraphs.{text_taken, text_started}
 use Rattle.tocmark_read_blocks.proofs.PlainLines.{numbered}
 use Rattle.tocmark_read_blocks.proofs.PlainSteps.{IsPlainLine, line_piece}
 use Rattle.tocmark_read_blocks.proofs.PlainTexts.{line_list}

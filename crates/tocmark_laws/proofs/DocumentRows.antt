@@ -12,13 +12,13 @@ use Rattle.tocmark_read_scan.proofs.PlainTests.{not_char}
 use Rattle.tocmark_read_lines.specs.Lines.{ends_here, line_stop, line, lines_from, lines_of}
 use Rattle.tocmark_read_lines.specs.Cells.{cells_of, cell_place}
 use Rattle.tocmark_read_lines.specs.declared.line.Line.{Line}
-use Rattle.tocmark_read_leaves.specs.Codes.{piece_of}
-use Rattle.tocmark_read_leaves.specs.Metadata.{known_of}
-use Rattle.tocmark_read_leaves.specs.declared.definition.Piece.{Piece}
-use Rattle.tocmark_read_open_blocks.specs.Pages.{State, first_page, closed_to}
-use Rattle.tocmark_read_open_blocks.specs.declared.page.Block.{Block}
-use Rattle.tocmark_read_open_blocks.specs.declared.page.BlockKind.{BlockKind}
-use Rattle.tocmark_read_open_blocks.specs.declared.page.BlockKind.TheVariants as kind
+use Rattle.tocmark_read_page.specs.Pieces.{piece_of}
+use Rattle.tocmark_read_constructs.specs.Metadata.{known_of}
+use Rattle.tocmark_read_page.specs.declared.piece.Piece.{Piece}
+use Rattle.tocmark_read_page.specs.Pages.{State, first_page, closed_to}
+use Rattle.tocmark_read_page.specs.declared.page.Block.{Block}
+use Rattle.tocmark_read_page.specs.declared.page.BlockKind.{BlockKind}
+use Rattle.tocmark_read_page.specs.declared.page.BlockKind.TheVariants as kind
 use Rattle.tocmark_read_blocks.specs.Blocks.{BlocksView, line_taken, page_in, blocks_in, blocks_of}
 use Rattle.tocmark_read_blocks.proofs.PlainFronts.{BeginsPlainly, plainly_begins_nothing}
 use Rattle.tocmark_read_blocks.proofs.PlainLines.{IsWithin, lines_within as line_within, cells_within, numbered}

@@ -2,11 +2,15 @@
 use Rattle.std.proofs.Common.{◌≡◌, ℕ, Bool, true, false, ◌||◌, List, refl, true≢false}
 use Rattle.tocmark_read_lines.specs.declared.cell.Cell.{Cell}
 use Rattle.tocmark_read_lines.specs.declared.line.Line.{Line}
-use Rattle.tocmark_read_leaves.specs.declared.metadata.Known.{Known}
-use Rattle.tocmark_read_leaves.specs.declared.leaf.LeafStart.{LeafStart}
-use Rattle.tocmark_read_open_blocks.specs.declared.line_start.LineStart.{LineStart}
-use Rattle.tocmark_read_open_blocks.specs.Pages.{State}
-use Rattle.tocmark_read_blocks.specs.Blocks.{extends_starts, start_or, task_or, task_in, metadata_or, metadata_in, quote_kind_or, quote_kind_in, tag_or, tag_in}
+use Rattle.tocmark_read_page.specs.declared.line_start.Known.{Known}
+use Rattle.tocmark_read_blocks.specs.declared.leaf.LeafStart.{LeafStart}
+use Rattle.tocmark_read_page.specs.declared.line_start.LineStart.{LineStart}
+use Rattle.tocmark_read_page.specs.Pages.{State}
+use Rattle.tocmark_read_blocks.specs.Blocks.{extends_starts, start_or}
+use Rattle.tocmark_read_blocks.specs.Leaves.{task_or, metadata_or, quote_kind_or, tag_or}
+use Rattle.tocmark_read_constructs.specs.Tasks.{task_in}
+use Rattle.tocmark_read_constructs.specs.Metadata.{metadata_in}
+use Rattle.tocmark_read_constructs.specs.Quotes.{quote_kind_in, tag_in}
 
 -- of a sum that is false both parts are
 first_false : (a b : Bool) → a || b ≡ false → a ≡ false

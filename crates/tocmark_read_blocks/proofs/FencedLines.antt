@@ -15,16 +15,18 @@ use Rattle.tocmark_read_lines.specs.declared.cell.Cell.{Cell}
 use Rattle.tocmark_read_lines.specs.declared.cell.Cursor.{Cursor}
 use Rattle.tocmark_read_lines.specs.declared.container.Opened.{Opened}
 use Rattle.tocmark_read_lines.specs.declared.line.Line.{Line}
-use Rattle.tocmark_read_leaves.specs.Codes.{piece_of, is_split, code_piece, keeps_line}
-use Rattle.tocmark_read_leaves.specs.Leaves.{is_table, leaf_turn}
-use Rattle.tocmark_read_leaves.specs.declared.definition.Piece.{Piece}
-use Rattle.tocmark_read_leaves.specs.declared.leaf.Leaf.{Leaf}
-use Rattle.tocmark_read_leaves.specs.declared.leaf.Leaf.TheVariants as leaf
-use Rattle.tocmark_read_leaves.specs.declared.leaf.Turn.TheVariants as turn
-use Rattle.tocmark_read_leaves.specs.declared.metadata.Known.{Known}
-use Rattle.tocmark_read_open_blocks.specs.Pages.{State, piece_taken}
-use Rattle.tocmark_read_open_blocks.specs.declared.line_start.LineStart.{LineStart}
-use Rattle.tocmark_read_blocks.specs.Blocks.{code_taken, html_ended, html_ended_as, turn_of, turn_in, touched, turn_taken_in, taken_at_in, cells_taken_in, line_taken_in}
+use Rattle.tocmark_read_page.specs.Pieces.{piece_of, is_split, code_piece, keeps_line}
+use Rattle.tocmark_read_page.specs.Leaves.{is_table}
+use Rattle.tocmark_read_blocks.specs.Leaves.{leaf_turn}
+use Rattle.tocmark_read_page.specs.declared.piece.Piece.{Piece}
+use Rattle.tocmark_read_page.specs.declared.leaf.Leaf.{Leaf}
+use Rattle.tocmark_read_page.specs.declared.leaf.Leaf.TheVariants as leaf
+use Rattle.tocmark_read_blocks.specs.declared.leaf.Turn.TheVariants as turn
+use Rattle.tocmark_read_page.specs.declared.line_start.Known.{Known}
+use Rattle.tocmark_read_page.specs.Pages.{State, piece_taken}
+use Rattle.tocmark_read_page.specs.declared.line_start.LineStart.{LineStart}
+use Rattle.tocmark_read_blocks.specs.Codes.{code_taken, html_ended, html_ended_as}
+use Rattle.tocmark_read_blocks.specs.Blocks.{turn_of, turn_in, touched, turn_taken_in, taken_at_in, cells_taken_in, line_taken_in}
 use Rattle.tocmark_read_blocks.proofs.Steps.{never}
 
 -- a byte that is neither a space nor a tab

@@ -3,13 +3,13 @@ use Rattle.std.proofs.Common.{◌≡◌, ℕ, false, ◌==◌, List, [], ◌∷�
 use Rattle.std.specs.List.{AllByRecursion, fold}
 use Rattle.tocmark_read_scan.specs.Basic.{byte_at}
 use Rattle.tocmark_read_blocks.specs.Blocks.{BlocksView, line_taken, page_in, blocks_in, blocks_of}
-use Rattle.tocmark_read_open_blocks.specs.Pages.{State, first_page, closed_to}
+use Rattle.tocmark_read_page.specs.Pages.{State, first_page, closed_to}
 use Rattle.tocmark_read_lines.specs.Lines.{lines_of}
-use Rattle.tocmark_read_leaves.specs.Metadata.{known_of}
+use Rattle.tocmark_read_constructs.specs.Metadata.{known_of}
 use Rattle.tocmark_read_lines.specs.declared.cell.Cell.{Cell}
 use Rattle.tocmark_read_lines.specs.declared.line.Line.{Line}
-use Rattle.tocmark_read_leaves.specs.declared.definition.Piece.{Piece}
-use Rattle.tocmark_read_open_blocks.specs.declared.page.BlockKind.TheVariants as kind
+use Rattle.tocmark_read_page.specs.declared.piece.Piece.{Piece}
+use Rattle.tocmark_read_page.specs.declared.page.BlockKind.TheVariants as kind
 use Rattle.tocmark_read_blocks.proofs.PlainSteps.{IsPlainLine, line_piece, paragraph, line_begins, line_goes_on, paragraph_ends}
 
 -- each line begins nothing

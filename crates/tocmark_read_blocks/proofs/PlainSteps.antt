@@ -4,26 +4,33 @@ use Rattle.std.proofs.Math.Seq.{take-length}
 use Rattle.tocmark_read_scan.specs.Basic.{byte_at, bytes_between}
 use Rattle.tocmark_read_scan.proofs.Repeats.{repeated_stop}
 use Rattle.tocmark_read_lines.specs.Cells.{cells_of, cell_byte, cell_place, first_cursor}
-use Rattle.tocmark_read_blocks.specs.Blocks.{leaf_started_in, started_in, metadata_in, metadata_or, task_in, task_or, quote_kind_in, quote_kind_or, tag_in, tag_or, cells_taken_in, line_taken_in, container_once_in, container_once, containers_opened, leaf_started, started_at, text_taken, text_started, goes_directly, passed_in, turn_in, turn_of, touched, cells_taken, line_taken, begun_at, started}
-use Rattle.tocmark_read_leaves.specs.Codes.{piece_of, text_piece}
+use Rattle.tocmark_read_blocks.specs.Blocks.{leaf_started_in, started_in, cells_taken_in, line_taken_in, leaf_started, started_at, passed_in, turn_in, turn_of, touched, cells_taken, line_taken, started}
+use Rattle.tocmark_read_constructs.specs.Metadata.{metadata_in}
+use Rattle.tocmark_read_blocks.specs.Leaves.{metadata_or, task_or, quote_kind_or, tag_or}
+use Rattle.tocmark_read_constructs.specs.Tasks.{task_in}
+use Rattle.tocmark_read_constructs.specs.Quotes.{quote_kind_in, tag_in}
+use Rattle.tocmark_read_blocks.specs.Containers.{container_once_in, container_once, containers_opened, goes_directly, begun_at}
+use Rattle.tocmark_read_blocks.specs.Paragraphs.{text_taken, text_started}
+use Rattle.tocmark_read_page.specs.Pieces.{piece_of, text_piece}
 use Rattle.tocmark_read_lines.specs.Containers.{container_at, container_in, item_at, raised_at}
 use Rattle.tocmark_read_lines.specs.DefinitionLists.{definition_start}
 use Rattle.tocmark_read_lines.specs.Notes.{note_start}
 use Rattle.std.proofs.lemmas.Bool.Decides.{nat_tests}
-use Rattle.tocmark_read_leaves.specs.Definitions.{begins_definition, definitions_from}
-use Rattle.tocmark_read_leaves.specs.Leaves.{leaf_at, mark_at, html_at, underline_in, rule_at, is_paragraph, leaf_turn}
+use Rattle.tocmark_read_page.specs.Definitions.{begins_definition, definitions_from}
+use Rattle.tocmark_read_blocks.specs.Leaves.{leaf_at, mark_at, html_at, underline_in, rule_at, leaf_turn}
+use Rattle.tocmark_read_page.specs.Leaves.{is_paragraph}
 use Rattle.tocmark_read_lines.specs.Html.{html_kind}
 use Rattle.tocmark_read_lines.specs.Marks.{is_rule, marker_at, heading_at, fence_at, underline_at, tail_of}
-use Rattle.tocmark_read_open_blocks.specs.Pages.{State, first_page, leaf_opened, leaf_closed, closed_to, times, list_left, begun, loosened, had_marked, list_of, is_apart, leaf_finished, finished, settled, shortened, piece_taken, one_closed}
-use Rattle.tocmark_read_open_blocks.specs.declared.line_start.LineStart.{LineStart}
+use Rattle.tocmark_read_page.specs.Pages.{State, first_page, leaf_opened, leaf_closed, closed_to, times, list_left, begun, loosened, had_marked, list_of, is_apart, leaf_finished, finished, settled, shortened, piece_taken, one_closed}
+use Rattle.tocmark_read_page.specs.declared.line_start.LineStart.{LineStart}
 use Rattle.tocmark_read_lines.specs.declared.cell.Cell.{Cell}
 use Rattle.tocmark_read_lines.specs.declared.cell.Cursor.{Cursor}
 use Rattle.tocmark_read_lines.specs.declared.line.Line.{Line}
-use Rattle.tocmark_read_leaves.specs.declared.definition.Piece.{Piece}
-use Rattle.tocmark_read_open_blocks.specs.declared.page.BlockKind.TheVariants as kind
-use Rattle.tocmark_read_leaves.specs.declared.leaf.Leaf.TheVariants as leaf
-use Rattle.tocmark_read_leaves.specs.declared.row.HeaderLine.TheVariants.{Never}
-use Rattle.tocmark_read_leaves.specs.declared.leaf.LeafStart.TheVariants as start
+use Rattle.tocmark_read_page.specs.declared.piece.Piece.{Piece}
+use Rattle.tocmark_read_page.specs.declared.page.BlockKind.TheVariants as kind
+use Rattle.tocmark_read_page.specs.declared.leaf.Leaf.TheVariants as leaf
+use Rattle.tocmark_read_page.specs.declared.page.HeaderLine.TheVariants.{Never}
+use Rattle.tocmark_read_blocks.specs.declared.leaf.LeafStart.TheVariants as start
 
 -- the front of a line that begins with no space
 abbrev pub front : Cursor

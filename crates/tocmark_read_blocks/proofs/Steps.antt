@@ -7,15 +7,20 @@ use Rattle.tocmark_read_lines.specs.Containers.{container_at, container_in}
 use Rattle.tocmark_read_lines.specs.DefinitionLists.{begins_definition, definition_start}
 use Rattle.tocmark_read_lines.specs.Notes.{note_start}
 use Rattle.tocmark_read_scan.specs.declared.syntax.Syntax.{Syntax}
-use Rattle.tocmark_read_leaves.specs.Leaves.{leaf_at}
+use Rattle.tocmark_read_blocks.specs.Leaves.{leaf_at}
 use Rattle.tocmark_read_lines.specs.Marks.{tail_of}
 use Rattle.tocmark_read_lines.specs.declared.cell.Cell.{Cell}
 use Rattle.tocmark_read_lines.specs.declared.line.Line.{Line}
-use Rattle.tocmark_read_leaves.specs.declared.metadata.Known.{Known}
+use Rattle.tocmark_read_page.specs.declared.line_start.Known.{Known}
 use Rattle.tocmark_read_lines.specs.declared.beginnings.Tail.{Tail}
-use Rattle.tocmark_read_blocks.specs.Blocks.{container_once_in, started_in, started_at_in, leaf_started_in, is_front, metadata_in, metadata_or, task_in, task_or, quote_kind_in, quote_kind_or, is_first_line, tag_in, tag_or}
-use Rattle.tocmark_read_open_blocks.specs.Pages.{State, closed_to}
-use Rattle.tocmark_read_open_blocks.specs.declared.line_start.LineStart.{LineStart}
+use Rattle.tocmark_read_blocks.specs.Containers.{container_once_in}
+use Rattle.tocmark_read_blocks.specs.Blocks.{started_in, started_at_in, leaf_started_in}
+use Rattle.tocmark_read_constructs.specs.Metadata.{is_front, metadata_in}
+use Rattle.tocmark_read_blocks.specs.Leaves.{metadata_or, task_or, quote_kind_or, tag_or}
+use Rattle.tocmark_read_constructs.specs.Tasks.{task_in}
+use Rattle.tocmark_read_constructs.specs.Quotes.{quote_kind_in, is_first_line, tag_in}
+use Rattle.tocmark_read_page.specs.Pages.{State, closed_to}
+use Rattle.tocmark_read_page.specs.declared.line_start.LineStart.{LineStart}
 
 -- no extension begins where a test is false
 pub never : (flag : Bool) → flag && false ≡ false

@@ -1,32 +1,34 @@
 //! How a line changes the blocks so far, and the blocks of a whole text.
 
-ghost use Rattle.std.specs.Prelude.{◌≡◌, ◌==◌, ◌&&◌, not, true, IfOk, OnOk};
-ghost use Rattle.std.specs.List.{find, fold, list_any};
-ghost use Rattle.tocmark_read_leaves.specs.Codes.{piece_of};
-ghost use Rattle.tocmark_read_open_blocks.specs.Pages.{page, piece_taken};
-ghost use Rattle.tocmark_read_blocks.specs.Blocks.{extends_starts, start_or, underline_taken_in, started_in, leaf_started_in, turn_of, is_ended_by_note, turn_in, leaf_ended, touched, cells_taken_in, line_taken_in, page_in, blocks_view, blocks_in, passed_in, tabled_in};
+ghost use Rattle.std.specs.Prelude.{◌≡◌, OnOk, ◌==◌, ◌&&◌, not, true, IfOk};
+ghost use Rattle.std.specs.List.{list_any, find, fold};
+ghost use Rattle.tocmark_read_blocks.specs.Blocks.{underline_taken_in, started_in, start_or, leaf_started_in, passed_in, tabled_in, turn_of, turn_in, leaf_ended, touched, cells_taken_in, line_taken_in, extends_starts, page_in, blocks_view, blocks_in};
+ghost use Rattle.tocmark_read_page.specs.Pages.{page, piece_taken};
+ghost use Rattle.tocmark_read_page.specs.Pieces.{piece_of};
 
+use crate::code::{start_fence, start_html, start_indented, take_code};
 use crate::container::{goes_directly, open_all};
-use crate::heading::{make_heading, start_heading};
-use crate::leaf::{start_fence, start_html, start_indented, start_rule, take_code, take_text};
-use crate::metadata::{metadata_in, metadata_or, start_metadata};
-use crate::quote::{quote_kind_in, quote_kind_or, start_quote_kind, tag_in, tag_or};
-use crate::task::{start_task, task_in, task_or};
+use crate::leaf::{
+    LeafStart, Turn, leaf_at, leaf_turn, metadata_or, quote_kind_or, rule_at, tag_or, task_or,
+};
+use crate::paragraph::{start_rule, take_text};
 use std::alloc::{AllocError, Global};
 use tocmark_event::event::HeadingLevel;
-use tocmark_read_leaves::definition::{LinkDefinition, Piece};
-use tocmark_read_leaves::leaf::{
-    Leaf, LeafStart, Turn, is_paragraph, is_table, leaf_at, leaf_turn, rule_at,
-};
-use tocmark_read_leaves::metadata::{Known, known_of};
-use tocmark_read_leaves::row::header_of;
+use tocmark_read_constructs::footnote::is_ended_by_note;
+use tocmark_read_constructs::heading::{make_heading, start_heading};
+use tocmark_read_constructs::metadata::{known_of, metadata_in, start_metadata};
+use tocmark_read_constructs::quote::{quote_kind_in, start_quote_kind, tag_in};
+use tocmark_read_constructs::table::{header_of, take_delimiters, take_row};
+use tocmark_read_constructs::task::{start_task, task_in};
 use tocmark_read_lines::beginnings::{Tail, tail_of};
 use tocmark_read_lines::cell::{Cells, cell_place, is_blank_at};
 use tocmark_read_lines::container::{matched, touch};
 use tocmark_read_lines::line::{Line, lines};
-use tocmark_read_lines::note::note_at;
-use tocmark_read_open_blocks::line_start::{LineStart, Row};
-use tocmark_read_open_blocks::page::{Block, BlocksSoFar};
+use tocmark_read_page::definition::LinkDefinition;
+use tocmark_read_page::leaf::{Leaf, is_paragraph};
+use tocmark_read_page::line_start::{Known, LineStart, Row};
+use tocmark_read_page::page::{Block, BlocksSoFar};
+use tocmark_read_page::piece::Piece;
 use tocmark_read_scan::basic::bytes_between;
 use tocmark_read_scan::class::has_byte;
 use tocmark_read_scan::syntax::Syntax;
@@ -214,7 +216,7 @@ fn pass_tabled(
         (page so_far.old)) }
 {
     let directly = goes_directly(so_far, first.depth);
-    if so_far.take_delimiters(alloc, row, first.cursor, directly)? {
+    if take_delimiters(so_far, alloc, row, first.cursor, directly)? {
         return Ok(());
     }
     let before = so_far.blocks.len();
@@ -235,13 +237,6 @@ fn turn_of(so_far: &BlocksSoFar, row: &Row<'_, '_>, place: LineStart) -> Turn
     } else {
         Turn::Passes
     }
-}
-
-/// Whether a line with the definition of a footnote ends the open table.
-fn is_ended_by_note(so_far: &BlocksSoFar, cells: &Cells, place: LineStart) -> bool
-    ensures { result ≡ is_ended_by_note cells.now place (page so_far.now) }
-{
-    is_table(so_far.leaf) && note_at(cells, place.cursor.ink).is_some()
 }
 
 #[tactic(auto, unfolding(crate::specs::Blocks::turn_in))]
@@ -281,7 +276,7 @@ fn touch_line(so_far: &mut BlocksSoFar, line: Line, depth: usize)
     );
 }
 
-/// Takes the columns of a line.
+/// Takes a line by its columns: containers go on in it, then the open leaf has its turn, then others begin.
 #[tactic(auto, unfolding(crate::specs::Blocks::cells_taken_in))]
 fn take_cells(so_far: &mut BlocksSoFar, alloc: Global, row: &Row<'_, '_>) -> Result<(), AllocError>
     ensures { OnOk result (page so_far.new
@@ -298,7 +293,7 @@ fn take_cells(so_far: &mut BlocksSoFar, alloc: Global, row: &Row<'_, '_>) -> Res
         }
         Turn::Takes(column) => take_code(so_far, row, column),
         Turn::Passes => pass_line(so_far, alloc, row, place),
-        Turn::Row(table) => so_far.take_row(row, place, table),
+        Turn::Row(table) => take_row(so_far, row, place, table),
     }
 }
 

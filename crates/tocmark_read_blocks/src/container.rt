@@ -1,51 +1,30 @@
 //! Containers: which one begins at a place of a line, and how it opens.
 
-ghost use Rattle.std.specs.Prelude.{◌≡◌, IfOk, OnOk};
-ghost use Rattle.tocmark_read_open_blocks.specs.Pages.{page};
-ghost use Rattle.tocmark_read_blocks.specs.Blocks.{goes_directly, quote_opened, is_in_list, list_started, item_opened, note_opened, container_once_in, containers_opened_in};
+ghost use Rattle.std.specs.Prelude.{◌≡◌, OnOk, IfOk};
+ghost use Rattle.tocmark_read_blocks.specs.Containers.{goes_directly, is_in_list, list_started, item_opened, container_once_in, containers_opened_in};
+ghost use Rattle.tocmark_read_page.specs.Pages.{page};
 
 use std::alloc::{AllocError, Global};
-use tocmark_read_leaves::leaf::is_paragraph;
+use tocmark_read_constructs::definition_list::open_definition;
+use tocmark_read_constructs::footnote::open_note;
+use tocmark_read_constructs::quote::open_quote;
 use tocmark_read_lines::beginnings::Tail;
 use tocmark_read_lines::cell::{cell_place, moved};
-use tocmark_read_lines::container::{
-    Container, ContainerStart, ItemStart, after_quote, container_in,
-};
+use tocmark_read_lines::container::{Container, ContainerStart, ItemStart, container_in};
 use tocmark_read_lines::line::Line;
-use tocmark_read_lines::note::NoteStart;
-use tocmark_read_open_blocks::line_start::{LineStart, Row};
-use tocmark_read_open_blocks::page::{BlockKind, BlocksSoFar};
+use tocmark_read_page::leaf::is_paragraph;
+use tocmark_read_page::line_start::{LineStart, Row};
+use tocmark_read_page::page::{BlockKind, BlocksSoFar};
 
 /// Whether the open paragraph stands in the innermost container that goes on.
-#[tactic(auto, unfolding(crate::specs::Blocks::goes_directly))]
+#[tactic(auto, unfolding(crate::specs::Containers::goes_directly))]
 pub fn goes_directly(so_far: &BlocksSoFar, depth: usize) -> bool
     ensures { result ≡ goes_directly depth (page so_far.now) }
 {
     is_paragraph(so_far.leaf) && so_far.opened.len() <= depth
 }
 
-#[tactic(auto, unfolding(crate::specs::Blocks::quote_opened))]
-fn open_quote(
-    so_far: &mut BlocksSoFar,
-    alloc: Global,
-    row: &Row<'_, '_>,
-    place: LineStart,
-) -> Result<LineStart, AllocError>
-    ensures { IfOk result (λ next.
-        (page so_far.new, next)
-        ≡ quote_opened row.now.text.now row.now.cells.now row.now.line place (page so_far.old)) }
-{
-    so_far.close_to(alloc, row.text, place.depth)?;
-    so_far.leave_list();
-    let start = cell_place(row.cells, place.cursor.ink, row.line.end);
-    so_far.open(Container::Quote, BlockKind::Quote(None), start, row.line)?;
-    Ok(LineStart {
-        cursor: after_quote(row.cells, place.cursor),
-        depth: so_far.opened.len(),
-    })
-}
-
-#[tactic(auto, unfolding(crate::specs::Blocks::is_in_list))]
+#[tactic(auto, unfolding(crate::specs::Containers::is_in_list))]
 fn is_in_list(so_far: &BlocksSoFar, sort: u8) -> bool
     ensures { result ≡ is_in_list sort (page so_far.now) }
 {
@@ -67,7 +46,7 @@ fn is_in_list(so_far: &BlocksSoFar, sort: u8) -> bool
 }
 
 /// Begins the list of an item, if the innermost container isn't one of its sort.
-#[tactic(auto, unfolding(crate::specs::Blocks::list_started))]
+#[tactic(auto, unfolding(crate::specs::Containers::list_started))]
 fn start_list(
     so_far: &mut BlocksSoFar,
     item: ItemStart,
@@ -84,7 +63,7 @@ fn start_list(
     Ok(())
 }
 
-#[tactic(auto, unfolding(crate::specs::Blocks::item_opened))]
+#[tactic(auto, unfolding(crate::specs::Containers::item_opened))]
 fn open_item(
     so_far: &mut BlocksSoFar,
     alloc: Global,
@@ -112,37 +91,8 @@ fn open_item(
     })
 }
 
-/// Begins the definition of a footnote. It ends one in which it would stand directly.
-#[tactic(auto, unfolding(crate::specs::Blocks::note_opened))]
-fn open_note(
-    so_far: &mut BlocksSoFar,
-    alloc: Global,
-    row: &Row<'_, '_>,
-    place: LineStart,
-    note: NoteStart,
-) -> Result<LineStart, AllocError>
-    ensures { IfOk result (λ next.
-        (page so_far.new, next)
-        ≡ note_opened row.now.text.now row.now.cells.now row.now.line place note
-        (page so_far.old)) }
-{
-    so_far.close_to(alloc, row.text, place.depth)?;
-    so_far.leave_list();
-    so_far.leave_note();
-    let start = cell_place(row.cells, place.cursor.ink, row.line.end);
-    let kind = BlockKind::Note(
-        cell_place(row.cells, note.from, row.line.end),
-        cell_place(row.cells, note.to, row.line.end),
-    );
-    so_far.open(Container::Note, kind, start, row.line)?;
-    Ok(LineStart {
-        cursor: moved(row.cells, place.cursor, note.next),
-        depth: so_far.opened.len(),
-    })
-}
-
 /// Opens the container that begins at a place, and gives the place behind its marker.
-#[tactic(auto, unfolding(crate::specs::Blocks::container_once_in))]
+#[tactic(auto, unfolding(crate::specs::Containers::container_once_in))]
 fn open_once(
     so_far: &mut BlocksSoFar,
     alloc: Global,
@@ -172,7 +122,7 @@ fn open_once(
             Ok(Some(next))
         }
         Some(ContainerStart::Definition(start)) => {
-            so_far.open_definition(alloc, row, place, start)
+            open_definition(so_far, alloc, row, place, start)
         }
     }
 }

@@ -1,162 +1,259 @@
-//! Leaves: how paragraphs, code, HTML and thematic breaks begin, and what they take of a line.
+//! What a line is to the open leaf block, and which leaf block it begins.
 
-ghost use Rattle.std.specs.Prelude.{◌≡◌, OnOk};
-ghost use Rattle.tocmark_read_open_blocks.specs.Pages.{page};
-ghost use Rattle.tocmark_read_blocks.specs.Blocks.{info_of, code_taken, html_ended, text_taken, text_started, indented_started, fence_started, html_started, rule_started};
+ghost use Rattle.std.specs.Prelude.{◌≡◌};
+ghost use Rattle.tocmark_read_blocks.specs.Leaves.{goes_past_blank, indented_turn, leaf_turn, html_at, underline_in, rule_at, mark_at, leaf_at, metadata_or, task_or, quote_kind_or, tag_or};
 
-use std::alloc::{AllocError, Global};
-use tocmark_read_leaves::code::{code_piece, keeps_line, text_piece};
-use tocmark_read_leaves::leaf::{Leaf, is_paragraph};
-use tocmark_read_lines::beginnings::Fence;
-use tocmark_read_lines::cell::{Cells, Cursor, cell_place, ink_from, trimmed};
-use tocmark_read_lines::html::{HtmlKind, html_ends};
+use tocmark_event::event::{BlockQuoteKind, HeadingLevel, MetadataBlockKind};
+use tocmark_read_constructs::metadata::closes_metadata;
+use tocmark_read_constructs::table::row_turn;
+use tocmark_read_lines::beginnings::{
+    Fence, Heading, Tail, closes_fence, fence_at, heading_at, is_rule, underline_at,
+};
+use tocmark_read_lines::cell::{Cells, Cursor, indent_of, is_blank_at};
+use tocmark_read_lines::html::{HtmlKind, html_kind};
 use tocmark_read_lines::line::Line;
-use tocmark_read_open_blocks::line_start::{LineStart, Row};
-use tocmark_read_open_blocks::page::{Block, BlockKind, BlocksSoFar};
-use tocmark_read_scan::basic::{bytes_between, set};
+use tocmark_read_page::leaf::{Leaf, Table};
 
-/// Closes an open HTML block whose last line this is.
-#[tactic(auto, unfolding(crate::specs::Blocks::html_ended))]
-fn end_html(so_far: &mut BlocksSoFar, rest: &[u8])
-    ensures { page so_far.new ≡ html_ended rest.now (page so_far.old) }
+/// What the open leaf does with a line.
+#[derive(Clone, Copy)]
+pub enum Turn {
+    /// The line is its last one.
+    Closes,
+    /// It takes the line from a column on.
+    Takes(usize),
+    /// Neither: something else may begin.
+    Passes,
+    /// The line is a row of the table, which is this one with it.
+    Row(Table),
+}
+
+/// What the rest of a line is: the leaf block that it begins, a setext heading's underline, or text.
+#[derive(Clone, Copy)]
+pub enum LeafStart {
+    /// Nothing but spaces.
+    Blank,
+    /// A line of a paragraph.
+    Text,
+    /// Code from a column on.
+    Indented(usize),
+    /// A heading on one line.
+    Heading(Heading),
+    /// The fence that opens a code block.
+    Fence(Fence),
+    /// The first line of an HTML block.
+    Html(HtmlKind),
+    /// The underline of a heading of this level.
+    Underline(HeadingLevel),
+    /// A thematic break.
+    Rule,
+    /// The line that opens metadata of this kind.
+    Metadata(MetadataBlockKind),
+    /// The box of a task, true where it is checked.
+    Task(bool),
+    /// The kind of the quote that the line began.
+    QuoteKind(BlockQuoteKind),
+}
+
+#[tactic(auto, unfolding(crate::specs::Leaves::goes_past_blank))]
+fn goes_past_blank(kind: HtmlKind) -> bool
+    ensures { result ≡ goes_past_blank kind }
 {
-    if let Leaf::Html(kind) = so_far.leaf {
-        if html_ends(kind, rest) {
-            so_far.finish_leaf();
+    match kind {
+        HtmlKind::Raw => true,
+        HtmlKind::Comment => true,
+        HtmlKind::Instruction => true,
+        HtmlKind::Declaration => true,
+        HtmlKind::CharacterData => true,
+        HtmlKind::Named => false,
+        HtmlKind::Alone => false,
+    }
+}
+
+/// What indented code does with a line: it goes on behind four columns, and in blank lines.
+fn indented_turn(cells: &Cells, cursor: Cursor) -> Turn
+    ensures { result ≡ indented_turn cells.now cursor }
+{
+    if 4 <= indent_of(cursor) {
+        Turn::Takes(cursor.column.saturating_add(4))
+    } else if is_blank_at(cells, cursor) {
+        Turn::Takes(cursor.ink)
+    } else {
+        Turn::Passes
+    }
+}
+
+/// What the open leaf does with a line in which all containers round it go on.
+#[tactic(auto, unfolding(crate::specs::Leaves::leaf_turn))]
+pub fn leaf_turn(text: &[u8], cells: &Cells, line: Line, cursor: Cursor, leaf: Leaf) -> Turn
+    ensures { result ≡ leaf_turn text.now cells.now line cursor leaf }
+{
+    match leaf {
+        Leaf::Nothing => Turn::Passes,
+        Leaf::Paragraph => Turn::Passes,
+        Leaf::Indented => indented_turn(cells, cursor),
+        Leaf::Fenced(fence) => {
+            if closes_fence(cells, cursor, fence) {
+                Turn::Closes
+            } else {
+                let indent = fence.indent.min(indent_of(cursor));
+                Turn::Takes(cursor.column.saturating_add(indent))
+            }
         }
-    }
-}
-
-/// Puts a line of code or HTML into the open leaf.
-#[tactic(auto, unfolding(crate::specs::Blocks::code_taken))]
-pub fn take_code(
-    so_far: &mut BlocksSoFar,
-    row: &Row<'_, '_>,
-    column: usize,
-) -> Result<(), AllocError>
-    ensures { OnOk result (page so_far.new
-        ≡ code_taken row.now.text.now row.now.cells.now column row.now.line (page so_far.old)) }
-{
-    let code = code_piece(row.cells, column, row.line);
-    let keeps = keeps_line(row.cells, column, so_far.leaf);
-    so_far.take_piece(code, row.line, keeps)?;
-    end_html(so_far, bytes_between(row.text, code.start, code.end));
-    Ok(())
-}
-
-/// Where the open paragraph has no line, it begins with this one.
-#[tactic(auto, unfolding(crate::specs::Blocks::text_started))]
-fn start_text(so_far: &mut BlocksSoFar, start: usize)
-    ensures { page so_far.new ≡ text_started start (page so_far.old) }
-{
-    let index = so_far.blocks.len().saturating_sub(1);
-    if let Some(block) = so_far.blocks.get(index).copied() {
-        if so_far.pieces.len() <= block.first {
-            set(&mut so_far.blocks, index, Block { start, ..block });
+        Leaf::Html(kind) => {
+            if is_blank_at(cells, cursor) && !goes_past_blank(kind) {
+                Turn::Passes
+            } else {
+                Turn::Takes(cursor.column)
+            }
         }
+        Leaf::Metadata(kind) => {
+            if closes_metadata(kind, text, line.start) {
+                Turn::Closes
+            } else {
+                Turn::Takes(cursor.column)
+            }
+        }
+        Leaf::Table(table) => match row_turn(text, cells, line, cursor, table) {
+            None => Turn::Passes,
+            Some(longer) => Turn::Row(longer),
+        },
     }
 }
 
-/// Puts a line into the open paragraph, or begins one.
-#[tactic(auto, unfolding(crate::specs::Blocks::text_taken))]
-pub fn take_text(
-    so_far: &mut BlocksSoFar,
-    alloc: Global,
-    row: &Row<'_, '_>,
-    place: LineStart,
-) -> Result<(), AllocError>
-    ensures { OnOk result (page so_far.new
-        ≡ text_taken row.now.text.now row.now.cells.now row.now.line place (page so_far.old)) }
+/// The HTML block that the rest of a line begins. A tag alone on its line can't interrupt a paragraph.
+#[tactic(auto, unfolding(crate::specs::Leaves::html_at))]
+fn html_at(rest: &[u8], in_paragraph: bool) -> Option<HtmlKind>
+    ensures { result ≡ html_at rest.now in_paragraph }
 {
-    let words = text_piece(row.cells, place.cursor, row.line);
-    if !is_paragraph(so_far.leaf) {
-        so_far.close_to(alloc, row.text, place.depth)?;
-        so_far.open_leaf(Leaf::Paragraph, BlockKind::Paragraph, words.start, row.line)?;
+    match html_kind(rest) {
+        None => None,
+        Some(HtmlKind::Alone) => {
+            if in_paragraph {
+                None
+            } else {
+                Some(HtmlKind::Alone)
+            }
+        }
+        Some(kind) => Some(kind),
     }
-    start_text(so_far, words.start);
-    so_far.take_piece(words, row.line, true)
 }
 
-#[tactic(auto, unfolding(crate::specs::Blocks::indented_started))]
-pub fn start_indented(
-    so_far: &mut BlocksSoFar,
-    alloc: Global,
-    row: &Row<'_, '_>,
-    place: LineStart,
-    column: usize,
-) -> Result<(), AllocError>
-    ensures { OnOk result (page so_far.new
-        ≡ indented_started row.now.text.now row.now.cells.now row.now.line place column
-        (page so_far.old)) }
+#[tactic(auto, unfolding(crate::specs::Leaves::underline_in))]
+fn underline_in(cells: &Cells, column: usize, directly: bool) -> Option<HeadingLevel>
+    ensures { result ≡ underline_in cells.now column directly }
 {
-    so_far.close_to(alloc, row.text, place.depth)?;
-    let start = cell_place(row.cells, column, row.line.end);
-    so_far.open_leaf(Leaf::Indented, BlockKind::Indented, start, row.line)?;
-    take_code(so_far, row, column)
+    if directly {
+        underline_at(cells, column)
+    } else {
+        None
+    }
 }
 
-/// The range of a fence's info string.
-#[tactic(auto, unfolding(crate::specs::Blocks::info_of))]
-fn info_of(cells: &Cells, cursor: Cursor, fence: Fence, line: Line) -> BlockKind
-    ensures { result ≡ info_of cells.now cursor fence line }
+/// A thematic break at a column of a line with this tail, or text.
+#[tactic(auto, unfolding(crate::specs::Leaves::rule_at))]
+pub fn rule_at(cells: &Cells, tail: Tail, column: usize) -> LeafStart
+    ensures { result ≡ rule_at cells.now tail column }
 {
-    let from = ink_from(cells, cursor.ink.saturating_add(fence.count));
-    let to = trimmed(cells, from, cells.len(), b' ');
-    BlockKind::Fenced(
-        cell_place(cells, from, line.end),
-        cell_place(cells, to, line.end),
-    )
+    if is_rule(cells, tail, column) {
+        LeafStart::Rule
+    } else {
+        LeafStart::Text
+    }
 }
 
-#[tactic(auto, unfolding(crate::specs::Blocks::fence_started))]
-pub fn start_fence(
-    so_far: &mut BlocksSoFar,
-    alloc: Global,
-    row: &Row<'_, '_>,
-    place: LineStart,
-    fence: Fence,
-) -> Result<(), AllocError>
-    ensures { OnOk result (page so_far.new
-        ≡ fence_started row.now.text.now row.now.cells.now row.now.line place fence
-        (page so_far.old)) }
+/// What begins at a column with at most three spaces before it.
+#[tactic(auto, unfolding(crate::specs::Leaves::mark_at))]
+fn mark_at(
+    cells: &Cells,
+    rest: &[u8],
+    tail: Tail,
+    cursor: Cursor,
+    in_paragraph: bool,
+    directly: bool,
+) -> LeafStart
+    ensures { result ≡ mark_at cells.now rest.now tail cursor in_paragraph directly }
 {
-    so_far.close_to(alloc, row.text, place.depth)?;
-    let start = cell_place(row.cells, place.cursor.ink, row.line.end);
-    let kind = info_of(row.cells, place.cursor, fence, row.line);
-    so_far.open_leaf(Leaf::Fenced(fence), kind, start, row.line)
+    if let Some(heading) = heading_at(cells, cursor.ink) {
+        return LeafStart::Heading(heading);
+    }
+    if let Some(fence) = fence_at(cells, cursor) {
+        return LeafStart::Fence(fence);
+    }
+    if let Some(kind) = html_at(rest, in_paragraph) {
+        return LeafStart::Html(kind);
+    }
+    if let Some(level) = underline_in(cells, cursor.ink, directly) {
+        return LeafStart::Underline(level);
+    }
+    rule_at(cells, tail, cursor.ink)
 }
 
-#[tactic(auto, unfolding(crate::specs::Blocks::html_started))]
-pub fn start_html(
-    so_far: &mut BlocksSoFar,
-    alloc: Global,
-    row: &Row<'_, '_>,
-    place: LineStart,
-    kind: HtmlKind,
-) -> Result<(), AllocError>
-    ensures { OnOk result (page so_far.new
-        ≡ html_started row.now.text.now row.now.cells.now row.now.line place kind
-        (page so_far.old)) }
+/// What the rest of a line is. `rest` are its bytes behind its spaces, `tail` is the tail of the whole
+/// line; `in_paragraph` says that it can go on with a paragraph, and `directly` that this paragraph
+/// stands in the innermost container that goes on in the line.
+#[tactic(auto, unfolding(crate::specs::Leaves::leaf_at))]
+pub fn leaf_at(
+    cells: &Cells,
+    rest: &[u8],
+    tail: Tail,
+    cursor: Cursor,
+    in_paragraph: bool,
+    directly: bool,
+) -> LeafStart
+    ensures { result ≡ leaf_at cells.now rest.now tail cursor in_paragraph directly }
 {
-    so_far.close_to(alloc, row.text, place.depth)?;
-    let start = cell_place(row.cells, place.cursor.column, row.line.end);
-    so_far.open_leaf(Leaf::Html(kind), BlockKind::Html, start, row.line)?;
-    take_code(so_far, row, place.cursor.column)
+    if is_blank_at(cells, cursor) {
+        LeafStart::Blank
+    } else if indent_of(cursor) < 4 {
+        mark_at(cells, rest, tail, cursor, in_paragraph, directly)
+    } else if in_paragraph {
+        LeafStart::Text
+    } else {
+        LeafStart::Indented(cursor.column.saturating_add(4))
+    }
 }
 
-#[tactic(auto, unfolding(crate::specs::Blocks::rule_started))]
-pub fn start_rule(
-    so_far: &mut BlocksSoFar,
-    alloc: Global,
-    row: &Row<'_, '_>,
-    place: LineStart,
-) -> Result<(), AllocError>
-    ensures { OnOk result (page so_far.new
-        ≡ rule_started row.now.text.now row.now.cells.now row.now.line place (page so_far.old)) }
+/// Metadata where some begins, and else what CommonMark has there.
+#[tactic(auto, unfolding(crate::specs::Leaves::metadata_or))]
+pub fn metadata_or(found: Option<MetadataBlockKind>, other: LeafStart) -> LeafStart
+    ensures { result ≡ metadata_or found other }
 {
-    so_far.close_to(alloc, row.text, place.depth)?;
-    let start = cell_place(row.cells, place.cursor.ink, row.line.end);
-    so_far.open_leaf(Leaf::Nothing, BlockKind::Rule, start, row.line)?;
-    so_far.finish_leaf();
-    Ok(())
+    match found {
+        None => other,
+        Some(kind) => LeafStart::Metadata(kind),
+    }
+}
+
+/// A box where one stands, and else what does.
+#[tactic(auto, unfolding(crate::specs::Leaves::task_or))]
+pub fn task_or(found: Option<bool>, other: LeafStart) -> LeafStart
+    ensures { result ≡ task_or found other }
+{
+    match found {
+        None => other,
+        Some(done) => LeafStart::Task(done),
+    }
+}
+
+/// The kind of a quote where one is named, and else what stands there.
+#[tactic(auto, unfolding(crate::specs::Leaves::quote_kind_or))]
+pub fn quote_kind_or(found: Option<BlockQuoteKind>, other: LeafStart) -> LeafStart
+    ensures { result ≡ quote_kind_or found other }
+{
+    match found {
+        None => other,
+        Some(kind) => LeafStart::QuoteKind(kind),
+    }
+}
+
+/// An HTML block where a tag alone behind a quote's kind begins one, and else what stands there.
+#[tactic(auto, unfolding(crate::specs::Leaves::tag_or))]
+pub fn tag_or(found: bool, other: LeafStart) -> LeafStart
+    ensures { result ≡ tag_or found other }
+{
+    if found {
+        LeafStart::Html(HtmlKind::Alone)
+    } else {
+        other
+    }
 }

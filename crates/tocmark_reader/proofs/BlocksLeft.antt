@@ -14,10 +14,10 @@ use Rattle.tocmark_read_scan.specs.Basic.{plus}
 use Rattle.tocmark_read_scan.specs.Content as content
 use Rattle.tocmark_read_scan.specs.TableCell.{cell_content}
 use Rattle.tocmark_read_scan.specs.declared.syntax.Syntax.{Syntax}
-use Rattle.tocmark_read_leaves.specs.declared.definition.Piece.{Piece}
-use Rattle.tocmark_read_open_blocks.specs.declared.page.Block.{Block}
-use Rattle.tocmark_read_open_blocks.specs.declared.page.BlockKind.{BlockKind}
-use Rattle.tocmark_read_open_blocks.specs.declared.page.BlockKind.TheVariants as kind
+use Rattle.tocmark_read_page.specs.declared.piece.Piece.{Piece}
+use Rattle.tocmark_read_page.specs.declared.page.Block.{Block}
+use Rattle.tocmark_read_page.specs.declared.page.BlockKind.{BlockKind}
+use Rattle.tocmark_read_page.specs.declared.page.BlockKind.TheVariants as kind
 use Rattle.tocmark_read_inlines.specs.Inlines as inlines
 use Rattle.tocmark_read_spans.specs.Definitions.{distinct_labels, entry_of}
 use Rattle.tocmark_reader.specs.declared.block_events.Assembly.{Assembly}

@@ -14,9 +14,9 @@ use Rattle.tocmark_read_scan.specs.declared.content.ContentLine.{ContentLine}
 use Rattle.tocmark_read_scan.proofs.PlainContent.{places_of}
 use Rattle.tocmark_read_scan.proofs.PlainPieces.{feed_joined, line_places, AreNoZeros, content_of_lines}
 use Rattle.tocmark_read_blocks.specs.Blocks.{BlocksView, blocks_of}
-use Rattle.tocmark_read_leaves.specs.declared.definition.Piece.{Piece}
-use Rattle.tocmark_read_open_blocks.specs.declared.page.Block.{Block}
-use Rattle.tocmark_read_open_blocks.specs.declared.page.BlockKind.TheVariants as kind
+use Rattle.tocmark_read_page.specs.declared.piece.Piece.{Piece}
+use Rattle.tocmark_read_page.specs.declared.page.Block.{Block}
+use Rattle.tocmark_read_page.specs.declared.page.BlockKind.TheVariants as kind
 use Rattle.tocmark_read_blocks.proofs.PlainSteps.{line_piece}
 use Rattle.tocmark_read_blocks.proofs.PlainPages.{last_end, plain_blocks}
 use Rattle.tocmark_read_blocks.proofs.PlainTexts.{IsTextLine, line_list, lines_joined, lines_plain}

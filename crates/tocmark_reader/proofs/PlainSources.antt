@@ -6,7 +6,7 @@ use Rattle.std.specs.List.{AllByRecursion}
 use Rattle.std.specs.Str.Lossy.{utf8_lossy}
 use Rattle.tocmark_read_scan.specs.Basic.{bytes_between}
 use Rattle.tocmark_read_scan.proofs.PlainPieces.{piece_between}
-use Rattle.tocmark_read_leaves.specs.Definitions.{replaced}
+use Rattle.tocmark_read_page.specs.Definitions.{replaced}
 use Rattle.tocmark_reader.specs.Range.{snapped, is_cut}
 use Rattle.tocmark_reader.specs.Words.{cleaned}
 use Rattle.tocmark_reader.proofs.PlainEvents.{source_of, AreSourced}

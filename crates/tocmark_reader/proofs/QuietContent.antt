@@ -12,7 +12,7 @@ use Rattle.tocmark_read_scan.specs.declared.class.Class.TheVariants.{White}
 use Rattle.tocmark_read_scan.proofs.PlainContent.{places_of, put_bytes_plain, trimmed_feed, length_places}
 use Rattle.tocmark_read_scan.proofs.PlainPieces.{places_append}
 use Rattle.tocmark_read_scan.proofs.PlainTests.{eq_of, both_true, is_not, all_from}
-use Rattle.tocmark_read_leaves.specs.declared.definition.Piece.{Piece}
+use Rattle.tocmark_read_page.specs.declared.piece.Piece.{Piece}
 use Rattle.tocmark_read_inlines.specs.Scan.{is_quiet}
 use Rattle.tocmark_reader.specs.Pages.{content_line}
 use Rattle.tocmark_reader.specs.QuietLines.{is_text_byte, is_quiet_line, are_quiet_from}

@@ -7,7 +7,7 @@ use Rattle.tocmark_read_scan.specs.PlainParts.{Part, Feed, spelled, last_byte}
 use Rattle.tocmark_read_scan.specs.declared.class.Class.TheVariants.{White}
 use Rattle.tocmark_read_scan.proofs.PlainContent.{places_of}
 use Rattle.tocmark_read_scan.proofs.PlainTests.{both_false, both_true, differs}
-use Rattle.tocmark_read_leaves.specs.declared.definition.Piece.{Piece}
+use Rattle.tocmark_read_page.specs.declared.piece.Piece.{Piece}
 use Rattle.tocmark_read_scan.specs.declared.syntax.Syntax.{Syntax}
 use Rattle.tocmark_read_inlines.specs.Inlines as inlines
 use Rattle.tocmark_read_inlines.specs.Scan as s

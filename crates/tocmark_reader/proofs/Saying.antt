@@ -3,8 +3,8 @@ use Rattle.std.proofs.Common.{◌≡◌, ◌∙◌, sym, ap, ℕ, ◌+◌, ◌<�
 use Rattle.std.proofs.lemmas.List.{drop_more, map-append}
 use Rattle.tocmark_read_scan.specs.Basic.{plus}
 use Rattle.tocmark_read_scan.specs.declared.syntax.Names.{Names}
-use Rattle.tocmark_read_leaves.specs.Definitions.{definition_view}
-use Rattle.tocmark_read_leaves.specs.declared.definition.LinkDefinition.{LinkDefinition}
+use Rattle.tocmark_read_page.specs.Definitions.{definition_view}
+use Rattle.tocmark_read_page.specs.declared.definition.LinkDefinition.{LinkDefinition}
 use Rattle.tocmark_reader.specs.Definitions.{SaidDefinition, no_place, said_at, said_from, said_view}
 use Rattle.tocmark_reader.specs.declared.definitions.DefinitionPlace.{DefinitionPlace}
 use Rattle.tocmark_reader.specs.declared.definitions.ReferenceDefinition.{ReferenceDefinition}

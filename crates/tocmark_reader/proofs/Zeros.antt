@@ -5,7 +5,7 @@ use Rattle.std.specs.Str.{IsUtf8}
 use Rattle.std.specs.Str.Lossy.{utf8_lossy}
 use Rattle.std.proofs.lemmas.Str.{IsUtf8-append, IsUtf8-from_ascii, utf8_lossy-IsUtf8, utf8_lossy_empty}
 use Rattle.tocmark_read_scan.proofs.PlainTests.{both_false}
-use Rattle.tocmark_read_leaves.specs.Definitions.{replaced}
+use Rattle.tocmark_read_page.specs.Definitions.{replaced}
 use Rattle.tocmark_read_scan.specs.declared.syntax.Names.{Names}
 use Rattle.tocmark_read_tokens.specs.Reference.{unescaped_in}
 use Rattle.tocmark_reader.specs.Words.{cleaned, feed_if, info_text_in}

@@ -7,8 +7,8 @@ use Rattle.tocmark_event.specs.Text.{text_of}
 use Rattle.tocmark_event.specs.View as view
 use Rattle.tocmark_event.specs.declared.event.HeadingLevel.{HeadingLevel}
 use Rattle.tocmark_read_scan.specs.Basic.{plus, byte_at, bytes_between}
-use Rattle.tocmark_read_leaves.specs.declared.attributes.Braces.{Braces}
-use Rattle.tocmark_read_leaves.specs.Definitions.{replaced}
+use Rattle.tocmark_read_page.specs.declared.page.Braces.{Braces}
+use Rattle.tocmark_read_page.specs.Definitions.{replaced}
 use Rattle.tocmark_reader.specs.declared.attributes.Attributes.{Attributes}
 
 -- the attributes so far, and the word that goes on

@@ -13,9 +13,9 @@ use Rattle.tocmark_read_tokens.specs.Word.{definition_at}
 use Rattle.tocmark_read_tokens.specs.declared.word.Definition.{Definition}
 use Rattle.tocmark_read_tokens.specs.declared.word.Word.{Word}
 use Rattle.tocmark_read_blocks.specs.Blocks.{BlocksView, blocks_in}
-use Rattle.tocmark_read_leaves.specs.Definitions.{DefinitionView, joined}
-use Rattle.tocmark_read_leaves.specs.declared.definition.Piece.{Piece}
-use Rattle.tocmark_read_open_blocks.specs.declared.page.Block.{Block}
+use Rattle.tocmark_read_page.specs.Definitions.{DefinitionView, joined}
+use Rattle.tocmark_read_page.specs.declared.piece.Piece.{Piece}
+use Rattle.tocmark_read_page.specs.declared.page.Block.{Block}
 use Rattle.tocmark_reader.specs.Pages.{pieces_of}
 use Rattle.tocmark_reader.specs.Range.{IsGoodRange, snapped}
 use Rattle.tocmark_reader.specs.declared.definitions.DefinitionPlace.{DefinitionPlace}

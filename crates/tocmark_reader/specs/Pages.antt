@@ -7,15 +7,15 @@ use Rattle.tocmark_read_scan.specs.Basic.{plus, bytes_between}
 use Rattle.tocmark_read_scan.specs.declared.syntax.TheConstants.{CORE}
 use Rattle.tocmark_read_scan.specs.declared.syntax.Syntax.{Syntax}
 use Rattle.tocmark_read_scan.specs.declared.syntax.Names.{Names}
-use Rattle.tocmark_read_leaves.specs.Rows.{alignments_of}
+use Rattle.tocmark_read_constructs.specs.Tables.{alignments_of}
 use Rattle.tocmark_read_scan.specs.TableCell.{cell_content}
 use Rattle.tocmark_read_scan.specs.Content as content
 use Rattle.tocmark_read_scan.specs.declared.content.ContentLine.{ContentLine}
-use Rattle.tocmark_read_leaves.specs.declared.definition.Piece.{Piece}
-use Rattle.tocmark_read_open_blocks.specs.declared.page.Block.{Block}
-use Rattle.tocmark_read_open_blocks.specs.declared.page.Task.{Task}
-use Rattle.tocmark_read_open_blocks.specs.declared.page.BlockKind.{BlockKind}
-use Rattle.tocmark_read_open_blocks.specs.declared.page.BlockKind.TheVariants as kind
+use Rattle.tocmark_read_page.specs.declared.piece.Piece.{Piece}
+use Rattle.tocmark_read_page.specs.declared.page.Block.{Block}
+use Rattle.tocmark_read_page.specs.declared.page.Task.{Task}
+use Rattle.tocmark_read_page.specs.declared.page.BlockKind.{BlockKind}
+use Rattle.tocmark_read_page.specs.declared.page.BlockKind.TheVariants as kind
 use Rattle.tocmark_read_inlines.specs.Inlines as inlines
 use Rattle.tocmark_read_spans.specs.declared.definitions.Entry.{Entry}
 use Rattle.tocmark_reader.specs.Attributes.{heading_tag}

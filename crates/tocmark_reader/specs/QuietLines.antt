@@ -7,7 +7,7 @@ use Rattle.tocmark_read_scan.specs.Class.{is_in}
 use Rattle.tocmark_read_scan.specs.Content.{is_behind}
 use Rattle.tocmark_read_scan.specs.PlainParts.{last_byte}
 use Rattle.tocmark_read_scan.specs.declared.class.Class.TheVariants.{White}
-use Rattle.tocmark_read_leaves.specs.declared.definition.Piece.{Piece}
+use Rattle.tocmark_read_page.specs.declared.piece.Piece.{Piece}
 use Rattle.tocmark_read_inlines.specs.Scan.{is_quiet}
 use Rattle.tocmark_reader.specs.Emitted.{NodeView, Given, Source}
 use Rattle.tocmark_reader.specs.Pages.{content_line, node}

@@ -5,13 +5,13 @@ use Rattle.tocmark_event.specs.Reading.{ReadingView}
 use Rattle.tocmark_read_tokens.specs.Label.{first_place}
 use Rattle.tocmark_read_blocks.specs.Blocks.{BlocksView, blocks_in}
 use Rattle.tocmark_read_scan.specs.Basic.{bytes_between}
-use Rattle.tocmark_read_open_blocks.specs.declared.page.Block.{Block}
-use Rattle.tocmark_read_open_blocks.specs.declared.page.BlockKind.{BlockKind}
-use Rattle.tocmark_read_open_blocks.specs.declared.page.BlockKind.TheVariants as kind
+use Rattle.tocmark_read_page.specs.declared.page.Block.{Block}
+use Rattle.tocmark_read_page.specs.declared.page.BlockKind.{BlockKind}
+use Rattle.tocmark_read_page.specs.declared.page.BlockKind.TheVariants as kind
 use Rattle.tocmark_read_scan.specs.declared.syntax.TheConstants.{CORE}
 use Rattle.tocmark_read_scan.specs.declared.syntax.Syntax.{Syntax}
 use Rattle.tocmark_read_scan.specs.declared.syntax.Names.{Names}
-use Rattle.tocmark_read_leaves.specs.Definitions.{DefinitionView, replaced}
+use Rattle.tocmark_read_page.specs.Definitions.{DefinitionView, replaced}
 use Rattle.tocmark_read_spans.specs.Definitions as defs
 use Rattle.tocmark_read_spans.specs.declared.definitions.Entry.{Entry}
 use Rattle.tocmark_reader.specs.Emitted.{NodeView, emitted}

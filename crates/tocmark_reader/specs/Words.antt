@@ -6,7 +6,7 @@ use Rattle.tocmark_read_tokens.specs.Reference.{unescaped_in}
 use Rattle.tocmark_read_scan.specs.declared.syntax.Names.{Names}
 use Rattle.tocmark_read_scan.specs.declared.syntax.Names.TheVariants.{Four}
 use Rattle.tocmark_read_tokens.specs.Label.{collapsed}
-use Rattle.tocmark_read_leaves.specs.Definitions.{replaced}
+use Rattle.tocmark_read_page.specs.Definitions.{replaced}
 
 -- a line feed, for a line that ends
 abbrev pub feed_if : Bool → List ℕ

@@ -11,7 +11,7 @@ ghost use Rattle.tocmark_reader.specs.Attributes.{attributes_view, parts_words, 
 use crate::words::replaced_bytes;
 use std::alloc::{AllocError, Global};
 use tocmark_event::event::{CowStr, HeadingLevel, Tag};
-use tocmark_read_leaves::attributes::Braces;
+use tocmark_read_page::page::Braces;
 use tocmark_read_scan::basic::{byte_at, bytes_between};
 
 /// The attributes of a heading so far, and the word that goes on.

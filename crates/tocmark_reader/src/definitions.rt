@@ -4,7 +4,7 @@ ghost use Rattle.std.specs.Prelude.{◌≡◌, ◌++◌, length, map, slice_get,
 ghost use Rattle.std.specs.List.{All, flat_map};
 ghost use Rattle.tocmark_read_scan.specs.Repeat.{repeated};
 ghost use Rattle.tocmark_read_blocks.specs.Blocks.{blocks_view};
-ghost use Rattle.tocmark_read_leaves.specs.Definitions.{definition_view, joined, joined_line};
+ghost use Rattle.tocmark_read_page.specs.Definitions.{definition_view, joined, joined_line};
 ghost use Rattle.tocmark_reader.specs.Definitions.{byte_places, definitions_of, line_places, no_place, opening, place_at, place_of, place_step, placed_on, placed_once, places_from, places_in, said_at, said_from, said_view, snapped_place, IsGoodPlace, IsWellPlaced};
 ghost use Rattle.tocmark_reader.specs.Pages.{pieces_of};
 
@@ -12,8 +12,9 @@ use crate::emit::snapped;
 use crate::words::replaced_bytes;
 use std::alloc::{AllocError, Global};
 use tocmark_read_blocks::{Blocks, read_blocks};
-use tocmark_read_leaves::definition::{LinkDefinition, Piece};
-use tocmark_read_open_blocks::page::Block;
+use tocmark_read_page::definition::LinkDefinition;
+use tocmark_read_page::piece::Piece;
+use tocmark_read_page::page::Block;
 use tocmark_read_scan::basic::bytes_between;
 use tocmark_read_scan::syntax::{Names, Syntax};
 use tocmark_read_tokens::label::collapsed;

@@ -11,7 +11,7 @@ use crate::emit::{Emission, Node, NodeKind};
 use crate::plain::last_byte;
 use crate::searched::SearchedText;
 use std::alloc::{AllocError, Global};
-use tocmark_read_leaves::definition::Piece;
+use tocmark_read_page::piece::Piece;
 use tocmark_read_scan::basic::{byte_at, bytes_between};
 use tocmark_read_scan::class::{Class, is_in};
 

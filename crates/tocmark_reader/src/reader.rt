@@ -2,7 +2,7 @@
 
 ghost use Rattle.std.specs.Prelude.{◌≡◌, map, string_bytes, IfOk, OnOk};
 ghost use Rattle.tocmark_read_blocks.specs.Blocks.{blocks_view};
-ghost use Rattle.tocmark_read_leaves.specs.Definitions.{definition_view};
+ghost use Rattle.tocmark_read_page.specs.Definitions.{definition_view};
 ghost use Rattle.tocmark_read_spans.specs.Definitions.{collected_view, entry_of};
 ghost use Rattle.tocmark_reader.specs.Reading.{define_step_in, collected_in, noted_as, noted, collected_from, first_entry, found_under, core_reading, reading_of};
 ghost use Rattle.tocmark_reader.specs.Left.{IsBetweenTrees, reading_left};
@@ -16,8 +16,8 @@ use std::alloc::{AllocError, Global};
 use tocmark_event::event::ParserOptions;
 use tocmark_event::reader::{Reader, Reading};
 use tocmark_read_blocks::{Blocks, read_blocks};
-use tocmark_read_leaves::definition::LinkDefinition;
-use tocmark_read_open_blocks::page::{Block, BlockKind};
+use tocmark_read_page::definition::LinkDefinition;
+use tocmark_read_page::page::{Block, BlockKind};
 use tocmark_read_scan::basic::bytes_between;
 use tocmark_read_scan::syntax::{CORE, Names, Syntax};
 use tocmark_read_spans::definitions::{Collected, Definitions, Entry, distinct_labels};

@@ -6,7 +6,7 @@ ghost use Rattle.std.specs.Str.Lossy.{utf8_lossy};
 ghost use Rattle.tocmark_read_scan.specs.Basic.{bytes_between};
 ghost use Rattle.tocmark_read_tokens.specs.Reference.{unescaped_in};
 ghost use Rattle.tocmark_event.specs.Text.{text_of};
-ghost use Rattle.tocmark_read_leaves.specs.Definitions.{replaced};
+ghost use Rattle.tocmark_read_page.specs.Definitions.{replaced};
 ghost use Rattle.tocmark_read_spans.specs.Definitions.{stretch_text};
 ghost use Rattle.tocmark_reader.specs.Words.{feed_if, cleaned, info_text_in, spaces_text, name_text};
 
@@ -20,7 +20,7 @@ use tocmark_read_spans::role::Stretch;
 use tocmark_read_tokens::label::collapsed;
 use tocmark_read_tokens::reference::unescaped;
 
-#[tactic(auto, unfolding(tocmark_read_leaves::specs::Definitions::replaced))]
+#[tactic(auto, unfolding(tocmark_read_page::specs::Definitions::replaced))]
 fn push_byte(out: &mut Vec<u8>, byte: u8) -> Result<(), AllocError>
     ensures { OnOk result (out.new.items ≡ out.old.items ++ replaced byte) }
 {

@@ -1,7 +1,7 @@
 use Rattle.std.proofs.Common.{ap, sym, ◌∙◌, arith}
 use Rattle.std.proofs.lemmas.Bool.Decides.{nat_tests}
 use Rattle.std.specs.List.{find}
-use Rattle.tocmark_read_open_blocks.specs.Pages.{page}
+use Rattle.tocmark_read_page.specs.Pages.{page}
 use Rattle.tocmark_read_blocks.proofs.FencedLines.{is_ink, fenced_by_tests}
 use Rattle.tocmark_read_blocks.proofs.block.is_fenced.Goals as goal
 

@@ -1,6 +1,6 @@
 use Rattle.std.proofs.Common.{◌≡◌, take}
 use Rattle.std.specs.List.{fold}
-use Rattle.tocmark_read_open_blocks.specs.Pages.{page}
+use Rattle.tocmark_read_page.specs.Pages.{page}
 use Rattle.tocmark_read_blocks.specs.Blocks.{line_taken_in}
 use Rattle.tocmark_read_blocks.proofs.block.take_lines.Given as goal
 

@@ -1,7 +1,7 @@
 use Rattle.std.proofs.Common.{◌≡◌}
 use Rattle.tocmark_read_scan.specs.Repeat.{repeated}
-use Rattle.tocmark_read_open_blocks.specs.Pages.{page}
-use Rattle.tocmark_read_blocks.specs.Blocks.{container_once_in, containers_opened_in}
+use Rattle.tocmark_read_page.specs.Pages.{page}
+use Rattle.tocmark_read_blocks.specs.Containers.{container_once_in, containers_opened_in}
 use Rattle.tocmark_read_blocks.proofs.container.open_all.Given as goal
 
 abbrev pub invariant-loop-steps_left : goal.invariant-loop-steps_left

@@ -1,6 +1,6 @@
 use Rattle.std.proofs.Common.{◌≡◌, take}
 use Rattle.std.specs.List.{flat_map}
-use Rattle.tocmark_read_leaves.specs.Definitions.{joined}
+use Rattle.tocmark_read_page.specs.Definitions.{joined}
 use Rattle.tocmark_reader.specs.Definitions.{line_places}
 use Rattle.tocmark_reader.proofs.definitions.joined.Given as goal
 

@@ -1,7 +1,7 @@
 use Rattle.std.proofs.Common.{◌≡◌, ◌+◌, ◌++◌, List, drop, map, subst, sym}
 use Rattle.std.specs.List.{All}
 use Rattle.std.proofs.lemmas.List.Elements.{All-push}
-use Rattle.tocmark_read_leaves.specs.Definitions.{definition_view}
+use Rattle.tocmark_read_page.specs.Definitions.{definition_view}
 use Rattle.tocmark_reader.specs.Definitions.{said_from, said_view, IsWellPlaced}
 use Rattle.tocmark_reader.specs.declared.definitions.ReferenceDefinition.{ReferenceDefinition}
 use Rattle.tocmark_reader.proofs.Saying.{said-more}

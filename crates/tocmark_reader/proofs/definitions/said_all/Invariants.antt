@@ -1,6 +1,6 @@
 use Rattle.std.proofs.Common.{◌≡◌, ◌++◌, drop, map}
 use Rattle.std.specs.List.{All}
-use Rattle.tocmark_read_leaves.specs.Definitions.{definition_view}
+use Rattle.tocmark_read_page.specs.Definitions.{definition_view}
 use Rattle.tocmark_reader.specs.Definitions.{said_from, said_view, IsWellPlaced}
 use Rattle.tocmark_reader.proofs.definitions.said_all.Given as goal
 

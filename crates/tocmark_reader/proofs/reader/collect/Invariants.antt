@@ -1,5 +1,5 @@
 use Rattle.std.proofs.Common.{◌≡◌, take, map}
-use Rattle.tocmark_read_leaves.specs.Definitions.{definition_view}
+use Rattle.tocmark_read_page.specs.Definitions.{definition_view}
 use Rattle.tocmark_read_spans.specs.Definitions.{collected_view}
 use Rattle.tocmark_reader.specs.Reading.{collected_in}
 use Rattle.tocmark_reader.proofs.reader.collect.Given as goal

@@ -1,6 +1,6 @@
 use Rattle.std.proofs.Common.{◌≡◌, ◌++◌, take}
 use Rattle.std.specs.List.{flat_map}
-use Rattle.tocmark_read_leaves.specs.Definitions.{replaced}
+use Rattle.tocmark_read_page.specs.Definitions.{replaced}
 use Rattle.tocmark_reader.proofs.words.push_replaced.Given as goal
 
 abbrev pub invariant-loop-byte : goal.invariant-loop-byte

@@ -4,7 +4,7 @@ use Rattle.std.proofs.lemmas.Bool.{eqb-true}
 use Rattle.std.proofs.lemmas.List.{nil_from_length}
 use Rattle.std.proofs.lemmas.Result.{on_ok_weaker}
 use Rattle.tocmark_read_inlines.specs.declared.write.Node.{Node}
-use Rattle.tocmark_read_leaves.specs.declared.definition.Piece.{Piece}
+use Rattle.tocmark_read_page.specs.declared.piece.Piece.{Piece}
 use Rattle.tocmark_read_spans.specs.Definitions.{entry_of}
 use Rattle.tocmark_reader.specs.Emitted.{emission_view}
 use Rattle.tocmark_reader.specs.Pages.{assembly_view}

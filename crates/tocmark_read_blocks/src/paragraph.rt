@@ -1,0 +1,63 @@
+//! Paragraphs and thematic breaks: how they begin, and what they take of a line.
+
+ghost use Rattle.std.specs.Prelude.{◌≡◌, OnOk};
+ghost use Rattle.tocmark_read_blocks.specs.Paragraphs.{text_started, text_taken, rule_started};
+ghost use Rattle.tocmark_read_page.specs.Pages.{page};
+
+use std::alloc::{AllocError, Global};
+use tocmark_read_lines::cell::cell_place;
+use tocmark_read_page::leaf::{Leaf, is_paragraph};
+use tocmark_read_page::line_start::{LineStart, Row};
+use tocmark_read_page::page::{Block, BlockKind, BlocksSoFar};
+use tocmark_read_page::piece::text_piece;
+use tocmark_read_scan::basic::set;
+
+/// Where the open paragraph has no line, it begins with this one.
+#[tactic(auto, unfolding(crate::specs::Paragraphs::text_started))]
+fn start_text(so_far: &mut BlocksSoFar, start: usize)
+    ensures { page so_far.new ≡ text_started start (page so_far.old) }
+{
+    let index = so_far.blocks.len().saturating_sub(1);
+    if let Some(block) = so_far.blocks.get(index).copied() {
+        if so_far.pieces.len() <= block.first {
+            set(&mut so_far.blocks, index, Block { start, ..block });
+        }
+    }
+}
+
+/// Puts a line into the open paragraph, or begins one.
+#[tactic(auto, unfolding(crate::specs::Paragraphs::text_taken))]
+pub fn take_text(
+    so_far: &mut BlocksSoFar,
+    alloc: Global,
+    row: &Row<'_, '_>,
+    place: LineStart,
+) -> Result<(), AllocError>
+    ensures { OnOk result (page so_far.new
+        ≡ text_taken row.now.text.now row.now.cells.now row.now.line place (page so_far.old)) }
+{
+    let words = text_piece(row.cells, place.cursor, row.line);
+    if !is_paragraph(so_far.leaf) {
+        so_far.close_to(alloc, row.text, place.depth)?;
+        so_far.open_leaf(Leaf::Paragraph, BlockKind::Paragraph, words.start, row.line)?;
+    }
+    start_text(so_far, words.start);
+    so_far.take_piece(words, row.line, true)
+}
+
+#[tactic(auto, unfolding(crate::specs::Paragraphs::rule_started))]
+pub fn start_rule(
+    so_far: &mut BlocksSoFar,
+    alloc: Global,
+    row: &Row<'_, '_>,
+    place: LineStart,
+) -> Result<(), AllocError>
+    ensures { OnOk result (page so_far.new
+        ≡ rule_started row.now.text.now row.now.cells.now row.now.line place (page so_far.old)) }
+{
+    so_far.close_to(alloc, row.text, place.depth)?;
+    let start = cell_place(row.cells, place.cursor.ink, row.line.end);
+    so_far.open_leaf(Leaf::Nothing, BlockKind::Rule, start, row.line)?;
+    so_far.finish_leaf();
+    Ok(())
+}

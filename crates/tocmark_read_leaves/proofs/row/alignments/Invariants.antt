@@ -1,7 +1,0 @@
-use Rattle.std.proofs.Common.{◌≡◌, take, []}
-use Rattle.std.specs.List.{fold}
-use Rattle.tocmark_read_leaves.specs.Rows.{columns_step, no_marks, behind_bar}
-use Rattle.tocmark_read_leaves.proofs.row.alignments.Given as goal
-
-abbrev pub invariant-loop-byte : goal.invariant-loop-byte
-invariant-loop-byte l = (l.found.items, l.column) ≡ fold columns_step ([], no_marks) (take l.byte-index (behind_bar l.row))

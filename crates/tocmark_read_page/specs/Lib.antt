@@ -1,0 +1,4 @@
+pub mod Leaves
+pub mod Pieces
+pub mod Definitions
+pub mod Pages
