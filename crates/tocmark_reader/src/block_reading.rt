@@ -10,8 +10,8 @@ use crate::searched::SearchedText;
 use std::alloc::{AllocError, Global};
 use std::mem;
 use tocmark_event::reader::Reading;
-use tocmark_read_page::piece::Piece;
 use tocmark_read_page::page::{Block, BlockKind};
+use tocmark_read_page::piece::Piece;
 use tocmark_read_scan::syntax::Syntax;
 use tocmark_read_spans::definitions::{Definitions, distinct_labels};
 
