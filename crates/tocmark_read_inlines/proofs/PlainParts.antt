@@ -37,7 +37,7 @@ inert_run bytes p e before after = rw (e, before, after) refl
 
 -- an underscore between letters or digits
 pub underscore_is_read : (bytes rest : List ℕ) (ahead : s.Known) (defs : List ℕ → Option Entry) (p c : ℕ) → drop p bytes ≡ 95 ∷ c ∷ rest → (c == 95) ≡ false → p + 1 < 2 ^ 64 → side_before bytes p ≡ Other → side_at bytes (p + 1) ≡ Other → IsReadAt bytes ahead defs p (Bare 95)
-unfolding s.looked s.looked_mark s.run_taken
+unfolding s.looked s.looked_mark s.run_taken s.run_kept
 underscore_is_read bytes rest ahead defs p c e h fits before after = λ t at resume.
     let run : run_at bytes t.place 95 ≡ record { place = p; count = p + 1 - p; length = p + 1 - p; byte = 95; opens = false; closes = false; subscript = false } =
     ap (λ k. run_at bytes k 95) at ∙ inert_run bytes p (one_underscore bytes rest p c e h fits) before after

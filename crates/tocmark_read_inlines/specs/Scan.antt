@@ -43,7 +43,7 @@ use Rattle.tocmark_read_spans.specs.declared.role.Span.TheVariants.{Link, Image}
 use Rattle.tocmark_read_spans.specs.declared.role.Stretch.{Stretch}
 use Rattle.tocmark_read_spans.specs.declared.role.Target.{Target}
 use Rattle.tocmark_read_spans.specs.declared.run.Run.{Run}
-use Rattle.tocmark_read_inlines.specs.declared.scan.KnownAhead.{KnownAhead}
+use Rattle.tocmark_read_inlines.specs.declared.ahead.KnownAhead.{KnownAhead}
 use Rattle.tocmark_read_inlines.specs.declared.scan.Scanner.{Scanner}
 
 -- the pass at a place
@@ -181,13 +181,13 @@ coded bytes ticks s =
 abbrev pub with_run : Run → State → State
 with_run r s = if r.opens || r.closes then record s { runs = s.runs ++ r ∷ [] } else s
 
--- delimiters of emphasis (CommonMark 6.2)
-unfoldable pub run_taken : List ℕ → ℕ → State → State
-run_taken bytes byte s = let r = run_at bytes s.place byte in with_run r (record s { resume = plus s.place r.count })
-
 -- a run that opens or closes is kept, and the pass goes on behind it
 unfoldable pub run_kept : Run → State → State
 run_kept r s = with_run r (record s { resume = plus s.place r.count })
+
+-- delimiters of emphasis (CommonMark 6.2)
+unfoldable pub run_taken : List ℕ → ℕ → State → State
+run_taken bytes byte s = run_kept (run_at bytes s.place byte) s
 
 -- tildes of strikethrough and subscripts
 unfoldable pub tildes_taken : Syntax → List ℕ → State → State
@@ -349,38 +349,6 @@ closed_asked bytes definitions b s (Some asked) = looked_up bytes definitions b 
 unfoldable pub closed_by_label : List ℕ → (List ℕ → Option Entry) → Bracket → State → State
 closed_by_label bytes definitions b s = closed_asked bytes definitions b s (label_asked bytes b s.place)
 
--- parentheses, or else a label
-abbrev pub closed_found_in : Names → List ℕ → (List ℕ → Option Entry) → Bracket → State → Option InlineTarget → State
-closed_found_in names bytes definitions b s None = closed_by_label bytes definitions b s
-closed_found_in names bytes definitions b s (Some found) = closed_inline_in names bytes b found s
-
--- a bracket that can begin a link or an image is closed: parentheses first, then a label
-unfoldable pub closed_active_in : Names → List ℕ → (List ℕ → Option Entry) → Bracket → State → State
-closed_active_in names bytes definitions b s = closed_found_in names bytes definitions b s (inline_target bytes (plus s.place 1))
-
--- the innermost bracket is taken away; whether it can begin a link or an image
-unfoldable pub popped : Bracket → State → State × Bool
-popped b s =
-    let height = length s.brackets - 1 in
-    (record s { brackets = take height s.brackets; inactive = min s.inactive height }, b.image || nat_le s.inactive height)
-
--- a bracket that can begin a link or an image, or a text
-abbrev pub closed_popped_in : Names → List ℕ → (List ℕ → Option Entry) → Bracket → State × Bool → State
-closed_popped_in names bytes definitions b (s, active) = if active then closed_active_in names bytes definitions b s else s
-
--- the innermost bracket, if there is one, is closed
-abbrev pub closed_last_in : Names → List ℕ → (List ℕ → Option Entry) → State → Option Bracket → State
-closed_last_in names bytes definitions s None = s
-closed_last_in names bytes definitions s (Some b) = closed_popped_in names bytes definitions b (popped b s)
-
--- a closing bracket (CommonMark 6.3)
-unfoldable pub closed_in : Names → List ℕ → (List ℕ → Option Entry) → State → State
-closed_in names bytes definitions s = closed_last_in names bytes definitions s (slice_get s.brackets (length s.brackets - 1))
-
--- the same where four names are known
-abbrev pub closed : List ℕ → (List ℕ → Option Entry) → State → State
-closed = closed_in Four
-
 -- a reference to a footnote in place of a bracket and its text; no bracket before it begins anything any more
 unfoldable pub noted : Bracket → Stretch → State → State
 noted b name s = record s {
@@ -411,28 +379,44 @@ closed_sought bytes definitions b s (Some (sought_as.Note w)) = note_looked_up b
 unfoldable pub closed_by_sought : List ℕ → (List ℕ → Option Entry) → Bracket → State → State
 closed_by_sought bytes definitions b s = closed_sought bytes definitions b s (label_sought bytes b s.place)
 
--- parentheses, or else a label of a link or of a footnote
-abbrev pub closed_found_or_sought : Names → List ℕ → (List ℕ → Option Entry) → Bracket → State → Option InlineTarget → State
-closed_found_or_sought names bytes definitions b s None = closed_by_sought bytes definitions b s
-closed_found_or_sought names bytes definitions b s (Some found) = closed_inline_in names bytes b found s
+-- a bracket without parentheses behind it is closed by a label, which may be one of a footnote where these are read
+abbrev pub closed_by_name : Bool → List ℕ → (List ℕ → Option Entry) → Bracket → State → State
+closed_by_name notes bytes definitions b s = if notes then closed_by_sought bytes definitions b s else closed_by_label bytes definitions b s
+
+-- parentheses, or else a label
+abbrev pub closed_found_in : Names → Bool → List ℕ → (List ℕ → Option Entry) → Bracket → State → Option InlineTarget → State
+closed_found_in names notes bytes definitions b s None = closed_by_name notes bytes definitions b s
+closed_found_in names notes bytes definitions b s (Some found) = closed_inline_in names bytes b found s
 
 -- a bracket that can begin a link, an image or a reference to a footnote is closed: parentheses first, then a label
-unfoldable pub closed_among_notes : Names → List ℕ → (List ℕ → Option Entry) → Bracket → State → State
-closed_among_notes names bytes definitions b s =
-    closed_found_or_sought names bytes definitions b s (inline_target bytes (plus s.place 1))
+unfoldable pub closed_active_in : Names → Bool → List ℕ → (List ℕ → Option Entry) → Bracket → State → State
+closed_active_in names notes bytes definitions b s =
+    closed_found_in names notes bytes definitions b s (inline_target bytes (plus s.place 1))
+
+-- the innermost bracket is taken away; whether it can begin a link or an image
+unfoldable pub popped : Bracket → State → State × Bool
+popped b s =
+    let height = length s.brackets - 1 in
+    (record s { brackets = take height s.brackets; inactive = min s.inactive height }, b.image || nat_le s.inactive height)
 
 -- a bracket that can begin something, or a text
-abbrev pub noted_popped : Names → List ℕ → (List ℕ → Option Entry) → Bracket → State × Bool → State
-noted_popped names bytes definitions b (s, active) = if active then closed_among_notes names bytes definitions b s else s
+abbrev pub closed_popped_in : Names → Bool → List ℕ → (List ℕ → Option Entry) → Bracket → State × Bool → State
+closed_popped_in names notes bytes definitions b (s, active) =
+    if active then closed_active_in names notes bytes definitions b s else s
 
 -- the innermost bracket, if there is one, is closed
-abbrev pub noted_last : Names → List ℕ → (List ℕ → Option Entry) → State → Option Bracket → State
-noted_last names bytes definitions s None = s
-noted_last names bytes definitions s (Some b) = noted_popped names bytes definitions b (popped b s)
+abbrev pub closed_last_in : Names → Bool → List ℕ → (List ℕ → Option Entry) → State → Option Bracket → State
+closed_last_in names notes bytes definitions s None = s
+closed_last_in names notes bytes definitions s (Some b) = closed_popped_in names notes bytes definitions b (popped b s)
 
--- a closing bracket, where footnotes are read
-unfoldable pub closed_or_noted : Names → List ℕ → (List ℕ → Option Entry) → State → State
-closed_or_noted names bytes definitions s = noted_last names bytes definitions s (slice_get s.brackets (length s.brackets - 1))
+-- a closing bracket (CommonMark 6.3), by the names that are known and by whether footnotes are read
+unfoldable pub closed_in : Names → Bool → List ℕ → (List ℕ → Option Entry) → State → State
+closed_in names notes bytes definitions s =
+    closed_last_in names notes bytes definitions s (slice_get s.brackets (length s.brackets - 1))
+
+-- the same in CommonMark
+abbrev pub closed : List ℕ → (List ℕ → Option Entry) → State → State
+closed = closed_in Four false
 
 -- a byte that is no bracket
 unfoldable pub looked_mark : List ℕ → List ℕ → ℕ → State → State
@@ -456,7 +440,7 @@ looked bytes ahead definitions b s =
 unfoldable pub looked_all : List ℕ → Known → (List ℕ → Option Entry) → ℕ → State → State
 looked_all bytes ahead definitions b s =
     if b == 38 then named_taken bytes s
-    else (if b == 93 then closed_in All bytes definitions s else looked bytes ahead definitions b s)
+    else (if b == 93 then closed_in All false bytes definitions s else looked bytes ahead definitions b s)
 
 -- the byte at the place, by the names that are known
 abbrev pub looked_by : Names → List ℕ → Known → (List ℕ → Option Entry) → ℕ → State → State
@@ -536,7 +520,7 @@ looked_in syntax bytes ahead definitions b s =
     if is_tilde_in syntax b then tildes_taken syntax bytes s
     else (if is_caret_in syntax b then run_taken bytes b s
     else (if is_dollar_in syntax b then math_taken bytes ahead.partners s
-    else (if is_note_end_in syntax b then closed_or_noted syntax.names bytes definitions s
+    else (if is_note_end_in syntax b then closed_in syntax.names true bytes definitions s
     else (if syntax.tables && (b == 60) then angled_in bytes ahead.ends s
     else looked_by syntax.names bytes ahead definitions b s))))
 

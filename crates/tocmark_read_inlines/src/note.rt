@@ -1,15 +1,14 @@
-//! Closing brackets, where footnotes are read.
+//! References to footnotes.
 
 ghost use Rattle.std.specs.Prelude.{◌≡◌, OnOk};
 ghost use Rattle.tocmark_read_spans.specs.Definitions.{entry_of};
-ghost use Rattle.tocmark_read_inlines.specs.Scan.{scan, noted, note_looked_up, closed_by_sought, closed_among_notes, closed_or_noted};
+ghost use Rattle.tocmark_read_inlines.specs.Scan.{scan, noted, note_looked_up, closed_by_sought};
 
 use crate::scan::Scanner;
 use std::alloc::{AllocError, Global};
 use tocmark_read_scan::basic::bytes_between;
-use tocmark_read_scan::syntax::Names;
 use tocmark_read_spans::definitions::Definitions;
-use tocmark_read_spans::link::{Bracket, inline_target};
+use tocmark_read_spans::link::Bracket;
 use tocmark_read_spans::note::{Sought, label_sought, note_key};
 use tocmark_read_spans::role::{Leaf, Role, Stretch};
 use tocmark_read_tokens::label::collapsed;
@@ -57,9 +56,9 @@ impl Scanner {
         }
     }
 
-    /// Closes a bracket that no parentheses follow.
+    /// Closes a bracket that no parentheses follow, where footnotes are read.
     #[tactic(auto, unfolding(crate::specs::Scan::closed_by_sought))]
-    fn close_by_sought(
+    pub(crate) fn close_by_sought(
         &mut self,
         alloc: Global,
         bytes: &[u8],
@@ -72,50 +71,6 @@ impl Scanner {
         match label_sought(bytes, bracket, self.place) {
             Some(Sought::Label(asked)) => self.look_up(alloc, bytes, definitions, bracket, asked),
             Some(Sought::Note(word)) => self.look_up_note(alloc, bytes, definitions, bracket, word),
-            None => Ok(()),
-        }
-    }
-
-    /// Closes a bracket that can begin a link, an image, or a reference to a footnote.
-    #[tactic(auto, unfolding(crate::specs::Scan::closed_among_notes))]
-    fn close_among_notes(
-        &mut self,
-        alloc: Global,
-        names: Names,
-        bytes: &[u8],
-        definitions: &Definitions,
-        bracket: Bracket,
-    ) -> Result<(), AllocError>
-        ensures { OnOk result (scan self.new
-            ≡ closed_among_notes names bytes.now (entry_of definitions.now) bracket
-            (scan self.old)) }
-    {
-        match inline_target(bytes, self.place.saturating_add(1)) {
-            Some(found) => self.close_inline(alloc, names, bytes, bracket, found),
-            None => self.close_by_sought(alloc, bytes, definitions, bracket),
-        }
-    }
-
-    /// Reads a closing bracket.
-    #[tactic(auto, unfolding(crate::specs::Scan::closed_or_noted))]
-    pub(crate) fn close_in(
-        &mut self,
-        alloc: Global,
-        names: Names,
-        bytes: &[u8],
-        definitions: &Definitions,
-    ) -> Result<(), AllocError>
-        ensures { OnOk result (scan self.new
-            ≡ closed_or_noted names bytes.now (entry_of definitions.now) (scan self.old)) }
-    {
-        match self.brackets.last().copied() {
-            Some(bracket) => {
-                if self.pop(bracket) {
-                    self.close_among_notes(alloc, names, bytes, definitions, bracket)
-                } else {
-                    Ok(())
-                }
-            }
             None => Ok(()),
         }
     }

@@ -1,6 +1,6 @@
 -- Lists of roles by the numbers of their marks.
 use Rattle.std.proofs.Common.{◌≡◌, ℕ, zero, suc, ◌+◌, ◌-◌, List, [], ◌∷◌, map, replicate, take, refl, sym, ap, subst, ◌∙◌, ◌<◌, ◌≤◌, length, get_or, arith}
-use Rattle.std.specs.Prelude.{slice_get, slice_set, Option}
+use Rattle.std.specs.Prelude.{slice_set, Option}
 use Rattle.std.proofs.lemmas.Option.{slice_get-get_or}
 use Rattle.std.specs.List.{fold, insert}
 use Rattle.std.specs.Option.{option_map_or}

@@ -64,15 +64,20 @@ span_of width closer = if is_tilde_or_caret closer.byte then extended_span close
 unfoldable pub width_of : Run → Run → ℕ
 width_of opener closer = if nat_le 2 opener.count && nat_le 2 closer.count then 2 else 1
 
+-- the stack up to an opener, which has so many delimiters less; one without any goes, too
+abbrev pub shortened : ℕ → Run → ℕ → List Run → List Run
+shortened k opener width stack =
+    let left = opener.count - width in
+    if left == 0 then take k stack else slice_set (take (plus k 1) stack) k (with_count left opener)
+
 -- a match of so many delimiters
 abbrev pub matching : ℕ → ℕ → Run → Run → State → State × Run
 matching width k opener closer s =
     let inner = plus opener.place opener.count - width in
-    let end = plus closer.place width in
-    let left = opener.count - width in (
+    let end = plus closer.place width in (
       record s {
         roles = slice_set (slice_set (slice_set (slice_set s.roles (plus opener.place opener.count - 1) Hidden) inner (Open (span_of width closer) end)) closer.place Hidden) (end - 1) (Close end);
-        stack = (if left == 0 then take k s.stack else slice_set (take (plus k 1) s.stack) k (with_count left opener));
+        stack = shortened k opener width s.stack;
       },
       record closer { place = end; count = closer.count - width },
     )

@@ -3,7 +3,7 @@
 ghost use Rattle.std.specs.Prelude.{◌≡◌, IfOk, OnOk, length};
 ghost use Rattle.tocmark_read_scan.specs.Repeat.{repeated};
 ghost use Rattle.tocmark_read_spans.specs.Role.{roles_of};
-ghost use Rattle.tocmark_read_spans.specs.Emphasis.{openers, emphasis_fits, fits, is_tilde_or_caret, class_of, extended_span, span_of, width_of, found, matched, once, run_step, emphasized, emphasis_start};
+ghost use Rattle.tocmark_read_spans.specs.Emphasis.{openers, emphasis_fits, fits, is_tilde_or_caret, class_of, extended_span, span_of, width_of, found, shortened, matched, once, run_step, emphasized, emphasis_start};
 
 use crate::role::{Role, Roles, Span};
 use crate::run::Run;
@@ -124,43 +124,46 @@ fn span_of(width: usize, closer: Run) -> Span
 }
 
 impl Openers {
-    /// Matches the run at a place of the stack with a closer, and gives what is left of the closer.
+    /// Takes from the stack the runs above an opener, and from the opener so many delimiters. An opener of which
+    /// none is left goes, too.
+    fn shorten(&mut self, place: usize, opener: Run, width: usize)
+        ensures stack { self.new.stack.items ≡ shortened place opener width self.old.stack.items }
+        ensures bottoms { self.new.bottoms.items ≡ self.old.bottoms.items }
+    {
+        let left = opener.count.saturating_sub(width);
+        if left == 0 {
+            self.stack.truncate(place);
+        } else {
+            self.stack.truncate(place.saturating_add(1));
+            let shorter = Run {
+                count: left,
+                ..opener
+            };
+            set(&mut self.stack, place, shorter);
+        }
+    }
+
+    /// Matches an opener at a place of the stack with a closer, and gives what is left of the closer.
     #[tactic(auto, unfolding(crate::specs::Emphasis::matched))]
     fn join(
         &mut self,
         roles: &mut Roles,
-        k: usize,
+        place: usize,
         opener: Run,
         closer: Run,
     ) -> Result<Run, AllocError>
         ensures { IfOk result (λ left.
             (openers (roles_of roles.new) self.new, left)
-            ≡ matched k opener closer (openers (roles_of roles.old) self.old)) }
+            ≡ matched place opener closer (openers (roles_of roles.old) self.old)) }
     {
         let width = width_of(opener, closer);
-        let inner = opener
-            .place
-            .saturating_add(opener.count)
-            .saturating_sub(width);
+        let behind = opener.place.saturating_add(opener.count);
+        let inner = behind.saturating_sub(width);
         let span = span_of(width, closer);
         let end = closer.place.saturating_add(width);
-        let last = opener.place.saturating_add(opener.count).saturating_sub(1);
-        roles.put_behind(last, inner, Role::Open(span, end))?;
+        roles.put_behind(behind.saturating_sub(1), inner, Role::Open(span, end))?;
         roles.put_behind(closer.place, end.saturating_sub(1), Role::Close(end))?;
-        let left = opener.count.saturating_sub(width);
-        if left == 0 {
-            self.stack.truncate(k);
-        } else {
-            self.stack.truncate(k.saturating_add(1));
-            set(
-                &mut self.stack,
-                k,
-                Run {
-                    count: left,
-                    ..opener
-                },
-            );
-        }
+        self.shorten(place, opener, width);
         Ok(Run {
             place: end,
             count: closer.count.saturating_sub(width),

@@ -2,8 +2,8 @@ use Rattle.std.proofs.Common.{◌==◌, arith, get_or, refl}
 use Rattle.std.specs.Prelude.{not}
 use Rattle.std.proofs.lemmas.Bool.{agree_below_at}
 use Rattle.tocmark_read_inlines.specs.Scan.{is_any_mark, is_mark}
-use Rattle.tocmark_read_inlines.specs.declared.scan.TheConstants.{MARKS}
-use Rattle.tocmark_read_inlines.proofs.scan.is_any_mark.Goals as goal
+use Rattle.tocmark_read_inlines.specs.declared.marks.TheConstants.{MARKS}
+use Rattle.tocmark_read_inlines.proofs.marks.is_any_mark.Goals as goal
 
 pub returns : goal.returns
 unfolding is_any_mark is_mark

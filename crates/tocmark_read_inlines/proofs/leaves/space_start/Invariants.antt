@@ -1,7 +1,7 @@
 use Rattle.std.proofs.Common.{◌≡◌, length}
 use Rattle.tocmark_read_scan.specs.Repeat.{iterated}
 use Rattle.tocmark_read_inlines.specs.Scan.{before_space}
-use Rattle.tocmark_read_inlines.proofs.scan.space_start.Given as goal
+use Rattle.tocmark_read_inlines.proofs.leaves.space_start.Given as goal
 
 abbrev pub invariant-loop-steps_left : goal.invariant-loop-steps_left
 invariant-loop-steps_left l =
