@@ -9,14 +9,12 @@ ghost use Rattle.tocmark_spelling.specs.declared.trail.Last.TheVariants.{Inline}
 ghost use Rattle.tocmark_write_inlines.specs.Led.{code_led, spelled_on, StandsAt};
 ghost use Rattle.tocmark_write_renderer.specs.WriterOf.{levels_of, page_of, Stands};
 ghost use Rattle.tocmark_write_texts.specs.Characters.{backtick};
-ghost use Rattle.tocmark_write_texts.specs.Escape.{escaped, place_of};
 ghost use Rattle.tocmark_write_texts.specs.Leaves.{code_span, enclosed, span, inline_math, display_math, task_marker, footnote_reference};
 
 use std::alloc::{AllocError, Global};
 use tocmark_event::event::OwnedEvent;
 use tocmark_spelling::trail::Last;
 use tocmark_write_renderer::renderer::Renderer;
-use tocmark_write_texts::escape::EscapeSurroundings;
 use tocmark_write_texts::text_modifications::{SpanEnds, few_ticks, in_cell, math_text, span_ends};
 
 /// Writes inline content, which stands behind its gap.
@@ -26,22 +24,6 @@ pub fn write_inline(renderer: &mut Renderer<'_>, text: &str) -> Result<(), Alloc
     ensures mark { renderer.new.at_mark ≡ renderer.old.at_mark }
 {
     renderer.write(text)?;
-    renderer.set_last(Last::Inline);
-    Ok(())
-}
-
-/// Writes inline content as the escape of a text at a place, which stands behind its gap.
-pub fn write_escaped_inline(
-    renderer: &mut Renderer<'_>,
-    text: &str,
-    place: &EscapeSurroundings<'_>,
-) -> Result<(), AllocError>
-    ensures stands { OnOk result (Stands renderer.new (levels_of renderer.old)
-        (with_last Inline (written (levels_of renderer.old)
-        (escaped (place_of place.now) text.now) (page_of renderer.old)))) }
-    ensures mark { renderer.new.at_mark ≡ renderer.old.at_mark }
-{
-    renderer.write_escaped(text, place)?;
     renderer.set_last(Last::Inline);
     Ok(())
 }
@@ -89,7 +71,8 @@ pub fn widen_by_text(renderer: &mut Renderer<'_>, text: &str) -> Result<(), Allo
     }
 }
 
-/// The same with two backticks beside the text.
+/// Makes the nearest cell, if one is open, wider by a text's characters and two backticks, which are counted only then.
+/// It fails if memory runs out, or if the width would be too large.
 fn widen_by_code(renderer: &mut Renderer<'_>, text: &str) -> Result<(), AllocError>
     ensures stands { OnOk result (Stands renderer.new
         (widened (length (chars text.now) + 2) (levels_of renderer.old)) (page_of renderer.old)) }

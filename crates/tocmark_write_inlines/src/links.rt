@@ -1,12 +1,13 @@
 //! Links and images: what opens and what closes them, the id in place of a body, and the definitions that they need.
 
-ghost use Rattle.std.specs.Prelude.{◌≡◌, codes, string_bytes, OnOk, ◌++◌, drop, false, IfOk};
+ghost use Rattle.std.specs.Prelude.{◌≡◌, codes, string_bytes, OnOk, ◌++◌, drop, false, true, IfOk, IfSome, None};
 ghost use Rattle.std.specs.Str.{IsCharBoundary};
 ghost use Rattle.tocmark_event.specs.Options.{OptionsView};
 ghost use Rattle.tocmark_event.specs.View.{tag_view};
 ghost use Rattle.tocmark_spelling.specs.Closing.{close_inline, close_link, close_reference, close_with_body, close_with_id, closing_of, needs_id};
 ghost use Rattle.tocmark_spelling.specs.Look.{Look};
 ghost use Rattle.tocmark_spelling.specs.Opening.{link_mark, open_named};
+ghost use Rattle.tocmark_spelling.specs.Page.{Level, Page, Path};
 ghost use Rattle.tocmark_spelling.specs.Spelling.{id_of, id_on};
 ghost use Rattle.tocmark_write_blocks.specs.Leads.{is_closed, Closes};
 ghost use Rattle.tocmark_write_containers.specs.FrameOf.{content_view, level_of};
@@ -27,7 +28,6 @@ use tocmark_write_texts::text_modifications;
 /// Writes a mark, and opens a link or image behind it.
 fn open_named<'a>(
     renderer: &mut Renderer<'a>,
-    alloc: Global,
     tag: &'a TagOf<String>,
     mark: &str,
     named: bool,
@@ -54,7 +54,7 @@ pub fn open_link<'a>(
         (levels_of renderer.old) (page_of renderer.old))) }
     ensures mark { renderer.new.at_mark ≡ renderer.old.at_mark }
 {
-    open_named(renderer, alloc, tag, link_mark(kind), named)
+    open_named(renderer, tag, link_mark(kind), named)
 }
 
 /// Opens an image; `named` says whether its id will stand in place of its body.
@@ -69,7 +69,7 @@ pub fn open_image<'a>(
         (levels_of renderer.old) (page_of renderer.old))) }
     ensures mark { renderer.new.at_mark ≡ renderer.old.at_mark }
 {
-    open_named(renderer, alloc, tag, "![", named)
+    open_named(renderer, tag, "![", named)
 }
 
 /// The id of a link or image; empty for any other container.
@@ -108,20 +108,28 @@ fn push_inline_closing(text: &mut String, destination: &str, title: &str) -> Res
 /// How many bytes most links have round their destination and title, at most.
 const ROOM_FOR_MARKS: usize = 6;
 
+/// Where a link or image leads, and how.
+#[derive(Clone, Copy)]
+struct Target<'t> {
+    kind: LinkType,
+    destination: &'t str,
+    title: &'t str,
+    id: &'t str,
+}
+
 /// The end of an inline link or image.
 fn close_with_destination(
     renderer: &mut Renderer<'_>,
     alloc: Global,
-    destination: &str,
-    title: &str,
+    target: Target<'_>,
 ) -> Result<(), AllocError>
     ensures stands { Closes result renderer.old renderer.new
-        (close_inline (inline_closing destination.now title.now)) }
+        (close_inline (inline_closing target.entry.destination.now target.entry.title.now)) }
     ensures mark { renderer.new.at_mark ≡ renderer.old.at_mark }
 {
-    let room = destination.len().saturating_add(title.len());
+    let room = target.destination.len().saturating_add(target.title.len());
     let mut text = String::with_capacity(alloc, room.saturating_add(ROOM_FOR_MARKS))?;
-    push_inline_closing(&mut text, destination, title)?;
+    push_inline_closing(&mut text, target.destination, target.title)?;
     close_inline(renderer, text.as_str())
 }
 
@@ -131,37 +139,36 @@ fn close_reference(
     alloc: Global,
     text: &str,
     label: String,
-    destination: &str,
-    title: &str,
+    target: Target<'_>,
 ) -> Result<(), AllocError>
     ensures stands { Closes result renderer.old renderer.new
-        (close_reference text.now (string_bytes label) destination.now title.now) }
+        (close_reference text.now (string_bytes label) target.entry.destination.now
+        target.entry.title.now) }
     ensures mark { renderer.new.at_mark ≡ renderer.old.at_mark }
 {
     let reference = Reference {
         label,
-        destination: String::from_str(alloc, destination)?,
-        title: String::from_str(alloc, title)?,
+        destination: String::from_str(alloc, target.destination)?,
+        title: String::from_str(alloc, target.title)?,
     };
     renderer.add_reference(reference)?;
     close_inline(renderer, text)
 }
 
-/// The same with the id in a pair of brackets.
+/// The end of a link or image whose id is its label, with the id in a pair of brackets.
 fn close_with_id(
     renderer: &mut Renderer<'_>,
     alloc: Global,
-    destination: &str,
-    title: &str,
-    id: &str,
+    target: Target<'_>,
 ) -> Result<(), AllocError>
     ensures stands { Closes result renderer.old renderer.new
-        (close_with_id destination.now title.now id.now) }
+        (close_with_id target.entry.destination.now target.entry.title.now target.entry.id.now) }
     ensures mark { renderer.new.at_mark ≡ renderer.old.at_mark }
 {
+    let id = target.id;
     let text = format!(in alloc; "][{id}]")?;
     let label = String::from_str(alloc, id)?;
-    close_reference(renderer, alloc, text.as_str(), label, destination, title)
+    close_reference(renderer, alloc, text.as_str(), label, target)
 }
 
 /// Whether the body can't be the label: there is an id, which doesn't spell it.
@@ -189,48 +196,75 @@ fn close_with_body(
     alloc: Global,
     text: &str,
     frame: &Frame<'_>,
-    destination: &str,
-    title: &str,
-    id: &str,
+    target: Target<'_>,
 ) -> Result<(), AllocError>
     requires start { IsCharBoundary (sheet_of renderer.old).text (level_of frame.now).start }
     ensures stands { Closes result renderer.old renderer.new
-        (close_with_body text.now (level_of frame.now) destination.now title.now id.now) }
+        (close_with_body text.now (level_of frame.now) target.entry.destination.now
+        target.entry.title.now target.entry.id.now) }
     ensures mark { renderer.new.at_mark ≡ renderer.old.at_mark }
 {
-    if needs_id(&frame.content, id) {
-        return close_with_id(renderer, alloc, destination, title, id);
+    if needs_id(&frame.content, target.id) {
+        return close_with_id(renderer, alloc, target);
     }
     let label = label_from(renderer, alloc, frame.start)?;
-    close_reference(renderer, alloc, text, label, destination, title)
+    close_reference(renderer, alloc, text, label, target)
 }
 
-/// The end of a link or image of this type.
+/// The end of a link or image with this target.
 fn close_by_type(
     renderer: &mut Renderer<'_>,
     alloc: Global,
-    kind: LinkType,
     frame: &Frame<'_>,
-    destination: &str,
-    title: &str,
-    id: &str,
+    target: Target<'_>,
 ) -> Result<(), AllocError>
     requires start { IsCharBoundary (sheet_of renderer.old).text (level_of frame.now).start }
     ensures stands { Closes result renderer.old renderer.new
-        (close_link kind destination.now title.now id.now (level_of frame.now)) }
+        (close_link target.entry.kind target.entry.destination.now target.entry.title.now
+        target.entry.id.now (level_of frame.now)) }
     ensures mark { renderer.new.at_mark ≡ renderer.old.at_mark }
 {
-    match kind {
-        LinkType::Reference => close_with_id(renderer, alloc, destination, title, id),
-        LinkType::Collapsed => {
-            close_with_body(renderer, alloc, "][]", frame, destination, title, id)
-        }
-        LinkType::Shortcut => {
-            close_with_body(renderer, alloc, "]", frame, destination, title, id)
-        }
+    match target.kind {
+        LinkType::Reference => close_with_id(renderer, alloc, target),
+        LinkType::Collapsed => close_with_body(renderer, alloc, "][]", frame, target),
+        LinkType::Shortcut => close_with_body(renderer, alloc, "]", frame, target),
         LinkType::Autolink => close_inline(renderer, ">"),
         LinkType::Email => close_inline(renderer, ">"),
-        _ => close_with_destination(renderer, alloc, destination, title),
+        _ => close_with_destination(renderer, alloc, target),
+    }
+}
+
+/// Where a link or image leads; none for another container.
+fn target_of(tag: &TagOf<String>) -> Option<Target<'_>>
+    ensures target { IfSome result (λ target. (o : OptionsView) (l : Level) (path : Path) (p : Page)
+        → closing_of o (tag_view string_bytes tag.now) l path p
+        ≡ close_link target.kind target.destination.now target.title.now target.id.now l path p) }
+    ensures other { result ≡ None → is_closed (tag_view string_bytes tag.now) ≡ true }
+{
+    match tag {
+        TagOf::Link {
+            link_type,
+            dest_url,
+            title,
+            id,
+        } => Some(Target {
+            kind: *link_type,
+            destination: dest_url.as_str(),
+            title: title.as_str(),
+            id: id.as_str(),
+        }),
+        TagOf::Image {
+            link_type,
+            dest_url,
+            title,
+            id,
+        } => Some(Target {
+            kind: *link_type,
+            destination: dest_url.as_str(),
+            title: title.as_str(),
+            id: id.as_str(),
+        }),
+        _ => None,
     }
 }
 
@@ -247,36 +281,9 @@ pub fn close_named(
         (closing_of o (level_of frame.now).tag (level_of frame.now)) }
     ensures mark { renderer.new.at_mark ≡ renderer.old.at_mark }
 {
-    match frame.tag {
-        TagOf::Link {
-            link_type,
-            dest_url,
-            title,
-            id,
-        } => close_by_type(
-            renderer,
-            alloc,
-            *link_type,
-            frame,
-            dest_url.as_str(),
-            title.as_str(),
-            id.as_str(),
-        ),
-        TagOf::Image {
-            link_type,
-            dest_url,
-            title,
-            id,
-        } => close_by_type(
-            renderer,
-            alloc,
-            *link_type,
-            frame,
-            dest_url.as_str(),
-            title.as_str(),
-            id.as_str(),
-        ),
-        _ => Ok(()),
+    match target_of(frame.tag) {
+        Some(target) => close_by_type(renderer, alloc, frame, target),
+        None => Ok(()),
     }
 }
 

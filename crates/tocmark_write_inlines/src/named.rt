@@ -221,7 +221,7 @@ fn is_named<R: Reader>(
 }
 
 /// What follows a place of a unit.
-pub fn rest_of(events: &[BufferedEvent], start: usize) -> &[BufferedEvent]
+fn rest_of(events: &[BufferedEvent], start: usize) -> &[BufferedEvent]
     ensures { result.now ≡ drop start events.now }
 {
     if start <= events.len() {

@@ -1,29 +1,27 @@
 //! A stretch of texts: held while a further text follows, and written as a whole where it ends.
 
-ghost use Rattle.std.specs.Prelude.{◌≡◌, string_bytes, chars, length, not, ◌==◌, IfOk, OnOk};
+ghost use Rattle.std.specs.Prelude.{◌≡◌, string_bytes, not, unwrap_or, ◌==◌, IfOk, OnOk};
 ghost use Rattle.std.specs.Option.{option_map};
 ghost use Rattle.tocmark_event.specs.View.{event_view};
 ghost use Rattle.tocmark_write_texts.specs.Escape.{place_of as escape_place};
 ghost use Rattle.tocmark_spelling.specs.Buffered.{following_view};
-ghost use Rattle.tocmark_spelling.specs.Gap.{gap};
 ghost use Rattle.tocmark_spelling.specs.Kinds.{starts, is_emphasis_or_strong, and_is};
 ghost use Rattle.tocmark_spelling.specs.Marker.{ends_delimiter};
-ghost use Rattle.tocmark_spelling.specs.Page.{Page};
 ghost use Rattle.tocmark_spelling.specs.PlanOf.{stretch_place, shown};
-ghost use Rattle.tocmark_spelling.specs.Places.{widened};
 ghost use Rattle.tocmark_spelling.specs.Runs.{end_width};
 ghost use Rattle.tocmark_spelling.specs.Stretch.{both};
 ghost use Rattle.tocmark_write_renderer.specs.JobOf.{options_in, text_in};
-ghost use Rattle.tocmark_write_renderer.specs.WriterOf.{levels_of, page_of, held_view, longer, begun, held_after, unheld, Stands};
+ghost use Rattle.tocmark_write_renderer.specs.WriterOf.{levels_of, page_of, held_view, longer, begun, held_after, Stands};
 ghost use Rattle.tocmark_write_inlines.specs.Led.{held_or_shown, StandsAt};
 ghost use Rattle.tocmark_write_inlines.specs.StretchOf.{stretch_view};
 
-use crate::inline_leaf::{widen_by_text, write_escaped_inline, write_inline};
+use crate::inline_leaf::{widen_by_text, write_inline};
 use crate::leaf::Beside;
 use std::alloc::{AllocError, Global};
 use tocmark_event::event::{EventOf, OwnedEvent, TagEnd, TagOf};
 use tocmark_spelling::buffered::BufferedEvent;
 use tocmark_spelling::plan::TextSpelling;
+use tocmark_spelling::trail::Last;
 use tocmark_write_renderer::job::{Job, Manner};
 use tocmark_write_renderer::parts::Held;
 use tocmark_write_renderer::renderer::Renderer;
@@ -99,8 +97,8 @@ fn lent(held: &Held) -> Stretch<'_>
     }
 }
 
-/// Writes a whole stretch: as it is where nothing is read in it, from the source where that is
-/// wanted and known, else escaped.
+/// Writes a whole stretch that stands behind its gap: as it is where nothing is read in it, from the
+/// source where that is wanted and known, else escaped.
 fn write_stretch(
     renderer: &mut Renderer<'_>,
     job: Job<'_, '_>,
@@ -120,123 +118,66 @@ fn write_stretch(
     match stretch.source {
         Some(source) if manner.source => write_inline(renderer, source),
         _ => {
-            let place = place(
-                renderer,
-                job,
-                manner.delimiters.text,
-                stretch.after_close,
-                next,
-            );
-            write_escaped_inline(renderer, stretch.text, &place)
+            let text = manner.delimiters.text;
+            let place = place(renderer, job, text, stretch.after_close, next);
+            renderer.write_escaped(stretch.text, &place)?;
+            renderer.set_last(Last::Inline);
+            Ok(())
         }
     }
 }
 
-/// Writes a whole stretch behind its gap.
-fn write_whole(
-    renderer: &mut Renderer<'_>,
-    job: Job<'_, '_>,
-    manner: Manner<'_>,
-    event: &OwnedEvent,
-    stretch: Stretch<'_>,
-    next: Option<&OwnedEvent>,
-) -> Result<(), AllocError>
-    ensures stands { OnOk result (Stands renderer.new (levels_of renderer.old)
-        (shown (options_in job.entry) job.entry.flags (text_in manner.entry) manner.entry.source
-        (stretch_view stretch.entry) (following_view next.entry) (levels_of renderer.old)
-        (gap (event_view string_bytes event.now) (levels_of renderer.old)
-        (page_of renderer.old)))) }
-    ensures mark { renderer.new.at_mark ≡ renderer.old.at_mark }
-{
-    renderer.write_gap(event)?;
-    write_stretch(renderer, job, manner, stretch, next)
-}
-
-/// Writes a whole stretch behind its gap, and makes the nearest cell wider by its characters.
-fn show(
-    renderer: &mut Renderer<'_>,
-    job: Job<'_, '_>,
-    manner: Manner<'_>,
-    event: &OwnedEvent,
-    stretch: Stretch<'_>,
-    next: Option<&OwnedEvent>,
-) -> Result<(), AllocError>
-    ensures stands { OnOk result (Stands renderer.new
-        (widened (length (chars (stretch_view stretch.entry).text)) (levels_of renderer.old))
-        (shown (options_in job.entry) job.entry.flags (text_in manner.entry) manner.entry.source
-        (stretch_view stretch.entry) (following_view next.entry) (levels_of renderer.old)
-        (gap (event_view string_bytes event.now) (levels_of renderer.old)
-        (page_of renderer.old)))) }
-    ensures mark { renderer.new.at_mark ≡ renderer.old.at_mark }
-{
-    write_whole(renderer, job, manner, event, stretch, next)?;
-    widen_by_text(renderer, stretch.text)
-}
-
-/// Begins a stretch with a text, where none is held: it is held while a further text follows, else
-/// written behind its gap.
-fn begin(
-    renderer: &mut Renderer<'_>,
-    job: Job<'_, '_>,
-    manner: Manner<'_>,
-    event: &BufferedEvent,
+/// A stretch that was held, if there was one, with one more text.
+fn lengthened(
+    held: Option<Held>,
     text: &str,
-    beside: Beside<'_>,
-) -> Result<(), AllocError>
-    ensures stands { (p : Page) → page_of renderer.old ≡ unheld p
-        → OnOk result (StandsAt renderer.new (held_or_shown beside.entry.text_follows
-        (options_in job.entry) job.entry.flags (text_in manner.entry) manner.entry.source
-        (begun text.now (option_map string_bytes event.now.source)
-        (following_view beside.entry.previous))
-        (event_view string_bytes event.now.event) (following_view beside.entry.next)
-        (levels_of renderer.old) p)) }
-    ensures mark { renderer.new.at_mark ≡ renderer.old.at_mark }
+    source: &Option<String>,
+) -> Result<Option<Held>, AllocError>
+    ensures { IfOk result (λ whole. option_map held_view whole
+        ≡ option_map (λ h. longer h text.now (option_map string_bytes source.now))
+        (option_map held_view held)) }
 {
-    if !beside.text_follows {
-        let stretch = alone(text, &event.source, beside.previous);
-        return show(renderer, job, manner, &event.event, stretch, beside.next);
+    match held {
+        None => Ok(None),
+        Some(held) => longer(held, text, source).map(Some),
     }
-    let held = begun(job.alloc, text, &event.source, beside.previous)?;
-    renderer.hold(held);
-    Ok(())
 }
 
-/// Goes on with a stretch that was held, by a text: it is held while a further text follows, else
-/// written behind its gap.
-fn go_on(
-    renderer: &mut Renderer<'_>,
-    job: Job<'_, '_>,
-    manner: Manner<'_>,
-    held: Held,
-    event: &BufferedEvent,
+/// A stretch that is whole: one that was held, else this text by itself.
+fn stretch_of<'t>(
+    whole: &'t Option<Held>,
+    text: &'t str,
+    source: &'t Option<String>,
+    previous: Option<&OwnedEvent>,
+) -> Stretch<'t>
+    ensures { stretch_view result ≡ unwrap_or (option_map held_view whole.now)
+        (begun text.now (option_map string_bytes source.now) (following_view previous.entry)) }
+{
+    match whole {
+        None => alone(text, source, previous),
+        Some(held) => lent(held),
+    }
+}
+
+/// A stretch that goes on: one that was held, else one that this text begins.
+fn going_on(
+    alloc: Global,
+    whole: Option<Held>,
     text: &str,
-    beside: Beside<'_>,
-) -> Result<(), AllocError>
-    ensures stands { (p : Page) → page_of renderer.old ≡ unheld p
-        → OnOk result (StandsAt renderer.new (held_or_shown beside.entry.text_follows
-        (options_in job.entry) job.entry.flags (text_in manner.entry) manner.entry.source
-        (longer (held_view held) text.now (option_map string_bytes event.now.source))
-        (event_view string_bytes event.now.event) (following_view beside.entry.next)
-        (levels_of renderer.old) p)) }
-    ensures mark { renderer.new.at_mark ≡ renderer.old.at_mark }
+    source: &Option<String>,
+    previous: Option<&OwnedEvent>,
+) -> Result<Held, AllocError>
+    ensures { IfOk result (λ h. held_view h ≡ unwrap_or (option_map held_view whole)
+        (begun text.now (option_map string_bytes source.now) (following_view previous.entry))) }
 {
-    let whole = longer(held, text, &event.source)?;
-    if beside.text_follows {
-        renderer.hold(whole);
-        return Ok(());
+    match whole {
+        None => begun(alloc, text, source, previous),
+        Some(held) => Ok(held),
     }
-    show(
-        renderer,
-        job,
-        manner,
-        &event.event,
-        lent(&whole),
-        beside.next,
-    )
 }
 
-/// Adds a text to the stretch that is held; where no further text follows, writes the stretch behind
-/// its gap.
+/// Adds a text to the stretch that is held: it is held while a further text follows, else written
+/// behind its gap, and the nearest cell is wider by its characters.
 pub fn add_text(
     renderer: &mut Renderer<'_>,
     job: Job<'_, '_>,
@@ -253,10 +194,17 @@ pub fn add_text(
         (levels_of renderer.old) (page_of renderer.old))) }
     ensures mark { renderer.new.at_mark ≡ renderer.old.at_mark }
 {
-    match renderer.take_held()? {
-        None => begin(renderer, job, manner, event, text, beside),
-        Some(held) => go_on(renderer, job, manner, held, event, text, beside),
+    let held = renderer.take_held()?;
+    let whole = lengthened(held, text, &event.source)?;
+    if beside.text_follows {
+        let kept = going_on(job.alloc, whole, text, &event.source, beside.previous)?;
+        renderer.hold(kept);
+        return Ok(());
     }
+    let stretch = stretch_of(&whole, text, &event.source, beside.previous);
+    renderer.write_gap(&event.event)?;
+    write_stretch(renderer, job, manner, stretch, beside.next)?;
+    widen_by_text(renderer, stretch.text)
 }
 
 /// A source that goes on, if all of its parts are known.
@@ -334,7 +282,7 @@ fn begun_text(alloc: Global, text: &str) -> Result<String, AllocError>
     Ok(copy)
 }
 
-/// The same of a source, where it is known.
+/// A copy of a source, where it is known, with room for what joins it.
 fn begun_source(alloc: Global, source: &Option<String>) -> Result<Option<String>, AllocError>
     ensures { IfOk result (λ copy.
         option_map string_bytes copy ≡ option_map string_bytes source.now) }

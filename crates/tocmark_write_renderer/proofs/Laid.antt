@@ -1,17 +1,19 @@
 -- How text is laid in parts.
 use Rattle.std.proofs.Common.{◌≡◌, ℕ, zero, suc, ◌+◌, ◌<◌, ◌≤◌, Bool, true, false, cond, List, [], ◌∷◌, ◌++◌, refl, sym, ap, ◌∙◌, arith, append_assoc, replicate, nat_eq, nat_lt, length, add-one, take, subst, get_or, reverse}
+use Rattle.std.specs.Prelude.{Result, OnOk}
 use Rattle.std.specs.List.{before_first, after_first, position_or_len, prefix_len}
 use Rattle.std.proofs.lemmas.Bool.{eqb-true}
 use Rattle.std.proofs.lemmas.Bool.Decides.{nat_tests}
 use Rattle.std.proofs.lemmas.List.{append-nil, length-reverse, reverse-append, take_all}
 use Rattle.std.proofs.lemmas.List.Folds.{prefix_len-append}
 use Rattle.std.proofs.lemmas.List.Sums.{suffix_len-le-length}
+use Rattle.std.proofs.lemmas.Result.{on_ok_weaker}
 use Rattle.std.proofs.lemmas.Str.{IsUtf8-drop, IsCharBoundary-after_ascii}
 use Rattle.std.specs.Str.{IsUtf8}
 use Rattle.tocmark_write_renderer.specs.Changes.{on_sheet, with_feeds, with_more}
-use Rattle.tocmark_spelling.specs.Page.{Sheet, Site, feeds_after, lead, put_byte, laid}
+use Rattle.tocmark_spelling.specs.Page.{Page, Path, Sheet, Site, feeds_after, laid, laid_on, lead, prefix_of, put_byte, written}
 use Rattle.tocmark_write_renderer.specs.FeedsOf.{ending_feeds, feeds_behind}
-use Rattle.tocmark_write_renderer.specs.WriterOf.{HasNoFeed}
+use Rattle.tocmark_write_renderer.specs.WriterOf.{HasNoFeed, Rendering, Stands, levels_of, page_of, site_of}
 
 pub laid-append : (prefix a b : List ℕ) (s : Sheet) → laid prefix (a ++ b) s ≡ laid prefix b (laid prefix a s)
 laid-append prefix [] b s = refl
@@ -180,8 +182,15 @@ nothing [] e = refl
 nothing (b ∷ bs) e = absurd (omega arith)
 
 -- a text was laid where the prefix is empty
-pub unprefixed : (prefix shown text : List ℕ) (here new : Site) → shown ≡ prefix → length shown ≡ 0 → new ≡ on_sheet (laid [] text) here → new ≡ on_sheet (laid prefix text) here
-unprefixed prefix shown text here new e none h = h ∙ ap (λ p. on_sheet (laid p text) here) (sym (nothing shown none) ∙ e)
+pub unprefixed : (prefix shown text : List ℕ) (w : Rendering) (path : Path) (page : Page) → shown ≡ prefix → length shown ≡ 0 → Stands w path (laid_on [] text page) → Stands w path (laid_on prefix text page)
+unprefixed prefix shown text w path page e none h = subst (λ p. Stands w path (laid_on p text page)) (sym (nothing shown none) ∙ e) h
+
+-- a renderer whose place is this one stands there
+pub stands-as : (w : Rendering) (here : Site) → site_of w ≡ here → Stands w here.path here.page
+stands-as w here e = record {
+  path_is = ap (λ (x : Site). x.path) e;
+  page_is = ap (λ (x : Site). x.page) e;
+}
 
 pub laid-nothing : (prefix bs : List ℕ) (here : Site) → length bs ≡ 0 → here ≡ on_sheet (laid prefix bs) here
 laid-nothing prefix [] here e = refl
@@ -223,3 +232,16 @@ feeds-laid prefix p n start here new q e feed =
     ∙ ap (λ p. on_sheet (put_byte p 10) here) q
     ∙ ap (λ x. on_sheet (put_byte prefix 10) x) e
     ∙ ap (λ x. on_sheet (λ _. x) start) (sym (laid-more prefix n start.page.sheet))
+
+-- ---- texts that are written in parts
+
+written-append : (path : Path) (a b : List ℕ) (p : Page) → written path (a ++ b) p ≡ written path b (written path a p)
+written-append path a b p = ap (λ (s : Sheet). record p { sheet = s }) (laid-append (prefix_of path) a b p.sheet)
+
+-- one part more is written
+pub part-written : {E : Type 0} (r : Result (Unit {0}) E) (v w : Rendering) (path : Path) (p : Page) (a b : List ℕ) → Stands v path (written path a p)
+    → OnOk r (Stands w (levels_of v) (written (levels_of v) b (page_of v))) → OnOk r (Stands w path (written path (a ++ b) p))
+part-written r v w path p a b one two = on_ok_weaker r (λ h. record {
+  path_is = h.path_is ∙ one.path_is;
+  page_is = h.page_is ∙ ap (λ q. written q b (page_of v)) one.path_is ∙ ap (written path b) one.page_is ∙ sym (written-append path a b p);
+}) two

@@ -98,7 +98,8 @@ impl<'a> Renderer<'a> {
         }
     }
 
-    /// The same where the children are close, else a quote is forgotten.
+    /// Where the children are close, owes at most one line feed, and writes out a quote that has to go on; forgets a quote
+    /// elsewhere.
     fn close_up_where_close(&mut self, event: &OwnedEvent) -> Result<(), AllocError>
         ensures stands { OnOk result
             (Stands self.new (levels_of self.old)
@@ -169,6 +170,7 @@ impl<'a> Renderer<'a> {
         self.raise(event);
         self.separate(event)
     }
+
     /// Writes the gap before an event that is neither an end nor HTML. Inside a line there is none.
     pub fn write_gap(&mut self, event: &OwnedEvent) -> Result<(), AllocError>
         ensures stands { OnOk result

@@ -1,7 +1,6 @@
 //! Texts laid on lines. A line's prefix is written with the line's first byte, a line feed too.
 
 ghost use Rattle.std.specs.Prelude.{◌≡◌, [], IfOk, IfSome, OnOk, replicate};
-ghost use Rattle.tocmark_write_texts.specs.Escape.{escaped, place_of};
 ghost use Rattle.tocmark_write_renderer.specs.Changes.{on_sheet};
 ghost use Rattle.tocmark_write_renderer.specs.FeedsOf.{ending_feeds, feeds_behind};
 ghost use Rattle.tocmark_write_renderer.specs.WriterOf.{HasNoFeed, levels_of, page_of, site_of, Stands};
@@ -9,7 +8,6 @@ ghost use Rattle.tocmark_spelling.specs.Page.{filled_to, laid, laid_on, prefix_o
 
 use crate::renderer::Renderer;
 use std::alloc::AllocError;
-use tocmark_write_texts::escape::EscapeSurroundings;
 
 /// Line feeds, as many as most gaps have, and more.
 const FEEDS: &str = "\n\n\n\n";
@@ -79,11 +77,11 @@ impl<'a> Renderer<'a> {
         Ok(())
     }
 
-    /// A text whose lines have no prefix, in one piece. An `Err` is also the answer where the line feeds at its end would
-    /// be too many for a `usize`.
-    fn lay_bare(&mut self, text: &str) -> Result<(), AllocError>
-        ensures site { OnOk result
-            (site_of self.new ≡ on_sheet (laid [] text.now) (site_of self.old)) }
+    /// Writes a text whose lines have no prefix, in one piece. An `Err` is also the answer where the line feeds at its
+    /// end would be too many for a `usize`.
+    pub fn write_alone(&mut self, text: &str) -> Result<(), AllocError>
+        ensures written { OnOk result
+            (Stands self.new (levels_of self.old) (laid_on [] text.now (page_of self.old))) }
         ensures mark { self.new.at_mark ≡ self.old.at_mark }
     {
         let newlines = feeds_behind(text, self.newlines())?;
@@ -107,68 +105,18 @@ impl<'a> Renderer<'a> {
         self.write_part(rest)
     }
 
-    /// A text, each of its lines behind the prefix, if there is one.
-    fn lay(&mut self, text: &str) -> Result<(), AllocError>
-        ensures site { OnOk result (site_of self.new
-            ≡ on_sheet (laid (prefix_of (levels_of self.old)) text.now) (site_of self.old)) }
-        ensures mark { self.new.at_mark ≡ self.old.at_mark }
-    {
-        if self.prefix().is_empty() {
-            self.lay_bare(text)
-        } else {
-            self.lay_lines(text)
-        }
-    }
-
-    /// Writes a text inside the open containers.
+    /// Writes a text inside the open containers, each of its lines behind the prefix.
     pub fn write(&mut self, text: &str) -> Result<(), AllocError>
         ensures written { OnOk result
             (Stands self.new (levels_of self.old)
             (written (levels_of self.old) text.now (page_of self.old))) }
         ensures mark { self.new.at_mark ≡ self.old.at_mark }
     {
-        self.lay(text)
-    }
-
-    /// Writes a text that is its own prefix.
-    pub fn write_alone(&mut self, text: &str) -> Result<(), AllocError>
-        ensures written { OnOk result
-            (Stands self.new (levels_of self.old) (laid_on [] text.now (page_of self.old))) }
-        ensures mark { self.new.at_mark ≡ self.old.at_mark }
-    {
-        self.lay_bare(text)
-    }
-
-    /// A text's escape, which has no line feed, behind the prefix.
-    fn lay_escaped(&mut self, text: &str, place: &EscapeSurroundings<'_>) -> Result<(), AllocError>
-        ensures site { OnOk result (site_of self.new
-            ≡ on_sheet
-            (laid (prefix_of (levels_of self.old)) (escaped (place_of place.now) text.now))
-            (site_of self.old)) }
-        ensures mark { self.new.at_mark ≡ self.old.at_mark }
-    {
-        if text.is_empty() {
-            return Ok(());
+        if self.prefix().is_empty() {
+            self.write_alone(text)
+        } else {
+            self.lay_lines(text)
         }
-        self.begin_line()?;
-        self.put_escaped(text, place)?;
-        self.set_newlines(0);
-        Ok(())
-    }
-
-    /// Writes a text's escape inside the open containers.
-    pub fn write_escaped(
-        &mut self,
-        text: &str,
-        place: &EscapeSurroundings<'_>,
-    ) -> Result<(), AllocError>
-        ensures written { OnOk result
-            (Stands self.new (levels_of self.old)
-            (written (levels_of self.old) (escaped (place_of place.now) text.now)
-            (page_of self.old))) }
-        ensures mark { self.new.at_mark ≡ self.old.at_mark }
-    {
-        self.lay_escaped(text, place)
     }
 
     /// So many line feeds, each behind the prefix.
@@ -188,22 +136,20 @@ impl<'a> Renderer<'a> {
     /// So many line feeds where there is no prefix: few of them in one piece.
     fn lay_bare_feeds(&mut self, count: usize) -> Result<(), AllocError>
         requires { prefix_of (levels_of self.old) ≡ [] }
-        ensures site { OnOk result (site_of self.new
-            ≡ on_sheet (laid (prefix_of (levels_of self.old)) (replicate count 10))
-            (site_of self.old)) }
+        ensures written { OnOk result (Stands self.new (levels_of self.old)
+            (written (levels_of self.old) (replicate count 10) (page_of self.old))) }
         ensures mark { self.new.at_mark ≡ self.old.at_mark }
     {
         match few_feeds(count) {
-            Some(feeds) => self.lay_bare(feeds),
+            Some(feeds) => self.write_alone(feeds),
             None => self.lay_feed_lines(count),
         }
     }
 
     /// So many line feeds, each behind the prefix, if there is one.
     fn lay_feeds(&mut self, count: usize) -> Result<(), AllocError>
-        ensures site { OnOk result (site_of self.new
-            ≡ on_sheet (laid (prefix_of (levels_of self.old)) (replicate count 10))
-            (site_of self.old)) }
+        ensures written { OnOk result (Stands self.new (levels_of self.old)
+            (written (levels_of self.old) (replicate count 10) (page_of self.old))) }
         ensures mark { self.new.at_mark ≡ self.old.at_mark }
     {
         if self.prefix().is_empty() {

@@ -10,7 +10,7 @@ ghost use Rattle.tocmark_write_containers.specs.Nesting.{entered, head_of, is_co
 ghost use Rattle.tocmark_write_containers.specs.Outside.{outside_of};
 ghost use Rattle.tocmark_write_containers.specs.PrefixOf.{prefix_bytes};
 ghost use Rattle.tocmark_spelling.specs.Gap.{forget_quote};
-ghost use Rattle.tocmark_spelling.specs.Page.{lead, prefix_of};
+ghost use Rattle.tocmark_spelling.specs.Page.{lead, prefix_of, written};
 ghost use Rattle.tocmark_spelling.specs.Kinds.{is_emphasis, is_emphasis_or_strong};
 ghost use Rattle.tocmark_spelling.specs.Places.{at_item_start, is_after_opening, is_close, is_in_loose_list, nearest, widened, with_header};
 ghost use Rattle.tocmark_spelling.specs.Runs.{last_run, run_around};
@@ -18,7 +18,7 @@ ghost use Rattle.tocmark_spelling.specs.Stretch.{at_front};
 ghost use Rattle.tocmark_spelling.specs.TrailOf.{trail_of, trail_view};
 ghost use Rattle.tocmark_write_renderer.specs.LineOf.{going_on, owes_nothing};
 ghost use Rattle.tocmark_write_renderer.specs.Changes.{carrying, holding, on_page, on_path, on_sheet, quoting, referring, with_feeds, with_more};
-ghost use Rattle.tocmark_write_renderer.specs.WriterOf.{blank, held_view, levels_of, page_of, reference_view, sheet_of, site_of, unheld};
+ghost use Rattle.tocmark_write_renderer.specs.WriterOf.{blank, held_view, levels_of, page_of, reference_view, sheet_of, site_of, unheld, Stands};
 
 use crate::marker_runs::MarkerRuns;
 use crate::parts::{Held, Parts, Reference};
@@ -303,20 +303,6 @@ impl<'a> Renderer<'a> {
         Ok(())
     }
 
-    /// Adds a text's escape to the text.
-    pub fn put_escaped(
-        &mut self,
-        text: &str,
-        place: &EscapeSurroundings<'_>,
-    ) -> Result<(), AllocError>
-        ensures site { OnOk result (site_of self.new
-            ≡ on_sheet (with_more (escaped (place_of place.now) text.now)) (site_of self.old)) }
-        ensures mark { self.new.at_mark ≡ self.old.at_mark }
-    {
-        push_escaped(&mut self.text, text, place)?;
-        Ok(())
-    }
-
     /// Adds the prefix, where a line begins.
     pub fn begin_line(&mut self) -> Result<(), AllocError>
         ensures site { OnOk result (site_of self.new
@@ -337,6 +323,27 @@ impl<'a> Renderer<'a> {
         ensures mark { self.new.at_mark ≡ self.old.at_mark }
     {
         self.newlines = newlines;
+    }
+
+    /// Writes a text's escape inside the open containers. An escape has no line feed.
+    pub fn write_escaped(
+        &mut self,
+        text: &str,
+        place: &EscapeSurroundings<'_>,
+    ) -> Result<(), AllocError>
+        ensures written { OnOk result
+            (Stands self.new (levels_of self.old)
+            (written (levels_of self.old) (escaped (place_of place.now) text.now)
+            (page_of self.old))) }
+        ensures mark { self.new.at_mark ≡ self.old.at_mark }
+    {
+        if text.is_empty() {
+            return Ok(());
+        }
+        self.begin_line()?;
+        push_escaped(&mut self.text, text, place)?;
+        self.newlines = 0;
+        Ok(())
     }
 
     /// Whether nothing is owed before a leaf that goes on with a line.

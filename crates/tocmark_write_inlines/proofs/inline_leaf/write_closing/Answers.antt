@@ -1,7 +1,7 @@
 use Rattle.std.proofs.Common.{replicate}
 use Rattle.tocmark_write_renderer.specs.WriterOf.{levels_of, page_of}
 use Rattle.tocmark_write_texts.specs.Characters.{backtick}
-use Rattle.tocmark_write_inlines.proofs.Spans.{part-written}
+use Rattle.tocmark_write_renderer.proofs.Laid.{part-written}
 use Rattle.tocmark_write_inlines.proofs.inline_leaf.write_closing.Goals as goal
 
 pub returns-clause-stands : goal.returns-clause-stands

@@ -1,19 +1,41 @@
-use Rattle.std.proofs.Common.{None, Some, ap, string_bytes, sym, ◌∙◌}
+use Rattle.std.proofs.Common.{ap, string_bytes}
 use Rattle.std.specs.Option.{option_map}
 use Rattle.tocmark_event.specs.View.{event_view}
 use Rattle.tocmark_spelling.specs.Buffered.{following_view}
 use Rattle.tocmark_spelling.specs.Page.{Site}
 use Rattle.tocmark_write_renderer.specs.JobOf.{options_in, text_in}
-use Rattle.tocmark_write_renderer.specs.WriterOf.{held_view, page_of}
-use Rattle.tocmark_write_inlines.proofs.Texts.{added-at}
+use Rattle.tocmark_write_renderer.specs.WriterOf.{held_after, held_view, levels_of, page_of}
+use Rattle.tocmark_write_inlines.specs.StretchOf.{stretch_view}
+use Rattle.tocmark_write_inlines.proofs.Texts.{held-at, joined-on, shown-at, shown-wide}
 use Rattle.tocmark_write_inlines.proofs.stretch.add_text.Goals as goal
 
-pub returns-in-None-clause-stands : goal.returns-in-None-clause-stands
-returns-in-None-clause-stands c =
-    let taken = c.in_ok-take_held.ensures in
-    added-at c.begin.result c.begin.new.renderer c.take_held.new.self (options_in c.args.job) c.args.job.flags (text_in c.args.manner) c.args.manner.source (event_view string_bytes c.args.event.now.event) (following_view c.args.beside.next) c.args.beside.text_follows None c.args.text.now (option_map string_bytes c.args.event.now.source) (following_view c.args.beside.previous) c.args.renderer.now (sym (ap (option_map held_view) c.in-None.is) ∙ taken.held) taken.site (c.begin.ensures.stands (page_of c.args.renderer.now) (ap (λ (s : Site). s.page) taken.site))
+pub returns-then-beside-clause-stands : goal.returns-then-beside-clause-stands
+returns-then-beside-clause-stands c =
+    let a = c.args in
+    let taken = c.in_ok-held.ensures in
+    let page = page_of a.renderer.now in
+    let source = option_map string_bytes a.event.now.source in
+    let previous = following_view a.beside.previous in
+    let same = joined-on page (option_map held_view c.in_ok-held.held) (option_map held_view c.in_ok-whole.whole) (held_view c.in_ok-kept.kept) a.text.now source previous taken.held c.in_ok-whole.ensures c.in_ok-kept.ensures in
+    held-at c.hold.new.self c.take_held.new.self a.renderer.now (options_in a.job) a.job.flags (text_in a.manner) a.manner.source (event_view string_bytes a.event.now.event) (following_view a.beside.next) a.beside.text_follows (held_view c.in_ok-kept.kept) (held_after page.held a.text.now source previous) c.if-beside.true same taken.site c.hold.ensures.site
 
-pub returns-in-Some-clause-stands : goal.returns-in-Some-clause-stands
-returns-in-Some-clause-stands c =
-    let taken = c.in_ok-take_held.ensures in
-    added-at c.go_on.result c.go_on.new.renderer c.take_held.new.self (options_in c.args.job) c.args.job.flags (text_in c.args.manner) c.args.manner.source (event_view string_bytes c.args.event.now.event) (following_view c.args.beside.next) c.args.beside.text_follows (Some (held_view c.in-Some.held)) c.args.text.now (option_map string_bytes c.args.event.now.source) (following_view c.args.beside.previous) c.args.renderer.now (sym (ap (option_map held_view) c.in-Some.is) ∙ taken.held) taken.site (c.go_on.ensures.stands (page_of c.args.renderer.now) (ap (λ (s : Site). s.page) taken.site))
+pub returns-clause-stands : goal.returns-clause-stands
+returns-clause-stands c =
+    let a = c.args in
+    let taken = c.in_ok-held.ensures in
+    let mid = c.take_held.new.self in
+    let w = c.widen_by_text.new.renderer in
+    let o = options_in a.job in
+    let text = text_in a.manner in
+    let e = event_view string_bytes a.event.now.event in
+    let next = following_view a.beside.next in
+    let page = page_of a.renderer.now in
+    let source = option_map string_bytes a.event.now.source in
+    let previous = following_view a.beside.previous in
+    let h = stretch_view c.stretch_of-stretch.result in
+    let same = joined-on page (option_map held_view c.in_ok-held.held) (option_map held_view c.in_ok-whole.whole) h a.text.now source previous taken.held c.in_ok-whole.ensures c.stretch_of-stretch.ensures in
+    let written = shown-wide c.widen_by_text.result w mid o a.job.flags text a.manner.source e next c.write_gap.new.self c.write_stretch.new.renderer h c.in_ok-write_gap.ensures.stands c.in_ok-write_stretch.ensures.stands c.widen_by_text.ensures.stands in
+    shown-at c.widen_by_text.result w mid o a.job.flags text a.manner.source e next a.beside.text_follows h (held_after page.held a.text.now source previous) (levels_of a.renderer.now) page c.if-beside.false same (record {
+      path_is = ap (λ (s : Site). s.path) taken.site;
+      page_is = ap (λ (s : Site). s.page) taken.site;
+    }) written
