@@ -1,17 +1,16 @@
 //! The options of a script.
 
+use crate::line_fault::LineFault;
+use crate::script::put;
+use crate::words::{WordsLeft, decimal};
 use std::alloc::Global;
-use test_script_events::cursor::WordsLeft;
-use test_script_events::fault::LineFault;
-use test_script_events::number::size;
-use test_script_events::tag::truth;
 use tocmark_event::options::Options;
 
 const A_SIZE: &str = "a decimal number below 2^64, max or imax";
 
 /// An option that is a number of line feeds or of fence characters.
 #[derive(Clone, Copy)]
-pub enum SizeOption {
+enum SizeOption {
     Headline,
     Paragraph,
     CodeBlock,
@@ -27,7 +26,7 @@ pub enum SizeOption {
 
 /// An option that is a choice.
 #[derive(Clone, Copy)]
-pub enum ChoiceOption {
+enum ChoiceOption {
     IncrementBullets,
     HtmlScripts,
     PlainBlocks,
@@ -35,7 +34,7 @@ pub enum ChoiceOption {
 
 /// An option that is one character.
 #[derive(Clone, Copy)]
-pub enum TokenOption {
+enum TokenOption {
     CodeBlock,
     List,
     OrderedList,
@@ -49,15 +48,6 @@ enum OptionName {
     Choice(ChoiceOption),
     Token(TokenOption),
     StrongToken,
-}
-
-/// An option, and what it is set to.
-#[derive(Drop)]
-pub enum OptionSetting {
-    Size(SizeOption, usize),
-    Choice(ChoiceOption, bool),
-    Token(TokenOption, char),
-    StrongToken(String),
 }
 
 const OPTIONS: [(&str, OptionName); 19] = [
@@ -118,58 +108,15 @@ const OPTIONS: [(&str, OptionName); 19] = [
     ("strong_token", OptionName::StrongToken),
 ];
 
+const CHOICES: [(&str, bool); 2] = [("true", true), ("false", false)];
+
 /// A number of line feeds or of fence characters, in digits or as a word.
-fn size_of_word(word: &str) -> Option<usize> {
-    match word {
-        "max" => Some(usize::MAX),
-        "imax" => Some(0x7FFF_FFFF_FFFF_FFFF),
-        _ => size(word),
-    }
-}
-
-fn expect_size(cursor: &mut WordsLeft<'_>) -> Result<usize, LineFault> {
-    let fault = cursor.expected(A_SIZE);
-    match size_of_word(cursor.word().unwrap_or("")) {
-        Some(size) => Ok(size),
-        None => Err(fault),
-    }
-}
-
-fn size_setting(
-    option: SizeOption,
-    cursor: &mut WordsLeft<'_>,
-) -> Result<OptionSetting, LineFault> {
-    let size = expect_size(cursor)?;
-    Ok(OptionSetting::Size(option, size))
-}
-
-fn choice_setting(
-    option: ChoiceOption,
-    cursor: &mut WordsLeft<'_>,
-) -> Result<OptionSetting, LineFault> {
-    let choice = truth(cursor, "true or false")?;
-    Ok(OptionSetting::Choice(option, choice))
-}
-
-fn token_setting(
-    alloc: Global,
-    option: TokenOption,
-    cursor: &mut WordsLeft<'_>,
-) -> Result<OptionSetting, LineFault> {
-    let token = cursor.character(alloc)?;
-    Ok(OptionSetting::Token(option, token))
-}
-
-/// An option's name and its value.
-pub fn option_setting(
-    alloc: Global,
-    cursor: &mut WordsLeft<'_>,
-) -> Result<OptionSetting, LineFault> {
-    match cursor.expect_known(&OPTIONS, "the name of an option")? {
-        OptionName::Size(option) => size_setting(option, cursor),
-        OptionName::Choice(option) => choice_setting(option, cursor),
-        OptionName::Token(option) => token_setting(alloc, option, cursor),
-        OptionName::StrongToken => cursor.string(alloc).map(OptionSetting::StrongToken),
+fn size(words: &mut WordsLeft<'_>) -> Result<usize, LineFault> {
+    let fault = words.expected(A_SIZE);
+    match words.word() {
+        "max" => Ok(usize::MAX),
+        "imax" => Ok(0x7FFF_FFFF_FFFF_FFFF),
+        word => decimal(word).ok_or(fault),
     }
 }
 
@@ -206,16 +153,26 @@ fn set_token(options: &mut Options<'_>, option: TokenOption, token: char) {
     }
 }
 
-/// Sets an option. The strong token has a place of its own, since options only borrow it.
+/// Sets the option that a line names to the value behind its name. The strong token has a place of its own, since options
+/// only borrow it.
+///
+/// # Errors
+///
+/// The fault that the name of an option or another value is expected, or that memory ran out.
 pub fn set_option(
+    alloc: Global,
     options: &mut Options<'_>,
     strong_token: &mut Option<String>,
-    setting: OptionSetting,
-) {
-    match setting {
-        OptionSetting::Size(option, size) => set_size(options, option, size),
-        OptionSetting::Choice(option, choice) => set_choice(options, option, choice),
-        OptionSetting::Token(option, token) => set_token(options, option, token),
-        OptionSetting::StrongToken(token) => *strong_token = Some(token),
+    words: &mut WordsLeft<'_>,
+) -> Result<(), LineFault> {
+    match words.expect_known(&OPTIONS, "the name of an option")? {
+        OptionName::Size(option) => set_size(options, option, size(words)?),
+        OptionName::Choice(option) => {
+            let choice = words.expect_known(&CHOICES, "true or false")?;
+            set_choice(options, option, choice);
+        }
+        OptionName::Token(option) => set_token(options, option, words.character(alloc)?),
+        OptionName::StrongToken => put(strong_token, Some(words.string(alloc)?)),
     }
+    Ok(())
 }
