@@ -157,8 +157,9 @@ impl Batch {
         }
     }
 
-    /// Answers each script of a text in turn. `output` gets the answers, and `faults` a line for each script that can't be
-    /// read or for whose answer memory runs out; the other ones are still answered. Returns whether each has its answer.
+    /// Answers each script of a text in turn. `output` gets the answers, and `faults` a line for each script that
+    /// can't be read or for whose answer memory runs out; the other ones are still answered. Returns whether each
+    /// has its answer.
     ///
     /// # Errors
     ///

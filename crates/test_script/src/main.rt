@@ -1,10 +1,10 @@
 //! Runs scripts of events: reads them on standard input, and writes on standard output what each one is
 //! answered. The lines of scripts and of answers stand in `docs/SCRIPTS.md`.
 //!
-//! With the argument `--rows` a line of an answer of more than 4,000 bytes is told by its length and digest, each script
-//! without questions is run again, with clones of the state and with writers and readers that fail, and the units of each
-//! are written by renderers that go back and by others. Behind the answers stands how many such runs and writings there
-//! were, and which of them aren't as they should be.
+//! A `batch` answers scripts in turn: it makes the calls of one (`runs`, `cuts`), or answers its questions
+//! (`question`). With the argument `--rows` a line of an answer of more than 4,000 bytes is told by its length and
+//! digest (`short_lines`), and each script is also tried as a stored row (`rows`). Behind the answers stands what
+//! these trials came to.
 #![tactic(auto)]
 
 mod again;

@@ -1,14 +1,14 @@
-//! What is tried with each stored row: it is run again (`again`), and its units are written by renderers that go back.
+//! What is tried with each stored row. It is run `again`, with clones of the state and with writers and readers that
+//! fail. And its units are written by renderers that go back.
 //!
-//! A row's events are cut into units. For a unit there is
-//! one renderer, which writes it in each manner in which units are tried, in order, and in the first one
-//! again, each time behind a mark, and goes back. The mark stands before the unit, and then, for another
-//! renderer, behind its first event: there the container that this event opens is open, and some text, a
-//! definition, a quote line and a stretch of texts are there to come back to.
+//! A row's events are cut into units. For a unit there is one renderer, which writes it in each manner in which
+//! units are tried, in order, and in the first one again, each time behind a mark, and goes back. The mark stands
+//! before the unit, and then, for another renderer, behind its first event: there the container that this event
+//! opens is open, and some text, a definition, a quote line and a stretch of texts are there to come back to.
 //!
-//! Before and behind each writing that renderer is compared with one of its own that wrote the same and has
-//! never gone back: the text, the line feeds at its end, the definitions that it needs, what is carried
-//! along, the open containers and the runs of markers, and behind it also the quote line and the stretch.
+//! Before and behind each writing that renderer is compared with one of its own that wrote the same and has never
+//! gone back: the text, the line feeds at its end, the definitions that it needs, what is carried along, the open
+//! containers and the runs of markers, and behind it also the quote line and the stretch.
 
 use crate::again::Again;
 use crate::report::Report;
@@ -136,8 +136,8 @@ impl RowTrials {
         }
     }
 
-    /// Runs a script again, and tries its units. The answer gets a line for each run that isn't as it should be, and the
-    /// report one for each writing that differs. A row whose units memory can't hold is passed over, and counted.
+    /// Runs a script again, and tries its units. The answer gets a line for each run that isn't as it should be, and
+    /// the report one for each writing that differs. A row whose units memory can't hold is passed over, and counted.
     ///
     /// # Errors
     ///

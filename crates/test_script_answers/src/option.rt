@@ -153,8 +153,8 @@ fn set_token(options: &mut Options<'_>, option: TokenOption, token: char) {
     }
 }
 
-/// Sets the option that a line names to the value behind its name. The strong token has a place of its own, since options
-/// only borrow it.
+/// Sets the option that a line names to the value behind its name. The strong token has a place of its own, since
+/// options only borrow it.
 ///
 /// # Errors
 ///

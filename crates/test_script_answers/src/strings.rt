@@ -82,7 +82,8 @@ fn text_of(alloc: Global, string: &str) -> Result<Option<String>, AllocError> {
     }
 }
 
-/// The text of the string at the front of a text, and what stands behind it, or nothing where none of JSON stands there.
+/// The text of the string at the front of a text, and what stands behind it, or nothing where none of JSON stands
+/// there.
 ///
 /// # Errors
 ///
