@@ -5,13 +5,20 @@ use crate::line_fault::LineFault;
 use crate::option::set_option;
 use crate::readers::{ReadEvents, ScriptReader, Table};
 use crate::script::{Call, Question, Script, put};
-use crate::statement::{STATEMENTS, SettingName, StatementName, flags, place, question};
+use crate::statement::{
+    STATEMENTS, SettingName, StatementName, close_question, escape_question, flags,
+    longest_question, place, text_question,
+};
 use crate::strings::written_out;
 use crate::words::WordsLeft;
 use std::alloc::{AllocError, Global};
 use std::mem;
 
 const A_CARRIAGE_RETURN: &str = "it ends with a carriage return, and a line feed alone ends a line";
+
+const A_TEXT: &str = "the number of a text, from 1";
+
+const A_READING: &str = "the number of a reading, from 1";
 
 const A_STATEMENT: &str =
     "an event in JSON, or the name of a statement or a question (case matters)";
@@ -209,34 +216,18 @@ impl Gathering<'static> {
         Ok(())
     }
 
-    fn set_option(&mut self, words: &mut WordsLeft<'_>) -> Result<(), LineFault> {
-        let script = &mut self.script;
-        script.has_options = true;
-        set_option(
-            self.alloc,
-            &mut script.options,
-            &mut script.strong_token,
-            words,
-        )
-    }
-
     /// Has a setting of this name hold, with the value behind the name.
     fn set(&mut self, name: SettingName, words: &mut WordsLeft<'_>) -> Result<(), LineFault> {
         match name {
             SettingName::Flags => self.script.flags = flags(words)?,
-            SettingName::Option => self.set_option(words)?,
+            SettingName::Option => set_option(self.alloc, &mut self.script, words)?,
             SettingName::Source => put(&mut self.script.source, Some(words.string(self.alloc)?)),
             SettingName::Calls => self.script.shows_calls = true,
             SettingName::Cuts => self.script.compares_cuts = true,
             SettingName::Reader => self.set_reader(words)?,
-            SettingName::FailAt => {
-                self.script.refused_text = Some(place(words, "the number of a text, from 1")?);
-            }
+            SettingName::FailAt => self.script.refused_text = Some(place(words, A_TEXT)?),
             SettingName::ReadFailAt => {
-                self.script.refused_reading = Some(place(
-                    words,
-                    "the number of a reading, from 1",
-                )?);
+                self.script.refused_reading = Some(place(words, A_READING)?);
             }
         }
         Ok(())
@@ -265,7 +256,12 @@ impl Gathering<'static> {
                 self.ask(Question::OfEvents { question, events })
             }
             StatementName::AskOfScript(question) => self.ask(Question::OfScript(question)),
-            StatementName::Ask(name) => self.ask(question(self.alloc, name, words)?),
+            StatementName::AskOfText(question) => {
+                self.ask(text_question(self.alloc, question, words)?)
+            }
+            StatementName::Escape => self.ask(escape_question(self.alloc, words)?),
+            StatementName::CloseLink => self.ask(close_question(self.alloc, words)?),
+            StatementName::LongestRun => self.ask(longest_question(self.alloc, words)?),
         }
     }
 
@@ -274,10 +270,8 @@ impl Gathering<'static> {
         let mut words = WordsLeft::new(line);
         let outside = words.expected("an event, or End of reading");
         let name = words.expect_known(&STATEMENTS, A_STATEMENT)?;
-        match name {
-            StatementName::Repeat => {}
-            _ if self.reading.is_some() => return Err(outside),
-            _ => {}
+        if self.reading.is_some() && !matches!(name, StatementName::Repeat) {
+            return Err(outside);
         }
         self.take_parts(number, name, &mut words)?;
         words.end()

@@ -1,8 +1,9 @@
 //! The options of a script.
 
 use crate::line_fault::LineFault;
-use crate::script::put;
+use crate::script::{Script, put};
 use crate::words::{WordsLeft, decimal};
+use OptionName::{Choice, Size, StrongToken, Token};
 use std::alloc::Global;
 use tocmark_event::options::Options;
 
@@ -51,61 +52,31 @@ enum OptionName {
 }
 
 const OPTIONS: [(&str, OptionName); 19] = [
-    (
-        "newlines_after_headline",
-        OptionName::Size(SizeOption::Headline),
-    ),
-    (
-        "newlines_after_paragraph",
-        OptionName::Size(SizeOption::Paragraph),
-    ),
-    (
-        "newlines_after_codeblock",
-        OptionName::Size(SizeOption::CodeBlock),
-    ),
-    (
-        "newlines_after_htmlblock",
-        OptionName::Size(SizeOption::HtmlBlock),
-    ),
-    ("newlines_after_table", OptionName::Size(SizeOption::Table)),
-    ("newlines_after_rule", OptionName::Size(SizeOption::Rule)),
-    ("newlines_after_list", OptionName::Size(SizeOption::List)),
-    (
-        "newlines_after_blockquote",
-        OptionName::Size(SizeOption::BlockQuote),
-    ),
-    ("newlines_after_rest", OptionName::Size(SizeOption::Rest)),
-    (
-        "newlines_after_metadata",
-        OptionName::Size(SizeOption::Metadata),
-    ),
-    (
-        "code_block_token_count",
-        OptionName::Size(SizeOption::CodeBlockToken),
-    ),
+    ("newlines_after_headline", Size(SizeOption::Headline)),
+    ("newlines_after_paragraph", Size(SizeOption::Paragraph)),
+    ("newlines_after_codeblock", Size(SizeOption::CodeBlock)),
+    ("newlines_after_htmlblock", Size(SizeOption::HtmlBlock)),
+    ("newlines_after_table", Size(SizeOption::Table)),
+    ("newlines_after_rule", Size(SizeOption::Rule)),
+    ("newlines_after_list", Size(SizeOption::List)),
+    ("newlines_after_blockquote", Size(SizeOption::BlockQuote)),
+    ("newlines_after_rest", Size(SizeOption::Rest)),
+    ("newlines_after_metadata", Size(SizeOption::Metadata)),
+    ("code_block_token_count", Size(SizeOption::CodeBlockToken)),
     (
         "increment_ordered_list_bullets",
-        OptionName::Choice(ChoiceOption::IncrementBullets),
+        Choice(ChoiceOption::IncrementBullets),
     ),
     (
         "use_html_for_super_sub_script",
-        OptionName::Choice(ChoiceOption::HtmlScripts),
+        Choice(ChoiceOption::HtmlScripts),
     ),
-    (
-        "check_plain_blocks",
-        OptionName::Choice(ChoiceOption::PlainBlocks),
-    ),
-    (
-        "code_block_token",
-        OptionName::Token(TokenOption::CodeBlock),
-    ),
-    ("list_token", OptionName::Token(TokenOption::List)),
-    (
-        "ordered_list_token",
-        OptionName::Token(TokenOption::OrderedList),
-    ),
-    ("emphasis_token", OptionName::Token(TokenOption::Emphasis)),
-    ("strong_token", OptionName::StrongToken),
+    ("check_plain_blocks", Choice(ChoiceOption::PlainBlocks)),
+    ("code_block_token", Token(TokenOption::CodeBlock)),
+    ("list_token", Token(TokenOption::List)),
+    ("ordered_list_token", Token(TokenOption::OrderedList)),
+    ("emphasis_token", Token(TokenOption::Emphasis)),
+    ("strong_token", StrongToken),
 ];
 
 const CHOICES: [(&str, bool); 2] = [("true", true), ("false", false)];
@@ -153,26 +124,28 @@ fn set_token(options: &mut Options<'_>, option: TokenOption, token: char) {
     }
 }
 
-/// Sets the option that a line names to the value behind its name. The strong token has a place of its own, since
-/// options only borrow it.
+/// Sets the option of a script that a line names to the value behind its name.
 ///
 /// # Errors
 ///
 /// The fault that the name of an option or another value is expected, or that memory ran out.
 pub fn set_option(
     alloc: Global,
-    options: &mut Options<'_>,
-    strong_token: &mut Option<String>,
+    script: &mut Script<'_>,
     words: &mut WordsLeft<'_>,
 ) -> Result<(), LineFault> {
+    script.has_options = true;
     match words.expect_known(&OPTIONS, "the name of an option")? {
-        OptionName::Size(option) => set_size(options, option, size(words)?),
-        OptionName::Choice(option) => {
+        Size(option) => set_size(&mut script.options, option, size(words)?),
+        Choice(option) => {
             let choice = words.expect_known(&CHOICES, "true or false")?;
-            set_choice(options, option, choice);
+            set_choice(&mut script.options, option, choice);
         }
-        OptionName::Token(option) => set_token(options, option, words.character(alloc)?),
-        OptionName::StrongToken => put(strong_token, Some(words.string(alloc)?)),
+        Token(option) => {
+            let token = words.character(alloc)?;
+            set_token(&mut script.options, option, token);
+        }
+        StrongToken => put(&mut script.strong_token, Some(words.string(alloc)?)),
     }
     Ok(())
 }

@@ -37,6 +37,22 @@ fn write_count(alloc: Global, answer: &mut String, reading: &Reading) -> Result<
     writeln!(answer, "{count} events")
 }
 
+/// Writes the events of a reading, with their ranges or merged, and its labels.
+fn write_reading(
+    alloc: Global,
+    answer: &mut String,
+    reading: &Reading,
+    is_merged: bool,
+) -> Result<(), AllocError> {
+    if is_merged {
+        write_merged(alloc, answer, reading)?;
+    } else {
+        write_pairs(alloc, answer, reading)?;
+    }
+    write_labels(answer, "Defined", &reading.defined)?;
+    write_labels(answer, "Unresolved", &reading.unresolved)
+}
+
 /// Writes the reading of a text: its events, with their ranges or merged, and its labels.
 ///
 /// # Errors
@@ -49,14 +65,8 @@ pub fn write_read(
     text: &str,
     is_merged: bool,
 ) -> Result<(), AllocError> {
-    let reading = script.reader.read(alloc, text, script.flags)?;
-    if is_merged {
-        write_merged(alloc, answer, &reading)?;
-    } else {
-        write_pairs(alloc, answer, &reading)?;
-    }
-    write_labels(answer, "Defined", &reading.defined)?;
-    write_labels(answer, "Unresolved", &reading.unresolved)
+    let (reader, flags) = (&script.reader, script.flags);
+    write_reading(alloc, answer, &reader.read(alloc, text, flags)?, is_merged)
 }
 
 /// Writes how many events the reading of a text has, each stretch of texts as one.
@@ -142,8 +152,14 @@ fn rewritten(
     text: &str,
     has_source: bool,
 ) -> Result<String, Error> {
-    let reading = script.reader.read(alloc, text, script.flags)?;
-    written_back(alloc, script, text, &reading, has_source)
+    let (reader, flags) = (&script.reader, script.flags);
+    written_back(
+        alloc,
+        script,
+        text,
+        &reader.read(alloc, text, flags)?,
+        has_source,
+    )
 }
 
 /// Writes what a text is read and written back as, with the ranges of the reading or without, or the error's name.

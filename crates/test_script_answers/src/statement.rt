@@ -3,6 +3,7 @@
 use crate::line_fault::LineFault;
 use crate::script::{EventsQuestion, Question, ScriptQuestion, TextQuestion};
 use crate::words::WordsLeft;
+use StatementName::{AskOfEvents, AskOfScript, AskOfText, Set};
 use bitflags::Flags;
 use std::alloc::Global;
 use tocmark_event::event::{LinkType, ParserOptions};
@@ -23,15 +24,6 @@ pub enum SettingName {
     ReadFailAt,
 }
 
-/// What the name of a question says that is asked of strings.
-#[derive(Clone, Copy)]
-pub enum QuestionName {
-    EscapeDestinationOrTitle,
-    CloseLink,
-    LongestRun,
-    OfText(TextQuestion),
-}
-
 /// What the first word of a statement says.
 #[derive(Clone, Copy)]
 pub enum StatementName {
@@ -44,7 +36,10 @@ pub enum StatementName {
     /// Asks of the events so far.
     AskOfEvents(EventsQuestion),
     AskOfScript(ScriptQuestion),
-    Ask(QuestionName),
+    AskOfText(TextQuestion),
+    Escape,
+    CloseLink,
+    LongestRun,
 }
 
 /// The names of statements.
@@ -54,81 +49,33 @@ pub const STATEMENTS: [(&str, StatementName); 32] = [
     ("Finish", StatementName::Finish),
     ("Clone", StatementName::Clone),
     ("Reads", StatementName::Reads),
-    ("Flags", StatementName::Set(SettingName::Flags)),
-    ("Option", StatementName::Set(SettingName::Option)),
-    ("Source", StatementName::Set(SettingName::Source)),
-    ("Calls", StatementName::Set(SettingName::Calls)),
-    ("Cuts", StatementName::Set(SettingName::Cuts)),
-    ("Reader", StatementName::Set(SettingName::Reader)),
-    ("FailAt", StatementName::Set(SettingName::FailAt)),
-    ("ReadFailAt", StatementName::Set(SettingName::ReadFailAt)),
-    (
-        "Count",
-        StatementName::AskOfEvents(EventsQuestion::CountTokens),
-    ),
-    ("Events", StatementName::AskOfEvents(EventsQuestion::Show)),
-    (
-        "Merged",
-        StatementName::AskOfEvents(EventsQuestion::ShowMerged),
-    ),
-    (
-        "Copies",
-        StatementName::AskOfEvents(EventsQuestion::CountCopies),
-    ),
-    (
-        "Same",
-        StatementName::AskOfEvents(EventsQuestion::CountSame),
-    ),
-    (
-        "Validate",
-        StatementName::AskOfScript(ScriptQuestion::Validate),
-    ),
-    (
-        "CountValid",
-        StatementName::AskOfScript(ScriptQuestion::CountValid),
-    ),
-    (
-        "Special",
-        StatementName::AskOfScript(ScriptQuestion::SpecialCharacters),
-    ),
-    (
-        "ErrorTexts",
-        StatementName::AskOfScript(ScriptQuestion::ErrorTexts),
-    ),
-    (
-        "Escape",
-        StatementName::Ask(QuestionName::EscapeDestinationOrTitle),
-    ),
-    ("Close", StatementName::Ask(QuestionName::CloseLink)),
-    ("Longest", StatementName::Ask(QuestionName::LongestRun)),
-    (
-        "Fault",
-        StatementName::Ask(QuestionName::OfText(TextQuestion::Fault)),
-    ),
-    (
-        "Plain",
-        StatementName::Ask(QuestionName::OfText(TextQuestion::Plain)),
-    ),
-    (
-        "Read",
-        StatementName::Ask(QuestionName::OfText(TextQuestion::Read)),
-    ),
-    (
-        "ReadMerged",
-        StatementName::Ask(QuestionName::OfText(TextQuestion::ReadMerged)),
-    ),
-    (
-        "CountRead",
-        StatementName::Ask(QuestionName::OfText(TextQuestion::CountRead)),
-    ),
-    (
-        "Roundtrip",
-        StatementName::Ask(QuestionName::OfText(TextQuestion::Roundtrip)),
-    ),
-    (
-        "RoundtripSource",
-        StatementName::Ask(QuestionName::OfText(TextQuestion::RoundtripSource)),
-    ),
+    ("Flags", Set(SettingName::Flags)),
+    ("Option", Set(SettingName::Option)),
+    ("Source", Set(SettingName::Source)),
+    ("Calls", Set(SettingName::Calls)),
+    ("Cuts", Set(SettingName::Cuts)),
+    ("Reader", Set(SettingName::Reader)),
+    ("FailAt", Set(SettingName::FailAt)),
+    ("ReadFailAt", Set(SettingName::ReadFailAt)),
+    ("Count", AskOfEvents(EventsQuestion::CountTokens)),
+    ("Events", AskOfEvents(EventsQuestion::Show)),
+    ("Merged", AskOfEvents(EventsQuestion::ShowMerged)),
+    ("Copies", AskOfEvents(EventsQuestion::CountCopies)),
+    ("Same", AskOfEvents(EventsQuestion::CountSame)),
+    ("Validate", AskOfScript(ScriptQuestion::Validate)),
+    ("CountValid", AskOfScript(ScriptQuestion::CountValid)),
+    ("Special", AskOfScript(ScriptQuestion::SpecialCharacters)),
+    ("ErrorTexts", AskOfScript(ScriptQuestion::ErrorTexts)),
+    ("Fault", AskOfText(TextQuestion::Fault)),
+    ("Plain", AskOfText(TextQuestion::Plain)),
+    ("Read", AskOfText(TextQuestion::Read)),
+    ("ReadMerged", AskOfText(TextQuestion::ReadMerged)),
+    ("CountRead", AskOfText(TextQuestion::CountRead)),
+    ("Roundtrip", AskOfText(TextQuestion::Roundtrip)),
+    ("RoundtripSource", AskOfText(TextQuestion::RoundtripSource)),
+    ("Escape", StatementName::Escape),
+    ("Close", StatementName::CloseLink),
+    ("Longest", StatementName::LongestRun),
 ];
 
 /// What can be escaped, by its name.
@@ -192,23 +139,6 @@ fn link_type(words: &mut WordsLeft<'_>) -> Result<LinkType, LineFault> {
     link_type_named(words.word()).ok_or(fault)
 }
 
-fn close(alloc: Global, words: &mut WordsLeft<'_>) -> Result<Question, LineFault> {
-    let link_type = link_type(words)?;
-    let dest_url = words.string(alloc)?;
-    let title = words.string(alloc)?;
-    Ok(Question::CloseLink {
-        link_type,
-        dest_url,
-        title,
-    })
-}
-
-fn longest(alloc: Global, words: &mut WordsLeft<'_>) -> Result<Question, LineFault> {
-    let search = words.character(alloc)?;
-    let text = words.string(alloc)?;
-    Ok(Question::LongestRun { search, text })
-}
-
 /// The strings up to the end of the line, joined.
 fn joined_strings(alloc: Global, words: &mut WordsLeft<'_>) -> Result<String, LineFault> {
     let mut text = words.string(alloc)?;
@@ -221,7 +151,12 @@ fn joined_strings(alloc: Global, words: &mut WordsLeft<'_>) -> Result<String, Li
     Ok(text)
 }
 
-fn text_question(
+/// The question of the strings that come next, joined.
+///
+/// # Errors
+///
+/// The fault that a string is expected, or that memory ran out.
+pub fn text_question(
     alloc: Global,
     question: TextQuestion,
     words: &mut WordsLeft<'_>,
@@ -230,23 +165,39 @@ fn text_question(
     Ok(Question::OfText { question, text })
 }
 
-/// The question of this name, and the strings that it is asked of.
+/// The question how the string is escaped that comes next, behind what it is.
 ///
 /// # Errors
 ///
-/// The fault that something else is expected, or that memory ran out.
-pub fn question(
-    alloc: Global,
-    name: QuestionName,
-    words: &mut WordsLeft<'_>,
-) -> Result<Question, LineFault> {
-    match name {
-        QuestionName::CloseLink => close(alloc, words),
-        QuestionName::LongestRun => longest(alloc, words),
-        QuestionName::OfText(question) => text_question(alloc, question, words),
-        QuestionName::EscapeDestinationOrTitle => {
-            let question = words.expect_known(&ESCAPED, "dest or title")?;
-            text_question(alloc, question, words)
-        }
-    }
+/// The fault that `dest`, `title` or a string is expected, or that memory ran out.
+pub fn escape_question(alloc: Global, words: &mut WordsLeft<'_>) -> Result<Question, LineFault> {
+    let question = words.expect_known(&ESCAPED, "dest or title")?;
+    text_question(alloc, question, words)
+}
+
+/// The question what closes the link whose type, destination and title come next.
+///
+/// # Errors
+///
+/// The fault that one of these is expected, or that memory ran out.
+pub fn close_question(alloc: Global, words: &mut WordsLeft<'_>) -> Result<Question, LineFault> {
+    let link_type = link_type(words)?;
+    let dest_url = words.string(alloc)?;
+    let title = words.string(alloc)?;
+    Ok(Question::CloseLink {
+        link_type,
+        dest_url,
+        title,
+    })
+}
+
+/// The question how long the longest run is of the character that comes next, in the string behind it.
+///
+/// # Errors
+///
+/// The fault that a character or a string is expected, or that memory ran out.
+pub fn longest_question(alloc: Global, words: &mut WordsLeft<'_>) -> Result<Question, LineFault> {
+    let search = words.character(alloc)?;
+    let text = words.string(alloc)?;
+    Ok(Question::LongestRun { search, text })
 }
