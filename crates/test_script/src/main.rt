@@ -1,28 +1,36 @@
 //! Runs scripts of events: reads them on standard input, and writes on standard output what each one is
 //! answered. The lines of scripts and of answers stand in `docs/SCRIPTS.md`.
 //!
-//! With the argument `--rows` a line of an answer of more than 4,000 bytes is told by its length and digest, and each
-//! script without questions is run again, with clones of the state and with writers and readers that fail. Behind the
-//! answers stands how many such runs there were, and what `comparison` has counted: whether the scripts' units are written alike by renderers
-//! that go back and by others.
+//! A `batch` answers scripts in turn: it makes the calls of one (`runs`, `cuts`), or answers its questions
+//! (`question`). With the argument `--rows` a line of an answer of more than 4,000 bytes is told by its length and
+//! digest (`short_lines`), and each script is also tried as a stored row (`rows`). Behind the answers stands what
+//! these trials came to.
 #![tactic(auto)]
 
+mod again;
 mod alike;
-mod comparison;
+mod batch;
+mod cuts;
+mod fault;
+mod faults;
 mod midst;
+mod question;
 mod report;
 mod rows;
+mod runs;
 mod short_lines;
+mod tally;
 mod trials;
 mod unit;
+mod valid;
 
-use crate::comparison::write_trials;
+use crate::batch::Batch;
+use crate::fault::Fault;
+use crate::rows::RowTrials;
 use crate::short_lines::ShortLines;
 use std::env;
-use std::io::Write;
+use std::io::{ErrorKind, Read, Write};
 use std::process::ExitCode;
-use test_script_answers::answering::{answer_scripts, answer_scripts_again, complain, scripts};
-use test_script_answers::fault::Fault;
 
 /// Whether the argument `--rows` stands there. An `Err` says that something else does.
 fn has_rows(rt: &HostRuntime) -> Result<bool, Fault> {
@@ -40,32 +48,34 @@ fn has_rows(rt: &HostRuntime) -> Result<bool, Fault> {
     }
 }
 
-/// Answers each script. False where some script has no answer.
-fn answer(rt: &HostRuntime) -> Result<bool, Fault> {
-    let text = scripts(rt.alloc(), &mut rt.stdin())?;
-    answer_scripts(
-        rt.alloc(),
-        text.as_str(),
-        &mut rt.stdout(),
-        &mut rt.stderr(),
-    )
-}
-
-/// Tries the units of the scripts. False where a script can't be read.
-fn try_units<W: Write>(rt: &HostRuntime, text: &str, output: &mut W) -> Result<bool, Fault> {
-    match write_trials(rt.alloc(), text, output) {
-        Ok(is_right) => Ok(is_right),
-        Err(_) => Err(Fault::Write),
+/// The text of scripts that standard input has.
+fn scripts(rt: &HostRuntime) -> Result<String, Fault> {
+    let mut text = String::new(rt.alloc());
+    match rt.stdin().read_to_string(&mut text) {
+        Ok(_bytes) => Ok(text),
+        Err(error) if error.kind() == ErrorKind::InvalidData => Err(Fault::NotUtf8),
+        Err(_error) => Err(Fault::Read),
     }
 }
 
-/// Answers each script in short lines, and tries their units. False where some script has no answer.
+/// Answers each script. False where some script has no answer.
+fn answer(rt: &HostRuntime) -> Result<bool, Fault> {
+    let text = scripts(rt)?;
+    let mut batch = Batch::new(rt.alloc(), None);
+    let is_right = batch.take_all(text.as_str(), &mut rt.stdout(), &mut rt.stderr());
+    drop(batch);
+    is_right
+}
+
+/// Answers each script in short lines, runs it again, and tries its units. False where some script has no answer.
 fn answer_rows(rt: &HostRuntime) -> Result<bool, Fault> {
-    let text = scripts(rt.alloc(), &mut rt.stdin())?;
+    let text = scripts(rt)?;
     let mut output = rt.stdout();
     let mut lines = ShortLines::new(&mut output, Vec::new(rt.alloc()));
-    let is_right = answer_scripts_again(rt.alloc(), text.as_str(), &mut lines, &mut rt.stderr())?;
-    Ok(try_units(rt, text.as_str(), &mut lines)? && is_right)
+    let mut batch = Batch::new(rt.alloc(), Some(RowTrials::new(rt.alloc())));
+    let is_right = batch.take_all(text.as_str(), &mut lines, &mut rt.stderr());
+    drop(batch);
+    is_right
 }
 
 fn run(rt: &HostRuntime) -> Result<bool, Fault> {
@@ -81,7 +91,7 @@ fn main(rt: HostRuntime) -> ExitCode {
         Ok(true) => ExitCode::SUCCESS,
         Ok(false) => ExitCode::FAILURE,
         Err(fault) => {
-            complain(&mut rt.stderr(), &fault);
+            let _ = writeln!(rt.stderr(), "{fault}");
             match fault {
                 Fault::Usage => ExitCode::from(2),
                 _ => ExitCode::FAILURE,

@@ -1,13 +1,23 @@
-//! Rows, and the units that their events are cut into.
+//! What is tried with each stored row. It is run `again`, with clones of the state and with writers and readers that
+//! fail. And its units are written by renderers that go back.
+//!
+//! A row's events are cut into units. For a unit there is one renderer, which writes it in each manner in which
+//! units are tried, in order, and in the first one again, each time behind a mark, and goes back. The mark stands
+//! before the unit, and then, for another renderer, behind its first event: there the container that this event
+//! opens is open, and some text, a definition, a quote line and a stretch of texts are there to come back to.
+//!
+//! Before and behind each writing that renderer is compared with one of its own that wrote the same and has never
+//! gone back: the text, the line feeds at its end, the definitions that it needs, what is carried along, the open
+//! containers and the runs of markers, and behind it also the quote line and the stretch.
 
+use crate::again::Again;
 use crate::report::Report;
 use crate::trials::{Front, try_all};
 use crate::unit::Unit;
 use std::alloc::{AllocError, Global};
+use std::io::{self, Write};
 use std::mem;
-use test_script_events::fault::{LineFault, NumberedFault};
-use test_script_lines::lines::ScriptLines;
-use test_script_lines::script::Script;
+use test_script_answers::script::Script;
 use tocmark_event::event::{Event, OwnedEvent, ParserOptions};
 use tocmark_event::options::{Error, Options};
 use tocmark_write_pending::pending::Pending;
@@ -110,77 +120,48 @@ fn try_script(alloc: Global, script: &Script<'_>, report: &mut Report) -> Result
     row.run(script, report)
 }
 
-/// Passes over a fault that says that memory can't hold a row. An `Err` is another one.
-fn pass_over(fault: NumberedFault<'_>) -> Result<(), NumberedFault<'_>> {
-    match fault.fault {
-        LineFault::OutOfMemory => Ok(()),
-        _ => Err(fault),
-    }
+/// What is tried with the stored rows beside their answers, and what that comes to.
+#[derive(Drop)]
+pub struct RowTrials {
+    again: Again,
+    report: Report,
 }
 
-/// Tries the units of a row, and returns whether memory could hold it. An `Err` says what else is wrong with a line.
-fn try_row(
-    alloc: Global,
-    row: Result<Option<Script<'static>>, NumberedFault<'static>>,
-    report: &mut Report,
-) -> Result<bool, NumberedFault<'static>> {
-    match row {
-        Ok(Some(script)) => Ok(try_script(alloc, &script, report).is_ok()),
-        Ok(None) => Ok(false),
-        Err(fault) => {
-            pass_over(fault)?;
-            Ok(false)
+impl RowTrials {
+    /// No row yet.
+    pub fn new(alloc: Global) -> RowTrials {
+        RowTrials {
+            again: Again::NONE,
+            report: Report::new(alloc),
         }
     }
-}
 
-/// Takes the end of a row.
-fn end_row(
-    alloc: Global,
-    lines: &mut ScriptLines,
-    report: &mut Report,
-) -> Result<(), NumberedFault<'static>> {
-    lines.pass();
-    report.begin_row();
-    let is_held = try_row(alloc, lines.end(), report)?;
-    report.end_row(is_held);
-    Ok(())
-}
-
-/// Takes a line of a row.
-fn take_line<'l>(lines: &mut ScriptLines, line: &'l str) -> Result<(), NumberedFault<'l>> {
-    match lines.take(line) {
-        Ok(()) => Ok(()),
-        Err(fault) => pass_over(fault),
+    /// Runs a script again, and tries its units. The answer gets a line for each run that isn't as it should be, and
+    /// the report one for each writing that differs. A row whose units memory can't hold is passed over, and counted.
+    ///
+    /// # Errors
+    ///
+    /// There is no memory for the runs.
+    pub fn run(
+        &mut self,
+        alloc: Global,
+        script: &Script<'static>,
+        answer: &mut String,
+    ) -> Result<(), AllocError> {
+        self.again.run(alloc, script, answer)?;
+        self.report.begin_row();
+        let tried = try_script(alloc, script, &mut self.report);
+        self.report.end_row(tried.is_ok());
+        Ok(())
     }
-}
 
-/// Takes the lines of rows, and tries each row at its end.
-fn take_lines<'l>(
-    alloc: Global,
-    lines: &mut ScriptLines,
-    text: &'l str,
-    report: &mut Report,
-) -> Result<(), NumberedFault<'l>> {
-    for line in text.split('\n') {
-        if line == "%" {
-            end_row(alloc, lines, report)?;
-        } else {
-            take_line(lines, line)?;
-        }
+    /// Writes how many runs there were, and the report.
+    ///
+    /// # Errors
+    ///
+    /// The error of the output.
+    pub fn write<W: Write>(&self, output: &mut W) -> io::Result<()> {
+        self.again.write(output)?;
+        self.report.write(output)
     }
-    Ok(())
-}
-
-/// Tries the rows of a text, each of which ends with a line `%`. One that memory can't hold is passed over.
-/// An `Err` says what is wrong with a line.
-pub fn try_rows<'l>(
-    alloc: Global,
-    text: &'l str,
-    report: &mut Report,
-) -> Result<(), NumberedFault<'l>> {
-    let mut lines = ScriptLines::new(alloc);
-    let taken = take_lines(alloc, &mut lines, text, report);
-    drop(lines);
-    taken
 }

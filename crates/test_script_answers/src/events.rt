@@ -1,12 +1,12 @@
 //! Questions about the events of a script, and their answers.
 
+use crate::event_line::{Events, RangedEvent};
+use crate::script::EventsQuestion;
 use std::alloc::{AllocError, Global};
-use test_script_events::event::{Events, RangedEvent};
-use test_script_events::line::EventLine;
-use test_script_lines::script::EventsQuestion;
 use tocmark::calculate_code_block_token_count;
 use tocmark::event::{CowStr, Event, EventOf, OwnedEvent, merge_all, merge_texts};
 use tocmark_compare::event::same_event;
+use tocmark_json::printing::{events_to_text, pairs_to_text};
 
 fn token_count(events: &[RangedEvent<'static>]) -> Option<usize> {
     calculate_code_block_token_count(Events(events.iter()))
@@ -22,21 +22,21 @@ fn write_token_count(
     }
 }
 
-fn write_line(
-    answer: &mut String,
-    event: &Event<'static>,
-    range: Option<(usize, usize)>,
-) -> Result<(), AllocError> {
-    let line = EventLine(event);
-    match range {
-        Some((start, end)) => writeln!(answer, "{line} {start}..{end}"),
-        None => writeln!(answer, "{line}"),
-    }
+/// Writes the line of the only element of a JSON array.
+pub fn write_element(answer: &mut String, array: &str) -> Result<(), AllocError> {
+    let element = array.strip_prefix('[').unwrap_or("");
+    let element = element.strip_suffix(']').unwrap_or("");
+    writeln!(answer, "{element}")
 }
 
-fn write_lines(answer: &mut String, events: &[RangedEvent<'static>]) -> Result<(), AllocError> {
-    for (event, range) in events {
-        write_line(answer, event, *range)?;
+/// Writes the lines of events with their ranges.
+fn write_pairs(
+    alloc: Global,
+    answer: &mut String,
+    pairs: &[RangedEvent<'static>],
+) -> Result<(), AllocError> {
+    for pair in pairs.chunks(1) {
+        write_element(answer, pairs_to_text(alloc, pair)?.as_str())?;
     }
     Ok(())
 }
@@ -62,9 +62,13 @@ pub fn merged<R>(
 }
 
 /// Writes the lines of events without ranges.
-pub fn write_events(answer: &mut String, events: &[Event<'static>]) -> Result<(), AllocError> {
-    for event in events {
-        write_line(answer, event, None)?;
+pub fn write_events(
+    alloc: Global,
+    answer: &mut String,
+    events: &[Event<'static>],
+) -> Result<(), AllocError> {
+    for event in events.chunks(1) {
+        write_element(answer, events_to_text(alloc, event)?.as_str())?;
     }
     Ok(())
 }
@@ -81,7 +85,7 @@ fn write_merged(
     answer: &mut String,
     events: &[RangedEvent<'static>],
 ) -> Result<(), AllocError> {
-    write_events(answer, &merged(alloc, events)?)?;
+    write_events(alloc, answer, &merged(alloc, events)?)?;
     let count = owned_count(alloc, events)?;
     writeln!(answer, "{count} events")
 }
@@ -181,7 +185,7 @@ pub fn write_events_answer(
 ) -> Result<(), AllocError> {
     match question {
         EventsQuestion::CountTokens => write_token_count(answer, events),
-        EventsQuestion::Show => write_lines(answer, events),
+        EventsQuestion::Show => write_pairs(alloc, answer, events),
         EventsQuestion::ShowMerged => write_merged(alloc, answer, events),
         EventsQuestion::CountCopies => write_copies(alloc, answer, events),
         EventsQuestion::CountSame => write_same(answer, events),

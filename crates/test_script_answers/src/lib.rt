@@ -1,21 +1,23 @@
-//! Answers scripts of events. The lines of scripts, of questions and of answers stand in `docs/SCRIPTS.md`.
+//! Reads scripts of events, and answers what is asked of events and of readings. The lines of scripts and of answers
+//! stand in `docs/SCRIPTS.md`.
 //!
-//! Below it stand `test_script_lines` and the library, above it the program `test_script`. Enter at `answering`,
-//! which goes over the scripts (`batch`). `question` answers one of them, each sort of question in a module of its
-//! own.
+//! Below it stand the library and `tocmark_json`, above it the program `test_script`. A `script` is read line by line
+//! (`lines`, `gathering`). A line is an event in JSON (`event_line`), or words and strings (`words`, `strings`) of a
+//! `statement` or an `option`; `line_fault` has what is wrong with one. `readers` has the reader of a script: the core
+//! reader, with a label more or without, a table of readings, or the reader of extensions. `events` and `readings`
+//! answer questions.
 #![tactic(auto)]
 
-mod again;
-pub mod answering;
-mod batch;
-mod counting;
-mod cuts;
 pub mod errors;
-mod events;
-pub mod fault;
-mod faults;
-pub mod question;
-mod readings;
-mod runs;
-mod tally;
-mod valid;
+pub mod event_line;
+pub mod events;
+mod gathering;
+pub mod line_fault;
+pub mod lines;
+mod option;
+pub mod readers;
+pub mod readings;
+pub mod script;
+mod statement;
+pub mod strings;
+mod words;

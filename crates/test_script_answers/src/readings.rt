@@ -1,20 +1,15 @@
 //! Questions about what a text is read as, and their answers.
 
 use crate::errors::{ended, error_name};
-use crate::events::{merged, write_events};
-use crate::question::write_text;
+use crate::events::{merged, write_element, write_events};
+use crate::script::Script;
+use crate::strings::Quoted;
 use std::alloc::{AllocError, Global};
-use test_script_events::line::EventLine;
-use test_script_events::string::Quoted;
-use test_script_lines::script::Script;
 use tocmark::reader::{Reader, Reading};
 use tocmark::{
     Error, cmark, cmark_with_options, cmark_with_source_range, cmark_with_source_range_and_options,
 };
-
-fn read(alloc: Global, script: &Script<'static>, text: &str) -> Result<Reading, AllocError> {
-    script.reader.read(alloc, text, script.flags)
-}
+use tocmark_json::printing::ranged_to_text;
 
 fn write_labels(answer: &mut String, name: &str, labels: &[String]) -> Result<(), AllocError> {
     for label in labels {
@@ -24,42 +19,17 @@ fn write_labels(answer: &mut String, name: &str, labels: &[String]) -> Result<()
     Ok(())
 }
 
-fn write_all_labels(answer: &mut String, reading: &Reading) -> Result<(), AllocError> {
-    write_labels(answer, "Defined", &reading.defined)?;
-    write_labels(answer, "Unresolved", &reading.unresolved)
-}
-
-fn write_reading(answer: &mut String, reading: &Reading) -> Result<(), AllocError> {
-    for (event, (start, end)) in &reading.events {
-        let line = EventLine(event);
-        writeln!(answer, "{line} {start}..{end}")?;
+/// Writes the events of a reading with their ranges.
+fn write_pairs(alloc: Global, answer: &mut String, reading: &Reading) -> Result<(), AllocError> {
+    for pair in reading.events.chunks(1) {
+        write_element(answer, ranged_to_text(alloc, pair)?.as_str())?;
     }
-    write_all_labels(answer, reading)
+    Ok(())
 }
 
-/// Writes the reading of a text: its events with their ranges, and its labels.
-pub fn write_read(
-    alloc: Global,
-    answer: &mut String,
-    script: &Script<'static>,
-    text: &str,
-) -> Result<(), AllocError> {
-    write_reading(answer, &read(alloc, script, text)?)
-}
-
+/// Writes the events of a reading without ranges, each stretch of texts as one.
 fn write_merged(alloc: Global, answer: &mut String, reading: &Reading) -> Result<(), AllocError> {
-    write_events(answer, &merged(alloc, &reading.events)?)?;
-    write_all_labels(answer, reading)
-}
-
-/// Writes the reading of a text without ranges, each stretch of texts as one.
-pub fn write_read_merged(
-    alloc: Global,
-    answer: &mut String,
-    script: &Script<'static>,
-    text: &str,
-) -> Result<(), AllocError> {
-    write_merged(alloc, answer, &read(alloc, script, text)?)
+    write_events(alloc, answer, &merged(alloc, &reading.events)?)
 }
 
 fn write_count(alloc: Global, answer: &mut String, reading: &Reading) -> Result<(), AllocError> {
@@ -67,14 +37,54 @@ fn write_count(alloc: Global, answer: &mut String, reading: &Reading) -> Result<
     writeln!(answer, "{count} events")
 }
 
+/// Writes the events of a reading, with their ranges or merged, and its labels.
+fn write_reading(
+    alloc: Global,
+    answer: &mut String,
+    reading: &Reading,
+    is_merged: bool,
+) -> Result<(), AllocError> {
+    if is_merged {
+        write_merged(alloc, answer, reading)?;
+    } else {
+        write_pairs(alloc, answer, reading)?;
+    }
+    write_labels(answer, "Defined", &reading.defined)?;
+    write_labels(answer, "Unresolved", &reading.unresolved)
+}
+
+/// Writes the reading of a text: its events, with their ranges or merged, and its labels.
+///
+/// # Errors
+///
+/// There is no memory for the reading or the answer.
+pub fn write_read(
+    alloc: Global,
+    answer: &mut String,
+    script: &Script<'static>,
+    text: &str,
+    is_merged: bool,
+) -> Result<(), AllocError> {
+    let (reader, flags) = (&script.reader, script.flags);
+    write_reading(alloc, answer, &reader.read(alloc, text, flags)?, is_merged)
+}
+
 /// Writes how many events the reading of a text has, each stretch of texts as one.
+///
+/// # Errors
+///
+/// There is no memory for the reading or the answer.
 pub fn write_read_count(
     alloc: Global,
     answer: &mut String,
     script: &Script<'static>,
     text: &str,
 ) -> Result<(), AllocError> {
-    write_count(alloc, answer, &read(alloc, script, text)?)
+    write_count(
+        alloc,
+        answer,
+        &script.reader.read(alloc, text, script.flags)?,
+    )
 }
 
 /// Writes back the events of a reading.
@@ -142,10 +152,21 @@ fn rewritten(
     text: &str,
     has_source: bool,
 ) -> Result<String, Error> {
-    written_back(alloc, script, text, &read(alloc, script, text)?, has_source)
+    let (reader, flags) = (&script.reader, script.flags);
+    written_back(
+        alloc,
+        script,
+        text,
+        &reader.read(alloc, text, flags)?,
+        has_source,
+    )
 }
 
-/// Writes what a text is read and written back as, with the ranges of the reading or without, or the error.
+/// Writes what a text is read and written back as, with the ranges of the reading or without, or the error's name.
+///
+/// # Errors
+///
+/// There is no memory for the answer.
 pub fn write_roundtrip(
     alloc: Global,
     answer: &mut String,
@@ -154,7 +175,10 @@ pub fn write_roundtrip(
     has_source: bool,
 ) -> Result<(), AllocError> {
     match rewritten(alloc, script, text, has_source) {
-        Ok(output) => write_text(answer, output.as_str()),
+        Ok(output) => {
+            let text = Quoted(output.as_str());
+            writeln!(answer, "{text}")
+        }
         Err(error) => {
             let name = error_name(&error);
             writeln!(answer, "Err {name}")

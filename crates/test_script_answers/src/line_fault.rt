@@ -1,14 +1,23 @@
 //! Why a line of a script can't be read.
 
-use crate::string::Quoted;
+use crate::strings::Quoted;
 use std::alloc::{AllocError, AllocFailed};
 use std::fmt;
+use tocmark_json::fault::{Fault, JsonError};
 
 /// Why a line can't be read.
 #[derive(Clone, Copy)]
 pub enum LineFault {
     /// Something else is expected at this byte of the line.
-    Expected { expected: &'static str, at: usize },
+    Expected {
+        expected: &'static str,
+        at: usize,
+    },
+    /// Its JSON has something else at this key than is wanted there.
+    NotAnEvent {
+        key: &'static str,
+        wanted: &'static str,
+    },
     /// What is wrong with the line as a whole.
     Wrong(&'static str),
     OutOfMemory,
@@ -23,6 +32,25 @@ impl From<AllocError> for LineFault {
 impl<T: Drop> From<AllocFailed<T>> for LineFault {
     fn from(_fault: AllocFailed<T>) -> LineFault {
         LineFault::OutOfMemory
+    }
+}
+
+impl From<Fault> for LineFault {
+    fn from(fault: Fault) -> LineFault {
+        match fault {
+            Fault::Wanted { key, wanted } => LineFault::NotAnEvent { key, wanted },
+            Fault::OutOfMemory => LineFault::OutOfMemory,
+        }
+    }
+}
+
+impl From<JsonError> for LineFault {
+    fn from(fault: JsonError) -> LineFault {
+        match fault {
+            JsonError::Event { key, wanted, .. } => LineFault::NotAnEvent { key, wanted },
+            JsonError::NotAnArray => LineFault::Wrong("its JSON is no array"),
+            JsonError::OutOfMemory => LineFault::OutOfMemory,
+        }
     }
 }
 
@@ -72,6 +100,7 @@ impl fmt::Display for NumberedFault<'_> {
                 let found = Found(self.line.get(at..).unwrap_or(""));
                 write!(f, ", column {column}: expected {expected}, found {found}")
             }
+            LineFault::NotAnEvent { key, wanted } => write!(f, ": {key}: expected {wanted}"),
             LineFault::Wrong(what) => write!(f, ": {what}"),
             LineFault::OutOfMemory => write!(f, ": out of memory"),
         }

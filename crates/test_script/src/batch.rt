@@ -1,15 +1,15 @@
 //! Batches of scripts.
 
-use crate::again::Again;
 use crate::cuts::write_cuts;
 use crate::fault::Fault;
 use crate::question::answers;
+use crate::rows::RowTrials;
 use crate::runs::run;
 use std::alloc::{AllocError, Global};
-use std::io::Write;
-use test_script_events::fault::{LineFault, NumberedFault};
-use test_script_lines::lines::ScriptLines;
-use test_script_lines::script::Script;
+use std::io::{self, Write};
+use test_script_answers::line_fault::{LineFault, NumberedFault};
+use test_script_answers::lines::ScriptLines;
+use test_script_answers::script::Script;
 
 /// Scripts whose lines come one after the other.
 #[derive(Drop)]
@@ -18,11 +18,11 @@ pub struct Batch {
     lines: ScriptLines,
     /// Whether each script so far has its answer.
     is_right: bool,
-    /// What the runs of scripts again were, where they are run again.
-    again: Option<Again>,
+    /// What is tried with each script beside its answer, where it is a stored row.
+    trials: Option<RowTrials>,
 }
 
-/// The answer of a whole script, which isn't run again.
+/// The answer of a whole script.
 fn answer_once(alloc: Global, script: &Script<'static>) -> Result<String, AllocError> {
     if !script.questions.is_empty() {
         return answers(alloc, script);
@@ -34,15 +34,15 @@ fn answer_once(alloc: Global, script: &Script<'static>) -> Result<String, AllocE
     Ok(answer)
 }
 
-/// The answer of a whole script, which is run again where that is asked for.
+/// The answer of a whole script, with a line for each trial that failed.
 fn answer(
     alloc: Global,
     script: &Script<'static>,
-    again: &mut Option<Again>,
+    trials: &mut Option<RowTrials>,
 ) -> Result<String, AllocError> {
     let mut answer = answer_once(alloc, script)?;
-    if let Some(again) = again {
-        again.run(alloc, script, &mut answer)?;
+    if let Some(trials) = trials {
+        trials.run(alloc, script, &mut answer)?;
     }
     Ok(answer)
 }
@@ -61,13 +61,13 @@ fn write_answer<O: Write>(output: &mut O, answer: &str, last: &str) -> Result<()
 }
 
 impl Batch {
-    /// No line yet. Each script is run again where there is a place to count that.
-    pub fn new(alloc: Global, again: Option<Again>) -> Batch {
+    /// No line yet.
+    pub fn new(alloc: Global, trials: Option<RowTrials>) -> Batch {
         Batch {
             alloc,
             lines: ScriptLines::new(alloc),
             is_right: true,
-            again,
+            trials,
         }
     }
 
@@ -95,7 +95,7 @@ impl Batch {
         output: &mut O,
         faults: &mut F,
     ) -> Result<(), Fault> {
-        match answer(self.alloc, script, &mut self.again) {
+        match answer(self.alloc, script, &mut self.trials) {
             Ok(answer) => write_answer(output, answer.as_str(), last),
             Err(_) => {
                 self.refuse_answer(faults);
@@ -121,7 +121,7 @@ impl Batch {
         }
     }
 
-    /// Takes the next line. An `Err` says that the output can't be written.
+    /// Takes the next line.
     fn take<O: Write, F: Write>(
         &mut self,
         line: &str,
@@ -138,18 +138,32 @@ impl Batch {
         Ok(())
     }
 
+    /// Writes what the trials came to.
+    fn write_trials<O: Write>(&self, output: &mut O) -> io::Result<()> {
+        if let Some(trials) = &self.trials {
+            trials.write(output)?;
+        }
+        output.flush()
+    }
+
     /// Takes the end of the input, where the last script needn't have a line `%`.
     fn end<O: Write, F: Write>(&mut self, output: &mut O, faults: &mut F) -> Result<(), Fault> {
         if self.lines.is_begun() {
             self.end_script("", output, faults)?;
         }
-        match output.flush() {
+        match self.write_trials(output) {
             Ok(()) => Ok(()),
             Err(_) => Err(Fault::Write),
         }
     }
 
-    /// Takes all lines of a text, and its end. Returns whether each script has its answer.
+    /// Answers each script of a text in turn. `output` gets the answers, and `faults` a line for each script that
+    /// can't be read or for whose answer memory runs out; the other ones are still answered. Returns whether each
+    /// has its answer.
+    ///
+    /// # Errors
+    ///
+    /// `Write` where the output can't be written.
     pub fn take_all<O: Write, F: Write>(
         &mut self,
         text: &str,
@@ -161,16 +175,5 @@ impl Batch {
         }
         self.end(output, faults)?;
         Ok(self.is_right)
-    }
-
-    /// Writes what the runs of scripts again were.
-    pub fn write_again<O: Write>(&self, output: &mut O) -> Result<(), Fault> {
-        let Some(again) = &self.again else {
-            return Ok(());
-        };
-        match again.write(output) {
-            Ok(()) => Ok(()),
-            Err(_) => Err(Fault::Write),
-        }
     }
 }

@@ -1,9 +1,8 @@
 //! Scripts.
 
-use crate::option::{OptionSetting, set_option};
+use crate::event_line::RangedEvent;
 use crate::readers::ScriptReader;
 use std::alloc::Global;
-use test_script_events::event::RangedEvent;
 use tocmark_event::event::{LinkType, ParserOptions};
 use tocmark_event::options::Options;
 
@@ -32,23 +31,46 @@ pub enum EventsQuestion {
     CountSame,
 }
 
-/// What a script asks in place of a run.
-#[derive(Drop)]
-pub enum Question {
+/// What is asked of the settings of a script, or of nothing.
+#[derive(Clone, Copy)]
+pub enum ScriptQuestion {
     /// Whether the options are valid under the flags.
     Validate,
     /// How often options of standard tokens are valid, over all flags.
     CountValid,
     SpecialCharacters,
+    ErrorTexts,
+}
+
+/// What is asked of a text.
+#[derive(Clone, Copy)]
+pub enum TextQuestion {
+    /// What can't be read in it, as a script.
+    Fault,
+    EscapeDestination,
+    EscapeTitle,
+    /// Whether the core reader reads it as it stands.
+    Plain,
+    Read,
+    ReadMerged,
+    CountRead,
+    Roundtrip,
+    RoundtripSource,
+}
+
+/// What a script asks in place of a run.
+#[derive(Drop)]
+pub enum Question {
     /// Asks of so many first events of the script.
     OfEvents {
         question: EventsQuestion,
         events: usize,
     },
-    /// What can't be read in another script.
-    Fault(String),
-    EscapeDestination(String),
-    EscapeTitle(String),
+    OfScript(ScriptQuestion),
+    OfText {
+        question: TextQuestion,
+        text: String,
+    },
     CloseLink {
         link_type: LinkType,
         dest_url: String,
@@ -58,30 +80,6 @@ pub enum Question {
         search: char,
         text: String,
     },
-    ErrorTexts,
-    /// Whether the core reader reads the text as it stands.
-    Plain(String),
-    Read(String),
-    ReadMerged(String),
-    CountRead(String),
-    Roundtrip(String),
-    RoundtripSource(String),
-}
-
-/// What holds for a whole script.
-#[derive(Drop)]
-pub enum Setting {
-    Flags(ParserOptions),
-    Option(OptionSetting),
-    Source(String),
-    Calls,
-    Cuts,
-    FailAt(usize),
-    ReadFailAt(usize),
-    /// The core reader, which looks this label up in vain in each text, too.
-    Unresolved(String),
-    /// The reader of the extensions that the flags name.
-    Extended,
 }
 
 /// What a script says.
@@ -131,24 +129,6 @@ impl<'a> Script<'a> {
             events: Vec::new(alloc),
             calls: Vec::new(alloc),
             questions: Vec::new(alloc),
-        }
-    }
-
-    /// Has a setting hold.
-    pub fn set(&mut self, setting: Setting) {
-        match setting {
-            Setting::Flags(flags) => self.flags = flags,
-            Setting::Option(option) => {
-                self.has_options = true;
-                set_option(&mut self.options, &mut self.strong_token, option);
-            }
-            Setting::Source(source) => put(&mut self.source, Some(source)),
-            Setting::Calls => self.shows_calls = true,
-            Setting::Cuts => self.compares_cuts = true,
-            Setting::FailAt(place) => self.refused_text = Some(place),
-            Setting::ReadFailAt(place) => self.refused_reading = Some(place),
-            Setting::Unresolved(label) => put(&mut self.reader, ScriptReader::Labelled(label)),
-            Setting::Extended => put(&mut self.reader, ScriptReader::Extended),
         }
     }
 

@@ -4,7 +4,7 @@ use crate::runs::{Refusals, RunAnswer, refusals_of, run_with};
 use crate::tally::Tally;
 use std::alloc::{AllocError, Global};
 use std::io::{self, Write};
-use test_script_lines::script::{Call, Script};
+use test_script_answers::script::{Call, Script};
 
 /// A script with more events than these isn't run again.
 const MOST_EVENTS: usize = 300;

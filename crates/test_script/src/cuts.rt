@@ -3,7 +3,7 @@
 use crate::runs::run;
 use crate::tally::Tally;
 use std::alloc::{AllocError, Global};
-use test_script_lines::script::{Call, Script};
+use test_script_answers::script::{Call, Script};
 
 /// The answer where the events are cut in two, and a clone of the state takes those behind the cut.
 fn in_two(alloc: Global, script: &Script<'static>, place: usize) -> Result<String, AllocError> {

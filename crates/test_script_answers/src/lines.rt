@@ -1,11 +1,10 @@
 //! The lines of scripts, one after the other.
 
 use crate::gathering::Gathering;
+use crate::line_fault::NumberedFault;
 use crate::script::Script;
-use crate::statement::{Statement, statement_in_line};
 use std::alloc::Global;
 use std::mem;
-use test_script_events::fault::{LineFault, NumberedFault};
 
 /// Scripts whose lines are taken one after the other.
 #[derive(Drop)]
@@ -17,18 +16,6 @@ pub struct ScriptLines {
     is_faulty: bool,
     /// The number of the last line, counted from 1.
     line: usize,
-}
-
-/// Takes what a line with this number says, if anything.
-fn take_said(
-    gathering: &mut Gathering<'static>,
-    number: usize,
-    said: Option<Statement>,
-) -> Result<(), LineFault> {
-    match said {
-        Some(statement) => gathering.take(number, statement),
-        None => Ok(()),
-    }
 }
 
 /// The script whose lines were taken. Behind the last of them, which has this number, something can be missing.
@@ -73,21 +60,13 @@ impl ScriptLines {
         self.line = self.line.saturating_add(1);
     }
 
-    /// Takes what a line says, behind lines without a fault.
-    fn gather(&mut self, line: &str) -> Result<(), LineFault> {
-        match statement_in_line(self.alloc, line) {
-            Ok(said) => take_said(&mut self.gathering, self.line, said),
-            Err(fault) => Err(fault),
-        }
-    }
-
     /// Takes the next line of the script. Behind one with a fault the lines up to its end are passed over.
     pub fn take<'l>(&mut self, line: &'l str) -> Result<(), NumberedFault<'l>> {
         self.pass();
         if self.is_faulty {
             return Ok(());
         }
-        match self.gather(line) {
+        match self.gathering.take(self.line, line) {
             Ok(()) => Ok(()),
             Err(fault) => {
                 self.is_faulty = true;

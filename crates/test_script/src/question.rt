@@ -1,14 +1,14 @@
 //! Questions of a script, and their answers.
 
-use crate::errors::error_name;
-use crate::events::write_events_answer;
 use crate::faults::write_fault;
-use crate::readings::{write_read, write_read_count, write_read_merged, write_roundtrip};
 use crate::valid::write_valid_count;
 use std::alloc::{AllocError, Global};
 use std::fmt;
-use test_script_events::string::Quoted;
-use test_script_lines::script::{Question, Script};
+use test_script_answers::errors::error_name;
+use test_script_answers::events::write_events_answer;
+use test_script_answers::readings::{write_read, write_read_count, write_roundtrip};
+use test_script_answers::script::{Question, Script, ScriptQuestion, TextQuestion};
+use test_script_answers::strings::Quoted;
 use tocmark::core_reader::is_plain;
 use tocmark::event::LinkType;
 use tocmark::{Error, OptionsError};
@@ -41,7 +41,7 @@ impl fmt::Display for OptionsFault {
 }
 
 /// Writes a text as a string, on a line of its own.
-pub fn write_text(answer: &mut String, text: &str) -> Result<(), AllocError> {
+fn write_text(answer: &mut String, text: &str) -> Result<(), AllocError> {
     let text = Quoted(text);
     writeln!(answer, "{text}")
 }
@@ -126,6 +126,40 @@ fn write_plain(answer: &mut String, text: &str) -> Result<(), AllocError> {
     writeln!(answer, "{plain}")
 }
 
+fn write_script_answer(
+    alloc: Global,
+    answer: &mut String,
+    question: ScriptQuestion,
+    script: &Script<'static>,
+) -> Result<(), AllocError> {
+    match question {
+        ScriptQuestion::Validate => write_validation(alloc, answer, script),
+        ScriptQuestion::CountValid => write_valid_count(answer),
+        ScriptQuestion::SpecialCharacters => write_special_characters(alloc, answer, script),
+        ScriptQuestion::ErrorTexts => write_error_texts(alloc, answer),
+    }
+}
+
+fn write_text_answer(
+    alloc: Global,
+    answer: &mut String,
+    script: &Script<'static>,
+    question: TextQuestion,
+    text: &str,
+) -> Result<(), AllocError> {
+    match question {
+        TextQuestion::Fault => write_fault(alloc, answer, text),
+        TextQuestion::EscapeDestination => write_shown(alloc, answer, &EscapeDestination(text)),
+        TextQuestion::EscapeTitle => write_shown(alloc, answer, &EscapeLinkTitle(text)),
+        TextQuestion::Plain => write_plain(answer, text),
+        TextQuestion::Read => write_read(alloc, answer, script, text, false),
+        TextQuestion::ReadMerged => write_read(alloc, answer, script, text, true),
+        TextQuestion::CountRead => write_read_count(alloc, answer, script, text),
+        TextQuestion::Roundtrip => write_roundtrip(alloc, answer, script, text, false),
+        TextQuestion::RoundtripSource => write_roundtrip(alloc, answer, script, text, true),
+    }
+}
+
 /// Writes the answer to a question.
 fn write_answer(
     alloc: Global,
@@ -134,19 +168,13 @@ fn write_answer(
     question: &Question,
 ) -> Result<(), AllocError> {
     match question {
-        Question::Validate => write_validation(alloc, answer, script),
-        Question::SpecialCharacters => write_special_characters(alloc, answer, script),
-        Question::CountValid => write_valid_count(answer),
         Question::OfEvents { question, events } => {
             let first = script.events.get(..*events).unwrap_or(&[]);
             write_events_answer(alloc, answer, *question, first)
         }
-        Question::Fault(text) => write_fault(alloc, answer, text.as_str()),
-        Question::EscapeDestination(text) => {
-            write_shown(alloc, answer, &EscapeDestination(text.as_str()))
-        }
-        Question::EscapeTitle(text) => {
-            write_shown(alloc, answer, &EscapeLinkTitle(text.as_str()))
+        Question::OfScript(question) => write_script_answer(alloc, answer, *question, script),
+        Question::OfText { question, text } => {
+            write_text_answer(alloc, answer, script, *question, text.as_str())
         }
         Question::CloseLink {
             link_type,
@@ -154,15 +182,6 @@ fn write_answer(
             title,
         } => write_closing(alloc, answer, *link_type, dest_url.as_str(), title.as_str()),
         Question::LongestRun { search, text } => write_longest_run(answer, *search, text.as_str()),
-        Question::ErrorTexts => write_error_texts(alloc, answer),
-        Question::Plain(text) => write_plain(answer, text.as_str()),
-        Question::Read(text) => write_read(alloc, answer, script, text.as_str()),
-        Question::ReadMerged(text) => write_read_merged(alloc, answer, script, text.as_str()),
-        Question::CountRead(text) => write_read_count(alloc, answer, script, text.as_str()),
-        Question::Roundtrip(text) => write_roundtrip(alloc, answer, script, text.as_str(), false),
-        Question::RoundtripSource(text) => {
-            write_roundtrip(alloc, answer, script, text.as_str(), true)
-        }
     }
 }
 

@@ -1,17 +1,16 @@
 //! Runs of a script.
 
-use crate::counting::CountingReader;
-use crate::errors::error_name;
 use std::alloc::{AllocError, Global};
 use std::fmt;
-use test_script_events::event::{Events, RangedEvent, RangedEvents};
-use test_script_events::string::Quoted;
-use test_script_lines::readers::CountedReader;
-use test_script_lines::script::{Call, Script};
+use test_script_answers::errors::error_name;
+use test_script_answers::event_line::{Events, RangedEvent, RangedEvents};
+use test_script_answers::readers::{CountedReader, ScriptReader};
+use test_script_answers::script::{Call, Script};
+use test_script_answers::strings::Quoted;
 use tocmark::{Error, Progress, State};
 
 /// The reader of one run.
-type RunReader<'r> = CountedReader<'r, CountingReader<'r>>;
+type RunReader<'r> = CountedReader<'r, ScriptReader<'static>>;
 
 /// Which text and which reading are refused, each counted from 1.
 #[derive(Clone, Copy)]
@@ -185,13 +184,12 @@ fn answer_script(
     refused_reading: Option<usize>,
     tape: &mut Tape,
 ) -> Result<usize, AllocError> {
-    let counting = CountingReader::new(&script.reader);
-    let reader = CountedReader::new(&counting, refused_reading);
+    let reader = CountedReader::new(&script.reader, refused_reading);
     match State::new(alloc, &reader, script.flags, script.options()) {
         Ok(mut state) => answer_calls(&mut state, script, calls, shows_calls, tape)?,
         Err(error) => write_outcome(&mut tape.answer, &Err(error))?,
     }
-    Ok(counting.readings())
+    Ok(reader.readings())
 }
 
 /// What these calls come to where a text and a reading are refused, with a line for each call or one at

@@ -2,7 +2,7 @@
 
 ghost use Rattle.std.specs.Prelude.{◌≡◌, IfOk, map};
 ghost use Rattle.tocmark_event.specs.Reading.{reading_view};
-ghost use Rattle.test_script_lines.specs.Readers.{labelled_reading, ranged_view};
+ghost use Rattle.test_script_answers.specs.Readers.{labelled_reading, ranged_view};
 
 use std::alloc::{AllocError, Global};
 use std::cell::Cell;
@@ -45,7 +45,7 @@ fn copied_events(
 }
 
 impl<'a> Table<'a> {
-    ghost use Rattle.test_script_lines.specs.Readers.{table_events, table_reading};
+    ghost use Rattle.test_script_answers.specs.Readers.{table_events, table_reading};
 
     /// A table without readings.
     pub fn new(alloc: Global) -> Table<'a> {
@@ -89,7 +89,7 @@ fn read_with_label(
 
 /// The core reader and the extended one have their reading of a text, and a table the events that it has for it.
 impl Reader for ScriptReader<'_> {
-    ghost use Rattle.test_script_lines.specs.Readers.{script_reading};
+    ghost use Rattle.test_script_answers.specs.Readers.{script_reading};
 
     ghost reading = { λ r text flags. script_reading r text flags };
 
@@ -103,12 +103,12 @@ impl Reader for ScriptReader<'_> {
     }
 }
 
-/// Reads as another reader, but finds no memory for one of its readings.
+/// Reads as another reader, counts its readings, and finds no memory for one of them.
 #[derive(Drop)]
 pub struct CountedReader<'a, R> {
     reader: &'a R,
     /// How many readings were asked for.
-    readings: Cell<usize>,
+    asked: Cell<usize>,
     /// The number of the reading for which there is no memory, counted from 1.
     refused_reading: Option<usize>,
 }
@@ -118,8 +118,17 @@ impl<'a, R> CountedReader<'a, R> {
     pub fn new(reader: &'a R, refused_reading: Option<usize>) -> CountedReader<'a, R> {
         CountedReader {
             reader,
-            readings: Cell::new(0),
+            asked: Cell::new(0),
             refused_reading,
+        }
+    }
+
+    /// How many readings there were, without the one that was refused.
+    pub fn readings(&self) -> usize {
+        let asked = self.asked.get();
+        match self.refused_reading {
+            Some(refused) if refused <= asked => asked.saturating_sub(1),
+            _ => asked,
         }
     }
 }
@@ -129,8 +138,8 @@ impl<R: Reader> Reader for CountedReader<'_, R> {
     ghost reading = { λ r. R.reading r.reader.now };
 
     fn read(&self, alloc: Global, text: &str, flags: ParserOptions) -> Result<Reading, AllocError> {
-        let number = self.readings.get().saturating_add(1);
-        self.readings.set(number);
+        let number = self.asked.get().saturating_add(1);
+        self.asked.set(number);
         if self.refused_reading == Some(number) {
             return Err(AllocError);
         }
