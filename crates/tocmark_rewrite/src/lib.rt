@@ -19,6 +19,7 @@ pub mod answer;
 mod collect;
 pub mod edits;
 pub mod fault;
+mod given;
 mod inner;
 mod join;
 pub mod output;
@@ -27,6 +28,7 @@ pub mod pieces;
 mod plan;
 pub mod rewrite;
 mod texts;
+pub mod trees;
 
 pub use answer::{Fate, Kept, Rewritten, RewrittenTree};
 pub use fault::{Fault, Place};

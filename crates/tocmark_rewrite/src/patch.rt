@@ -7,7 +7,7 @@ use crate::edits::number_of;
 use std::alloc::{AllocError, Global};
 use std::collections::HashMap;
 use tocmark_compare::event::same_event;
-use tocmark_compare::trees::line_end;
+use crate::trees::line_end;
 use tocmark_event::event::{CodeBlockKindOf, Event, HeadingLevel, LinkType, Tag};
 use tocmark_read_tokens::label::key_of;
 use tocmark_read_tokens::word::destination;
