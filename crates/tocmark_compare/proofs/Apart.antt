@@ -1,27 +1,28 @@
 -- Lists that are apart are so when their texts are joined.
-use Rattle.std.proofs.Common.{◌≡◌, Bool, true, false, not, ◌&&◌, if◌then◌else◌, List, [], ◌∷◌, ◌++◌, refl, ap, sym, subst, ◌∙◌, true≢false, ℕ, zero, suc, min, ◌+◌, ◌≤◌, length, drop, arith}
+use Rattle.std.proofs.Common.{◌≡◌, Bool, true, false, not, ◌&&◌, if◌then◌else◌, List, [], ◌∷◌, ◌++◌, refl, ap, sym, ◌∙◌, true≢false, ℕ, zero, suc, min, ◌≤◌, length, drop, arith}
 use Rattle.tocmark_event.specs.Text.{ParserEvent}
 use Rattle.tocmark_compare.specs.Given.{given_events}
 use Rattle.tocmark_event.specs.Merged.{merged, after_text}
-use Rattle.tocmark_event.specs.View.{EventView, Start, End, Leaf, Text}
+use Rattle.tocmark_event.specs.View.{EventView, Leaf, Text}
+use Rattle.tocmark_spelling.specs.Kinds.{is_text}
 use Rattle.tocmark_spelling.specs.SameEvents.{same_event, same_events}
 use Rattle.tocmark_compare.proofs.SameIsEqual.{same-equal, equal-same}
-use Rattle.tocmark_compare.specs.Apart.{is_text_event, are_apart}
+use Rattle.tocmark_compare.specs.Apart.{are_apart}
 
-merged_other : (a : EventView) (es : List EventView) → is_text_event a ≡ false → merged (a ∷ es) ≡ a ∷ merged es
+merged_other : (a : EventView) (es : List EventView) → is_text a ≡ false → merged (a ∷ es) ≡ a ∷ merged es
 merged_other (Leaf (Text t)) es h = absurd (true≢false h)
 merged_other e es h = refl
 
-text_other : (t : List ℕ) (a : EventView) (es : List EventView) → is_text_event a ≡ false → after_text t (a ∷ es) ≡ Leaf (Text t) ∷ a ∷ es
+text_other : (t : List ℕ) (a : EventView) (es : List EventView) → is_text a ≡ false → after_text t (a ∷ es) ≡ Leaf (Text t) ∷ a ∷ es
 text_other t (Leaf (Text u)) es h = absurd (true≢false h)
 text_other t e es h = refl
 
-text_front : (t : List ℕ) (es : List EventView) (a : EventView) (more : List EventView) → is_text_event a ≡ false → after_text t (es ++ a ∷ more) ≡ after_text t es ++ a ∷ more
+text_front : (t : List ℕ) (es : List EventView) (a : EventView) (more : List EventView) → is_text a ≡ false → after_text t (es ++ a ∷ more) ≡ after_text t es ++ a ∷ more
 text_front t [] a more h = text_other t a more h
 text_front t (Leaf (Text u) ∷ es) a more h = refl
 text_front t (e ∷ es) a more h = refl
 
-merged_front : (cs : List EventView) (a : EventView) (es : List EventView) → is_text_event a ≡ false → merged (cs ++ a ∷ es) ≡ merged cs ++ a ∷ merged es
+merged_front : (cs : List EventView) (a : EventView) (es : List EventView) → is_text a ≡ false → merged (cs ++ a ∷ es) ≡ merged cs ++ a ∷ merged es
 merged_front [] a es h = merged_other a es h
 merged_front (Leaf (Text t) ∷ cs) a es h = ap (after_text t) (merged_front cs a es h) ∙ text_front t (merged cs) a (merged es) h
 merged_front (c ∷ cs) a es h = ap (λ x. c ∷ x) (merged_front cs a es h)
@@ -36,8 +37,8 @@ record Parting (xs ys : List EventView) : Type 0 where
   left : xs ≡ front ++ one ∷ ones
   right : ys ≡ front ++ other ∷ others
   differ : same_event one other ≡ false
-  no_text : is_text_event one ≡ false
-  no_other_text : is_text_event other ≡ false
+  no_text : is_text one ≡ false
+  no_other_text : is_text other ≡ false
 
 is_not : (a b : Bool) → (not a && not b) ≡ true → (a ≡ false) × (b ≡ false)
 is_not true b h = absurd (true≢false (sym h))
@@ -59,12 +60,12 @@ parting [] ys h = absurd (true≢false (sym h))
 parting (x ∷ xs) [] h = absurd (true≢false (sym h))
 parting (x ∷ xs) (y ∷ ys) h = by_same (same_event x y) refl h (λ k. parting xs ys k)
   where
-    by_same : (b : Bool) → same_event x y ≡ b → (if b then are_apart xs ys else (not (is_text_event x) && not (is_text_event y))) ≡ true → (are_apart xs ys ≡ true → Parting xs ys) → Parting (x ∷ xs) (y ∷ ys)
+    by_same : (b : Bool) → same_event x y ≡ b → (if b then are_apart xs ys else (not (is_text x) && not (is_text y))) ≡ true → (are_apart xs ys ≡ true → Parting xs ys) → Parting (x ∷ xs) (y ∷ ys)
     by_same true e k rest =
         let p = rest k in
         record { front = x ∷ p.front; one = p.one; ones = p.ones; other = p.other; others = p.others; left = ap (λ l. x ∷ l) p.left; right = ap (λ l. y ∷ l) p.right ∙ ap (λ z. z ∷ (p.front ++ p.other ∷ p.others)) (sym (one_equal x y e)); differ = p.differ; no_text = p.no_text; no_other_text = p.no_other_text }
     by_same false e k rest =
-        let both = is_not (is_text_event x) (is_text_event y) k in
+        let both = is_not (is_text x) (is_text y) k in
         record { front = []; one = x; ones = xs; other = y; others = ys; left = refl; right = refl; differ = e; no_text = both.0; no_other_text = both.1 }
 
 behind_front : (cs : List EventView) (a b : EventView) (as1 bs : List EventView) → cs ++ a ∷ as1 ≡ cs ++ b ∷ bs → a ≡ b
@@ -95,7 +96,7 @@ none_apart : (xs : List EventView) → are_apart xs [] ≡ false
 none_apart [] = refl
 none_apart (x ∷ xs) = refl
 
-none_left : (i : ℕ) → given_events (drop i []) ≡ []
+none_left : (i : ℕ) → given_events {X = ℕ × ℕ} (drop i []) ≡ []
 none_left zero = refl
 none_left (suc i) = refl
 

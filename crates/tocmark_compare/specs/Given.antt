@@ -1,24 +1,13 @@
 -- The events of a document as plain values.
-use Rattle.std.specs.Prelude.{ℕ, List, Option, Some, map}
-use Rattle.std.specs.Slice.Iter.{iter_rest}
+use Rattle.std.specs.Prelude.{List, map}
 use Rattle.tocmark_event.specs.Text.{ParserEvent, text_of}
 use Rattle.tocmark_event.specs.View.{EventView, event_view}
 use Rattle.tocmark_event.specs.Reading.{ReadingView}
-use Rattle.tocmark_compare.specs.declared.given.GivenEvents.{GivenEvents}
-use Rattle.tocmark_compare.specs.declared.given.GivenPairs.{GivenPairs}
 
--- the events without their ranges
-abbrev pub given_events : List (ParserEvent × (ℕ × ℕ)) → List EventView
+-- the events without what stands beside each, as its range
+abbrev pub given_events : {X : Type 0} → List (ParserEvent × X) → List EventView
 given_events = map (λ e. event_view text_of e.0)
 
 -- the events that a reader found, without their ranges
 abbrev pub found_events : ReadingView → List EventView
 found_events r = map (λ e. e.0) r.events
-
--- the events that are still to come, each with its range
-abbrev pub given_left : GivenPairs → List (EventView × Option (ℕ × ℕ))
-given_left s = map (λ e. (event_view text_of e.0, Some e.1)) (iter_rest s.0)
-
--- the events that are still to come, without their ranges
-abbrev pub given_alone : GivenEvents → List EventView
-given_alone s = map (λ e. event_view text_of e.0) (iter_rest s.0)

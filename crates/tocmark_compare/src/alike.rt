@@ -32,6 +32,13 @@ struct Reached {
     begun: bool,
 }
 
+/// Nothing of either event is read.
+const UNREAD: Reached = Reached {
+    found: 0,
+    expected: 0,
+    begun: false,
+};
+
 /// What the first event on either side says.
 #[derive(Clone, Copy)]
 enum Step {
@@ -244,11 +251,7 @@ pub fn alike(
 {
     let mut left = found;
     let mut right = Expected { body, behind };
-    let mut at = Reached {
-        found: 0,
-        expected: 0,
-        begun: false,
-    };
+    let mut at = UNREAD;
     loop {
         match compare(first_found(left), right.first(), at) {
             Step::Over(same) => return same,
@@ -271,11 +274,7 @@ pub fn alike(
             Step::Both => {
                 left = rest_found(left);
                 right = right.rest();
-                at = Reached {
-                    found: 0,
-                    expected: 0,
-                    begun: false,
-                };
+                at = UNREAD;
             }
         }
     }

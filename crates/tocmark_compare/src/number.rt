@@ -37,7 +37,8 @@ fn quote_number(kind: Option<BlockQuoteKind>) -> u8
     }
 }
 
-/// A number for each End.
+/// A number for each End: two are the same where their numbers are. A digest keeps it as a byte, which `==` of `TagEnd`
+/// doesn't give.
 pub fn end_number(end: TagEnd) -> u8
     ensures { result ≡ end_code end }
 {

@@ -1,20 +1,21 @@
-//! Whether two lists of events are the same.
+//! Whether two lists of events say the same. Beside each event stands anything, as its range: it isn't compared.
 
 ghost use Rattle.std.specs.Prelude.{◌≡◌, ◌↔◌, map, IfOk, IsTrue};
 ghost use Rattle.tocmark_event.specs.Merged.{merged};
 ghost use Rattle.tocmark_event.specs.Text.{text_of};
 ghost use Rattle.tocmark_event.specs.View.{event_view};
+ghost use Rattle.tocmark_spelling.specs.Kinds.{is_text};
 ghost use Rattle.tocmark_spelling.specs.SameEvents.{same_events};
-ghost use Rattle.tocmark_compare.specs.Apart.{are_apart, is_text_event};
+ghost use Rattle.tocmark_compare.specs.Apart.{are_apart};
 ghost use Rattle.tocmark_compare.specs.Given.{given_events};
 
 use crate::event::{same_event, same_events};
-use crate::given::merged_events;
 use std::alloc::{AllocError, Global};
-use tocmark_event::event::Event;
+use tocmark_event::event::{Event, merge_texts};
 
-fn is_text(event: &Event<'_>) -> bool
-    ensures { result ≡ is_text_event (event_view text_of event.now) }
+/// Whether an event is a text.
+pub fn is_text(event: &Event<'_>) -> bool
+    ensures { result ≡ is_text (event_view text_of event.now) }
 {
     match event {
         Event::Text(_) => true,
@@ -23,7 +24,7 @@ fn is_text(event: &Event<'_>) -> bool
 }
 
 /// Whether two lists have the same events, one by one. It takes no memory.
-fn are_equal(found: &[(Event<'_>, (usize, usize))], given: &[(Event<'_>, (usize, usize))]) -> bool
+fn are_equal<X, Y>(found: &[(Event<'_>, X)], given: &[(Event<'_>, Y)]) -> bool
     ensures { result ≡ same_events (given_events found.now) (given_events given.now) }
 {
     if found.len() != given.len() {
@@ -37,11 +38,37 @@ fn are_equal(found: &[(Event<'_>, (usize, usize))], given: &[(Event<'_>, (usize,
     true
 }
 
-/// The same where stretches of texts are cut otherwise.
-fn are_alike(
+/// The events without what stands beside each.
+fn events_alone<X>(
     alloc: Global,
-    found: &[(Event<'_>, (usize, usize))],
-    given: &[(Event<'_>, (usize, usize))],
+    events: &[(Event<'_>, X)],
+) -> Result<Vec<Event<'static>>, AllocError>
+    ensures { IfOk result (λ all. map (event_view text_of) all.items ≡ given_events events.now) }
+{
+    let mut all = Vec::new(alloc);
+    for pair in events {
+        all.push(pair.0.to_static(alloc)?)?;
+    }
+    Ok(all)
+}
+
+/// The events without what stands beside each, and each longest stretch of texts as one.
+pub fn merged_events<X>(
+    alloc: Global,
+    events: &[(Event<'_>, X)],
+) -> Result<Vec<Event<'static>>, AllocError>
+    ensures { IfOk result (λ all. map (event_view text_of) all.items
+        ≡ merged (given_events events.now)) }
+{
+    let alone = events_alone(alloc, events)?;
+    merge_texts(alloc, &alone)
+}
+
+/// The same where stretches of texts are cut otherwise.
+fn are_alike<X, Y>(
+    alloc: Global,
+    found: &[(Event<'_>, X)],
+    given: &[(Event<'_>, Y)],
 ) -> Result<bool, AllocError>
     ensures { IfOk result (λ same. IsTrue same
         ↔ (merged (given_events found.now) ≡ merged (given_events given.now))) }
@@ -51,12 +78,12 @@ fn are_alike(
     Ok(same_events(&found, &given))
 }
 
-/// Whether two lists have the same events, on either side with each longest stretch of texts as one. It
-/// takes memory only where texts are cut otherwise; an `Err` says that it ran out.
-pub fn are_same(
+/// Whether two lists have the same events, on either side with each longest stretch of texts as one. It takes memory
+/// only where the events aren't the same one by one.
+pub fn are_same<X, Y>(
     alloc: Global,
-    found: &[(Event<'_>, (usize, usize))],
-    given: &[(Event<'_>, (usize, usize))],
+    found: &[(Event<'_>, X)],
+    given: &[(Event<'_>, Y)],
 ) -> Result<bool, AllocError>
     ensures { IfOk result (λ same. IsTrue same
         ↔ (merged (given_events found.now) ≡ merged (given_events given.now))) }

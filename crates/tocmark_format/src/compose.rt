@@ -2,7 +2,7 @@
 
 use crate::pieces::{Document, Form, Piece, Texts, text_of};
 use std::alloc::AllocError;
-use tocmark_compare::trees::{Block, has_text, trimmed};
+use tocmark_rewrite::trees::{Block, has_text, trimmed};
 
 /// What is put together so far.
 #[derive(Drop)]

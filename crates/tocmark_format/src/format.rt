@@ -12,7 +12,7 @@ use crate::pieces::{Document, Piece, Texts, Trees, all_left};
 use crate::style::{Escapes, Style};
 use std::alloc::{AllocError, Global};
 use tocmark_compare::digest::Digest;
-use tocmark_compare::trees::Block;
+use tocmark_rewrite::trees::Block;
 use tocmark_event::event::ParserOptions;
 use tocmark_event::options::Options;
 use tocmark_event::reader::{Reader, Reading};

@@ -9,7 +9,7 @@ use crate::style::{Escapes, Style};
 use crate::table::aligned;
 use crate::tidy::tidied;
 use std::alloc::{AllocError, Global};
-use tocmark_compare::trees::{Block, LineCounter, blocks_in, has_text};
+use tocmark_rewrite::trees::{Block, LineCounter, blocks_in, has_text};
 use tocmark_event::event::Event;
 use tocmark_event::options::{Error, Options};
 use tocmark_event::reader::{Reader, Reading};

@@ -4,7 +4,8 @@ use Rattle.std.proofs.lemmas.List.{drop-map, drop_all, drop_more, length-drop, t
 use Rattle.tocmark_event.specs.Merged.{after_text, merged}
 use Rattle.tocmark_event.specs.Text.{ParserEvent, text_of}
 use Rattle.tocmark_event.specs.View.{EventView, Leaf, SoftBreak, Text, event_view}
-use Rattle.tocmark_interchange.specs.Document.{IsFirstBehind, events_in, goes_on, shared}
+use Rattle.tocmark_compare.specs.Given.{given_events}
+use Rattle.tocmark_interchange.specs.Document.{IsFirstBehind, goes_on, shared}
 
 joins : (t u : List ℕ) (es : List EventView) → length (after_text t (after_text u es)) ≡ length (after_text u es)
 joins t u [] = refl
@@ -90,9 +91,9 @@ pub ends_there : (place all : ℕ) (xs ys : List EventView) → ys ≡ [] → pl
 ends_there place all xs ys none is = all_shared place (shared xs ys) all (ap (shared xs) none ∙ shared_none xs) is
 
 -- the events of a slice from a place on
-pub from_place : {X : Type 0} (given : List (ParserEvent × X)) (place : ℕ) → events_in (take (length given - place) (drop place given)) ≡ drop place (events_in given)
+pub from_place : {X : Type 0} (given : List (ParserEvent × X)) (place : ℕ) → given_events (take (length given - place) (drop place given)) ≡ drop place (given_events given)
 from_place given place =
-    ap events_in (take_all (length given - place) (drop place given) (same_le (length (drop place given)) (length given - place) (length-drop place given)))
+    ap given_events (take_all (length given - place) (drop place given) (same_le (length (drop place given)) (length given - place) (length-drop place given)))
     ∙ sym (drop-map (λ e. event_view text_of e.0) place given)
   where
     same_le : (m n : ℕ) → m ≡ n → m ≤ n

@@ -6,8 +6,7 @@ use Rattle.tocmark_reader.specs.Flags.{syntax_of}
 use Rattle.tocmark_read_scan.specs.declared.syntax.Names.TheVariants.{All}
 use Rattle.tocmark_event.specs.Merged.{merged}
 use Rattle.tocmark_event.specs.Options.{OptionsView}
-use Rattle.tocmark_event.specs.Text.{ParserEvent, text_of}
-use Rattle.tocmark_event.specs.View.{EventView, event_view}
+use Rattle.tocmark_event.specs.View.{EventView}
 use Rattle.tocmark_event.specs.declared.event.flags.ParserOptions.{ParserOptions}
 use Rattle.tocmark_interchange.specs.Interchange.{IsCause, IsTextOf, IsWritten, in_source}
 use Rattle.tocmark_interchange.specs.declared.fault.DocumentError.{DocumentError}
@@ -15,10 +14,6 @@ use Rattle.tocmark_interchange.specs.declared.fault.DocumentError.TheVariants as
 use Rattle.tocmark_spelling.specs.Kinds.{is_text}
 use Rattle.tocmark_spelling.specs.SameEvents.{same_event}
 use Rattle.tocmark_state.specs.Ranges.{Pair}
-
--- the events of pairs
-abbrev pub events_in : {X : Type 0} → List (ParserEvent × X) → List EventView
-events_in = map (λ e. event_view text_of e.0)
 
 -- the events that the reader of extensions finds in a text under these flags
 abbrev pub events_read : ParserOptions → List ℕ → List EventView

@@ -5,10 +5,9 @@ ghost use Rattle.tocmark_event.specs.Merged.{merged};
 ghost use Rattle.tocmark_event.specs.Options.{options_view};
 ghost use Rattle.tocmark_event.specs.Text.{text_of};
 ghost use Rattle.tocmark_event.specs.View.{event_view};
+ghost use Rattle.tocmark_compare.specs.Given.{given_events};
 ghost use Rattle.tocmark_json.specs.Json.{pair_view};
-ghost use Rattle.tocmark_spelling.specs.Kinds.{is_text};
-ghost use Rattle.tocmark_spelling.specs.SameEvents.{same_events};
-ghost use Rattle.tocmark_interchange.specs.Document.{IsDocumentCause, IsFirstBehind, IsFirstLost, IsWrittenTheSame, events_in, events_read, goes_on, shared, without_range};
+ghost use Rattle.tocmark_interchange.specs.Document.{IsDocumentCause, IsFirstBehind, IsFirstLost, IsWrittenTheSame, events_read, goes_on, shared, without_range};
 ghost use Rattle.tocmark_interchange.specs.Interchange.{source_text};
 
 use crate::fault::{DocumentError, WriteError};
@@ -16,88 +15,14 @@ use crate::pairs::{EventPairs, Placed};
 use crate::writing::{lent, pairs_in, written_pairs};
 use std::alloc::{AllocError, Global};
 use tocmark::Options;
-use tocmark::event::{Event, ParserOptions, merge_texts};
+use tocmark::event::{Event, ParserOptions};
 use tocmark::reader::Reader;
-use tocmark_compare::event::{same_event, same_events};
+use tocmark_compare::event::same_event;
+use tocmark_compare::same::{are_same, is_text, merged_events};
 use tocmark_reader::{ExtendedReader, Names};
 
 /// What a reader found: events with their ranges.
 type Found<'f> = (Event<'f>, (usize, usize));
-
-/// Whether both lists have the same events, one by one. It takes no memory.
-fn are_equal(found: &[Found<'_>], given: &[Placed<'_>]) -> bool
-    ensures { result ≡ same_events (events_in found.now) (events_in given.now) }
-{
-    if found.len() != given.len() {
-        return false;
-    }
-    for i in 0..found.len() {
-        if !same_event(&found[i].0, &given[i].0) {
-            return false;
-        }
-    }
-    true
-}
-
-/// The events that were found, without their ranges.
-fn found_alone(alloc: Global, found: &[Found<'_>]) -> Result<Vec<Event<'static>>, AllocError>
-    ensures { IfOk result (λ all. map (event_view text_of) all.items ≡ events_in found.now) }
-{
-    let mut all = Vec::new(alloc);
-    for pair in found {
-        all.push(pair.0.to_static(alloc)?)?;
-    }
-    Ok(all)
-}
-
-/// The events that were given, without their ranges.
-fn given_alone(alloc: Global, given: &[Placed<'_>]) -> Result<Vec<Event<'static>>, AllocError>
-    ensures { IfOk result (λ all. map (event_view text_of) all.items ≡ events_in given.now) }
-{
-    let mut all = Vec::new(alloc);
-    for pair in given {
-        all.push(pair.0.to_static(alloc)?)?;
-    }
-    Ok(all)
-}
-
-fn merged_found(alloc: Global, found: &[Found<'_>]) -> Result<Vec<Event<'static>>, AllocError>
-    ensures { IfOk result (λ all. map (event_view text_of) all.items
-        ≡ merged (events_in found.now)) }
-{
-    let alone = found_alone(alloc, found)?;
-    merge_texts(alloc, &alone)
-}
-
-fn merged_given(alloc: Global, given: &[Placed<'_>]) -> Result<Vec<Event<'static>>, AllocError>
-    ensures { IfOk result (λ all. map (event_view text_of) all.items
-        ≡ merged (events_in given.now)) }
-{
-    let alone = given_alone(alloc, given)?;
-    merge_texts(alloc, &alone)
-}
-
-/// Whether both lists have the same events where stretches of texts are cut otherwise.
-fn are_alike(alloc: Global, found: &[Found<'_>], given: &[Placed<'_>]) -> Result<bool, AllocError>
-    ensures { IfOk result (λ same. IsTrue same
-        ↔ (merged (events_in found.now) ≡ merged (events_in given.now))) }
-{
-    let found = merged_found(alloc, found)?;
-    let given = merged_given(alloc, given)?;
-    Ok(same_events(&found, &given))
-}
-
-/// Whether both lists have the same events, on either side with each longest stretch of texts as one. It takes memory only
-/// where texts are cut otherwise.
-fn are_same(alloc: Global, found: &[Found<'_>], given: &[Placed<'_>]) -> Result<bool, AllocError>
-    ensures { IfOk result (λ same. IsTrue same
-        ↔ (merged (events_in found.now) ≡ merged (events_in given.now))) }
-{
-    if are_equal(found, given) {
-        return Ok(true);
-    }
-    are_alike(alloc, found, given)
-}
 
 /// How many events both lists begin with.
 fn shared(found: &[Event<'_>], given: &[Event<'_>]) -> usize
@@ -115,18 +40,9 @@ fn shared(found: &[Event<'_>], given: &[Event<'_>]) -> usize
     found.len()
 }
 
-fn is_text(event: &Event<'_>) -> bool
-    ensures { result ≡ is_text (event_view text_of event.now) }
-{
-    match event {
-        Event::Text(_) => true,
-        _ => false,
-    }
-}
-
 /// Whether the first two events are in one stretch: whether both are texts.
 fn goes_on(events: &[Placed<'_>]) -> bool
-    ensures { result ≡ goes_on (events_in events.now) }
+    ensures { result ≡ goes_on (given_events events.now) }
 {
     match events {
         [first, second, ..] => is_text(&first.0) && is_text(&second.0),
@@ -137,8 +53,8 @@ fn goes_on(events: &[Placed<'_>]) -> bool
 /// The number of the event with which the stretch of this number begins, where texts side by side are one stretch; how many
 /// events there are, if there are no more stretches.
 fn place_of(given: &[Placed<'_>], stretch: usize) -> usize
-    ensures { stretch ≤ length (merged (events_in given.now))
-        → IsFirstBehind stretch (events_in given.now) result }
+    ensures { stretch ≤ length (merged (given_events given.now))
+        → IsFirstBehind stretch (given_events given.now) result }
 {
     let mut left = stretch;
     for place in 0..given.len() {
@@ -154,10 +70,10 @@ fn place_of(given: &[Placed<'_>], stretch: usize) -> usize
 
 /// The number of the first event that isn't found again, where the lists differ.
 fn first_lost(alloc: Global, found: &[Found<'_>], given: &[Placed<'_>]) -> Result<usize, AllocError>
-    ensures { IfOk result (IsFirstLost (events_in found.now) (events_in given.now)) }
+    ensures { IfOk result (IsFirstLost (given_events found.now) (given_events given.now)) }
 {
-    let read = merged_found(alloc, found)?;
-    let wanted = merged_given(alloc, given)?;
+    let read = merged_events(alloc, found)?;
+    let wanted = merged_events(alloc, given)?;
     Ok(place_of(given, shared(&read, &wanted)))
 }
 
@@ -168,11 +84,11 @@ fn difference(
     given: &[Placed<'_>],
 ) -> Result<Option<usize>, AllocError>
     ensures same { IfOk result (λ answer. IsNone answer
-        → merged (events_in found.now) ≡ merged (events_in given.now)) }
+        → merged (given_events found.now) ≡ merged (given_events given.now)) }
     ensures other { IfOk result (λ answer. IfSome answer (λ place.
-        ¬ (merged (events_in found.now) ≡ merged (events_in given.now)))) }
+        ¬ (merged (given_events found.now) ≡ merged (given_events given.now)))) }
     ensures place { IfOk result (λ answer. IfSome answer
-        (IsFirstLost (events_in found.now) (events_in given.now))) }
+        (IsFirstLost (given_events found.now) (given_events given.now))) }
 {
     if are_same(alloc, found, given)? {
         return Ok(None);

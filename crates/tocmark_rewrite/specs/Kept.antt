@@ -10,8 +10,8 @@ use Rattle.tocmark_rewrite.specs.declared.answer.RewrittenTree.{RewrittenTree}
 use Rattle.tocmark_rewrite.specs.declared.output.Part.{Part}
 use Rattle.tocmark_rewrite.specs.declared.output.Part.TheVariants.{Source}
 use Rattle.tocmark_rewrite.specs.declared.plan.Plan.{Plan}
-use Rattle.tocmark_compare.specs.declared.trees.Block.{Block}
-use Rattle.tocmark_compare.specs.declared.trees.Tree.{Tree}
+use Rattle.tocmark_rewrite.specs.declared.trees.Block.{Block}
+use Rattle.tocmark_rewrite.specs.declared.trees.Tree.{Tree}
 
 -- a stretch of what was found and one of what was given are the same events
 abbrev pub AreSame : List EventView → ℕ → ℕ → List EventView → ℕ → ℕ → Type 0

@@ -10,7 +10,7 @@ ghost use Rattle.tocmark_rewrite.specs.Kept.{Copies, FateIsSo, IsHonest, IsTold}
 use crate::output::Part;
 use crate::plan::{Plan, lines_of};
 use std::alloc::{AllocError, Global};
-use tocmark_compare::trees::Block;
+use crate::trees::Block;
 
 /// A tree that stands in the new text as it does in the source.
 #[derive(Clone, Copy, Debug, PartialEq, Eq)]

@@ -8,7 +8,7 @@ use crate::patch::Patch;
 use crate::pieces::{Definitions, Piece};
 use crate::plan::Plan;
 use std::alloc::{AllocError, Global};
-use tocmark_compare::trees::{Block, has_text, trimmed};
+use crate::trees::{Block, has_text, trimmed};
 
 /// The source with its patches, whose places grow; none that begins before the end of another is made.
 pub(crate) fn patched(

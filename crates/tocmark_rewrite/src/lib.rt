@@ -3,10 +3,14 @@
 //!
 //! Below it stand the writer (`tocmark_state`), of which it takes the text of blocks that it has to write, and
 //! `tocmark_compare`; above it stand programs that change documents. Enter at `edits`, the changes of events that filters
-//! make, and at `rewritten` (`rewrite`). `plan` finds which trees stand in the source as they are, `patch` replaces the
-//! bytes of single events, `inner` writes the blocks in a tree that were changed, `pieces` and `join` write changed trees
-//! and put them between the kept ones; all leave a list of parts (`output`), which is read back. `answer` says what became
-//! of each tree, and `fault` why there is no answer.
+//! make, and at `rewritten` (`rewrite`). `trees` cuts events into their trees, and finds the lines on which these stand;
+//! `plan` finds which of them stand in the source as they are.
+//!
+//! `patch` replaces the bytes of what was edited: of single events (`event`), and of links (`link`), by their `destination`
+//! and `title`, or by those of the `label`'s definition. `inner` writes the blocks in a
+//! tree that were changed. `pieces` and `join` write changed trees, which `given` lends to a state, and put them between the
+//! kept ones. All leave a list of parts (`output`), which is read back. `answer` says what became of each tree, and `fault`
+//! why there is no answer.
 //!
 //! ```
 //! let mut reading = CoreReader.read(alloc, source, flags)?;
@@ -17,16 +21,24 @@
 
 pub mod answer;
 mod collect;
+mod destination;
 pub mod edits;
+mod event;
 pub mod fault;
+mod given;
 mod inner;
 mod join;
+mod label;
+mod link;
 pub mod output;
 pub mod patch;
 pub mod pieces;
 mod plan;
 pub mod rewrite;
+mod source_bytes;
 mod texts;
+mod title;
+pub mod trees;
 
 pub use answer::{Fate, Kept, Rewritten, RewrittenTree};
 pub use fault::{Fault, Place};

@@ -8,7 +8,7 @@ ghost use Rattle.tocmark_rewrite.specs.Kept.{AreSame, HasEventsOf, IsHonest};
 use crate::fault::Place;
 use std::alloc::{AllocError, Global};
 use tocmark_compare::same::{are_same, differ};
-use tocmark_compare::trees::{Block, Tree};
+use crate::trees::{Block, Tree};
 use tocmark_event::event::Event;
 
 /// What becomes of a tree of the edited events.

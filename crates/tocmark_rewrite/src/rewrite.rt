@@ -23,7 +23,7 @@ use crate::pieces::{Definitions, Tools, events_of, make_pieces, write_tree};
 use crate::plan::{Plan, place_of, planned};
 use std::alloc::{AllocError, Global};
 use tocmark_compare::same::{are_same, differ};
-use tocmark_compare::trees::{Block, Tree, blocks, trees};
+use crate::trees::{Block, Tree, blocks, trees};
 use tocmark_event::event::{Event, ParserOptions};
 use tocmark_event::options::Options;
 use tocmark_event::reader::Reader;

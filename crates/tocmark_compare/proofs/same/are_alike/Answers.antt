@@ -8,7 +8,7 @@ use Rattle.tocmark_compare.specs.Given.{given_events}
 use Rattle.tocmark_compare.proofs.same.are_alike.Goals as goal
 
 pub returns : goal.returns
-returns c =
+returns g c =
     let found : map (event_view text_of) c.in_ok-found.found.items ≡ merged (given_events c.args.found.now) = c.in_ok-found.ensures in
     let given : map (event_view text_of) c.in_ok-given.given.items ≡ merged (given_events c.args.given.now) = c.in_ok-given.ensures in
     let tested : c.same_events.result ≡ same_events (merged (given_events c.args.found.now)) (merged (given_events c.args.given.now)) =

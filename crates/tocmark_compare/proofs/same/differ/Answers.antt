@@ -1,4 +1,4 @@
-use Rattle.std.proofs.Common.{◌≡◌, ◌≤◌, ℕ, min, length, arith, sym, ◌∙◌}
+use Rattle.std.proofs.Common.{◌≤◌, min, length, arith, sym, ◌∙◌}
 use Rattle.std.proofs.lemmas.Bool.Decides.{nat_tests}
 use Rattle.tocmark_compare.proofs.Apart.{past_end}
 use Rattle.tocmark_compare.proofs.same.differ.Goals as goal

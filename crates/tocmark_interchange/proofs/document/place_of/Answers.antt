@@ -2,7 +2,8 @@ use Rattle.std.proofs.Common.{◌≡◌, ◌≢◌, ◌∙◌, ◌+◌, ◌<◌,
 use Rattle.std.proofs.lemmas.List.{length-map}
 use Rattle.tocmark_event.specs.Text.{text_of}
 use Rattle.tocmark_event.specs.View.{event_view}
-use Rattle.tocmark_interchange.specs.Document.{events_in, goes_on}
+use Rattle.tocmark_compare.specs.Given.{given_events}
+use Rattle.tocmark_interchange.specs.Document.{goes_on}
 use Rattle.tocmark_interchange.proofs.Stretches.{IsReached, from_place, goes_along, goes_over}
 use Rattle.tocmark_interchange.proofs.document.place_of.Goals.{then-not-goes_on, else-not-goes_on}
 use Rattle.tocmark_interchange.proofs.document.place_of.Goals as goal
@@ -10,7 +11,7 @@ use Rattle.tocmark_interchange.proofs.document.place_of.Goals as goal
 pub loop-place-preserved : goal.loop-place-preserved
 loop-place-preserved c =
     let given = c.args.given.now in
-    let es = events_in given in
+    let es = given_events given in
     let place = c.loop-place.place in
     let left = c.loop-place.left in
     let below : place < length es = subst (λ (n : ℕ). place < n) (sym (length-map given (λ e. event_view text_of e.0))) (search rules) in

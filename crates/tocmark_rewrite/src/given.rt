@@ -1,15 +1,16 @@
-//! The edited events of a document, each with the bytes of the source that it comes from.
+//! The edited events of a document, one after the other, as a state takes them.
+//!
+//! `Pairs` and `Events` of `tocmark_event` do the same for a reading, which owns its events; these lend a list.
 
-ghost use Rattle.std.specs.Prelude.{◌≡◌, ℕ, List, Some, map, IfOk};
+ghost use Rattle.std.specs.Prelude.{◌≡◌, Some, map};
 ghost use Rattle.std.specs.Iterator.{item_count, YieldsFirstBy};
 ghost use Rattle.tocmark_event.specs.Text.{text_of};
 ghost use Rattle.tocmark_event.specs.View.{event_view};
-ghost use Rattle.tocmark_event.specs.Merged.{merged};
 ghost use Rattle.tocmark_event.specs.Reading.{lent_event, lent_pair};
-ghost use Rattle.tocmark_compare.specs.Given.{given_alone, given_events, given_left};
+ghost use Rattle.tocmark_compare.specs.Given.{given_events};
+ghost use Rattle.tocmark_rewrite.specs.Given.{given_alone, given_left};
 
-use std::alloc::{AllocError, Global};
-use tocmark_event::event::{Event, merge_texts};
+use tocmark_event::event::Event;
 
 /// The pairs of a list, one after the other.
 #[derive(Drop)]
@@ -63,30 +64,4 @@ impl<'a> Iterator for GivenEvents<'a> {
             None => None,
         }
     }
-}
-
-/// The events without their ranges.
-fn events_alone(
-    alloc: Global,
-    events: &[(Event<'_>, (usize, usize))],
-) -> Result<Vec<Event<'static>>, AllocError>
-    ensures { IfOk result (λ all. map (event_view text_of) all.items ≡ given_events events.now) }
-{
-    let mut all = Vec::new(alloc);
-    for pair in events {
-        all.push(pair.0.to_static(alloc)?)?;
-    }
-    Ok(all)
-}
-
-/// The events without their ranges, each longest stretch of texts as one.
-pub fn merged_events(
-    alloc: Global,
-    events: &[(Event<'_>, (usize, usize))],
-) -> Result<Vec<Event<'static>>, AllocError>
-    ensures { IfOk result (λ all. map (event_view text_of) all.items
-        ≡ merged (given_events events.now)) }
-{
-    let alone = events_alone(alloc, events)?;
-    merge_texts(alloc, &alone)
 }
