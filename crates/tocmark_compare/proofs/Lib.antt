@@ -5,3 +5,4 @@ pub mod Comparisons
 pub mod Apart
 pub mod Digests
 pub mod Marks
+pub mod Found

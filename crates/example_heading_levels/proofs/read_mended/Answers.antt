@@ -1,7 +1,7 @@
 use Rattle.std.proofs.Common.{◌∙◌, [], ap, sym, arith}
 use Rattle.std.proofs.lemmas.List.{with_items_is}
 use Rattle.tocmark_compare.specs.Given.{found_events, given_events}
-use Rattle.tocmark_rewrite.proofs.Readings.{found-given}
+use Rattle.tocmark_compare.proofs.Found.{found-given}
 use Rattle.example_heading_levels.specs.Levels.{mended}
 use Rattle.example_heading_levels.proofs.read_mended.Goals as goal
 

@@ -4,7 +4,7 @@ use mathlib.Core.List.{map-map}
 use Rattle.tocmark_event.specs.Text.{ParserEvent, text_of}
 use Rattle.tocmark_event.specs.View.{event_view}
 use Rattle.tocmark_compare.specs.Given.{found_events, given_events}
-use Rattle.tocmark_rewrite.proofs.Readings.{found-given}
+use Rattle.tocmark_compare.proofs.Found.{found-given}
 use Rattle.example_https_links.specs.Links.{secured}
 use Rattle.example_https_links.proofs.read_secured.Goals as goal
 

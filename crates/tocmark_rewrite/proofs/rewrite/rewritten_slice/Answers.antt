@@ -3,7 +3,7 @@ use Rattle.std.specs.List.{All}
 use Rattle.tocmark_event.specs.View.{EventView}
 use Rattle.tocmark_compare.specs.Given.{found_events, given_events}
 use Rattle.tocmark_rewrite.specs.Kept.{IsHonest, IsTold}
-use Rattle.tocmark_rewrite.proofs.Readings.{found-given}
+use Rattle.tocmark_compare.proofs.Found.{found-given}
 use Rattle.tocmark_rewrite.proofs.rewrite.rewritten_slice.Goals as goal
 
 pub new_text-requires : goal.new_text-requires

@@ -1,7 +1,7 @@
 use Rattle.std.proofs.Common.{◌≡◌, ◌∙◌, ◌++◌, List, OnOk, ap, subst, sym}
 use Rattle.tocmark_event.specs.Reading.{reading_view}
 use Rattle.tocmark_event.specs.View.{EventView}
-use Rattle.tocmark_rewrite.proofs.Readings.{found-given}
+use Rattle.tocmark_compare.proofs.Found.{found-given}
 use Rattle.tocmark_compare.specs.Digest.{SaysFirst}
 use Rattle.tocmark_compare.specs.Given.{found_events, given_events}
 use Rattle.tocmark_format.proofs.parts.DigestPartTaker.take.Goals as goal
