@@ -193,6 +193,15 @@ impl Walk {
     }
 }
 
+/// Where a tree begins: where the one before it ends.
+fn end_before(ends: &[TreeEnd], tree: usize) -> TreeEnd {
+    let first = TreeEnd { byte: 0, other: 0 };
+    match tree.checked_sub(1) {
+        Some(before) => ends.get(before).copied().unwrap_or(first),
+        None => first,
+    }
+}
+
 impl Digest {
     fn put_bytes(&mut self, bytes: &[u8]) -> Result<(), AllocError>
         ensures bytes { OnOk result (self.new.bytes.items ≡ self.old.bytes.items ++ bytes.now) }
@@ -316,31 +325,27 @@ impl Digest {
         Ok(ends)
     }
 
-    /// The part of a tree: its bytes and its other events.
-    fn tree(&self, ends: &[TreeEnd], at: usize) -> (&[u8], &[Event<'static>]) {
-        let first = match at.checked_sub(1) {
-            None => Some(TreeEnd { byte: 0, other: 0 }),
-            Some(before) => ends.get(before).copied(),
-        };
-        match (first, ends.get(at)) {
-            (Some(first), Some(past)) => (
-                self.bytes.get(first.byte..past.byte).unwrap_or(&[]),
-                self.others.get(first.other..past.other).unwrap_or(&[]),
-            ),
-            _ => (&[], &[]),
-        }
+    /// What some trees say, from one number to another: their bytes and their other events.
+    fn trees(&self, ends: &[TreeEnd], trees: (usize, usize)) -> (&[u8], &[Event<'static>]) {
+        let first = end_before(ends, trees.0);
+        let past = end_before(ends, trees.1);
+        (
+            self.bytes.get(first.byte..past.byte).unwrap_or(&[]),
+            self.others.get(first.other..past.other).unwrap_or(&[]),
+        )
     }
 
-    /// Whether the trees at a place are the same, where `ends` and `other_ends` say where trees end.
-    pub fn has_same_tree(
+    /// Whether some trees say the same as some of another digest, where `ends` and `other_ends` say where trees end.
+    pub fn has_same_trees(
         &self,
         ends: &[TreeEnd],
+        trees: (usize, usize),
         other: &Digest,
         other_ends: &[TreeEnd],
-        at: usize,
+        other_trees: (usize, usize),
     ) -> bool {
-        let (bytes, events) = self.tree(ends, at);
-        let (other_bytes, other_events) = other.tree(other_ends, at);
+        let (bytes, events) = self.trees(ends, trees);
+        let (other_bytes, other_events) = other.trees(other_ends, other_trees);
         bytes == other_bytes && same_events(events, other_events)
     }
 }
