@@ -29,12 +29,13 @@ fn digits_in(text: &str) -> usize {
         .count()
 }
 
-/// What an item has in the source: columns before its marker and behind it, and where its content begins.
+/// What an item has in the source: columns before its marker and behind it, and where its content begins, with its column.
 #[derive(Clone, Copy)]
 struct ItemColumns {
     indent: usize,
     pad: usize,
     content: usize,
+    column: usize,
 }
 
 fn push_blanks(text: &mut String, count: usize) -> Result<(), AllocError> {
@@ -53,6 +54,7 @@ impl Printer<'_> {
         let content = start.saturating_add(if has_blank { 2 } else { 1 });
         let mut frame = Frame::new(self.alloc, Kind::Quote, content, end);
         frame.rest = Lead::Quote;
+        frame.column = self.column_of(start, content);
         let line_end = source.line_end(start);
         if has_kind {
             frame.at = line_end.saturating_add(1);
@@ -97,29 +99,26 @@ impl Printer<'_> {
     /// What an item has in the source whose marker ends at a place.
     fn item_columns(&self, start: usize, behind: usize) -> ItemColumns {
         let source = self.source;
-        let base = source.line_start(start);
-        let place = match self.page.content_behind(base) {
-            Some(content) => content,
-            None => self.page.stripped(source, base).at,
-        };
-        let before = source.columns(base, place.min(start));
-        let indent = source.columns(base, start).saturating_sub(before);
+        let front = self.page.front(source, start);
+        let marker = source.column_at(front.column, front.at.min(start), start);
+        let indent = marker.saturating_sub(front.column);
+        let marker_end = source.column_at(marker, start, behind);
         let content = source.past_blanks(behind);
-        let pad = source
-            .columns(base, content)
-            .saturating_sub(source.columns(base, behind));
+        let column = source.column_at(marker_end, behind, content);
+        let pad = column.saturating_sub(marker_end);
         if pad > 4 || source.byte(content) == b'\n' {
-            let content = behind.saturating_add(1).min(content);
             return ItemColumns {
                 indent,
                 pad: 1,
-                content,
+                content: behind.saturating_add(1).min(content),
+                column: marker_end.saturating_add(1),
             };
         }
         ItemColumns {
             indent,
             pad: pad.max(1),
             content,
+            column,
         }
     }
 
@@ -158,12 +157,19 @@ impl Printer<'_> {
         let mut frame = Frame::new(self.alloc, Kind::Item, columns.content, end);
         frame.rest = Lead::Blanks(first.len());
         frame.first = first;
+        frame.column = columns.column;
         frame.columns = columns
             .indent
             .saturating_add(behind.saturating_sub(start))
             .saturating_add(columns.pad);
         frame.is_tight = self.page.top().is_tight;
         self.page.open(frame)
+    }
+
+    /// The column of a place behind the front of a block that begins here.
+    fn column_of(&self, start: usize, at: usize) -> usize {
+        let front = self.page.front(self.source, start);
+        self.source.column_at(front.column, front.at.min(start), at)
     }
 
     fn open_footnote(&mut self, range: (usize, usize)) -> Result<(), AllocError> {
@@ -184,6 +190,7 @@ impl Printer<'_> {
         frame.first = first;
         frame.rest = Lead::Blanks(4);
         frame.columns = 4;
+        frame.column = self.column_of(start, frame.content);
         self.page.open(frame)
     }
 
@@ -194,6 +201,7 @@ impl Printer<'_> {
         frame.first = String::from_str(self.alloc, ": ")?;
         frame.rest = Lead::Blanks(2);
         frame.columns = 2;
+        frame.column = self.column_of(start, content);
         self.page.open(frame)
     }
 

@@ -48,8 +48,9 @@ pub(crate) struct Frame {
     pub(crate) rest: Lead,
     /// How many columns an item, a footnote or a definition has before each of its lines in the source.
     pub(crate) columns: usize,
-    /// Where its content begins in the source, and where it ends.
+    /// Where its content begins in the source, the column of that place on its line, and where it ends.
     pub(crate) content: usize,
+    pub(crate) column: usize,
     pub(crate) end: usize,
     /// The place in the source behind what is printed of it.
     pub(crate) at: usize,
@@ -75,6 +76,7 @@ impl Frame {
             rest: Lead::Nothing,
             columns: 0,
             content,
+            column: 0,
             end,
             at: content,
             is_tight: false,
@@ -136,7 +138,8 @@ fn push_lead(text: &mut String, lead: Lead) -> Result<(), AllocError> {
 #[derive(Clone, Copy)]
 pub(crate) struct Place {
     pub(crate) at: usize,
-    /// The columns of a tab that are left over there.
+    /// Its column on the line, and the columns of a tab that are left over there.
+    pub(crate) column: usize,
     pub(crate) spare: usize,
     /// Whether the line has the prefixes of all containers.
     pub(crate) is_met: bool,
@@ -151,6 +154,15 @@ struct Cursor {
 }
 
 impl Cursor {
+    fn place(self, is_met: bool) -> Place {
+        Place {
+            at: self.at,
+            column: self.column,
+            spare: self.spare,
+            is_met,
+        }
+    }
+
     /// Passes at most so many columns of blanks; how many were there.
     fn pass_blanks(&mut self, source: &Source<'_>, most: usize) -> usize {
         let mut passed = 0usize;
@@ -315,30 +327,36 @@ impl Page {
         };
         for frame in self.outer.iter() {
             if !frame.is_passed(&mut cursor, source) {
-                return Place {
-                    at: cursor.at,
-                    spare: cursor.spare,
-                    is_met: false,
-                };
+                return cursor.place(false);
             }
         }
         let is_met = self.top.is_passed(&mut cursor, source);
-        Place {
-            at: cursor.at,
-            spare: cursor.spare,
-            is_met,
+        cursor.place(is_met)
+    }
+
+    /// Where on the line of a place a block begins that begins there: behind the markers on it, or behind its prefixes.
+    pub(crate) fn front(&self, source: &Source<'_>, at: usize) -> Place {
+        let base = source.line_start(at);
+        match self.content_behind(base) {
+            Some((content, column)) => Place {
+                at: content,
+                column,
+                spare: 0,
+                is_met: true,
+            },
+            None => self.stripped(source, base),
         }
     }
 
-    /// Where the content of the innermost container that begins behind a place begins; lists don't count.
-    pub(crate) fn content_behind(&self, place: usize) -> Option<usize> {
+    /// Where the content of the innermost container that begins behind a place begins, with its column; lists don't count.
+    fn content_behind(&self, place: usize) -> Option<(usize, usize)> {
         if self.top.kind != Kind::List && self.top.content > place {
-            return Some(self.top.content);
+            return Some((self.top.content, self.top.column));
         }
         for frame in self.outer.iter().rev() {
             if frame.kind != Kind::List {
                 return if frame.content > place {
-                    Some(frame.content)
+                    Some((frame.content, frame.column))
                 } else {
                     None
                 };

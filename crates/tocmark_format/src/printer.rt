@@ -209,14 +209,8 @@ impl<'d> Printer<'d> {
     fn print_bare_text(&mut self, part: &Part<'_>, at: usize) -> Result<usize, AllocError> {
         let source = self.source;
         let start = part.range(at).0;
-        let base = source.line_start(start);
-        let content = self.page.top().content;
-        let place = if content > base {
-            content
-        } else {
-            self.page.stripped(source, base).at
-        };
-        let place = source.past_blanks(place).min(start);
+        let front = self.page.front(source, start);
+        let place = source.past_blanks(front.at).min(start);
         let behind = part.past_inlines(at);
         let end = part.range(behind.saturating_sub(1)).1;
         self.begin_events(Kind::Paragraph, place, end)?;

@@ -76,10 +76,11 @@ impl<'s> Source<'s> {
         at.saturating_add(blanks)
     }
 
-    /// How many columns lie between two places of a line; a tab ends at the next multiple of four.
-    pub(crate) fn columns(&self, base: usize, at: usize) -> usize {
-        let mut column = 0usize;
-        for character in self.slice(base, at).chars() {
+    /// The column of a place on its line, where another one before it has this column; a tab ends at the next multiple of
+    /// four.
+    pub(crate) fn column_at(&self, column: usize, before: usize, at: usize) -> usize {
+        let mut column = column;
+        for character in self.slice(before, at).chars() {
             let width = if character == '\t' {
                 4usize.saturating_sub(column % 4)
             } else {
