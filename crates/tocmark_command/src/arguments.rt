@@ -76,7 +76,7 @@ fn with_style<'a>(alloc: Global, command: Command<'a>) -> Result<Command<'a>, Al
         .long("numbering")
         .value_name("NUMBERS")
         .help(
-            "Numbers of a list: source (default: count if the\nsource counts), first (repeat it) or increment",
+            "Numbers of a list: source (default: each has its\nown), first (repeat it) or increment",
         );
     let emphasis = Arg::new(alloc, "emphasis")
         .long("emphasis")

@@ -48,13 +48,9 @@ pub(crate) const KEYS: [(&str, Key, &str); 12] = [
     ("strong", Key::Strong, "** or __"),
     ("fence", Key::Fence, "`, ~ or source"),
     ("fence-length", Key::FenceLength, "a number from 3 to 1000"),
-    (
-        "hard-break",
-        Key::HardBreak,
-        "source, backslash or spaces",
-    ),
+    ("hard-break", Key::HardBreak, "source, backslash or spaces"),
     ("rule", Key::Rule, "--- or source"),
-    ("table-width", Key::TableWidth, "a number from 0 to 1000"),
+    ("table-width", Key::TableWidth, "a number from 1 to 1000"),
 ];
 
 /// What documents on GitHub have beside CommonMark, front matter among it, so far as the reader reads it.
@@ -185,7 +181,10 @@ fn length_of(word: &str) -> Option<usize> {
 /// The width of a table that a word says.
 fn width_of(word: &str) -> Option<usize> {
     let width: usize = word.parse().ok()?;
-    if width > 1000 { None } else { Some(width) }
+    if width < 1 || width > 1000 {
+        return None;
+    }
+    Some(width)
 }
 
 /// Sets an option to what a word says. `false`: it takes no such word, and nothing is changed.

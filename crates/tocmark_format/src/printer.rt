@@ -315,6 +315,26 @@ impl<'d> Printer<'d> {
             let length = self.page.text.len().saturating_sub(1);
             self.page.text.truncate(length);
         }
+        if self.begins_metadata() {
+            self.put_line_before()?;
+        }
+        Ok(())
+    }
+
+    /// Whether other programs would read front matter where the source has none.
+    fn begins_metadata(&self) -> bool {
+        let front = self.page.text.as_str().get(..3).unwrap_or("");
+        (front == "---" || front == "+++") && !self.source.text.starts_with(front)
+    }
+
+    /// Puts an empty line before all that is printed.
+    fn put_line_before(&mut self) -> Result<(), AllocError> {
+        let mut text = String::from_str(self.alloc, "\n")?;
+        text.push_str(self.page.text.as_str())?;
+        self.page.text = text;
+        for block in self.blocks.iter_mut() {
+            block.start = block.start.saturating_add(1);
+        }
         Ok(())
     }
 
