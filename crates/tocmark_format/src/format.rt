@@ -113,7 +113,7 @@ struct Printed {
 }
 
 /// Prints the source.
-fn printed<R: PartReader>(job: &Job<'_, R>, ladder: &Ladder) -> Result<Printed, AllocError>
+fn print_source<R: PartReader>(job: &Job<'_, R>, ladder: &Ladder) -> Result<Printed, AllocError>
     ensures { IfOk result (λ printed. says printed.said
         ≡ merged (found_events (R.reading job.now.reader.now job.now.source.now.text.now
         job.now.flags))) }
@@ -248,7 +248,7 @@ fn rounds<R: PartReader>(job: &Job<'_, R>) -> Result<Option<Formatted>, AllocErr
         keeps_definitions: false,
     };
     for _ in 0..ROUNDS {
-        let printed = printed(job, &ladder)?;
+        let printed = print_source(job, &ladder)?;
         let back = read_back(job, printed.text.as_str())?;
         if back.says.is_same(&printed.said) {
             let left = left_of(job, &ladder, &printed.blocks)?;

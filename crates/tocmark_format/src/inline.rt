@@ -13,11 +13,11 @@ use tocmark_event::event::{Event, LinkType, Tag, TagEnd};
 
 /// What the inlines of a leaf are printed with.
 #[derive(Clone, Copy)]
-pub(crate) struct Scene<'s> {
+pub(crate) struct Scene<'d, 'p, 'e, 'g> {
     pub(crate) alloc: Global,
-    pub(crate) source: &'s Source<'s>,
-    pub(crate) part: &'s Part<'s>,
-    pub(crate) page: &'s Page,
+    pub(crate) source: &'d Source<'d>,
+    pub(crate) part: &'p Part<'e>,
+    pub(crate) page: &'g Page,
     pub(crate) look: Look,
 }
 
@@ -30,8 +30,8 @@ struct Open {
 
 /// A cursor over the events of a leaf, and their pieces.
 #[derive(Drop)]
-pub(crate) struct Inlines<'s> {
-    scene: Scene<'s>,
+pub(crate) struct Inlines<'d, 'p, 'e, 'g> {
+    scene: Scene<'d, 'p, 'e, 'g>,
     /// The place in the source behind what is printed.
     pub(crate) at: usize,
     pub(crate) pieces: Pieces,
@@ -93,9 +93,9 @@ fn is_sign(character: Option<char>) -> bool {
     matches!(character, Some('*' | '_'))
 }
 
-impl<'s> Inlines<'s> {
+impl<'d, 'p, 'e, 'g> Inlines<'d, 'p, 'e, 'g> {
     /// The pieces of no event, from this place in the source on.
-    pub(crate) fn new(scene: Scene<'s>, at: usize) -> Inlines<'s> {
+    pub(crate) fn new(scene: Scene<'d, 'p, 'e, 'g>, at: usize) -> Inlines<'d, 'p, 'e, 'g> {
         Inlines {
             scene,
             at,
@@ -148,16 +148,13 @@ impl<'s> Inlines<'s> {
         }
         let from = self.at;
         self.at = start;
-        let length = self.pieces.text.len();
-        let count = self.pieces.list.len();
+        let end = self.pieces.end();
         self.add_slice(from, start, Glue::Blank)?;
-        let added = self.pieces.text.as_str().get(length..).unwrap_or("");
-        if without_blanks(added).is_empty() {
-            self.pieces.text.truncate(length);
-            self.pieces.list.truncate(count);
-            self.pieces.add_solid(" ")?;
+        if !without_blanks(self.pieces.text_from(end.0)).is_empty() {
+            return Ok(());
         }
-        Ok(())
+        self.pieces.cut(end);
+        self.pieces.add_solid(" ")
     }
 
     /// Whether a hard break at a place of the source is printed as blanks.
@@ -281,26 +278,23 @@ impl<'s> Inlines<'s> {
         }
         let from = self.at;
         self.at = end;
-        let length = self.pieces.text.len();
-        let count = self.pieces.list.len();
+        let first = self.pieces.end();
         self.add_slice(from, end, Glue::Feed)?;
-        let added = self.pieces.text.as_str().get(length..).unwrap_or("");
-        if self.scene.look.is_literal || !added.starts_with("](") {
+        if self.scene.look.is_literal || !self.pieces.text_from(first.0).starts_with("](") {
             return Ok(());
         }
-        let mut tail = String::with_capacity(self.scene.alloc, end.saturating_sub(from))?;
-        self.push_lines(&mut tail, length, count)?;
-        self.pieces.text.truncate(length);
-        self.pieces.list.truncate(count);
+        let mut tail = String::new(self.scene.alloc);
+        self.push_lines(&mut tail, first)?;
+        self.pieces.cut(first);
         let mut whole = String::new(self.scene.alloc);
         push_tail(&mut whole, tail.as_str())?;
         self.add_lines(whole.as_str())
     }
 
     /// Puts behind a text the pieces from a place on, with their line feeds.
-    fn push_lines(&self, text: &mut String, from: usize, first: usize) -> Result<(), AllocError> {
-        let mut start = from;
-        for piece in self.pieces.list.get(first..).unwrap_or(&[]) {
+    fn push_lines(&self, text: &mut String, first: (usize, usize)) -> Result<(), AllocError> {
+        let mut start = first.0;
+        for piece in self.pieces.list.get(first.1..).unwrap_or(&[]) {
             match piece {
                 Piece::Text(end) | Piece::Solid(end) => {
                     text.push_str(self.pieces.text.as_str().get(start..*end).unwrap_or(""))?;

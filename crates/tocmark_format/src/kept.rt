@@ -36,7 +36,7 @@ const COMMENTS: [(&str, Until); 3] = [
     ("prettier-ignore", Until::Next),
 ];
 
-fn until(comment: &str) -> Option<Until> {
+fn kept_until(comment: &str) -> Option<Until> {
     for (text, until) in COMMENTS {
         if text == comment {
             return Some(until);
@@ -160,7 +160,7 @@ impl Printer<'_> {
                 Ok(Some(behind))
             }
             _ => {
-                let Some(until) = comment.and_then(until) else {
+                let Some(until) = comment.and_then(kept_until) else {
                     return Ok(None);
                 };
                 self.begin_events(Kind::Kept, start, end)?;

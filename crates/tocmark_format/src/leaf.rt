@@ -3,7 +3,7 @@
 use crate::inline::{Inlines, Scene};
 use crate::page::Kind;
 use crate::part::Part;
-use crate::piece::Lines;
+use crate::piece::{Lines, Pieces};
 use crate::printer::Printer;
 use crate::source::{is_blank, without_blanks};
 use crate::style::Rule;
@@ -93,12 +93,12 @@ fn repeated(text: &mut String, byte: u8, count: usize) -> Result<(), AllocError>
 
 impl Printer<'_> {
     /// The pieces of events, whose text starts here in the source; and the place in the source behind them.
-    pub(crate) fn inlines_of<'s>(
-        &'s self,
-        part: &'s Part<'_>,
+    pub(crate) fn pieces_of(
+        &self,
+        part: &Part<'_>,
         events: (usize, usize),
         start: usize,
-    ) -> Result<Inlines<'s>, AllocError> {
+    ) -> Result<(Pieces, usize), AllocError> {
         let scene = Scene {
             alloc: self.alloc,
             source: self.source,
@@ -108,7 +108,8 @@ impl Printer<'_> {
         };
         let mut inlines = Inlines::new(scene, start);
         inlines.add_all(events.0, events.1)?;
-        Ok(inlines)
+        let Inlines { pieces, at, .. } = inlines;
+        Ok((pieces, at))
     }
 
     /// Prints the lines of a text.
@@ -118,9 +119,8 @@ impl Printer<'_> {
         events: (usize, usize),
         start: usize,
     ) -> Result<(), AllocError> {
-        let inlines = self.inlines_of(part, events, start)?;
-        let lines = Lines::kept(self.alloc, &inlines.pieces)?;
-        drop(inlines);
+        let (pieces, _) = self.pieces_of(part, events, start)?;
+        let lines = Lines::kept(self.alloc, &pieces)?;
         self.print_all(&lines)
     }
 
@@ -142,10 +142,9 @@ impl Printer<'_> {
         let (start, end) = part.range(at);
         let signs = signs_length(source.slice(start, end.min(source.line_end(start))));
         let first = at.saturating_add(1);
-        let inlines = self.inlines_of(part, (first, part.end(at)), start.saturating_add(signs))?;
-        let behind = inlines.at;
-        let mut lines = Lines::kept(self.alloc, &inlines.pieces)?;
-        drop(inlines);
+        let text = start.saturating_add(signs);
+        let (pieces, behind) = self.pieces_of(part, (first, part.end(at)), text)?;
+        let mut lines = Lines::kept(self.alloc, &pieces)?;
         let tail = source.slice(behind, end.min(source.line_end(behind)));
         if let Some(attributes) = attributes_in(tail) {
             lines.add_to_last(" ")?;

@@ -41,7 +41,8 @@ impl Pieces {
     /// Adds a text that may be broken at its blanks.
     pub(crate) fn add_text(&mut self, text: &str) -> Result<(), AllocError> {
         self.text.push_str(text)?;
-        self.push(Piece::Text(self.text.len()))
+        let end = self.text.len();
+        self.push(Piece::Text(end))
     }
 
     /// Adds a text that isn't broken; nothing if it is empty.
@@ -50,7 +51,24 @@ impl Pieces {
             return Ok(());
         }
         self.text.push_str(text)?;
-        self.push(Piece::Solid(self.text.len()))
+        let end = self.text.len();
+        self.push(Piece::Solid(end))
+    }
+
+    /// Where the next piece begins: its byte in the text, and its place in the list.
+    pub(crate) fn end(&self) -> (usize, usize) {
+        (self.text.len(), self.list.len())
+    }
+
+    /// The text from a byte on.
+    pub(crate) fn text_from(&self, from: usize) -> &str {
+        self.text.as_str().get(from..).unwrap_or("")
+    }
+
+    /// Takes away all pieces from such a place on.
+    pub(crate) fn cut(&mut self, end: (usize, usize)) {
+        self.text.truncate(end.0);
+        self.list.truncate(end.1);
     }
 
     /// The text of the last piece; empty if that is a break, or if there is none.

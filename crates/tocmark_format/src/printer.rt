@@ -220,13 +220,11 @@ impl<'d> Printer<'d> {
     }
 
     /// Opens a container, or prints a leaf; whether it is a container.
-    fn print_block(
-        &mut self,
-        part: &Part<'_>,
-        at: usize,
-        event: &Event<'_>,
-    ) -> Result<bool, AllocError> {
+    fn print_block(&mut self, part: &Part<'_>, at: usize) -> Result<bool, AllocError> {
         let range = part.range(at);
+        let Some(event) = part.event(at) else {
+            return Ok(false);
+        };
         match event {
             Event::Rule => self.print_rule(range)?,
             Event::Start(tag) => match tag {
@@ -249,13 +247,7 @@ impl<'d> Printer<'d> {
     }
 
     /// Prints a block that no comment keeps; the place behind its event, or behind its End.
-    fn print_next(
-        &mut self,
-        part: &Part<'_>,
-        at: usize,
-        event: &Event<'_>,
-    ) -> Result<usize, AllocError> {
-        let kind = kind_of(event);
+    fn print_next(&mut self, part: &Part<'_>, at: usize, kind: Kind) -> Result<usize, AllocError> {
         let (start, end) = part.range(at);
         let behind = part.end(at).saturating_add(1);
         if kind == Kind::Item {
@@ -263,10 +255,11 @@ impl<'d> Printer<'d> {
         } else {
             self.begin_events(kind, start, end)?;
         }
+        let tree = self.trees.saturating_sub(1);
         let is_top = self.page.depth() == 0;
-        if is_top && self.rung(self.trees.saturating_sub(1)) == Rung::Lines {
+        if is_top && self.rung(tree) == Rung::Lines {
             self.print_lines(start, end)?;
-        } else if self.print_block(part, at, event)? {
+        } else if self.print_block(part, at)? {
             return Ok(at.saturating_add(1));
         }
         self.finish(kind, end)?;
@@ -292,7 +285,7 @@ impl<'d> Printer<'d> {
         if is_inline(event) {
             return self.print_bare_text(part, at);
         }
-        self.print_next(part, at, event)
+        self.print_next(part, at, kind_of(event))
     }
 
     /// Prints the next trees at the top.

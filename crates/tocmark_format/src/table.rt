@@ -159,12 +159,9 @@ impl Printer<'_> {
             match part.event(inner) {
                 Some(Event::Start(Tag::TableCell)) => {
                     let text = self.source.past_blanks(start);
-                    let inlines = self.inlines_of(
-                        part,
-                        (inner.saturating_add(1), part.end(inner)),
-                        text,
-                    )?;
-                    cells.add(inlines.pieces.text.as_str())?;
+                    let events = (inner.saturating_add(1), part.end(inner));
+                    let (pieces, _) = self.pieces_of(part, events, text)?;
+                    cells.add(pieces.text.as_str())?;
                     cell_end = end;
                 }
                 Some(Event::End(TagEnd::TableHead | TagEnd::TableRow)) => {
