@@ -230,6 +230,9 @@ static void styles(void) {
          "markers");
   expect(formats("~~~\na\n~~~", (struct tocmark_style){.size = size, .fence = '`', .fence_length = 4}, "````\na\n````\n"), 12,
          "fences");
+  expect(formats("a\\\nb\n\n* * *\n", (struct tocmark_style){.size = size, .hard_break = 2, .rule = 1}, "a  \nb\n\n* * *\n"), 14,
+         "breaks");
+  expect(formats("|a|\n|-|\n", (struct tocmark_style){.size = size, .table_width = 1}, "| a |\n| --- |\n"), 14, "tables");
   expect(formats("\xFF", style, ""), TOCMARK_NOT_UTF8, "text that is formatted");
   struct tocmark_style wrongs[] = {{.size = 0},
                                    {.size = size - 4},
@@ -240,7 +243,8 @@ static void styles(void) {
                                    {.size = size, .emphasis = '-'},
                                    {.size = size, .strong = 1},
                                    {.size = size, .fence = '"'},
-                                   {.size = size, .escapes = 2}};
+                                   {.size = size, .hard_break = 3},
+                                   {.size = size, .rule = 2}};
   for (size_t i = 0; i < sizeof wrongs / sizeof *wrongs; i++)
     expect(formats("a", wrongs[i], ""), TOCMARK_INVALID_STYLE, "a style");
 }

@@ -104,16 +104,18 @@ struct tocmark_style {
   uint32_t size;         /* sizeof(struct tocmark_style) */
   uint32_t bullet;       /* '*', '-' or '+'; 0: each list as in the source */
   uint32_t delimiter;    /* behind an item's number, '.' or ')'; 0: each list as in the source */
-  uint32_t numbering;    /* 0: as the source counts; 1: all numbers are the first; 2: they go up */
+  uint32_t numbering;    /* 0: each as in the source; 1: all numbers are the first; 2: they go up */
   uint32_t emphasis;     /* '*' or '_'; 0: '*' */
   uint32_t strong;       /* '*' or '_', which is written twice; 0: '*' */
   uint32_t fence;        /* '`' or '~'; 0: each as in the source */
   uint32_t fence_length; /* the least length of a fence; less than 3 is taken for 3, more than 1,000 for 1,000 */
-  uint32_t escapes;      /* 0: texts as in the source; 1: each special character has a backslash */
+  uint32_t hard_break;   /* a line break: 0: each as in the source; 1: a backslash; 2: two blanks */
+  uint32_t rule;         /* a thematic break: 0: ---; 1: each as in the source */
+  uint32_t table_width;  /* tables are padded up to this many columns; 0: up to 120 */
 };
 
 /* Writes a Markdown text in one look. It says just what it said: under these flags the same events are read in both texts,
- * where texts side by side count as one. A block that can't be written anew stays as it is.
+ * where texts side by side count as one. A block that would be read otherwise keeps its lines.
  *
  * Errors: TOCMARK_NOT_UTF8, TOCMARK_INVALID_STYLE, which is looked at behind that, and TOCMARK_OUT_OF_MEMORY. */
 ptrdiff_t tocmark_format(const uint8_t *text, size_t text_len, uint32_t flags, const struct tocmark_style *style, uint8_t *out,

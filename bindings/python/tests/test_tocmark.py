@@ -129,13 +129,17 @@ class Formatting(unittest.TestCase):
             self.refused("a", **{part: "--"})
         with self.assertRaisesRegex(ValueError, "'x' is none of source, first, increment"):
             tocmark.format("a", numbering="x")
-        with self.assertRaisesRegex(ValueError, "'x' is none of minimal, all"):
-            tocmark.format("a", escapes="x")
+        with self.assertRaisesRegex(ValueError, "'x' is none of source, backslash, spaces"):
+            tocmark.format("a", hard_break="x")
+        with self.assertRaisesRegex(ValueError, "'x' is none of ---, source"):
+            tocmark.format("a", rule="x")
+        with self.assertRaisesRegex(ValueError, "and not 0"):
+            tocmark.format("a", table_width=0)
         with self.assertRaisesRegex(ValueError, "and not 2"):
             tocmark.format("a", fence_length=2)
 
     def test_the_same_is_read(self):
-        styles = ({}, {"bullet": "-", "delimiter": ")", "numbering": "first", "emphasis": "_", "fence": "~", "escapes": "all"})
+        styles = ({}, {"bullet": "-", "delimiter": ")", "numbering": "first", "emphasis": "_", "fence": "~", "hard_break": "backslash", "rule": "source", "table_width": 1})
         for text in examples():
             for style in styles:
                 found = tocmark.format(text, syntax="all", **style)

@@ -92,7 +92,8 @@ class InvalidStyle(Error, ValueError):
 
 
 _NUMBERINGS = {"source": 0, "first": 1, "increment": 2}
-_ESCAPES = {"minimal": 0, "all": 1}
+_HARD_BREAKS = {"source": 0, "backslash": 1, "spaces": 2}
+_RULES = {"---": 0, "source": 1}
 _ERRORS = {-6: NotEvents, -8: InvalidOptions, -9: InvalidOptions, -10: UnexpectedEvent, -11: Unrepresentable,
            -12: InvalidSourceRange, -15: InvalidStyle, -16: Changed}
 
@@ -136,13 +137,14 @@ def read(text: str, *, syntax: str = "commonmark", extensions: Iterable[str] = (
 
 def format(text: str, *, syntax: str = "gfm", extensions: Iterable[str] = (), bullet: str = "", delimiter: str = "",
            numbering: str = "source", emphasis: str = "*", strong: str = "*", fence: str = "", fence_length: int = 3,
-           escapes: str = "minimal") -> str:
+           hard_break: str = "source", rule: str = "---", table_width: int = 120) -> str:
     """Returns a Markdown text in one look. It says just what it said: under `syntax` and `extensions` the same events are
-    read in both texts, where texts side by side count as one. A block that can't be written anew stays as it is.
+    read in both texts, where texts side by side count as one. A block that would be read otherwise keeps its lines.
 
     `bullet` is "*", "-" or "+", `delimiter` "." or ")", and `fence` "`" or "~"; "" leaves each as in the source. `emphasis`
-    and `strong` are "*" or "_", `numbering` "source", "first" or "increment", `escapes` "minimal" or "all". A fence has at
-    least `fence_length` characters, from 3 to 1,000.
+    and `strong` are "*" or "_", `numbering` "source", "first" or "increment", `hard_break` "source", "backslash" or "spaces",
+    and `rule` "---" or "source". A fence has at least `fence_length` characters, from 3 to 1,000. Tables are padded up to
+    `table_width` columns, from 1 to 1,000.
 
     >>> import tocmark
     >>> tocmark.format("Title\\n=====\\n*  a\\n*  b", bullet="-")
@@ -151,25 +153,28 @@ def format(text: str, *, syntax: str = "gfm", extensions: Iterable[str] = (), bu
     Traceback (most recent call last):
     tocmark.InvalidStyle: the style has another size, or a number that means nothing
 
-    Raises `InvalidStyle`; `ValueError` where a name or the length of a fence is another one; `UnicodeEncodeError` as `read`;
+    Raises `InvalidStyle`; `ValueError` where a name, the length of a fence or the width is another one; `UnicodeEncodeError` as `read`;
     `MemoryError`.
     """
     data = text.encode()
-    style = _style(numbering, escapes, fence_length)
+    style = _style(numbering, hard_break, rule, fence_length, table_width)
     for name, mark in (("bullet", bullet), ("delimiter", delimiter), ("emphasis", emphasis), ("strong", strong), ("fence", fence)):
         setattr(style, name, ord(mark) if len(mark) == 1 else min(len(mark), 1))
     return _text(*_library.answer(_library.format_text, data, len(data), _flags(syntax, list(extensions)), style,
                                   guess=2 * len(data) + 256))
 
 
-def _style(numbering: str, escapes: str, fence_length: int) -> _library.Style:
-    """Returns a style without marks, or raises `ValueError` where a name or the length is another one."""
-    for name, names in ((numbering, _NUMBERINGS), (escapes, _ESCAPES)):
+def _style(numbering: str, hard_break: str, rule: str, fence_length: int, table_width: int) -> _library.Style:
+    """Returns a style without marks, or raises `ValueError` where a name or a number is another one."""
+    for name, names in ((numbering, _NUMBERINGS), (hard_break, _HARD_BREAKS), (rule, _RULES)):
         if name not in names:
             raise ValueError(f"{name!r} is none of {', '.join(names)}")
     if not 3 <= fence_length <= 1000:
         raise ValueError(f"a fence has from 3 to 1000 characters, and not {fence_length}")
-    style = _library.Style(numbering=_NUMBERINGS[numbering], escapes=_ESCAPES[escapes], fence_length=fence_length)
+    if not 1 <= table_width <= 1000:
+        raise ValueError(f"a table is padded up to 1 to 1000 columns, and not {table_width}")
+    style = _library.Style(numbering=_NUMBERINGS[numbering], hard_break=_HARD_BREAKS[hard_break], rule=_RULES[rule],
+                           fence_length=fence_length, table_width=table_width)
     style.size = _library.ctypes.sizeof(style)
     return style
 

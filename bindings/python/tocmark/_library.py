@@ -35,7 +35,8 @@ class Style(ctypes.Structure):
     """`struct tocmark_style` of `tocmark.h`."""
 
     _fields_ = [(name, ctypes.c_uint32) for name in (
-        "size", "bullet", "delimiter", "numbering", "emphasis", "strong", "fence", "fence_length", "escapes")]
+        "size", "bullet", "delimiter", "numbering", "emphasis", "strong", "fence", "fence_length", "hard_break", "rule",
+        "table_width")]
 
 
 error_text = _function("tocmark_error_text", ctypes.c_ssize_t, *_room)

@@ -4,14 +4,16 @@ use Rattle.tocmark_format.specs.declared.style.Bullet.{Bullet}
 use Rattle.tocmark_format.specs.declared.style.Bullet.TheVariants as bullet
 use Rattle.tocmark_format.specs.declared.style.Delimiter.{Delimiter}
 use Rattle.tocmark_format.specs.declared.style.Delimiter.TheVariants as delimiter
-use Rattle.tocmark_format.specs.declared.style.Escapes.{Escapes}
-use Rattle.tocmark_format.specs.declared.style.Escapes.TheVariants as escapes
 use Rattle.tocmark_format.specs.declared.style.Fence.{Fence}
 use Rattle.tocmark_format.specs.declared.style.Fence.TheVariants as fence
+use Rattle.tocmark_format.specs.declared.style.HardBreak.{HardBreak}
+use Rattle.tocmark_format.specs.declared.style.HardBreak.TheVariants as break
 use Rattle.tocmark_format.specs.declared.style.Marker.{Marker}
 use Rattle.tocmark_format.specs.declared.style.Marker.TheVariants as marker
 use Rattle.tocmark_format.specs.declared.style.Numbering.{Numbering}
 use Rattle.tocmark_format.specs.declared.style.Numbering.TheVariants as numbering
+use Rattle.tocmark_format.specs.declared.style.Rule.{Rule}
+use Rattle.tocmark_format.specs.declared.style.Rule.TheVariants as rule
 use Rattle.tocmark_format.specs.declared.style.Style.{Style}
 use Rattle.tocmark_c.specs.declared.style.TocmarkStyle.{TocmarkStyle}
 
@@ -46,7 +48,7 @@ marker_of n =
     else if n == 95 then Some marker.Underscore
     else None
 
--- numbers of numberings, and of escapes
+-- numbers of numberings, of breaks and of rules
 abbrev pub numbering_of : ℕ → Option Numbering
 numbering_of n =
     if n == 0 then Some numbering.Source
@@ -54,15 +56,27 @@ numbering_of n =
     else if n == 2 then Some numbering.Increment
     else None
 
-abbrev pub escapes_of : ℕ → Option Escapes
-escapes_of n = if n == 0 then Some escapes.Minimal else if n == 1 then Some escapes.All else None
+abbrev pub hard_break_of : ℕ → Option HardBreak
+hard_break_of n =
+    if n == 0 then Some break.Source
+    else if n == 1 then Some break.Backslash
+    else if n == 2 then Some break.Blanks
+    else None
+
+abbrev pub rule_of : ℕ → Option Rule
+rule_of n = if n == 0 then Some rule.Dashes else if n == 1 then Some rule.Source else None
+
+-- so many columns, and 0 for 120
+abbrev pub table_width_of : ℕ → ℕ
+table_width_of n = if n == 0 then 120 else n
 
 -- the size of the struct is known, and each number means something
 abbrev pub has_style : TocmarkStyle → Bool
 has_style s =
-    s.size == 36 && is_some (bullet_of s.bullet) && is_some (delimiter_of s.delimiter)
+    s.size == 44 && is_some (bullet_of s.bullet) && is_some (delimiter_of s.delimiter)
     && is_some (numbering_of s.numbering) && is_some (marker_of s.emphasis)
-    && is_some (marker_of s.strong) && is_some (fence_of s.fence) && is_some (escapes_of s.escapes)
+    && is_some (marker_of s.strong) && is_some (fence_of s.fence)
+    && is_some (hard_break_of s.hard_break) && is_some (rule_of s.rule)
 
 -- a style is what a struct says
 abbrev pub IsStyleOf : TocmarkStyle → Style → Type 0
@@ -70,4 +84,6 @@ IsStyleOf s style =
     (bullet_of s.bullet ≡ Some style.bullet) × (delimiter_of s.delimiter ≡ Some style.delimiter)
     × (numbering_of s.numbering ≡ Some style.numbering) × (marker_of s.emphasis ≡ Some style.emphasis)
     × (marker_of s.strong ≡ Some style.strong) × (fence_of s.fence ≡ Some style.fence)
-    × (style.fence_length ≡ s.fence_length) × (escapes_of s.escapes ≡ Some style.escapes)
+    × (style.fence_length ≡ s.fence_length)
+    × (hard_break_of s.hard_break ≡ Some style.hard_break) × (rule_of s.rule ≡ Some style.rule)
+    × (style.table_width ≡ table_width_of s.table_width)

@@ -1,12 +1,12 @@
 //! How a formatted document is to look, as C says it.
 
 ghost use Rattle.std.specs.Prelude.{◌≡◌, IfSome, is_some};
-ghost use Rattle.tocmark_c.specs.Style.{bullet_of, delimiter_of, escapes_of, fence_of, has_style, marker_of, numbering_of, IsStyleOf};
+ghost use Rattle.tocmark_c.specs.Style.{bullet_of, delimiter_of, fence_of, hard_break_of, has_style, marker_of, numbering_of, rule_of, table_width_of, IsStyleOf};
 
-use tocmark_format::{Bullet, Delimiter, Escapes, Fence, Marker, Numbering, Style};
+use tocmark_format::{Bullet, Delimiter, Fence, HardBreak, Marker, Numbering, Rule, Style};
 
 /// The size of `TocmarkStyle` in bytes.
-const SIZE: u32 = 36;
+const SIZE: u32 = 44;
 
 /// How a document is to look. A character stands for itself, and 0 for what is usual.
 #[repr(C)]
@@ -18,7 +18,7 @@ pub struct TocmarkStyle {
     pub bullet: u32,
     /// `.` or `)`; 0: each list as in the source.
     pub delimiter: u32,
-    /// 0: as the source counts; 1: all numbers are the first; 2: they go up.
+    /// 0: each as in the source; 1: all are the first; 2: they go up.
     pub numbering: u32,
     /// `*` or `_`; 0: `*`.
     pub emphasis: u32,
@@ -28,8 +28,12 @@ pub struct TocmarkStyle {
     pub fence: u32,
     /// The least length of a fence: less than 3 is taken for 3, more than 1,000 for 1,000.
     pub fence_length: u32,
-    /// 0: texts as in the source; 1: each special character has a backslash.
-    pub escapes: u32,
+    /// 0: each as in the source; 1: a backslash; 2: two blanks.
+    pub hard_break: u32,
+    /// 0: `---`; 1: each as in the source.
+    pub rule: u32,
+    /// Tables are padded up to this many columns; 0: up to 120.
+    pub table_width: u32,
 }
 
 fn bullet_of(code: u32) -> Option<Option<Bullet>>
@@ -88,14 +92,31 @@ fn fence_of(code: u32) -> Option<Option<Fence>>
     }
 }
 
-fn escapes_of(code: u32) -> Option<Escapes>
-    ensures { result ≡ escapes_of code }
+fn hard_break_of(code: u32) -> Option<HardBreak>
+    ensures { result ≡ hard_break_of code }
 {
     match code {
-        0 => Some(Escapes::Minimal),
-        1 => Some(Escapes::All),
+        0 => Some(HardBreak::Source),
+        1 => Some(HardBreak::Backslash),
+        2 => Some(HardBreak::Blanks),
         _ => None,
     }
+}
+
+fn rule_of(code: u32) -> Option<Rule>
+    ensures { result ≡ rule_of code }
+{
+    match code {
+        0 => Some(Rule::Dashes),
+        1 => Some(Rule::Source),
+        _ => None,
+    }
+}
+
+fn table_width_of(columns: u32) -> usize
+    ensures { result ≡ table_width_of columns }
+{
+    if columns == 0 { 120 } else { columns as usize }
 }
 
 /// The style, if the struct has the size that it has here, and each number means something.
@@ -114,6 +135,8 @@ pub fn style_of(style: &TocmarkStyle) -> Option<Style>
         strong: marker_of(style.strong)?,
         fence: fence_of(style.fence)?,
         fence_length: style.fence_length as usize,
-        escapes: escapes_of(style.escapes)?,
+        hard_break: hard_break_of(style.hard_break)?,
+        rule: rule_of(style.rule)?,
+        table_width: table_width_of(style.table_width),
     })
 }

@@ -76,7 +76,7 @@ fn with_style<'a>(alloc: Global, command: Command<'a>) -> Result<Command<'a>, Al
         .long("numbering")
         .value_name("NUMBERS")
         .help(
-            "Numbers of a list: source (default: count if the\nsource counts), first (repeat it) or increment",
+            "Numbers of a list: source (default: each has its\nown), first (repeat it) or increment",
         );
     let emphasis = Arg::new(alloc, "emphasis")
         .long("emphasis")
@@ -99,13 +99,21 @@ fn with_fences<'a>(alloc: Global, command: Command<'a>) -> Result<Command<'a>, A
         .long("fence-length")
         .value_name("N")
         .help("Minimal length of a fence: 3 (default) to 1000");
-    let escape = Arg::new(alloc, "escape")
-        .long("escape")
-        .value_name("CHARACTERS")
-        .help(
-            "Characters to escape: minimal (default: those\nescaped in the source) or all (every special one)",
-        );
-    command.arg(fence)?.arg(length)?.arg(escape)
+    let hard_break = Arg::new(alloc, "hard-break")
+        .long("hard-break")
+        .value_name("BREAK")
+        .help("Hard line break: backslash, spaces or source\n(default)");
+    let rule = Arg::new(alloc, "rule")
+        .long("rule")
+        .value_name("RULE")
+        .allow_hyphen_values(true)
+        .help("Thematic break: --- (default) or source");
+    let width = Arg::new(alloc, "table-width")
+        .long("table-width")
+        .value_name("N")
+        .help("Pad tables up to this many columns (default 120)");
+    let command = command.arg(fence)?.arg(length)?;
+    command.arg(hard_break)?.arg(rule)?.arg(width)
 }
 
 /// The options that say what is done.

@@ -4,7 +4,7 @@ use std::alloc::Global;
 use std::fmt;
 use std::fmt::Write;
 use tocmark_event::event::ParserOptions;
-use tocmark_format::{Bullet, Delimiter, Escapes, Fence, Marker, Numbering, Style};
+use tocmark_format::{Bullet, Delimiter, Fence, HardBreak, Marker, Numbering, Rule, Style};
 use tocmark_reader::{EXTENSIONS, NAMED_EXTENSIONS};
 
 /// What a text is read as, and how it is to look.
@@ -28,11 +28,13 @@ pub(crate) enum Key {
     Strong,
     Fence,
     FenceLength,
-    Escape,
+    HardBreak,
+    Rule,
+    TableWidth,
 }
 
 /// The options by their names, with what each takes.
-pub(crate) const KEYS: [(&str, Key, &str); 10] = [
+pub(crate) const KEYS: [(&str, Key, &str); 12] = [
     ("syntax", Key::Syntax, "commonmark, gfm or all"),
     (
         "extension",
@@ -46,7 +48,9 @@ pub(crate) const KEYS: [(&str, Key, &str); 10] = [
     ("strong", Key::Strong, "** or __"),
     ("fence", Key::Fence, "`, ~ or source"),
     ("fence-length", Key::FenceLength, "a number from 3 to 1000"),
-    ("escape", Key::Escape, "minimal or all"),
+    ("hard-break", Key::HardBreak, "source, backslash or spaces"),
+    ("rule", Key::Rule, "--- or source"),
+    ("table-width", Key::TableWidth, "a number from 1 to 1000"),
 ];
 
 /// What documents on GitHub have beside CommonMark, front matter among it, so far as the reader reads it.
@@ -102,7 +106,13 @@ const FENCES: [(&str, Option<Fence>); 3] = [
     ("source", None),
 ];
 
-const ESCAPES: [(&str, Escapes); 2] = [("minimal", Escapes::Minimal), ("all", Escapes::All)];
+const HARD_BREAKS: [(&str, HardBreak); 3] = [
+    ("source", HardBreak::Source),
+    ("backslash", HardBreak::Backslash),
+    ("spaces", HardBreak::Blanks),
+];
+
+const RULES: [(&str, Rule); 2] = [("---", Rule::Dashes), ("source", Rule::Source)];
 
 impl Settings {
     /// GFM with front matter, in the style that changes least.
@@ -168,6 +178,15 @@ fn length_of(word: &str) -> Option<usize> {
     Some(length)
 }
 
+/// The width of a table that a word says.
+fn width_of(word: &str) -> Option<usize> {
+    let width: usize = word.parse().ok()?;
+    if width < 1 || width > 1000 {
+        return None;
+    }
+    Some(width)
+}
+
 /// Sets an option to what a word says. `false`: it takes no such word, and nothing is changed.
 pub(crate) fn set(settings: &mut Settings, key: Key, word: &str) -> bool {
     let Settings { flags, style } = settings;
@@ -184,7 +203,9 @@ pub(crate) fn set(settings: &mut Settings, key: Key, word: &str) -> bool {
         Key::Strong => put(&mut style.strong, named(&STRONGS, word)),
         Key::Fence => put(&mut style.fence, named(&FENCES, word)),
         Key::FenceLength => put(&mut style.fence_length, length_of(word)),
-        Key::Escape => put(&mut style.escapes, named(&ESCAPES, word)),
+        Key::HardBreak => put(&mut style.hard_break, named(&HARD_BREAKS, word)),
+        Key::Rule => put(&mut style.rule, named(&RULES, word)),
+        Key::TableWidth => put(&mut style.table_width, width_of(word)),
     }
 }
 

@@ -1,11 +1,12 @@
 -- How a document looks where nothing is asked.
 use Rattle.std.specs.Prelude.{None}
 use Rattle.tocmark_format.specs.declared.style.Style.{Style}
-use Rattle.tocmark_format.specs.declared.style.Escapes.TheVariants.{Minimal}
+use Rattle.tocmark_format.specs.declared.style.HardBreak.TheVariants as break
+use Rattle.tocmark_format.specs.declared.style.Rule.TheVariants.{Dashes}
 use Rattle.tocmark_format.specs.declared.style.Marker.TheVariants.{Asterisk}
 use Rattle.tocmark_format.specs.declared.style.Numbering.TheVariants.{Source}
 
--- as in the source what the source has, emphasis by asterisks, and fences of three
+-- as in the source what the source has, emphasis by asterisks, fences of three, rules of dashes, and tables of 120 columns
 abbrev pub usual_style : Style
 usual_style = record {
   bullet = None;
@@ -15,5 +16,7 @@ usual_style = record {
   strong = Asterisk;
   fence = None;
   fence_length = 3;
-  escapes = Minimal;
+  hard_break = break.Source;
+  rule = Dashes;
+  table_width = 120;
 }

@@ -1,25 +1,21 @@
 //! What comes out of formatting a document.
 
 use std::fmt;
-use tocmark_event::options::Error;
 
-/// Why a block was left as it stands.
-#[derive(Debug, Drop)]
+/// Why a block keeps its lines.
+#[derive(Clone, Copy, Debug, PartialEq, Eq)]
 pub enum Reason {
-    /// The writer refuses it.
-    Refused(Error),
-    /// What is written for it is read otherwise.
+    /// What is printed for it is read otherwise.
     ReadOtherwise,
-    /// Definitions of link labels stand in it, which would be lost.
-    HoldsDefinitions,
+    /// What its containers have before their lines would outgrow its text.
+    Outgrown,
 }
 
 impl fmt::Display for Reason {
     fn fmt<W: fmt::Write>(&self, f: &mut fmt::Formatter<W>) -> fmt::Result {
         match self {
-            Reason::Refused(error) => write!(f, "the writer refuses it: {error}"),
             Reason::ReadOtherwise => write!(f, "it would be read otherwise"),
-            Reason::HoldsDefinitions => write!(f, "it holds definitions of links"),
+            Reason::Outgrown => write!(f, "its containers would outgrow its text"),
         }
     }
 }

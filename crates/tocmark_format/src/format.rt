@@ -1,257 +1,337 @@
-//! Formats a document: all trees are written, put together and read; what is read otherwise is left as it stands.
+//! Formats a document: all of it is printed in one pass and read back; what is read otherwise is printed nearer to the source.
 
-ghost use Rattle.std.specs.Prelude.{◌≡◌, IfOk, IfSome, IsNone, IsTrue, string_bytes};
+ghost use Rattle.std.specs.Prelude.{◌≡◌, IfOk, IfSome, IsTrue, string_bytes};
 ghost use Rattle.tocmark_event.specs.Merged.{merged};
 ghost use Rattle.tocmark_compare.specs.Digest.{SaysFirst, says};
 ghost use Rattle.tocmark_compare.specs.Given.{found_events};
 
 use crate::answer::{Formatted, Left, Reason};
-use crate::compose::composed;
+use crate::look::Look;
+use crate::part::Part;
 use crate::parts::{PartReader, PartTaker};
-use crate::pieces::{Document, Piece, Texts, Trees, all_left};
-use crate::style::{Escapes, Style};
+use crate::printer::{Block, Printer, Rung};
+use crate::source::Source;
+use crate::style::Style;
 use std::alloc::{AllocError, Global};
 use tocmark_compare::digest::Digest;
-use tocmark_rewrite::trees::Block;
-use tocmark_event::event::ParserOptions;
-use tocmark_event::options::Options;
-use tocmark_event::reader::{Reader, Reading};
-use tocmark_rewrite::pieces::Tools;
+use tocmark_event::event::{Event, ParserOptions};
+use tocmark_event::reader::Reading;
 
 /// The byte order mark, which others take for no character, and readers of Markdown for one of the first line.
 const MARK: &str = "\u{feff}";
 
-/// How often a document is put together before all of it is left as it stands.
-const ROUNDS: usize = 16;
+/// How often a document is printed before all of it is left as it stands.
+const ROUNDS: usize = 4;
 
-/// The trees at the top that were read otherwise: all, if there are as many as before, else the first one.
-fn differing(alloc: Global, read: &Digest, found: &Digest) -> Result<Vec<usize>, AllocError> {
-    let new = read.tree_ends(alloc)?;
-    let old = found.tree_ends(alloc)?;
-    let mut list = Vec::new(alloc);
-    for at in 0..old.len() {
-        if at >= new.len() || !found.has_same_tree(&old, read, &new, at) {
-            list.push(at)?;
-            if new.len() != old.len() {
-                break;
+/// What a document is formatted with.
+#[derive(Clone, Copy)]
+struct Job<'j, R> {
+    alloc: Global,
+    reader: &'j R,
+    flags: ParserOptions,
+    source: &'j Source<'j>,
+    look: Look,
+}
+
+/// How near to the source each tree at the top is printed.
+#[derive(Drop)]
+struct Ladder {
+    /// For each tree; empty as long as all have the style's look.
+    rungs: Vec<Rung>,
+    /// Whether definitions stay as they are spelled.
+    keeps_definitions: bool,
+}
+
+/// Prints the trees of the source as they come, and keeps what they say: all events at once would take more memory than all
+/// else.
+#[derive(Drop)]
+struct Printing<'d> {
+    printer: Printer<'d>,
+    /// What they say.
+    said: Digest,
+}
+
+impl PartTaker for Printing<'_> {
+    ghost has_taken = { λ printing events. SaysFirst printing.said events };
+
+    fn take(&mut self, alloc: Global, part: &Reading) -> Result<(), AllocError> {
+        let trees = Part::new(alloc, self.printer.source, &part.events)?;
+        self.printer.print(&trees)?;
+        self.said.add(alloc, &part.events)
+    }
+}
+
+/// Keeps what a text says that is read back, and where its trees begin.
+#[derive(Drop)]
+struct ReadBack {
+    says: Digest,
+    /// Where each tree at the top begins.
+    starts: Vec<usize>,
+}
+
+impl ReadBack {
+    /// Keeps where further trees begin.
+    fn add_starts(
+        &mut self,
+        events: &[(Event<'static>, (usize, usize))],
+    ) -> Result<(), AllocError> {
+        let mut depth = 0usize;
+        for (event, range) in events {
+            if depth == 0 {
+                self.starts.push(range.0)?;
+            }
+            match event {
+                Event::Start(_) => depth = depth.saturating_add(1),
+                Event::End(_) => depth = depth.saturating_sub(1),
+                _ => {}
             }
         }
+        Ok(())
     }
-    Ok(list)
-}
 
-/// What a reader finds in a text. Of the events themselves only a part is there at a time.
-fn digest_of<R: PartReader>(
-    alloc: Global,
-    reader: &R,
-    flags: ParserOptions,
-    text: &str,
-) -> Result<Digest, AllocError>
-    ensures { IfOk result (λ digest. says digest
-        ≡ merged (found_events (R.reading reader.now text.now flags))) }
-{
-    let mut digest = Digest::new(alloc);
-    reader.read_parts(alloc, text, flags, &mut digest)?;
-    Ok(digest)
-}
-
-/// Nothing if a text is read so, else the trees that are read otherwise.
-fn differences<R: PartReader>(
-    alloc: Global,
-    reader: &R,
-    flags: ParserOptions,
-    text: &str,
-    found: &Digest,
-) -> Result<Option<Vec<usize>>, AllocError>
-    ensures { IfOk result (λ answer. IsNone answer
-        → (merged (found_events (R.reading reader.now text.now flags)) ≡ says found.now)) }
-{
-    let read = digest_of(alloc, reader, flags, text)?;
-    if read.is_same(found) {
-        return Ok(None);
+    /// The number of the first tree that begins here or behind.
+    fn tree_from(&self, place: usize) -> usize {
+        self.starts.partition_point(|start| *start < place)
     }
-    let list = differing(alloc, &read, found)?;
-    Ok(Some(list))
 }
 
-/// Whether a text has a mark in front that isn't in front of what is written.
-fn loses_mark(source: &str, text: &str) -> bool {
-    source.starts_with(MARK) && !text.starts_with(MARK)
-}
+impl PartTaker for ReadBack {
+    ghost has_taken = { λ back events. SaysFirst back.says events };
 
-/// Nothing if a text is read as these events, and has the source's mark in front, else the trees to be left.
-fn faults<R: PartReader>(
-    document: &Document<'_, '_, R>,
-    text: &str,
-    found: &Digest,
-) -> Result<Option<Vec<usize>>, AllocError>
-    ensures { IfOk result (λ answer. IsNone answer
-        → (merged (found_events (R.reading document.now.tools.reader.now text.now
-        document.now.tools.flags))
-        ≡ says found.now)) }
-{
-    let tools = &document.tools;
-    if loses_mark(document.source, text) {
-        let mut list = Vec::new(tools.alloc);
-        list.push(0usize)?;
-        return Ok(Some(list));
+    fn take(&mut self, alloc: Global, part: &Reading) -> Result<(), AllocError> {
+        self.add_starts(&part.events)?;
+        self.says.add(alloc, &part.events)
     }
-    differences(tools.alloc, tools.reader, tools.flags, text, found)
 }
 
-/// Brings a tree nearer to the source, or else the one before it, or the one behind; false if none is left to do so.
-fn step_back(pieces: &mut [Piece], at: usize) -> bool {
-    for place in [at, at.saturating_sub(1), at.saturating_add(1)] {
-        if let Some(piece) = pieces.get_mut(place)
-            && piece.step_back()
-        {
-            return true;
+/// A printed document, and what its source says.
+#[derive(Drop)]
+struct Printed {
+    text: String,
+    blocks: Vec<Block>,
+    said: Digest,
+}
+
+/// Prints the source.
+fn print_source<R: PartReader>(job: &Job<'_, R>, ladder: &Ladder) -> Result<Printed, AllocError>
+    ensures { IfOk result (λ printed. says printed.said
+        ≡ merged (found_events (R.reading job.now.reader.now job.now.source.now.text.now
+        job.now.flags))) }
+{
+    let mut printing = Printing {
+        printer: Printer::new(
+            job.alloc,
+            job.source,
+            job.look,
+            &ladder.rungs,
+            ladder.keeps_definitions,
+        ),
+        said: Digest::new(job.alloc),
+    };
+    let text = job.source.text;
+    job.reader
+        .read_parts(job.alloc, text, job.flags, &mut printing)?;
+    let Printing { mut printer, said } = printing;
+    printer.end()?;
+    let (text, blocks) = printer.into_text();
+    Ok(Printed { text, blocks, said })
+}
+
+/// Reads a printed document.
+fn read_back<R: PartReader>(job: &Job<'_, R>, text: &str) -> Result<ReadBack, AllocError>
+    ensures { IfOk result (λ back. says back.says
+        ≡ merged (found_events (R.reading job.now.reader.now text.now job.now.flags))) }
+{
+    let mut back = ReadBack {
+        says: Digest::new(job.alloc),
+        starts: Vec::new(job.alloc),
+    };
+    job.reader
+        .read_parts(job.alloc, text, job.flags, &mut back)?;
+    Ok(back)
+}
+
+impl Ladder {
+    /// Prints a tree nearer to the source; false if it has its lines already.
+    fn fall(&mut self, tree: usize) -> bool {
+        match self.rungs.get_mut(tree) {
+            Some(rung) if *rung == Rung::Look => {
+                *rung = Rung::Literal;
+                true
+            }
+            Some(rung) if *rung == Rung::Literal => {
+                *rung = Rung::Lines;
+                true
+            }
+            _ => false,
         }
     }
-    false
-}
 
-/// Brings trees nearer to the source; the last one if none is named.
-fn step_all_back(pieces: &mut [Piece], list: &[usize]) -> bool {
-    if list.is_empty() {
-        let last = pieces.len().saturating_sub(1);
-        return step_back(pieces, last);
-    }
-    let mut changed = false;
-    for at in list {
-        if step_back(pieces, *at) {
-            changed = true;
+    /// Prints nearer to the source what is read otherwise; false if nothing is left to be.
+    fn fall_all(
+        &mut self,
+        alloc: Global,
+        printed: &Printed,
+        back: &ReadBack,
+    ) -> Result<bool, AllocError> {
+        let old = printed.said.tree_ends(alloc)?;
+        let new = back.says.tree_ends(alloc)?;
+        if self.rungs.is_empty() {
+            for _ in &old {
+                self.rungs.push(Rung::Look)?;
+            }
         }
+        let mut has_fallen = !self.keeps_definitions;
+        self.keeps_definitions = true;
+        let mut tree_end = old.len();
+        let mut read_end = new.len();
+        for block in printed.blocks.iter().rev() {
+            let read_from = back.tree_from(block.start);
+            let Some(tree) = block.tree else {
+                read_end = read_from;
+                continue;
+            };
+            let said = (tree, tree_end);
+            let read = (read_from, read_end);
+            if !printed
+                .said
+                .has_same_trees(&old, said, &back.says, &new, read)
+                && self.fall(tree)
+            {
+                has_fallen = true;
+            }
+            tree_end = tree;
+            read_end = read_from;
+        }
+        Ok(has_fallen)
     }
-    changed
 }
 
-/// The document that is read as these events, if some round leads there.
-fn rounds<R: PartReader>(
-    document: &Document<'_, '_, R>,
+/// The blocks that keep their lines.
+fn left_of<R>(
+    job: &Job<'_, R>,
+    ladder: &Ladder,
     blocks: &[Block],
-    found: &Digest,
-    pieces: &mut Vec<Piece>,
-    texts: &mut Texts,
-) -> Result<Option<String>, AllocError>
-    ensures { IfOk result (λ answer. IfSome answer (λ text.
-        merged (found_events (R.reading document.now.tools.reader.now (string_bytes text)
-        document.now.tools.flags))
-        ≡ says found.now)) }
+) -> Result<Vec<Left>, AllocError> {
+    let mut all = Vec::new(job.alloc);
+    for block in blocks {
+        let Some(tree) = block.tree else {
+            continue;
+        };
+        let keeps_lines = ladder.rungs.get(tree) == Some(&Rung::Lines);
+        if block.is_outgrown || keeps_lines {
+            let (from, to) = block.range;
+            let reason = if block.is_outgrown {
+                Reason::Outgrown
+            } else {
+                Reason::ReadOtherwise
+            };
+            all.push(Left {
+                lines: job.source.lines_between(from, to),
+                reason,
+            })?;
+        }
+    }
+    Ok(all)
+}
+
+/// The document that is read as its source, if some round leads there.
+fn rounds<R: PartReader>(job: &Job<'_, R>) -> Result<Option<Formatted>, AllocError>
+    ensures { IfOk result (λ answer. IfSome answer (λ answer.
+        merged (found_events (R.reading job.now.reader.now (string_bytes answer.text)
+        job.now.flags))
+        ≡ merged (found_events (R.reading job.now.reader.now job.now.source.now.text.now
+        job.now.flags)))) }
 {
+    let mut ladder = Ladder {
+        rungs: Vec::new(job.alloc),
+        keeps_definitions: false,
+    };
     for _ in 0..ROUNDS {
-        let text = composed(document, blocks, pieces, texts)?;
-        texts.tidy = String::new(document.tools.alloc);
-        match faults(document, text.as_str(), found)? {
-            None => return Ok(Some(text)),
-            Some(list) => {
-                texts.tidy = text;
-                if !step_all_back(pieces, &list) {
-                    return Ok(None);
-                }
-            }
+        let printed = print_source(job, &ladder)?;
+        let back = read_back(job, printed.text.as_str())?;
+        if back.says.is_same(&printed.said) {
+            let left = left_of(job, &ladder, &printed.blocks)?;
+            let Printed { text, .. } = printed;
+            return Ok(Some(Formatted { text, left }));
+        }
+        if !ladder.fall_all(job.alloc, &printed, &back)? {
+            return Ok(None);
         }
     }
     Ok(None)
 }
 
-/// Leaves all trees as they stand.
-fn leave_all(pieces: &mut [Piece]) {
-    for piece in pieces.iter_mut() {
-        piece.leave();
-    }
-}
-
-/// The document that some round leads to, else the source.
-fn new_text<R: PartReader>(
-    document: &Document<'_, '_, R>,
-    blocks: &[Block],
-    found: &Digest,
-    pieces: &mut Vec<Piece>,
-    texts: &mut Texts,
-) -> Result<String, AllocError>
-    requires { says found.now
-        ≡ merged (found_events (R.reading document.now.tools.reader.now document.now.source.now
-        document.now.tools.flags)) }
-    ensures { IfOk result (λ text.
-        merged (found_events (R.reading document.now.tools.reader.now (string_bytes text)
-        document.now.tools.flags))
-        ≡ says found.now) }
-{
-    if let Some(text) = rounds(document, blocks, found, pieces, texts)? {
-        return Ok(text);
-    }
-    leave_all(pieces);
-    let text = String::from_str(document.tools.alloc, document.source)?;
-    Ok(text)
-}
-
-/// Keeps what has to be known of the source's events, which come part by part: all at once, they would take more memory
-/// than all else.
-#[derive(Drop)]
-struct Keeper<'k, 'r, 'd, R> {
-    document: &'k Document<'r, 'd, R>,
-    trees: Trees,
-    /// What they say.
-    found: Digest,
-}
-
-impl<R: Reader> PartTaker for Keeper<'_, '_, '_, R> {
-    ghost has_taken = { λ keeper events. SaysFirst keeper.found events };
-
-    fn take(&mut self, alloc: Global, part: &Reading) -> Result<(), AllocError> {
-        self.trees.add(self.document, &part.events)?;
-        self.found.add(alloc, &part.events)
-    }
-}
-
-/// What is kept of the source: its trees, and what they say.
-fn kept_of_source<R: PartReader>(
-    document: &Document<'_, '_, R>,
-) -> Result<(Trees, Digest), AllocError>
-    ensures { IfOk result (λ kept. says kept.1
-        ≡ merged (found_events (R.reading document.now.tools.reader.now document.now.source.now
-        document.now.tools.flags))) }
-{
-    let tools = &document.tools;
-    let mut keeper = Keeper {
-        document,
-        trees: Trees::new(tools.alloc),
-        found: Digest::new(tools.alloc),
-    };
-    let source = document.source;
-    tools
-        .reader
-        .read_parts(tools.alloc, source, tools.flags, &mut keeper)?;
-    let Keeper { trees, found, .. } = keeper;
-    Ok((trees, found))
-}
-
-/// The document in this style.
-fn formatted_as<R: PartReader>(document: &Document<'_, '_, R>) -> Result<Formatted, AllocError>
+/// A document whose lines end with line feeds, in this look.
+fn formatted_lines<R: PartReader>(job: &Job<'_, R>) -> Result<Formatted, AllocError>
     ensures { IfOk result (λ answer.
-        merged (found_events (R.reading document.now.tools.reader.now (string_bytes answer.text)
-        document.now.tools.flags))
-        ≡ merged (found_events (R.reading document.now.tools.reader.now document.now.source.now
-        document.now.tools.flags))) }
+        merged (found_events (R.reading job.now.reader.now (string_bytes answer.text)
+        job.now.flags))
+        ≡ merged (found_events (R.reading job.now.reader.now job.now.source.now.text.now
+        job.now.flags))) }
 {
-    let (trees, found) = kept_of_source(document)?;
-    let Trees {
-        blocks,
-        mut pieces,
-        mut texts,
-        ..
-    } = trees;
-    let text = new_text(document, &blocks, &found, &mut pieces, &mut texts)?;
-    let left = all_left(document.tools.alloc, &blocks, pieces)?;
-    Ok(Formatted { text, left })
+    match rounds(job)? {
+        Some(answer) => Ok(answer),
+        None => unchanged(job.alloc, job.source.text),
+    }
 }
 
-/// What ends the lines of a text: what ends the first one.
-fn line_end_of(text: &str) -> &'static str {
+/// A document in this style, of which a byte order mark and a carriage return are characters as others are.
+fn formatted_plain<R: PartReader>(
+    alloc: Global,
+    text: &str,
+    reader: &R,
+    flags: ParserOptions,
+    style: Style,
+) -> Result<Formatted, AllocError>
+    ensures { IfOk result (λ answer.
+        merged (found_events (R.reading reader.now (string_bytes answer.text) flags))
+        ≡ merged (found_events (R.reading reader.now text.now flags))) }
+{
+    let source = Source::new(alloc, text)?;
+    let job = Job {
+        alloc,
+        reader,
+        flags,
+        source: &source,
+        look: Look::of(style),
+    };
+    formatted_lines(&job)
+}
+
+/// Whether the first line of a text ends with a carriage return and a line feed.
+fn has_returns(text: &str) -> bool {
     match text.find('\n') {
-        Some(at) if text.as_bytes().get(at.saturating_sub(1)) == Some(&b'\r') => "\r\n",
-        _ => "\n",
+        Some(at) => text.as_bytes().get(at.saturating_sub(1)) == Some(&b'\r') && at > 0,
+        None => false,
+    }
+}
+
+/// A document whose lines end with a carriage return and a line feed, as they do in the answer.
+fn formatted_with_returns<R: PartReader>(
+    alloc: Global,
+    text: &str,
+    reader: &R,
+    flags: ParserOptions,
+    style: Style,
+) -> Result<Formatted, AllocError>
+    ensures { IfOk result (λ answer.
+        merged (found_events (R.reading reader.now (string_bytes answer.text) flags))
+        ≡ merged (found_events (R.reading reader.now text.now flags))) }
+{
+    let bare = text.replace(alloc, "\r\n", "\n")?;
+    let Formatted { text: lines, left } = formatted_plain(
+        alloc,
+        bare.as_str(),
+        reader,
+        flags,
+        style,
+    )?;
+    let whole = lines.as_str().replace(alloc, "\n", "\r\n")?;
+    if are_read_alike(alloc, reader, flags, whole.as_str(), text)? {
+        Ok(Formatted { text: whole, left })
+    } else {
+        unchanged(alloc, text)
     }
 }
 
@@ -267,20 +347,26 @@ fn formatted_text<R: PartReader>(
         merged (found_events (R.reading reader.now (string_bytes answer.text) flags))
         ≡ merged (found_events (R.reading reader.now text.now flags))) }
 {
-    let document = Document {
-        tools: Tools {
-            alloc,
-            reader,
-            flags,
-            options: Options::default(),
-            has_returns: false,
-            has_ranges: style.escapes == Escapes::Minimal,
-        },
-        source: text,
-        style,
-        line_end: line_end_of(text),
-    };
-    formatted_as(&document)
+    if has_returns(text) {
+        formatted_with_returns(alloc, text, reader, flags, style)
+    } else {
+        formatted_plain(alloc, text, reader, flags, style)
+    }
+}
+
+/// What a reader finds in a text. Of the events themselves only a part is there at a time.
+fn digest_of<R: PartReader>(
+    alloc: Global,
+    reader: &R,
+    flags: ParserOptions,
+    text: &str,
+) -> Result<Digest, AllocError>
+    ensures { IfOk result (λ digest. says digest
+        ≡ merged (found_events (R.reading reader.now text.now flags))) }
+{
+    let mut digest = Digest::new(alloc);
+    reader.read_parts(alloc, text, flags, &mut digest)?;
+    Ok(digest)
 }
 
 /// Whether two texts are read alike.
@@ -364,9 +450,9 @@ fn formatted_with_mark<R: PartReader>(
     }
 }
 
-/// The document in this style: one blank line between blocks, and one line feed at its end. HTML, metadata and definitions
-/// of links are copied, and lines end as the first one does. A block that can't be written is left as it stands in the
-/// text; the answer names its lines, and why.
+/// The document in this style: one blank line between blocks, and one line feed at its end. HTML and metadata are copied,
+/// texts are as they are spelled, and lines end as the first one does. A block that would be read otherwise is printed in
+/// its own spelling, and else keeps its lines; the answer names these lines, and why.
 ///
 /// The reader finds the same in the new text as in the old one under these flags, on either side with each longest stretch
 /// of texts as one (the clause `same`). A byte order mark stays in front of the text, and what stands behind it is read as

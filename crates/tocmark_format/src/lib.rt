@@ -1,24 +1,34 @@
 //! Formats a document: one look for all of it, and the new text says just what the old one says.
 //!
-//! Below it stands `tocmark_rewrite`, of which it takes the trees at the top of a document, the lines that they stand on,
-//! the writing of one tree by itself, and the comparison of events; above it stand programs that format files. Enter at
-//! `formatted` (`format`). `style` says how things look, `answer` what comes out, and `parts` which readers hand out a
-//! text's events part by part. What is written is read again and compared, so all that stands between can be changed
-//! freely.
+//! Below it stand the readers and `tocmark_compare`, which says whether two texts are read alike; above it stand programs
+//! that format files. Enter at `formatted` (`format`), which prints, reads back, and prints nearer to the source what is read
+//! otherwise. `style` says how things look, `answer` what comes out, and `parts` which readers hand out a text's events part
+//! by part. `printer` walks over the events; `page` has what is printed and the containers that are open; `leaf`, `table`,
+//! `container`, `definitions` and `kept` print the blocks; `inline` makes `piece`s of what stands in lines.
+//!
+//! What is printed is read again and compared, so all that stands between can be changed freely.
 #![tactic(auto)]
 
-mod alone;
 mod answer;
-mod compose;
+mod container;
+mod definitions;
 mod format;
-mod options;
+mod inline;
+mod kept;
+mod leaf;
+mod link;
+mod look;
+mod page;
+mod part;
 mod parts;
-mod pieces;
+mod piece;
+mod printer;
+mod source;
 mod style;
 mod table;
-mod tidy;
+mod width;
 
 pub use answer::{Formatted, Left, Reason};
 pub use format::formatted;
 pub use parts::{PartReader, PartTaker};
-pub use style::{Bullet, Delimiter, Escapes, Fence, Marker, Numbering, Style};
+pub use style::{Bullet, Delimiter, Fence, HardBreak, Marker, Numbering, Rule, Style};

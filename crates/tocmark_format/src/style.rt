@@ -44,7 +44,7 @@ pub enum Fence {
 /// The numbers of an ordered list.
 #[derive(Clone, Copy, Debug, PartialEq, Eq)]
 pub enum Numbering {
-    /// They count where the list of the source counts: where its second item has another number than its first.
+    /// Each item has its number in the source.
     Source,
     /// All are that of the first item.
     First,
@@ -52,13 +52,24 @@ pub enum Numbering {
     Increment,
 }
 
-/// How texts are spelled.
+/// How lines break that aren't joined.
 #[derive(Clone, Copy, Debug, PartialEq, Eq)]
-pub enum Escapes {
-    /// As they stand in the source.
-    Minimal,
-    /// Each special character has a backslash.
-    All,
+pub enum HardBreak {
+    /// As in the source.
+    Source,
+    /// By a backslash.
+    Backslash,
+    /// By two blanks.
+    Blanks,
+}
+
+/// What a thematic break is.
+#[derive(Clone, Copy, Debug, PartialEq, Eq)]
+pub enum Rule {
+    /// As in the source.
+    Source,
+    /// `---`
+    Dashes,
 }
 
 /// How a document is to look. `None` says: as in the source.
@@ -75,11 +86,15 @@ pub struct Style {
     pub fence: Option<Fence>,
     /// The least length of a fence: less than 3 is taken for 3, more than 1,000 for 1,000.
     pub fence_length: usize,
-    pub escapes: Escapes,
+    pub hard_break: HardBreak,
+    pub rule: Rule,
+    /// How many columns a table may take. The cells of wider ones aren't padded.
+    pub table_width: usize,
 }
 
 impl Style {
-    /// Bullets, delimiters, numbers, fences and texts as in the source, asterisks for emphasis, and fences of three.
+    /// Bullets, delimiters, numbers, fences and breaks as in the source, asterisks for emphasis, rules of `---`, fences of
+    /// three, and tables of 120 columns.
     pub fn new() -> Style
         ensures { result ≡ usual_style }
     {
@@ -91,7 +106,9 @@ impl Style {
             strong: Marker::Asterisk,
             fence: None,
             fence_length: 3,
-            escapes: Escapes::Minimal,
+            hard_break: HardBreak::Source,
+            rule: Rule::Dashes,
+            table_width: 120,
         }
     }
 }

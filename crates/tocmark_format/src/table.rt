@@ -1,107 +1,220 @@
-//! A table as people write it: a blank on both sides of each cell, and columns of one width where they fit.
+//! Tables: columns of one width, if the whole isn't too wide.
 
+use crate::part::Part;
+use crate::printer::Printer;
+use crate::width::width;
 use std::alloc::{AllocError, Global};
+use tocmark_event::event::{Alignment, Event, Tag, TagEnd};
 
-/// The greatest width of a table whose columns have one width each, in characters.
-const WIDEST: usize = 120;
+/// A cell: its bytes in the text of all cells, and the columns that it takes.
+#[derive(Clone, Copy)]
+struct Cell {
+    from: usize,
+    to: usize,
+    width: usize,
+}
 
-/// The cells of a row.
-fn cells<'l>(alloc: Global, line: &'l str) -> Result<Vec<&'l str>, AllocError> {
-    let bytes = line.as_bytes();
-    let mut all = Vec::new(alloc);
-    let mut start = 1usize;
-    for at in 1..bytes.len() {
-        let before = bytes.get(at.saturating_sub(1));
-        if bytes.get(at) == Some(&b'|') && before != Some(&b'\\') {
-            let cell = line.get(start..at).unwrap_or("");
-            all.push(cell.trim_start_matches(' ').trim_end_matches(' '))?;
-            start = at.saturating_add(1);
+/// The cells of a table, row by row.
+#[derive(Drop)]
+struct Cells {
+    text: String,
+    list: Vec<Cell>,
+    /// How many cells stand before the end of each row.
+    ends: Vec<usize>,
+}
+
+/// The row of dashes below the head, for a column of this width.
+fn push_dashes(line: &mut String, alignment: Alignment, width: usize) -> Result<(), AllocError> {
+    let (left, right) = match alignment {
+        Alignment::None => (false, false),
+        Alignment::Left => (true, false),
+        Alignment::Center => (true, true),
+        Alignment::Right => (false, true),
+    };
+    let colons = usize::from(left).saturating_add(usize::from(right));
+    if left {
+        line.push(':')?;
+    }
+    for _ in 0..width.saturating_sub(colons) {
+        line.push('-')?;
+    }
+    if right { line.push(':') } else { Ok(()) }
+}
+
+fn push_blanks(line: &mut String, count: usize) -> Result<(), AllocError> {
+    for _ in 0..count {
+        line.push(' ')?;
+    }
+    Ok(())
+}
+
+/// A cell in a column of this width.
+fn push_cell(
+    line: &mut String,
+    text: &str,
+    cell: Cell,
+    alignment: Alignment,
+    width: usize,
+) -> Result<(), AllocError> {
+    let spare = width.saturating_sub(cell.width);
+    let before = match alignment {
+        Alignment::Right => spare,
+        Alignment::Center => spare / 2,
+        _ => 0,
+    };
+    if cell.from == cell.to && width == 0 {
+        return line.push_str(" |");
+    }
+    line.push(' ')?;
+    push_blanks(line, before)?;
+    line.push_str(text.get(cell.from..cell.to).unwrap_or(""))?;
+    push_blanks(line, spare.saturating_sub(before))?;
+    line.push_str(" |")
+}
+
+impl Cells {
+    fn new(alloc: Global) -> Cells {
+        Cells {
+            text: String::new(alloc),
+            list: Vec::new(alloc),
+            ends: Vec::new(alloc),
         }
     }
-    Ok(all)
+
+    fn add(&mut self, text: &str) -> Result<(), AllocError> {
+        let from = self.text.len();
+        self.text.push_str(text)?;
+        self.list.push(Cell {
+            from,
+            to: self.text.len(),
+            width: width(text),
+        })?;
+        Ok(())
+    }
+
+    fn end_row(&mut self) -> Result<(), AllocError> {
+        self.ends.push(self.list.len())?;
+        Ok(())
+    }
+
+    fn row(&self, at: usize) -> &[Cell] {
+        let start = match at.checked_sub(1) {
+            Some(before) => self.ends.get(before).copied().unwrap_or(0),
+            None => 0,
+        };
+        let end = self.ends.get(at).copied().unwrap_or(start);
+        self.list.get(start..end).unwrap_or(&[])
+    }
+
+    /// The width of each column; 0 for all if the whole would be wider than this.
+    fn widths(
+        &self,
+        alloc: Global,
+        columns: usize,
+        limit: usize,
+    ) -> Result<Vec<usize>, AllocError> {
+        let mut widths = Vec::with_capacity(alloc, columns)?;
+        for _ in 0..columns {
+            widths.push(3usize)?;
+        }
+        for at in 0..self.ends.len() {
+            for (width, cell) in widths.iter_mut().zip(self.row(at)) {
+                *width = (*width).max(cell.width);
+            }
+        }
+        let mut whole = 1usize;
+        for width in &widths {
+            whole = whole.saturating_add(*width).saturating_add(3);
+        }
+        if whole > limit {
+            for width in widths.iter_mut() {
+                *width = 0;
+            }
+        }
+        Ok(widths)
+    }
+
+    fn push_row(
+        &self,
+        line: &mut String,
+        at: usize,
+        alignments: &[Alignment],
+        widths: &[usize],
+    ) -> Result<(), AllocError> {
+        line.push('|')?;
+        for (cell, (alignment, width)) in self.row(at).iter().zip(alignments.iter().zip(widths)) {
+            push_cell(line, self.text.as_str(), *cell, *alignment, *width)?;
+        }
+        Ok(())
+    }
 }
 
-/// How many characters a text has.
-fn width_of(text: &str) -> usize {
-    text.chars().count()
-}
+impl Printer<'_> {
+    /// The cells of a table; none if a row has more of them than the head, which are in no event.
+    fn cells_of(&self, part: &Part<'_>, at: usize) -> Result<Option<Cells>, AllocError> {
+        let mut cells = Cells::new(self.alloc);
+        let mut cell_end = 0usize;
+        for inner in at.saturating_add(1)..part.end(at) {
+            let (start, end) = part.range(inner);
+            match part.event(inner) {
+                Some(Event::Start(Tag::TableCell)) => {
+                    let text = self.source.past_blanks(start);
+                    let events = (inner.saturating_add(1), part.end(inner));
+                    let (pieces, _) = self.pieces_of(part, events, text)?;
+                    cells.add(pieces.text.as_str())?;
+                    cell_end = end;
+                }
+                Some(Event::End(TagEnd::TableHead | TagEnd::TableRow)) => {
+                    let rest = self.source.slice(cell_end, end);
+                    if !rest.trim_matches(&['|', ' ', '\t', '\n']).is_empty() {
+                        return Ok(None);
+                    }
+                    cells.end_row()?;
+                }
+                _ => {}
+            }
+        }
+        Ok(Some(cells))
+    }
 
-/// The width of each column: that of its widest cell, and at least three characters.
-fn widths(alloc: Global, text: &str) -> Result<Vec<usize>, AllocError> {
-    let mut all: Vec<usize> = Vec::new(alloc);
-    for (row, line) in text.split('\n').enumerate() {
-        for (column, cell) in cells(alloc, line)?.iter().enumerate() {
-            let width = if row == 1 { 3 } else { width_of(cell).max(3) };
-            match all.get_mut(column) {
-                Some(widest) => *widest = width.max(*widest),
-                None => all.push(width)?,
+    fn print_rows(&mut self, cells: &Cells, alignments: &[Alignment]) -> Result<(), AllocError> {
+        let limit = if self.look.is_literal {
+            0
+        } else {
+            self.look.table_width
+        };
+        let widths = cells.widths(self.alloc, alignments.len(), limit)?;
+        let mut line = String::new(self.alloc);
+        for row in 0..cells.ends.len() {
+            line.truncate(0);
+            cells.push_row(&mut line, row, alignments, &widths)?;
+            self.page.line(line.as_str())?;
+            if row == 0 {
+                line.truncate(0);
+                line.push('|')?;
+                for (alignment, width) in alignments.iter().zip(&widths) {
+                    line.push(' ')?;
+                    push_dashes(&mut line, *alignment, (*width).max(3))?;
+                    line.push_str(" |")?;
+                }
+                self.page.line(line.as_str())?;
+            }
+        }
+        Ok(())
+    }
+
+    pub(crate) fn print_table(
+        &mut self,
+        part: &Part<'_>,
+        at: usize,
+        alignments: &[Alignment],
+    ) -> Result<(), AllocError> {
+        match self.cells_of(part, at)? {
+            Some(cells) => self.print_rows(&cells, alignments),
+            None => {
+                let (start, end) = part.range(at);
+                self.print_lines(start, end)
             }
         }
     }
-    Ok(all)
-}
-
-/// Adds so many times a character.
-fn repeat(target: &mut String, text: &str, times: usize) -> Result<(), AllocError> {
-    for _ in 0..times {
-        target.push_str(text)?;
-    }
-    Ok(())
-}
-
-/// Adds a cell that says how its column is aligned.
-fn put_alignment(target: &mut String, cell: &str, width: usize) -> Result<(), AllocError> {
-    let left = if cell.starts_with(":") { ":" } else { "-" };
-    let right = if cell.ends_with(":") { ":" } else { "-" };
-    target.push_str(left)?;
-    repeat(target, "-", width.saturating_sub(2))?;
-    target.push_str(right)
-}
-
-/// Adds a row.
-fn put_row(
-    alloc: Global,
-    target: &mut String,
-    row: usize,
-    line: &str,
-    widths: &[usize],
-) -> Result<(), AllocError> {
-    target.push_str("|")?;
-    for (column, cell) in cells(alloc, line)?.iter().enumerate() {
-        let width = widths.get(column).copied().unwrap_or(0);
-        target.push_str(" ")?;
-        if row == 1 {
-            put_alignment(target, cell, width.max(3))?;
-        } else {
-            target.push_str(cell)?;
-            repeat(target, " ", width.saturating_sub(width_of(cell)))?;
-        }
-        target.push_str(" |")?;
-    }
-    Ok(())
-}
-
-/// How wide a table with these columns is.
-fn total(widths: &[usize]) -> usize {
-    let mut all = 1usize;
-    for width in widths {
-        all = all.saturating_add(*width).saturating_add(3);
-    }
-    all
-}
-
-/// A table, of which each line begins and ends with a bar.
-pub(crate) fn aligned(alloc: Global, text: &str) -> Result<String, AllocError> {
-    let mut columns = widths(alloc, text)?;
-    if total(&columns) > WIDEST {
-        columns.clear();
-    }
-    let mut target = String::new(alloc);
-    for (row, line) in text.split('\n').enumerate() {
-        if row > 0 {
-            target.push_str("\n")?;
-        }
-        put_row(alloc, &mut target, row, line, &columns)?;
-    }
-    Ok(target)
 }

@@ -1,0 +1,228 @@
+//! Containers: quotes, lists, footnotes and definition lists.
+
+use crate::page::{Frame, Kind, Lead};
+use crate::part::Part;
+use crate::printer::Printer;
+use crate::source::without_blanks;
+use crate::style::Numbering;
+use std::alloc::AllocError;
+use tocmark_event::event::Tag;
+
+/// The longest number that a list may have, in digits.
+const DIGITS: usize = 9;
+
+/// Another sign for the items of a list just behind a list with this one.
+fn other_marker(marker: u8) -> u8 {
+    match marker {
+        b'-' => b'*',
+        b'*' | b'+' => b'-',
+        b'.' => b')',
+        _ => b'.',
+    }
+}
+
+/// How many digits a text begins with.
+fn digits_in(text: &str) -> usize {
+    text.as_bytes()
+        .iter()
+        .take_while(|byte| byte.is_ascii_digit())
+        .count()
+}
+
+/// What an item has in the source: columns before its marker and behind it, and where its content begins, with its column.
+#[derive(Clone, Copy)]
+struct ItemColumns {
+    indent: usize,
+    pad: usize,
+    content: usize,
+    column: usize,
+}
+
+fn push_blanks(text: &mut String, count: usize) -> Result<(), AllocError> {
+    for _ in 0..count {
+        text.push(' ')?;
+    }
+    Ok(())
+}
+
+impl Printer<'_> {
+    /// Opens a quote; its kind is its first line.
+    fn open_quote(&mut self, range: (usize, usize), has_kind: bool) -> Result<(), AllocError> {
+        let source = self.source;
+        let (start, end) = range;
+        let has_blank = matches!(source.byte(start.saturating_add(1)), b' ' | b'\t');
+        let content = start.saturating_add(if has_blank { 2 } else { 1 });
+        let mut frame = Frame::new(self.alloc, Kind::Quote, content, end);
+        frame.rest = Lead::Quote;
+        frame.column = self.column_of(start, content);
+        let line_end = source.line_end(start);
+        if has_kind {
+            frame.at = line_end.saturating_add(1);
+        }
+        self.page.open(frame)?;
+        if has_kind {
+            self.page
+                .line(without_blanks(source.slice(content, line_end)))?;
+        }
+        Ok(())
+    }
+
+    /// Opens a list. Its items have the style's sign, unless the block before is a list with that.
+    fn open_list(
+        &mut self,
+        part: &Part<'_>,
+        at: usize,
+        number: Option<u64>,
+    ) -> Result<(), AllocError> {
+        let (start, end) = part.range(at);
+        let digits = digits_in(self.source.slice(start, end));
+        let own = self.source.byte(start.saturating_add(digits));
+        let wanted = if number.is_some() {
+            self.look.delimiter
+        } else {
+            self.look.bullet
+        };
+        let marker = wanted.unwrap_or(own);
+        let top = self.page.top();
+        let is_beside = top.last == Some(Kind::List) && top.last_marker == marker;
+        let mut frame = Frame::new(self.alloc, Kind::List, start, end);
+        frame.marker = if is_beside {
+            other_marker(marker)
+        } else {
+            marker
+        };
+        frame.number = number;
+        frame.is_tight = !part.is_loose(at);
+        self.page.open(frame)
+    }
+
+    /// What an item has in the source whose marker ends at a place.
+    fn item_columns(&self, start: usize, behind: usize) -> ItemColumns {
+        let source = self.source;
+        let front = self.page.front(source, start);
+        let marker = source.column_at(front.column, front.at.min(start), start);
+        let indent = marker.saturating_sub(front.column);
+        let marker_end = source.column_at(marker, start, behind);
+        let content = source.past_blanks(behind);
+        let column = source.column_at(marker_end, behind, content);
+        let pad = column.saturating_sub(marker_end);
+        if pad > 4 || source.byte(content) == b'\n' {
+            return ItemColumns {
+                indent,
+                pad: 1,
+                content: behind.saturating_add(1).min(content),
+                column: marker_end.saturating_add(1),
+            };
+        }
+        ItemColumns {
+            indent,
+            pad: pad.max(1),
+            content,
+            column,
+        }
+    }
+
+    /// Puts behind a text the marker of the next item of the innermost list.
+    fn push_marker(&mut self, text: &mut String, own: &str) -> Result<(), AllocError> {
+        let list = self.page.top();
+        let marker = char::from(list.marker);
+        if let Some(number) = list.number {
+            let mut digits = format!(in self.alloc; "{number}")?;
+            if self.look.numbering == Numbering::Source || digits.len() > DIGITS {
+                digits = String::from_str(self.alloc, own)?;
+            }
+            text.push_str(digits.as_str())?;
+            if self.look.numbering == Numbering::Increment {
+                self.page.top_mut().number = Some(number.saturating_add(1));
+            }
+        }
+        text.push(marker)
+    }
+
+    fn open_item(&mut self, range: (usize, usize)) -> Result<(), AllocError> {
+        let (start, end) = range;
+        let own = self.source.slice(start, end);
+        let digits = digits_in(own);
+        let behind = start.saturating_add(digits).saturating_add(1);
+        let columns = self.item_columns(start, behind);
+        let mut first = String::new(self.alloc);
+        if self.look.is_literal {
+            push_blanks(&mut first, columns.indent)?;
+        }
+        self.push_marker(&mut first, own.get(..digits).unwrap_or(""))?;
+        push_blanks(
+            &mut first,
+            if self.look.is_literal { columns.pad } else { 1 },
+        )?;
+        let mut frame = Frame::new(self.alloc, Kind::Item, columns.content, end);
+        frame.rest = Lead::Blanks(first.len());
+        frame.first = first;
+        frame.column = columns.column;
+        frame.columns = columns
+            .indent
+            .saturating_add(behind.saturating_sub(start))
+            .saturating_add(columns.pad);
+        frame.is_tight = self.page.top().is_tight;
+        self.page.open(frame)
+    }
+
+    /// The column of a place behind the front of a block that begins here.
+    fn column_of(&self, start: usize, at: usize) -> usize {
+        let front = self.page.front(self.source, start);
+        self.source.column_at(front.column, front.at.min(start), at)
+    }
+
+    fn open_footnote(&mut self, range: (usize, usize)) -> Result<(), AllocError> {
+        let (start, end) = range;
+        let label = match self.source.slice(start, end).find("]:") {
+            Some(at) => at.saturating_add(2),
+            None => 0,
+        };
+        let behind = start.saturating_add(label);
+        let mut first = String::from_str(self.alloc, self.source.slice(start, behind))?;
+        first.push(' ')?;
+        let mut frame = Frame::new(
+            self.alloc,
+            Kind::Footnote,
+            self.source.past_blanks(behind),
+            end,
+        );
+        frame.first = first;
+        frame.rest = Lead::Blanks(4);
+        frame.columns = 4;
+        frame.column = self.column_of(start, frame.content);
+        self.page.open(frame)
+    }
+
+    fn open_definition(&mut self, range: (usize, usize)) -> Result<(), AllocError> {
+        let (start, end) = range;
+        let content = self.source.past_blanks(start.saturating_add(1));
+        let mut frame = Frame::new(self.alloc, Kind::Definition, content, end);
+        frame.first = String::from_str(self.alloc, ": ")?;
+        frame.rest = Lead::Blanks(2);
+        frame.columns = 2;
+        frame.column = self.column_of(start, content);
+        self.page.open(frame)
+    }
+
+    /// Opens the container that starts at a place.
+    pub(crate) fn open_container(
+        &mut self,
+        part: &Part<'_>,
+        at: usize,
+        tag: &Tag<'_>,
+    ) -> Result<(), AllocError> {
+        let range = part.range(at);
+        match tag {
+            Tag::BlockQuote(kind) => self.open_quote(range, kind.is_some()),
+            Tag::List(number) => self.open_list(part, at, *number),
+            Tag::Item => self.open_item(range),
+            Tag::FootnoteDefinition(_) => self.open_footnote(range),
+            Tag::DefinitionListDefinition => self.open_definition(range),
+            _ => {
+                let frame = Frame::new(self.alloc, Kind::DefinitionList, range.0, range.1);
+                self.page.open(frame)
+            }
+        }
+    }
+}

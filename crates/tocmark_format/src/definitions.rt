@@ -1,0 +1,158 @@
+//! Definitions of links, which no event covers: they stand between blocks.
+
+use crate::link::push_title;
+use crate::page::Kind;
+use crate::printer::Printer;
+use std::alloc::{AllocError, Global};
+use tocmark_read_tokens::word::{Definition, Word, definition_at};
+
+/// A definition, and whether an empty line stands before it.
+#[derive(Clone, Copy)]
+struct Found {
+    definition: Definition,
+    is_apart: bool,
+}
+
+/// A word as it is spelled, with what stands round it.
+fn spelled(text: &str, word: Word) -> &str {
+    let from = if word.next > word.end {
+        word.start.saturating_sub(1)
+    } else {
+        word.start
+    };
+    text.get(from..word.next).unwrap_or("")
+}
+
+/// The definitions in a text; none if something else is in it, too.
+fn found_in(alloc: Global, text: &str) -> Result<Option<Vec<Found>>, AllocError> {
+    let mut all = Vec::new(alloc);
+    let mut at = 0usize;
+    for _ in 0..text.len() {
+        let rest = text.get(at..).unwrap_or("");
+        let bare = rest.trim_start_matches(&[' ', '\t', '\n']);
+        if bare.is_empty() {
+            break;
+        }
+        let white = rest.len().saturating_sub(bare.len());
+        let is_apart = rest.get(..white).unwrap_or("").contains('\n');
+        let Some(definition) = definition_at(text.as_bytes(), at.saturating_add(white)) else {
+            return Ok(None);
+        };
+        all.push(Found {
+            definition,
+            is_apart,
+        })?;
+        at = definition.next;
+    }
+    Ok(Some(all))
+}
+
+/// Adds words with one blank for each stretch of white space.
+fn push_collapsed(line: &mut String, words: &str) -> Result<(), AllocError> {
+    let mut is_behind_blank = false;
+    let mut is_first = true;
+    for character in words.chars() {
+        if character == ' ' || character == '\t' || character == '\n' {
+            is_behind_blank = true;
+            continue;
+        }
+        if is_behind_blank && !is_first {
+            line.push(' ')?;
+        }
+        line.push(character)?;
+        is_behind_blank = false;
+        is_first = false;
+    }
+    Ok(())
+}
+
+impl Printer<'_> {
+    /// Prints the definitions of links that stand before a place of the source and behind what is printed of the innermost
+    /// container.
+    pub(crate) fn print_gap(&mut self, end: usize) -> Result<(), AllocError> {
+        let source = self.source;
+        let top = self.page.top();
+        if top.kind == Kind::List || top.at >= end {
+            return Ok(());
+        }
+        let mut from = top.at;
+        if from > source.line_start(from) && from != top.content {
+            from = source.line_end(from).saturating_add(1);
+        }
+        let text = self.gap_text(from, end)?;
+        self.page.top_mut().at = end;
+        let text = text.as_str().trim_matches(&[' ', '\t', '\n']);
+        if text.is_empty() {
+            return Ok(());
+        }
+        self.begin_definitions(from, end.min(source.text.len()))?;
+        self.print_definitions(text)?;
+        self.finish(Kind::Definitions, end)
+    }
+
+    /// The whole lines between two places of the source, without what their containers have before them.
+    fn gap_text(&self, from: usize, end: usize) -> Result<String, AllocError> {
+        let source = self.source;
+        let mut text = String::new(self.alloc);
+        let mut at = from;
+        for _ in from..end {
+            let line_end = source.line_end(at);
+            if at >= source.text.len() || line_end >= end {
+                break;
+            }
+            if at == source.line_start(at) {
+                let place = self.page.stripped(source, at);
+                for _ in 0..place.spare {
+                    text.push(' ')?;
+                }
+                at = place.at;
+            }
+            text.push_str(source.slice(at.min(line_end), line_end))?;
+            text.push('\n')?;
+            at = line_end.saturating_add(1);
+        }
+        Ok(text)
+    }
+
+    /// Prints a definition: a line, and one for each further line of its title.
+    fn print_definition(&mut self, text: &str, definition: &Definition) -> Result<(), AllocError> {
+        let label = definition.label;
+        let mut whole = String::new(self.alloc);
+        whole.push('[')?;
+        push_collapsed(&mut whole, text.get(label.start..label.end).unwrap_or(""))?;
+        whole.push_str("]: ")?;
+        whole.push_str(spelled(text, definition.destination))?;
+        let title = spelled(text, definition.title);
+        if !title.is_empty() {
+            whole.push(' ')?;
+            push_title(&mut whole, title)?;
+        }
+        for line in whole.as_str().split('\n') {
+            self.page.line(line.trim_start_matches(&[' ', '\t']))?;
+        }
+        Ok(())
+    }
+
+    /// Prints definitions, with an empty line where there are some between them; lines in which something else stands, too,
+    /// stay as they are spelled.
+    fn print_definitions(&mut self, text: &str) -> Result<(), AllocError> {
+        let found = if self.look.is_literal {
+            None
+        } else {
+            found_in(self.alloc, text)?
+        };
+        let Some(found) = found else {
+            for line in text.split('\n') {
+                self.page.line(line.trim_end_matches(&[' ', '\t']))?;
+            }
+            return Ok(());
+        };
+        for one in &found {
+            if one.is_apart && !self.page.top().is_tight {
+                self.page.blank()?;
+            }
+            self.print_definition(text, &one.definition)?;
+        }
+        Ok(())
+    }
+}

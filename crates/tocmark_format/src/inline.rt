@@ -1,0 +1,395 @@
+//! From the events within a leaf to pieces. What stands between two events is copied from the source, so each text stays as it
+//! is spelled; only the signs of emphasis, breaks and the tails of links are chosen.
+
+use crate::link::push_tail;
+use crate::look::Look;
+use crate::page::Page;
+use crate::part::Part;
+use crate::piece::{Piece, Pieces, ends_with_backslash};
+use crate::source::{Source, without_blanks};
+use crate::style::HardBreak;
+use std::alloc::{AllocError, Global};
+use tocmark_event::event::{Event, LinkType, Tag, TagEnd};
+
+/// What the inlines of a leaf are printed with.
+#[derive(Clone, Copy)]
+pub(crate) struct Scene<'d, 'p, 'e, 'g> {
+    pub(crate) alloc: Global,
+    pub(crate) source: &'d Source<'d>,
+    pub(crate) part: &'p Part<'e>,
+    pub(crate) page: &'g Page,
+    pub(crate) look: Look,
+}
+
+/// Emphasis that is open: its sign, whether the source has another one, and whether it is strong.
+#[derive(Clone, Copy)]
+struct Open {
+    byte: u8,
+    is_changed: bool,
+}
+
+/// A cursor over the events of a leaf, and their pieces.
+#[derive(Drop)]
+pub(crate) struct Inlines<'d, 'p, 'e, 'g> {
+    scene: Scene<'d, 'p, 'e, 'g>,
+    /// The place in the source behind what is printed.
+    pub(crate) at: usize,
+    pub(crate) pieces: Pieces,
+    open: Vec<Open>,
+    /// Of each link and image that is open whether its text is its label.
+    links: Vec<bool>,
+    /// How many of them are so.
+    labels: usize,
+}
+
+/// What stands between the lines of a slice of the source.
+#[derive(Clone, Copy, PartialEq, Eq)]
+enum Glue {
+    Blank,
+    Feed,
+}
+
+/// Whether the text of a link or an image is its label.
+fn is_label(tag: &Tag<'_>) -> bool {
+    let kind = match tag {
+        Tag::Link { link_type, .. } | Tag::Image { link_type, .. } => *link_type,
+        _ => return false,
+    };
+    match kind {
+        LinkType::Collapsed | LinkType::CollapsedUnknown => true,
+        LinkType::Shortcut | LinkType::ShortcutUnknown => true,
+        _ => false,
+    }
+}
+
+/// Whether a tag is an address between angle brackets.
+fn is_address(tag: &Tag<'_>) -> bool {
+    match tag {
+        Tag::Link { link_type, .. } => matches!(link_type, LinkType::Autolink | LinkType::Email),
+        _ => false,
+    }
+}
+
+/// The sign of emphasis, once or twice.
+fn sign_text(byte: u8, is_strong: bool) -> &'static str {
+    match (byte, is_strong) {
+        (b'_', false) => "_",
+        (b'_', true) => "__",
+        (_, false) => "*",
+        (_, true) => "**",
+    }
+}
+
+/// Whether a character is a letter or a digit.
+fn is_letter(character: Option<char>) -> bool {
+    match character {
+        Some(character) => character.is_alphanumeric(),
+        None => false,
+    }
+}
+
+/// Whether a character is a sign of emphasis.
+fn is_sign(character: Option<char>) -> bool {
+    matches!(character, Some('*' | '_'))
+}
+
+impl<'d, 'p, 'e, 'g> Inlines<'d, 'p, 'e, 'g> {
+    /// The pieces of no event, from this place in the source on.
+    pub(crate) fn new(scene: Scene<'d, 'p, 'e, 'g>, at: usize) -> Inlines<'d, 'p, 'e, 'g> {
+        Inlines {
+            scene,
+            at,
+            pieces: Pieces::new(scene.alloc),
+            open: Vec::new(scene.alloc),
+            links: Vec::new(scene.alloc),
+            labels: 0,
+        }
+    }
+
+    /// Where a leaf goes on on a line of the source, and whether that could begin a block there, but that it is indented or
+    /// lazy.
+    fn next_line(&self, line_start: usize) -> (usize, bool) {
+        let source = self.scene.source;
+        let place = self.scene.page.stripped(source, line_start);
+        let at = source.past_blanks(place.at);
+        let mut columns = place.spare;
+        for byte in source.slice(place.at, at).as_bytes() {
+            columns = columns.saturating_add(if *byte == b'\t' { 4 } else { 1 });
+        }
+        let is_row = matches!(source.byte(at), b'=' | b'|' | b':' | b'-');
+        (at, columns >= 4 || (!place.is_met && is_row))
+    }
+
+    /// Adds a slice of the source that isn't broken, without the prefixes of containers in it.
+    fn add_slice(&mut self, from: usize, to: usize, glue: Glue) -> Result<(), AllocError> {
+        let source = self.scene.source;
+        let mut end = source.line_end(from);
+        self.pieces.add_solid(source.slice(from, to.min(end)))?;
+        for _ in 0..to.saturating_sub(from) {
+            let start = end.saturating_add(1);
+            if start > to || start > source.text.len() {
+                break;
+            }
+            let (place, is_deep) = self.next_line(start);
+            match glue {
+                Glue::Blank => self.pieces.add_solid(" ")?,
+                Glue::Feed => self.pieces.push(Piece::Feed { is_deep })?,
+            }
+            end = source.line_end(place);
+            self.pieces.add_solid(source.slice(place, to.min(end)))?;
+        }
+        Ok(())
+    }
+
+    /// Adds what stands before an event: backslashes, or a blank for blanks and a line's end behind a task's box.
+    fn add_gap(&mut self, start: usize) -> Result<(), AllocError> {
+        if start <= self.at {
+            return Ok(());
+        }
+        let from = self.at;
+        self.at = start;
+        let end = self.pieces.end();
+        self.add_slice(from, start, Glue::Blank)?;
+        if !without_blanks(self.pieces.text_from(end.0)).is_empty() {
+            return Ok(());
+        }
+        self.pieces.cut(end);
+        self.pieces.add_solid(" ")
+    }
+
+    /// Whether a hard break at a place of the source is printed as blanks.
+    fn is_blanks(&self, start: usize) -> bool {
+        let own = self.scene.source.byte(start) != b'\\';
+        let is_behind_blank = self.pieces.last_text().ends_with(' ');
+        match self.scene.look.hard_break {
+            HardBreak::Backslash if !is_behind_blank => false,
+            HardBreak::Blanks if !is_behind_blank => true,
+            _ => own,
+        }
+    }
+
+    fn add_soft_break(&mut self, range: (usize, usize)) -> Result<(), AllocError> {
+        let (start, end) = range;
+        if start > self.at && ends_with_backslash(self.pieces.last_text()) {
+            // without it the break would be a hard one
+            self.pieces.add_solid(" ")?;
+        }
+        let (place, is_deep) = self.next_line(end);
+        self.at = place;
+        self.pieces.push(Piece::Soft { is_deep })
+    }
+
+    fn add_hard_break(&mut self, range: (usize, usize)) -> Result<(), AllocError> {
+        let (start, end) = range;
+        let is_blanks = self.is_blanks(start);
+        if self.scene.source.byte(start) == b'\\' {
+            self.add_gap(start)?;
+        }
+        let (place, is_deep) = self.next_line(end);
+        self.at = place;
+        self.pieces.push(Piece::Hard { is_deep, is_blanks })
+    }
+
+    /// The characters before and behind a stretch of the source.
+    fn around(&self, start: usize, end: usize) -> (Option<char>, Option<char>) {
+        let text = self.scene.source.text;
+        let before = text.get(..start).unwrap_or("").chars().next_back();
+        let behind = text.get(end..).unwrap_or("").chars().next();
+        (before, behind)
+    }
+
+    /// Whether another sign than the source's can stand round a stretch of it.
+    fn fits(&self, sign: u8, range: (usize, usize)) -> bool {
+        let (start, end) = range;
+        if self
+            .scene
+            .part
+            .has_between(sign, start.saturating_sub(1), end.saturating_add(1))
+        {
+            return false;
+        }
+        let (before, behind) = self.around(start, end);
+        if sign == b'_' && (is_letter(before) || is_letter(behind)) {
+            return false;
+        }
+        let is_in_changed = match self.open.last() {
+            Some(open) => open.is_changed,
+            None => false,
+        };
+        is_in_changed || !(is_sign(before) || is_sign(behind))
+    }
+
+    /// The sign of emphasis: that of the look, if the source has it neither in nor beside the emphasis, and if it can stand
+    /// there.
+    fn sign(&self, range: (usize, usize), is_strong: bool) -> u8 {
+        let own = self.scene.source.byte(range.0);
+        let look = self.scene.look;
+        let wanted = if is_strong {
+            look.strong
+        } else {
+            look.emphasis
+        };
+        match wanted {
+            Some(sign) if sign != own && self.labels == 0 && self.fits(sign, range) => sign,
+            _ => own,
+        }
+    }
+
+    fn open_emphasis(&mut self, range: (usize, usize), is_strong: bool) -> Result<(), AllocError> {
+        self.add_gap(range.0)?;
+        let byte = self.sign(range, is_strong);
+        let is_changed = byte != self.scene.source.byte(range.0);
+        self.open.push(Open { byte, is_changed })?;
+        self.at = range.0.saturating_add(if is_strong { 2 } else { 1 });
+        self.pieces.add_solid(sign_text(byte, is_strong))
+    }
+
+    fn close_emphasis(&mut self, end: usize, is_strong: bool) -> Result<(), AllocError> {
+        self.at = end;
+        match self.open.pop() {
+            Some(open) => self.pieces.add_solid(sign_text(open.byte, is_strong)),
+            None => Ok(()),
+        }
+    }
+
+    /// Opens a container other than emphasis: its sign is the source's.
+    fn open_other(&mut self, tag: &Tag<'_>, start: usize) -> Result<(), AllocError> {
+        self.add_gap(start)?;
+        let is_double = match tag {
+            Tag::Image { .. } => true,
+            Tag::Strikethrough => self.scene.source.slice(start, start.saturating_add(2)) == "~~",
+            _ => false,
+        };
+        let behind = start.saturating_add(if is_double { 2 } else { 1 });
+        if matches!(tag, Tag::Link { .. } | Tag::Image { .. }) {
+            let is_label = is_label(tag);
+            self.links.push(is_label)?;
+            self.labels = self.labels.saturating_add(if is_label { 1 } else { 0 });
+        }
+        self.at = behind;
+        self.pieces
+            .add_solid(self.scene.source.slice(start, behind))
+    }
+
+    /// Closes a link or an image: its tail, as the look has it.
+    fn close_link(&mut self, end: usize) -> Result<(), AllocError> {
+        if self.links.pop() == Some(true) {
+            self.labels = self.labels.saturating_sub(1);
+        }
+        let from = self.at;
+        self.at = end;
+        let first = self.pieces.end();
+        self.add_slice(from, end, Glue::Feed)?;
+        if self.scene.look.is_literal || !self.pieces.text_from(first.0).starts_with("](") {
+            return Ok(());
+        }
+        let mut tail = String::new(self.scene.alloc);
+        self.push_lines(&mut tail, first)?;
+        self.pieces.cut(first);
+        let mut whole = String::new(self.scene.alloc);
+        push_tail(&mut whole, tail.as_str())?;
+        self.add_lines(whole.as_str())
+    }
+
+    /// Puts behind a text the pieces from a place on, with their line feeds.
+    fn push_lines(&self, text: &mut String, first: (usize, usize)) -> Result<(), AllocError> {
+        let mut start = first.0;
+        for piece in self.pieces.list.get(first.1..).unwrap_or(&[]) {
+            match piece {
+                Piece::Text(end) | Piece::Solid(end) => {
+                    text.push_str(self.pieces.text.as_str().get(start..*end).unwrap_or(""))?;
+                    start = *end;
+                }
+                _ => text.push('\n')?,
+            }
+        }
+        Ok(())
+    }
+
+    /// Adds lines that aren't broken otherwise.
+    fn add_lines(&mut self, text: &str) -> Result<(), AllocError> {
+        let mut is_first = true;
+        for line in text.split('\n') {
+            if !is_first {
+                self.pieces.push(Piece::Feed { is_deep: false })?;
+            }
+            self.pieces.add_solid(line)?;
+            is_first = false;
+        }
+        Ok(())
+    }
+
+    /// Adds a leaf that is copied as it stands in the source.
+    fn add_copied(&mut self, range: (usize, usize)) -> Result<(), AllocError> {
+        self.add_gap(range.0)?;
+        self.at = range.1;
+        self.add_slice(range.0, range.1, Glue::Feed)
+    }
+
+    fn add_start(
+        &mut self,
+        at: usize,
+        tag: &Tag<'_>,
+        range: (usize, usize),
+    ) -> Result<usize, AllocError> {
+        let next = at.saturating_add(1);
+        match tag {
+            Tag::Emphasis => self.open_emphasis(range, false)?,
+            Tag::Strong => self.open_emphasis(range, true)?,
+            _ if is_address(tag) => {
+                self.add_copied(range)?;
+                return Ok(self.scene.part.end(at).saturating_add(1));
+            }
+            _ => self.open_other(tag, range.0)?,
+        }
+        Ok(next)
+    }
+
+    fn add_end(&mut self, end: TagEnd, range: (usize, usize)) -> Result<(), AllocError> {
+        match end {
+            TagEnd::Emphasis => self.close_emphasis(range.1, false),
+            TagEnd::Strong => self.close_emphasis(range.1, true),
+            TagEnd::Link | TagEnd::Image => self.close_link(range.1),
+            _ => {
+                let from = self.at;
+                self.at = range.1;
+                self.add_slice(from, range.1, Glue::Feed)
+            }
+        }
+    }
+
+    /// Adds the event at a place; the place behind it.
+    fn add(&mut self, at: usize) -> Result<usize, AllocError> {
+        let next = at.saturating_add(1);
+        let range = self.scene.part.range(at);
+        let Some(event) = self.scene.part.event(at) else {
+            return Ok(next);
+        };
+        match event {
+            Event::Start(tag) => return self.add_start(at, tag, range),
+            Event::End(end) => self.add_end(*end, range)?,
+            Event::SoftBreak => self.add_soft_break(range)?,
+            Event::HardBreak => self.add_hard_break(range)?,
+            Event::Text(_) => {
+                self.add_gap(range.0)?;
+                self.at = range.1;
+                self.pieces
+                    .add_text(self.scene.source.slice(range.0, range.1))?;
+            }
+            _ => self.add_copied(range)?,
+        }
+        Ok(next)
+    }
+
+    /// Adds the events from one place to another.
+    pub(crate) fn add_all(&mut self, from: usize, to: usize) -> Result<(), AllocError> {
+        let mut at = from;
+        for _ in from..to {
+            if at >= to {
+                break;
+            }
+            at = self.add(at)?;
+        }
+        Ok(())
+    }
+}

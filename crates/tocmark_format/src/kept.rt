@@ -1,0 +1,177 @@
+//! What keeps its lines: trees that no other way leads to, and what comments name.
+
+use crate::page::Kind;
+use crate::part::Part;
+use crate::printer::Printer;
+use crate::source::without_blanks;
+use std::alloc::AllocError;
+use tocmark_event::event::{Event, Tag};
+
+/// What ends a stretch that a comment keeps.
+#[derive(Clone, Copy, Debug, PartialEq, Eq)]
+enum Until {
+    /// The next block.
+    Next,
+    /// A comment with this text.
+    Comment(&'static str),
+}
+
+/// A stretch of the source that a comment keeps.
+#[derive(Clone, Copy)]
+pub(crate) struct Region {
+    from: usize,
+    to: usize,
+    /// How many containers are open round it.
+    depth: usize,
+    until: Until,
+}
+
+/// Comments that keep what is behind them, each with what ends that.
+const COMMENTS: [(&str, Until); 3] = [
+    ("tocmark-format off", Until::Comment("tocmark-format on")),
+    (
+        "prettier-ignore-start",
+        Until::Comment("prettier-ignore-end"),
+    ),
+    ("prettier-ignore", Until::Next),
+];
+
+fn kept_until(comment: &str) -> Option<Until> {
+    for (text, until) in COMMENTS {
+        if text == comment {
+            return Some(until);
+        }
+    }
+    None
+}
+
+/// What the only comment of a line of HTML says.
+fn comment_in(html: &str) -> Option<&str> {
+    let inner = without_blanks(html.trim_end_matches('\n'))
+        .strip_prefix("<!--")?
+        .strip_suffix("-->")?;
+    Some(without_blanks(inner))
+}
+
+/// What an HTML block at a place says as a comment.
+fn comment_at<'p>(part: &Part<'p>, at: usize) -> Option<&'p str> {
+    let Some(Event::Start(Tag::HtmlBlock)) = part.event(at) else {
+        return None;
+    };
+    if part.end(at) != at.saturating_add(2) {
+        return None;
+    }
+    match part.event(at.saturating_add(1)) {
+        Some(Event::Html(html)) => comment_in(html.as_ref()),
+        _ => None,
+    }
+}
+
+impl Printer<'_> {
+    /// Prints a part of a line of the source behind what its containers have before it.
+    fn print_rest(&mut self, spare: usize, from: usize, to: usize) -> Result<(), AllocError> {
+        let rest = self.source.slice(from, to);
+        if spare == 0 {
+            return self.page.line(rest);
+        }
+        let mut line = String::new(self.alloc);
+        for _ in 0..spare {
+            line.push(' ')?;
+        }
+        line.push_str(rest)?;
+        self.page.line(line.as_str())
+    }
+
+    /// Prints the lines between two places of the source as they stand, behind what their containers have before them.
+    pub(crate) fn print_lines(&mut self, start: usize, end: usize) -> Result<(), AllocError> {
+        let source = self.source;
+        let base = source.line_start(start);
+        let top = self.page.top();
+        let first_end = end.min(source.line_end(start));
+        if top.content <= base {
+            let place = self.page.stripped(source, base);
+            self.print_rest(place.spare, place.at, first_end.max(place.at))?;
+        } else {
+            self.page.line(source.slice(start, first_end))?;
+        }
+        let mut at = source.line_end(start).saturating_add(1);
+        for _ in at..=end {
+            if at > end || at >= source.text.len() {
+                break;
+            }
+            let place = self.page.stripped(source, at);
+            let line_end = source.line_end(place.at);
+            self.print_rest(place.spare, place.at, end.max(place.at).min(line_end))?;
+            at = line_end.saturating_add(1);
+        }
+        Ok(())
+    }
+
+    /// Ends the stretch that a comment keeps at the end of the innermost container.
+    pub(crate) fn end_region(&mut self) -> Result<(), AllocError> {
+        let Some(region) = self.region else {
+            return Ok(());
+        };
+        if region.depth != self.page.depth() {
+            return Ok(());
+        }
+        let to = match region.until {
+            Until::Next => region.to,
+            Until::Comment(_) => {
+                let end = self.page.top().end;
+                self.source.slice(0, end).trim_end_matches('\n').len()
+            }
+        };
+        self.print_region(region.from, to)
+    }
+
+    /// Prints a stretch that a comment keeps.
+    fn print_region(&mut self, from: usize, to: usize) -> Result<(), AllocError> {
+        self.region = None;
+        self.print_lines(from, to)?;
+        self.finish(Kind::Kept, to)
+    }
+
+    /// Passes a block or bare text that a comment keeps, or such a comment; the place behind it.
+    pub(crate) fn pass_kept(
+        &mut self,
+        part: &Part<'_>,
+        at: usize,
+    ) -> Result<Option<usize>, AllocError> {
+        let behind = if part.is_block(at) {
+            part.end(at).saturating_add(1)
+        } else {
+            part.past_inlines(at)
+        };
+        let (start, _) = part.range(at);
+        let (_, end) = part.range(behind.saturating_sub(1));
+        let comment = comment_at(part, at);
+        match self.region {
+            Some(mut region) if region.depth == self.page.depth() => {
+                region.to = end;
+                self.region = Some(region);
+                let is_last = match region.until {
+                    Until::Next => true,
+                    Until::Comment(text) => comment == Some(text),
+                };
+                if is_last {
+                    self.print_region(region.from, end)?;
+                }
+                Ok(Some(behind))
+            }
+            _ => {
+                let Some(until) = comment.and_then(kept_until) else {
+                    return Ok(None);
+                };
+                self.begin_events(Kind::Kept, start, end)?;
+                self.region = Some(Region {
+                    from: start,
+                    to: end,
+                    depth: self.page.depth(),
+                    until,
+                });
+                Ok(Some(behind))
+            }
+        }
+    }
+}

@@ -1,0 +1,294 @@
+//! Leaves: paragraphs, headings, code, HTML and rules.
+
+use crate::inline::{Inlines, Scene};
+use crate::page::Kind;
+use crate::part::Part;
+use crate::piece::{Lines, Pieces};
+use crate::printer::Printer;
+use crate::source::{is_blank, without_blanks};
+use crate::style::Rule;
+use std::alloc::AllocError;
+use tocmark_event::event::{CodeBlockKind, Event, HeadingLevel};
+
+fn level_number(level: HeadingLevel) -> usize {
+    match level {
+        HeadingLevel::H1 => 1,
+        HeadingLevel::H2 => 2,
+        HeadingLevel::H3 => 3,
+        HeadingLevel::H4 => 4,
+        HeadingLevel::H5 => 5,
+        HeadingLevel::H6 => 6,
+    }
+}
+
+/// How many bytes of one kind a text begins with.
+fn run(text: &str, byte: u8) -> usize {
+    text.as_bytes()
+        .iter()
+        .take_while(|other| **other == byte)
+        .count()
+}
+
+/// How many bytes the signs of a heading have at the front of a line, with the blanks behind them; 0 if there are none.
+fn signs_length(line: &str) -> usize {
+    let hashes = run(line, b'#');
+    let rest = line.get(hashes..).unwrap_or("");
+    match rest.as_bytes().first() {
+        Some(byte) if !is_blank(*byte) => 0,
+        _ if hashes == 0 || hashes > 6 => 0,
+        _ => {
+            let blanks = rest
+                .as_bytes()
+                .iter()
+                .take_while(|byte| is_blank(**byte))
+                .count();
+            hashes.saturating_add(blanks)
+        }
+    }
+}
+
+/// The attributes of a heading, in braces, in what stands behind its text.
+fn attributes_in(tail: &str) -> Option<&str> {
+    let (before, rest) = tail.split_once('{')?;
+    let (inner, _) = rest.split_once('}')?;
+    let from = before.len();
+    tail.get(from..from.saturating_add(inner.len()).saturating_add(2))
+}
+
+/// Whether a text ends with signs of a heading behind a blank, or is nothing else.
+fn ends_with_hashes(line: &str) -> bool {
+    let bare = line.trim_end_matches('#');
+    if bare.len() == line.len() {
+        return false;
+    }
+    match bare.as_bytes().last() {
+        Some(byte) => is_blank(*byte),
+        None => true,
+    }
+}
+
+/// How many signs a fence needs at least round a text, so that no line of it ends the fence.
+fn least_fence(text: &str, sign: u8) -> usize {
+    let mut longest = 0usize;
+    if !text.as_bytes().contains(&sign) {
+        return longest;
+    }
+    for line in text.split('\n') {
+        let length = run(line.trim_start_matches(&[' ', '\t']), sign);
+        longest = longest.max(length);
+    }
+    if longest == 0 {
+        0
+    } else {
+        longest.saturating_add(1)
+    }
+}
+
+fn repeated(text: &mut String, byte: u8, count: usize) -> Result<(), AllocError> {
+    for _ in 0..count {
+        text.push(char::from(byte))?;
+    }
+    Ok(())
+}
+
+impl Printer<'_> {
+    /// The pieces of events, whose text starts here in the source; and the place in the source behind them.
+    pub(crate) fn pieces_of(
+        &self,
+        part: &Part<'_>,
+        events: (usize, usize),
+        start: usize,
+    ) -> Result<(Pieces, usize), AllocError> {
+        let scene = Scene {
+            alloc: self.alloc,
+            source: self.source,
+            part,
+            page: &self.page,
+            look: self.look,
+        };
+        let mut inlines = Inlines::new(scene, start);
+        inlines.add_all(events.0, events.1)?;
+        let Inlines { pieces, at, .. } = inlines;
+        Ok((pieces, at))
+    }
+
+    /// Prints the lines of a text.
+    pub(crate) fn print_text(
+        &mut self,
+        part: &Part<'_>,
+        events: (usize, usize),
+        start: usize,
+    ) -> Result<(), AllocError> {
+        let (pieces, _) = self.pieces_of(part, events, start)?;
+        let lines = Lines::kept(self.alloc, &pieces)?;
+        self.print_all(&lines)
+    }
+
+    fn print_all(&mut self, lines: &Lines) -> Result<(), AllocError> {
+        for at in 0..lines.len() {
+            self.page.line(lines.line(at))?;
+        }
+        Ok(())
+    }
+
+    /// Prints a heading behind `#`; underlined if it has several lines or ends in `#`, or behind a task's box.
+    pub(crate) fn print_heading(
+        &mut self,
+        part: &Part<'_>,
+        at: usize,
+        level: HeadingLevel,
+    ) -> Result<(), AllocError> {
+        let source = self.source;
+        let (start, end) = part.range(at);
+        let signs = signs_length(source.slice(start, end.min(source.line_end(start))));
+        let first = at.saturating_add(1);
+        let text = start.saturating_add(signs);
+        let (pieces, behind) = self.pieces_of(part, (first, part.end(at)), text)?;
+        let mut lines = Lines::kept(self.alloc, &pieces)?;
+        let tail = source.slice(behind, end.min(source.line_end(behind)));
+        if let Some(attributes) = attributes_in(tail) {
+            lines.add_to_last(" ")?;
+            lines.add_to_last(attributes)?;
+        }
+        let has_box = matches!(part.event(first), Some(Event::TaskListMarker(_)));
+        let has_signs = signs > 0;
+        let is_underlined = lines.len() > 1
+            || has_box
+            || (!has_signs && (self.look.is_literal || ends_with_hashes(lines.last())));
+        if is_underlined {
+            self.print_underlined(&lines, level)
+        } else {
+            self.print_behind_signs(&lines, level)
+        }
+    }
+
+    fn print_underlined(&mut self, lines: &Lines, level: HeadingLevel) -> Result<(), AllocError> {
+        self.print_all(lines)?;
+        let sign = if level == HeadingLevel::H1 {
+            b'='
+        } else {
+            b'-'
+        };
+        let mut underline = String::new(self.alloc);
+        repeated(
+            &mut underline,
+            sign,
+            crate::width::width(lines.last()).max(3),
+        )?;
+        self.page.line(underline.as_str())
+    }
+
+    fn print_behind_signs(&mut self, lines: &Lines, level: HeadingLevel) -> Result<(), AllocError> {
+        let mut line = String::new(self.alloc);
+        repeated(&mut line, b'#', level_number(level))?;
+        if !lines.last().is_empty() {
+            line.push(' ')?;
+            line.push_str(lines.last())?;
+        }
+        self.page.line(line.as_str().trim_end_matches(' '))
+    }
+
+    /// Prints lines of code or HTML. The last one may have no line feed, if the source ends in it.
+    fn print_raw(&mut self, text: &str) -> Result<(), AllocError> {
+        self.is_cut = !text.is_empty() && !text.ends_with('\n');
+        if text.is_empty() {
+            return Ok(());
+        }
+        for line in text.strip_suffix('\n').unwrap_or(text).split('\n') {
+            self.page.line(line)?;
+        }
+        Ok(())
+    }
+
+    fn print_indented(&mut self, text: &str) -> Result<(), AllocError> {
+        self.is_cut = !text.is_empty() && !text.ends_with('\n');
+        let mut line = String::new(self.alloc);
+        for code in text.strip_suffix('\n').unwrap_or(text).split('\n') {
+            line.truncate(0);
+            if !code.is_empty() {
+                line.push_str("    ")?;
+                line.push_str(code)?;
+            }
+            self.page.line(line.as_str())?;
+        }
+        Ok(())
+    }
+
+    /// The fence of a code block with this first line, round this text.
+    fn fence_of(&self, head: &str, text: &str) -> Result<String, AllocError> {
+        let own = head.as_bytes().first().copied().unwrap_or(b'`');
+        let own_length = run(head, own);
+        let info = head.get(own_length..).unwrap_or("");
+        let mut fence = String::new(self.alloc);
+        if self.look.is_literal {
+            repeated(&mut fence, own, own_length)?;
+            return Ok(fence);
+        }
+        let sign = match self.look.fence {
+            Some(sign) if !info.contains('`') => sign,
+            _ => own,
+        };
+        let length = least_fence(text, sign).max(self.look.fence_length);
+        repeated(&mut fence, sign, length)?;
+        Ok(fence)
+    }
+
+    pub(crate) fn print_code(
+        &mut self,
+        part: &Part<'_>,
+        at: usize,
+        kind: &CodeBlockKind<'_>,
+    ) -> Result<(), AllocError> {
+        let text = part.raw_text(self.alloc, at)?;
+        if let CodeBlockKind::Indented = kind {
+            return self.print_indented(text.as_str());
+        }
+        let (start, end) = part.range(at);
+        let head = self
+            .source
+            .slice(start, end.min(self.source.line_end(start)));
+        let fence = self.fence_of(head, text.as_str())?;
+        let own = run(head, head.as_bytes().first().copied().unwrap_or(b'`'));
+        let mut line = String::from_str(self.alloc, fence.as_str())?;
+        line.push_str(without_blanks(head.get(own..).unwrap_or("")))?;
+        self.page.line(line.as_str())?;
+        self.print_raw(text.as_str())?;
+        if self.is_cut {
+            Ok(())
+        } else {
+            self.page.line(fence.as_str())
+        }
+    }
+
+    pub(crate) fn print_html(&mut self, part: &Part<'_>, at: usize) -> Result<(), AllocError> {
+        let text = part.raw_text(self.alloc, at)?;
+        if text.as_str().starts_with(' ') && !self.page.top().is_used {
+            // behind a marker its blanks would be the marker's
+            self.page.line("")?;
+        }
+        self.print_raw(text.as_str())
+    }
+
+    /// Prints a rule: not of `-` below a text without a blank line between, nor at the front of a document, where metadata
+    /// would begin; and behind a bullet not of its sign.
+    pub(crate) fn print_rule(&mut self, range: (usize, usize)) -> Result<(), AllocError> {
+        let own = match self.look.rule {
+            Rule::Source => self.source.slice(range.0, range.1),
+            Rule::Dashes => "---",
+        };
+        let top = self.page.top();
+        let sign = if top.kind == Kind::Item && !top.is_used {
+            top.first.as_bytes().first().copied()
+        } else {
+            None
+        };
+        let no_dashes = (top.is_tight && top.last.is_some()) || self.page.text.is_empty();
+        for rule in [own, "***", "___"] {
+            let byte = rule.as_bytes().first().copied();
+            if byte != sign && !(no_dashes && byte == Some(b'-')) {
+                return self.page.line(rule);
+            }
+        }
+        self.page.line("___")
+    }
+}

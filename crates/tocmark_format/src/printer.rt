@@ -1,0 +1,362 @@
+//! The walk over the events of a document: each block is printed as it comes.
+
+use crate::kept::Region;
+use crate::look::Look;
+use crate::page::{Kind, Page};
+use crate::part::{Part, is_inline};
+use crate::source::Source;
+use std::alloc::{AllocError, Global};
+use tocmark_event::event::{Event, Tag};
+
+/// How near to the source a tree at the top is printed.
+#[derive(Clone, Copy, Debug, PartialEq, Eq)]
+pub(crate) enum Rung {
+    /// In the style's look.
+    Look,
+    /// In the source's own spelling.
+    Literal,
+    /// Its lines of the source.
+    Lines,
+}
+
+/// What stands at the top of a document: a tree, some that are kept together, or definitions of links.
+#[derive(Clone, Copy)]
+pub(crate) struct Block {
+    /// The number of its first tree; definitions have none.
+    pub(crate) tree: Option<usize>,
+    /// Where it stands in the source.
+    pub(crate) range: (usize, usize),
+    /// Where its text begins.
+    pub(crate) start: usize,
+    /// Whether its prefixes outgrew its text, so that it keeps its lines.
+    pub(crate) is_outgrown: bool,
+}
+
+/// Prefixes may have so many bytes in a block, and four for each byte of it.
+const FREE_PREFIXES: usize = 4096;
+
+/// Prints a document in its source's order.
+#[derive(Drop)]
+pub(crate) struct Printer<'d> {
+    pub(crate) alloc: Global,
+    pub(crate) source: &'d Source<'d>,
+    pub(crate) page: Page,
+    wanted: Look,
+    /// How the block at the top is printed that is open.
+    pub(crate) look: Look,
+    /// For each tree how near to the source it is printed; `Look` for those that have none.
+    rungs: &'d [Rung],
+    /// Whether definitions stay as they are spelled.
+    keeps_definitions: bool,
+    pub(crate) blocks: Vec<Block>,
+    /// How many trees came.
+    trees: usize,
+    /// Whether the source ends within a line of code or HTML.
+    pub(crate) is_cut: bool,
+    /// What a comment keeps that came before.
+    pub(crate) region: Option<Region>,
+}
+
+impl<'d> Printer<'d> {
+    pub(crate) fn new(
+        alloc: Global,
+        source: &'d Source<'d>,
+        wanted: Look,
+        rungs: &'d [Rung],
+        keeps_definitions: bool,
+    ) -> Printer<'d> {
+        Printer {
+            alloc,
+            source,
+            page: Page::new(alloc, source.text.len()),
+            wanted,
+            look: wanted,
+            rungs,
+            keeps_definitions,
+            blocks: Vec::new(alloc),
+            trees: 0,
+            is_cut: false,
+            region: None,
+        }
+    }
+
+    fn rung(&self, tree: usize) -> Rung {
+        self.rungs.get(tree).copied().unwrap_or(Rung::Look)
+    }
+
+    /// Prints the line between a block and the one before it in its container: none in tight items, and none between some
+    /// blocks that aren't apart in the source.
+    fn separate(&mut self, kind: Kind, is_apart: bool) -> Result<(), AllocError> {
+        let top = self.page.top();
+        let Some(last) = top.last else {
+            return Ok(());
+        };
+        if top.is_tight {
+            if last == Kind::Quote && kind == Kind::Paragraph {
+                // else the text would go on with the quote's paragraph
+                return self.page.line(">");
+            }
+            return Ok(());
+        }
+        let is_pair = match (last, kind) {
+            (Kind::Html, Kind::Html) | (Kind::Footnote, Kind::Footnote) => true,
+            (Kind::Definition, Kind::Definition) => true,
+            (Kind::Title, Kind::Title | Kind::Definition) => true,
+            (Kind::Definitions, _) => self.look.is_literal,
+            _ => false,
+        };
+        if is_apart || !is_pair {
+            self.page.blank()
+        } else {
+            Ok(())
+        }
+    }
+
+    /// Begins a block, of which one at the top has a look and a limit of its own.
+    fn begin(
+        &mut self,
+        kind: Kind,
+        is_apart: bool,
+        block: (Option<usize>, (usize, usize)),
+    ) -> Result<(), AllocError> {
+        let (tree, range) = block;
+        let is_top = self.page.depth() == 0;
+        if is_top {
+            let rung = match tree {
+                Some(tree) => self.rung(tree),
+                None if self.keeps_definitions => Rung::Literal,
+                None => Rung::Look,
+            };
+            self.look = if rung == Rung::Look {
+                self.wanted
+            } else {
+                Look::literal()
+            };
+            let size = range.1.saturating_sub(range.0);
+            self.page
+                .limit(size.saturating_mul(4).saturating_add(FREE_PREFIXES));
+        }
+        self.separate(kind, is_apart)?;
+        if is_top {
+            self.blocks.push(Block {
+                tree,
+                range,
+                start: self.page.text.len(),
+                is_outgrown: false,
+            })?;
+        }
+        Ok(())
+    }
+
+    /// Begins definitions of links.
+    pub(crate) fn begin_definitions(&mut self, from: usize, to: usize) -> Result<(), AllocError> {
+        self.begin(Kind::Definitions, true, (None, (from, to)))
+    }
+
+    /// Begins a block of events behind the definitions that stand before it.
+    pub(crate) fn begin_events(
+        &mut self,
+        kind: Kind,
+        start: usize,
+        end: usize,
+    ) -> Result<(), AllocError> {
+        let source = self.source;
+        let base = source.line_start(start);
+        let before = source.slice(source.line_start(base.saturating_sub(1)), base);
+        let is_apart = before.trim_matches(&[' ', '\t', '>', '\n']).is_empty();
+        self.print_gap(start)?;
+        let tree = self.trees.checked_sub(1);
+        self.begin(kind, is_apart, (tree, (start, end)))
+    }
+
+    /// Ends a block; one whose prefixes outgrow its text gets its lines of the source.
+    pub(crate) fn finish(&mut self, kind: Kind, end: usize) -> Result<(), AllocError> {
+        if self.page.depth() == 0 && self.page.is_over() {
+            self.page.limit(usize::MAX);
+            if let Some(block) = self.blocks.last_mut() {
+                block.is_outgrown = true;
+                let block = *block;
+                self.page.text.truncate(block.start);
+                self.print_lines(block.range.0, block.range.1)?;
+            }
+        }
+        let top = self.page.top_mut();
+        top.last = Some(kind);
+        top.at = top.at.max(end);
+        Ok(())
+    }
+
+    /// Closes the innermost container, whose End this is.
+    fn close(&mut self, end: usize) -> Result<(), AllocError> {
+        self.end_region()?;
+        let top = self.page.top();
+        let kind = top.kind;
+        let marker = top.marker;
+        let behind = top.end.saturating_add(1);
+        if kind != Kind::List {
+            self.print_gap(behind)?;
+        }
+        if self.page.top().owes_sign() {
+            self.page.line("")?;
+        }
+        self.page.close();
+        self.finish(kind, end)?;
+        self.page.top_mut().last_marker = marker;
+        Ok(())
+    }
+
+    /// Prints the inlines of a tight item from a place on; the place behind them.
+    fn print_bare_text(&mut self, part: &Part<'_>, at: usize) -> Result<usize, AllocError> {
+        let source = self.source;
+        let start = part.range(at).0;
+        let front = self.page.front(source, start);
+        let place = source.past_blanks(front.at).min(start);
+        let behind = part.past_inlines(at);
+        let end = part.range(behind.saturating_sub(1)).1;
+        self.begin_events(Kind::Paragraph, place, end)?;
+        self.print_text(part, (at, behind), place)?;
+        self.finish(Kind::Paragraph, end)?;
+        Ok(behind)
+    }
+
+    /// Opens a container, or prints a leaf; whether it is a container.
+    fn print_block(&mut self, part: &Part<'_>, at: usize) -> Result<bool, AllocError> {
+        let range = part.range(at);
+        let Some(event) = part.event(at) else {
+            return Ok(false);
+        };
+        match event {
+            Event::Rule => self.print_rule(range)?,
+            Event::Start(tag) => match tag {
+                Tag::Paragraph | Tag::DefinitionListTitle => {
+                    self.print_text(part, (at.saturating_add(1), part.end(at)), range.0)?;
+                }
+                Tag::Heading { level, .. } => self.print_heading(part, at, *level)?,
+                Tag::CodeBlock(kind) => self.print_code(part, at, kind)?,
+                Tag::HtmlBlock => self.print_html(part, at)?,
+                Tag::Table(alignments) => self.print_table(part, at, alignments)?,
+                Tag::MetadataBlock(_) => self.print_lines(range.0, range.1)?,
+                _ => {
+                    self.open_container(part, at, tag)?;
+                    return Ok(true);
+                }
+            },
+            _ => {}
+        }
+        Ok(false)
+    }
+
+    /// Prints a block that no comment keeps; the place behind its event, or behind its End.
+    fn print_next(&mut self, part: &Part<'_>, at: usize, kind: Kind) -> Result<usize, AllocError> {
+        let (start, end) = part.range(at);
+        let behind = part.end(at).saturating_add(1);
+        if kind == Kind::Item {
+            self.separate(kind, true)?;
+        } else {
+            self.begin_events(kind, start, end)?;
+        }
+        let tree = self.trees.saturating_sub(1);
+        let is_top = self.page.depth() == 0;
+        if is_top && self.rung(tree) == Rung::Lines {
+            self.print_lines(start, end)?;
+        } else if self.print_block(part, at)? {
+            return Ok(at.saturating_add(1));
+        }
+        self.finish(kind, end)?;
+        Ok(behind)
+    }
+
+    /// Prints the next block, or opens or closes a container; the place behind that.
+    fn print_at(&mut self, part: &Part<'_>, at: usize) -> Result<usize, AllocError> {
+        let next = at.saturating_add(1);
+        let Some(event) = part.event(at) else {
+            return Ok(next);
+        };
+        if let Event::End(_) = event {
+            self.close(part.range(at).1)?;
+            return Ok(next);
+        }
+        if self.page.depth() == 0 {
+            self.trees = self.trees.saturating_add(1);
+        }
+        if let Some(behind) = self.pass_kept(part, at)? {
+            return Ok(behind);
+        }
+        if is_inline(event) {
+            return self.print_bare_text(part, at);
+        }
+        self.print_next(part, at, kind_of(event))
+    }
+
+    /// Prints the next trees at the top.
+    pub(crate) fn print(&mut self, part: &Part<'_>) -> Result<(), AllocError> {
+        let mut at = 0usize;
+        for _ in 0..part.len() {
+            if at >= part.len() {
+                break;
+            }
+            at = self.print_at(part, at)?;
+        }
+        Ok(())
+    }
+
+    /// Prints what stands behind the last tree.
+    pub(crate) fn end(&mut self) -> Result<(), AllocError> {
+        self.end_region()?;
+        self.print_gap(self.source.text.len().saturating_add(1))?;
+        if self.is_cut && self.page.text.as_str().ends_with('\n') {
+            let length = self.page.text.len().saturating_sub(1);
+            self.page.text.truncate(length);
+        }
+        if self.begins_metadata() {
+            self.put_line_before()?;
+        }
+        Ok(())
+    }
+
+    /// Whether other programs would read front matter where the source has none.
+    fn begins_metadata(&self) -> bool {
+        let front = self.page.text.as_str().get(..3).unwrap_or("");
+        (front == "---" || front == "+++") && !self.source.text.starts_with(front)
+    }
+
+    /// Puts an empty line before all that is printed.
+    fn put_line_before(&mut self) -> Result<(), AllocError> {
+        let mut text = String::from_str(self.alloc, "\n")?;
+        text.push_str(self.page.text.as_str())?;
+        self.page.text = text;
+        for block in self.blocks.iter_mut() {
+            block.start = block.start.saturating_add(1);
+        }
+        Ok(())
+    }
+
+    /// What is printed, and its blocks.
+    pub(crate) fn into_text(self) -> (String, Vec<Block>) {
+        let Printer { page, blocks, .. } = self;
+        (page.into_text(), blocks)
+    }
+}
+
+/// What kind of block an event begins.
+fn kind_of(event: &Event<'_>) -> Kind {
+    match event {
+        Event::Rule => Kind::Rule,
+        Event::Start(tag) => match tag {
+            Tag::Heading { .. } => Kind::Heading,
+            Tag::CodeBlock(_) => Kind::Code,
+            Tag::HtmlBlock => Kind::Html,
+            Tag::Table(_) => Kind::Table,
+            Tag::MetadataBlock(_) => Kind::Metadata,
+            Tag::BlockQuote(_) => Kind::Quote,
+            Tag::List(_) => Kind::List,
+            Tag::Item => Kind::Item,
+            Tag::FootnoteDefinition(_) => Kind::Footnote,
+            Tag::DefinitionList => Kind::DefinitionList,
+            Tag::DefinitionListTitle => Kind::Title,
+            Tag::DefinitionListDefinition => Kind::Definition,
+            _ => Kind::Paragraph,
+        },
+        _ => Kind::Paragraph,
+    }
+}

@@ -1,0 +1,114 @@
+//! The source of a document: its lines, and where a place stands on its line. All places are in bytes.
+
+use std::alloc::{AllocError, Global};
+
+/// A text, and where its lines begin.
+#[derive(Drop)]
+pub(crate) struct Source<'s> {
+    pub(crate) text: &'s str,
+    starts: Vec<usize>,
+}
+
+/// Whether a byte is a blank or a tab.
+pub(crate) fn is_blank(byte: u8) -> bool {
+    byte == b' ' || byte == b'\t'
+}
+
+/// A text without blanks and tabs at its end.
+pub(crate) fn without_end_blanks(text: &str) -> &str {
+    text.trim_end_matches(&[' ', '\t'])
+}
+
+/// A text without blanks and tabs at its front and its end.
+pub(crate) fn without_blanks(text: &str) -> &str {
+    without_end_blanks(text.trim_start_matches(&[' ', '\t']))
+}
+
+impl<'s> Source<'s> {
+    /// A text whose lines end with line feeds.
+    pub(crate) fn new(alloc: Global, text: &'s str) -> Result<Source<'s>, AllocError> {
+        let mut starts = Vec::new(alloc);
+        starts.push(0usize)?;
+        for (at, byte) in text.as_bytes().iter().enumerate() {
+            if *byte == b'\n' {
+                starts.push(at.saturating_add(1))?;
+            }
+        }
+        Ok(Source { text, starts })
+    }
+
+    /// The text between two places; empty if there is none.
+    pub(crate) fn slice(&self, from: usize, to: usize) -> &'s str {
+        self.text.get(from..to).unwrap_or("")
+    }
+
+    /// The byte at a place; a line feed at the end and past it.
+    pub(crate) fn byte(&self, at: usize) -> u8 {
+        self.text.as_bytes().get(at).copied().unwrap_or(b'\n')
+    }
+
+    /// The number of the line that a place stands on, counted from 0.
+    pub(crate) fn line_of(&self, at: usize) -> usize {
+        self.starts
+            .partition_point(|start| *start <= at)
+            .saturating_sub(1)
+    }
+
+    /// Where the line of a place begins.
+    pub(crate) fn line_start(&self, at: usize) -> usize {
+        let line = self.line_of(at);
+        self.starts.get(line).copied().unwrap_or(0)
+    }
+
+    /// The line feed that ends the line of a place; the end of the text, if there is none.
+    pub(crate) fn line_end(&self, at: usize) -> usize {
+        let next = self.line_of(at).saturating_add(1);
+        match self.starts.get(next) {
+            Some(start) => start.saturating_sub(1),
+            None => self.text.len(),
+        }
+    }
+
+    /// The first place from here on without a blank or a tab.
+    pub(crate) fn past_blanks(&self, at: usize) -> usize {
+        let rest = self.text.as_bytes().get(at..).unwrap_or(&[]);
+        let blanks = rest.iter().take_while(|byte| is_blank(**byte)).count();
+        at.saturating_add(blanks)
+    }
+
+    /// The column of a place on its line, where another one before it has this column; a tab ends at the next multiple of
+    /// four.
+    pub(crate) fn column_at(&self, column: usize, before: usize, at: usize) -> usize {
+        let mut column = column;
+        for character in self.slice(before, at).chars() {
+            let width = if character == '\t' {
+                4usize.saturating_sub(column % 4)
+            } else {
+                1
+            };
+            column = column.saturating_add(width);
+        }
+        column
+    }
+
+    /// Whether a line without anything but blanks and signs of quotes stands between two places.
+    pub(crate) fn has_blank_line(&self, from: usize, to: usize) -> bool {
+        let first = self.line_of(from).saturating_add(1);
+        let last = self.line_of(to);
+        for line in first..last {
+            let start = self.starts.get(line).copied().unwrap_or(0);
+            let text = self.slice(start, self.line_end(start));
+            if text.trim_start_matches(&[' ', '\t', '>']).is_empty() {
+                return true;
+            }
+        }
+        false
+    }
+
+    /// The lines between two places, counted from 1: the first one and the last one.
+    pub(crate) fn lines_between(&self, from: usize, to: usize) -> (usize, usize) {
+        let first = self.line_of(from).saturating_add(1);
+        let last = self.line_of(to.saturating_sub(1)).saturating_add(1);
+        (first, last.max(first))
+    }
+}
