@@ -12,11 +12,11 @@ use crate::pieces::{Document, Piece, Texts, Trees, all_left};
 use crate::style::{Escapes, Style};
 use std::alloc::{AllocError, Global};
 use tocmark_compare::digest::Digest;
-use tocmark_rewrite::trees::Block;
 use tocmark_event::event::ParserOptions;
 use tocmark_event::options::Options;
 use tocmark_event::reader::{Reader, Reading};
 use tocmark_rewrite::pieces::Tools;
+use tocmark_rewrite::trees::Block;
 
 /// The byte order mark, which others take for no character, and readers of Markdown for one of the first line.
 const MARK: &str = "\u{feff}";

@@ -9,11 +9,11 @@ use crate::style::{Escapes, Style};
 use crate::table::aligned;
 use crate::tidy::tidied;
 use std::alloc::{AllocError, Global};
-use tocmark_rewrite::trees::{Block, LineCounter, blocks_in, has_text};
 use tocmark_event::event::Event;
 use tocmark_event::options::{Error, Options};
 use tocmark_event::reader::{Reader, Reading};
 use tocmark_rewrite::pieces::{Piece as Written, Tools, write_with};
+use tocmark_rewrite::trees::{Block, LineCounter, blocks_in, has_text};
 
 /// In which form a tree is put into the document: each is nearer to the source than the one before.
 #[derive(Clone, Copy, Debug, PartialEq, Eq)]
