@@ -32,7 +32,7 @@ use tocmark::event::{Event, ParserOptions};
 use tocmark::reader::{Reader, Reading};
 use tocmark_reader::ExtendedReader;
 use tocmark_rewrite::edits::number_of;
-use tocmark_rewrite::{Fault, Rewritten, rewritten_slice};
+use tocmark_rewrite::{DefinitionReader, Fault, Rewritten, rewritten_slice};
 
 /// Moves each heading that skips a level, and adds it to those that are moved.
 fn mend_all(
@@ -73,7 +73,7 @@ fn read_mended<R: Reader>(
 }
 
 /// The text with each heading that skips a level moved to the one that follows.
-fn mend_text<R: Reader>(
+fn mend_text<R: DefinitionReader>(
     alloc: Global,
     text: &str,
     reader: &R,

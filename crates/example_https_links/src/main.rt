@@ -25,7 +25,7 @@ use tocmark::event::{CowStr, Event, ParserOptions, Tag};
 use tocmark::reader::{Reader, Reading};
 use tocmark_reader::ExtendedReader;
 use tocmark_rewrite::edits::set_destination;
-use tocmark_rewrite::{Fate, Fault, Rewritten, rewritten_slice};
+use tocmark_rewrite::{DefinitionReader, Fate, Fault, Rewritten, rewritten_slice};
 
 /// Where an event leads, if it begins a link or an image.
 fn destination_in<'e>(event: &'e Event<'static>) -> Option<&'e str>
@@ -94,7 +94,7 @@ fn read_secured<R: Reader>(
 }
 
 /// The text with each link and image leading to the `https:` address.
-fn with_https<R: Reader>(
+fn with_https<R: DefinitionReader>(
     alloc: Global,
     text: &str,
     reader: &R,

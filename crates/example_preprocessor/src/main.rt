@@ -22,7 +22,7 @@ use tocmark::event::ParserOptions;
 use tocmark::reader::{Reader, Reading};
 use tocmark_reader::ExtendedReader;
 use tocmark_rewrite::edits::{Shift, shift_headings};
-use tocmark_rewrite::{Fault, Rewritten, rewritten_slice};
+use tocmark_rewrite::{DefinitionReader, Fault, Rewritten, rewritten_slice};
 
 /// The extensions of mdBook's Markdown that the reader reads.
 fn flags() -> ParserOptions {
@@ -48,7 +48,7 @@ fn read_lowered<R: Reader>(
 }
 
 /// The text with each heading one level down.
-fn lowered<R: Reader>(
+fn lowered<R: DefinitionReader>(
     alloc: Global,
     text: &str,
     reader: &R,

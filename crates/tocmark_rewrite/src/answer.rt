@@ -9,8 +9,8 @@ ghost use Rattle.tocmark_rewrite.specs.Kept.{Copies, FateIsSo, IsHonest, IsTold}
 
 use crate::output::Part;
 use crate::plan::{Plan, lines_of};
-use std::alloc::{AllocError, Global};
 use crate::trees::Block;
+use std::alloc::{AllocError, Global};
 
 /// A tree that stands in the new text as it does in the source.
 #[derive(Clone, Copy, Debug, PartialEq, Eq)]

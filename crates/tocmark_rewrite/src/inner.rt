@@ -5,10 +5,10 @@
 use crate::collect::lent;
 use crate::patch::Patch;
 use crate::pieces::{Piece, Tools, write_tree};
+use crate::trees::{line_start, lines_end, trees};
 use std::alloc::{AllocError, Global};
 use tocmark_compare::event::same_event;
 use tocmark_compare::same::{are_same, differ};
-use crate::trees::{line_start, lines_end, trees};
 use tocmark_event::event::{Event, Tag, TagEnd};
 use tocmark_event::options::Error;
 use tocmark_event::reader::Reader;

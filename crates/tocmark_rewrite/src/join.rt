@@ -7,8 +7,8 @@ use crate::output::Output;
 use crate::patch::Patch;
 use crate::pieces::{Definitions, Piece};
 use crate::plan::Plan;
-use std::alloc::{AllocError, Global};
 use crate::trees::{Block, has_text, trimmed};
+use std::alloc::{AllocError, Global};
 
 /// The source with its patches, whose places grow; none that begins before the end of another is made.
 pub(crate) fn patched(
@@ -58,7 +58,7 @@ fn gap(source: &str, blocks: &[Block], k: usize) -> (usize, usize) {
 }
 
 /// Two line ends, if something stands before.
-fn separate(alloc: Global, source: &str, output: &mut Output) -> Result<(), AllocError>
+fn separate(source: &str, output: &mut Output) -> Result<(), AllocError>
     requires { Builds source.now output.old }
     ensures { OnOk result (Builds source.now output.new) }
 {
@@ -66,13 +66,12 @@ fn separate(alloc: Global, source: &str, output: &mut Output) -> Result<(), Allo
         return Ok(());
     }
     let end = output.line_end();
-    output.put(source, String::from_str(alloc, end)?)?;
-    output.put(source, String::from_str(alloc, end)?)
+    output.put_str(source, end)?;
+    output.put_str(source, end)
 }
 
 /// What stands in the gaps from one tree of the source on to another: definitions.
 fn put_gaps(
-    alloc: Global,
     source: &str,
     between: Between<'_>,
     first: usize,
@@ -85,7 +84,7 @@ fn put_gaps(
     for k in first..last {
         let (from, to) = gap(source, between.blocks, k);
         if has_text(source.as_bytes(), from, to) {
-            separate(alloc, source, output)?;
+            separate(source, output)?;
             let (start, past) = trimmed(source.as_bytes(), from, to);
             copy_stretch(source, between.definitions, start, past, output)?;
         }
@@ -131,9 +130,18 @@ pub(crate) struct Manner {
     pub(crate) defines: bool,
 }
 
+impl Manner {
+    pub(crate) fn new(apart: bool, redefines: bool, defines: bool) -> Manner {
+        Manner {
+            apart,
+            redefines,
+            defines,
+        }
+    }
+}
+
 /// A line end, and another one if no line has ended; then the definitions and a line end.
 fn put_definitions(
-    alloc: Global,
     source: &str,
     definitions: &Definitions,
     output: &mut Output,
@@ -142,21 +150,20 @@ fn put_definitions(
     ensures { OnOk result (Builds source.now output.new) }
 {
     let end = output.line_end();
-    let text = definitions.text(alloc, end)?;
+    let text = definitions.text(output.alloc, end)?;
     if text.is_empty() {
         return Ok(());
     }
     if !output.text.as_str().ends_with("\n") {
-        output.put(source, String::from_str(alloc, end)?)?;
+        output.put_str(source, end)?;
     }
-    output.put(source, String::from_str(alloc, end)?)?;
+    output.put_str(source, end)?;
     output.put(source, text)?;
-    output.put(source, String::from_str(alloc, end)?)
+    output.put_str(source, end)
 }
 
 /// The source's end, or what is left of it.
 fn put_tail(
-    alloc: Global,
     source: &str,
     between: Between<'_>,
     next: usize,
@@ -171,18 +178,17 @@ fn put_tail(
         return copy_stretch(source, between.definitions, from, to, output);
     }
     let past = count.saturating_add(1);
-    put_gaps(alloc, source, between, next, past, output)?;
+    put_gaps(source, between, next, past, output)?;
     if source.ends_with("\r\n") {
-        output.put(source, String::from_str(alloc, "\r\n")?)?;
+        output.put_str(source, "\r\n")?;
     } else if source.ends_with("\n") {
-        output.put(source, String::from_str(alloc, "\n")?)?;
+        output.put_str(source, "\n")?;
     }
     Ok(())
 }
 
 /// What stands before a block.
 fn put_before(
-    alloc: Global,
     source: &str,
     between: Between<'_>,
     next: usize,
@@ -194,15 +200,15 @@ fn put_before(
     ensures { OnOk result (Builds source.now output.new) }
 {
     match stands_for {
-        None => separate(alloc, source, output),
+        None => separate(source, output),
         Some(place) => {
             if raw && place == next {
                 let (from, to) = gap(source, between.blocks, place);
                 return copy_stretch(source, between.definitions, from, to, output);
             }
             let past = place.saturating_add(1);
-            put_gaps(alloc, source, between, next, past, output)?;
-            separate(alloc, source, output)
+            put_gaps(source, between, next, past, output)?;
+            separate(source, output)
         }
     }
 }
@@ -259,16 +265,16 @@ pub(crate) fn joined(
     for (plan, piece) in plans.iter().zip(written.pieces) {
         let raw = !manner.apart || (follows && plan.kept.is_some());
         let place = plan.stands_for;
-        put_before(alloc, source, between, next, place, raw, &mut output)?;
+        put_before(source, between, next, place, raw, &mut output)?;
         put_block(source, between, plan, piece, &mut output)?;
         if let Some(place) = place {
             next = place.saturating_add(1);
         }
         follows = plan.kept.is_some();
     }
-    put_tail(alloc, source, between, next, &mut output)?;
+    put_tail(source, between, next, &mut output)?;
     if manner.defines {
-        put_definitions(alloc, source, written.definitions, &mut output)?;
+        put_definitions(source, written.definitions, &mut output)?;
     }
     Ok(output)
 }

@@ -7,7 +7,7 @@
 //! `plan` finds which of them stand in the source as they are.
 //!
 //! `patch` replaces the bytes of what was edited: of single events (`event`), and of links (`link`), by their `destination`
-//! and `title`, or by those of the `label`'s definition. `inner` writes the blocks in a
+//! and `title`, or by those of the `label`'s definition, which `definition_reader` finds. `inner` writes the blocks in a
 //! tree that were changed. `pieces` and `join` write changed trees, which `given` lends to a state, and put them between the
 //! kept ones. All leave a list of parts (`output`), which is read back. `answer` says what became of each tree, and `fault`
 //! why there is no answer.
@@ -21,6 +21,7 @@
 
 pub mod answer;
 mod collect;
+pub mod definition_reader;
 mod destination;
 pub mod edits;
 mod event;
@@ -41,6 +42,7 @@ mod title;
 pub mod trees;
 
 pub use answer::{Fate, Kept, Rewritten, RewrittenTree};
+pub use definition_reader::DefinitionReader;
 pub use fault::{Fault, Place};
 pub use output::Part;
 pub use rewrite::{rewritten, rewritten_slice};

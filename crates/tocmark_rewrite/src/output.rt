@@ -15,8 +15,9 @@ pub enum Part {
 }
 
 /// The new text, and its parts.
-#[derive(Debug, Drop)]
+#[derive(Drop)]
 pub(crate) struct Output {
+    pub(crate) alloc: Global,
     pub(crate) text: String,
     pub(crate) parts: Vec<Part>,
     /// Whether lines of the source end with a carriage return and a line feed.
@@ -32,6 +33,7 @@ impl Output {
         ensures { Builds source.now result }
     {
         Output {
+            alloc,
             text: String::new(alloc),
             parts: Vec::new(alloc),
             has_returns: source.contains("\r\n"),
@@ -65,5 +67,13 @@ impl Output {
         self.text.push_str(text.as_str())?;
         self.parts.push(Part::Written(text))?;
         Ok(())
+    }
+    /// Adds a copy of a text that was written.
+    pub(crate) fn put_str(&mut self, source: &str, text: &str) -> Result<(), AllocError>
+        requires { Builds source.now self.old }
+        ensures { OnOk result (Builds source.now self.new) }
+    {
+        let copy = String::from_str(self.alloc, text)?;
+        self.put(source, copy)
     }
 }

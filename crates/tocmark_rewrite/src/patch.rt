@@ -29,7 +29,9 @@ pub struct Patches {
     definitions: HashMap<String, DefinitionChange>,
     /// The first events of the trees that are written as a whole.
     pub written: Vec<usize>,
-    /// Whether blocks in trees are written by themselves.
+    /// Whether blocks in trees may be written by themselves.
+    pub allows_inner: bool,
+    /// Whether some are.
     pub has_inner: bool,
     /// The Starts that are open.
     open: Vec<usize>,
@@ -47,11 +49,12 @@ fn opens_raw(event: &Event<'_>) -> bool {
 }
 
 impl Patches {
-    pub fn new(alloc: Global) -> Patches {
+    pub fn new(alloc: Global, allows_inner: bool) -> Patches {
         Patches {
             list: Vec::new(alloc),
             definitions: HashMap::new(alloc),
             written: Vec::new(alloc),
+            allows_inner,
             has_inner: false,
             open: Vec::new(alloc),
             is_raw: false,

@@ -1,13 +1,13 @@
 //! The trees that were changed, each written by itself.
 
 use crate::fault::Fault;
+use crate::given::{GivenEvents, GivenPairs};
 use crate::patch::Patch;
 use crate::plan::{Plan, place_of};
 use crate::texts::Texts;
+use crate::trees::{Block, Tree};
 use std::alloc::{AllocError, Global};
 use std::collections::{HashMap, HashSet};
-use crate::given::{GivenEvents, GivenPairs};
-use crate::trees::{Block, Tree};
 use tocmark_event::event::{Event, ParserOptions};
 use tocmark_event::options::{Error, Options};
 use tocmark_event::reader::Reader;

@@ -6,9 +6,9 @@ ghost use Rattle.tocmark_compare.specs.Given.{given_events};
 ghost use Rattle.tocmark_rewrite.specs.Kept.{AreSame, HasEventsOf, IsHonest};
 
 use crate::fault::Place;
+use crate::trees::{Block, Tree, trees};
 use std::alloc::{AllocError, Global};
 use tocmark_compare::same::{are_same, differ};
-use crate::trees::{Block, Tree};
 use tocmark_event::event::Event;
 
 /// What becomes of a tree of the edited events.
@@ -93,20 +93,19 @@ fn plan_of(
     Ok(plan)
 }
 
-/// What becomes of each tree.
+/// What becomes of each tree at the top of the events.
 pub(crate) fn planned(
     alloc: Global,
     found: &[(Event<'_>, (usize, usize))],
     blocks: &[Block],
     events: &[(Event<'_>, (usize, usize))],
-    trees: &[Tree],
 ) -> Result<Vec<Plan>, AllocError>
     ensures { IfOk result (λ plans.
         All (IsHonest (given_events found.now) (given_events events.now)) plans.items) }
 {
     let mut plans = Vec::new(alloc);
     let mut next = 0usize;
-    for tree in trees {
+    for tree in &trees(alloc, events)? {
         let plan = plan_of(alloc, found, blocks, next, events, *tree)?;
         if let Some(place) = plan.stands_for {
             next = place.saturating_add(1);

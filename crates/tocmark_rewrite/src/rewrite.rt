@@ -1,6 +1,6 @@
 //! Rewrites a document: what wasn't changed stays byte for byte.
 
-ghost use Rattle.std.specs.Prelude.{◌≡◌, ◌↔◌, ℕ, IfOk, IfSome, IsTrue, List, Option, string_bytes};
+ghost use Rattle.std.specs.Prelude.{◌≡◌, ◌↔◌, ℕ, IfOk, IfSome, IsNone, IsTrue, List, Option, string_bytes};
 ghost use Rattle.std.specs.Borrow.{Bor};
 ghost use Rattle.std.specs.Iterator.{Drains, IsFinite};
 ghost use Rattle.std.specs.List.{All};
@@ -14,6 +14,7 @@ ghost use Rattle.tocmark_rewrite.specs.Parts.{Builds, IsMadeOf};
 
 use crate::answer::{Rewritten, told};
 use crate::collect::{collected, lent};
+use crate::definition_reader::DefinitionReader;
 use crate::fault::{Fault, Place};
 use crate::inner::{block_patch, innermost};
 use crate::join::{Manner, Written, joined, patched};
@@ -21,13 +22,12 @@ use crate::output::{Output, Part};
 use crate::patch::{Patch, Patches};
 use crate::pieces::{Definitions, Tools, events_of, make_pieces, write_tree};
 use crate::plan::{Plan, place_of, planned};
+use crate::trees::{Block, Tree, blocks, trees};
 use std::alloc::{AllocError, Global};
 use tocmark_compare::same::{are_same, differ};
-use crate::trees::{Block, Tree, blocks, trees};
 use tocmark_event::event::{Event, ParserOptions};
 use tocmark_event::options::Options;
 use tocmark_event::reader::Reader;
-use tocmark_reader::ExtendedReader;
 
 /// The source as it was read, and what becomes of the trees that were given.
 #[derive(Clone, Copy)]
@@ -85,6 +85,7 @@ fn whole(alloc: Global, source: &str) -> Result<Output, AllocError>
     let mut parts = Vec::new(alloc);
     parts.push(Part::Source(0, source.len()))?;
     Ok(Output {
+        alloc,
         text,
         parts,
         has_returns: false,
@@ -214,7 +215,6 @@ fn add_tree<'a, R: Reader>(
     work: &Work<'_>,
     at: usize,
     events: &'a [(Event<'a>, (usize, usize))],
-    inner: bool,
 ) -> Result<bool, AllocError> {
     let (Some(plan), Some(block)) = (work.plans.get(at), work.blocks.get(at)) else {
         return Ok(false);
@@ -227,14 +227,14 @@ fn add_tree<'a, R: Reader>(
     if add_small(tools.alloc, source, patches, old, new)? {
         return Ok(true);
     }
-    if inner && add_inner(tools, source, patches, old, new)? {
+    if patches.allows_inner && add_inner(tools, source, patches, old, new)? {
         return Ok(true);
     }
     add_written(tools, source, patches, *block, plan.tree, events)
 }
 
 /// The patches of all trees, where each stands for the block in its place; none if one is refused.
-fn all_patches<'a, R: Reader>(
+fn all_patches<'a, R: DefinitionReader>(
     tools: &Tools<'_, '_, R>,
     source: &str,
     work: &Work<'_>,
@@ -242,14 +242,16 @@ fn all_patches<'a, R: Reader>(
     inner: bool,
 ) -> Result<Option<Patches>, AllocError> {
     let alloc = tools.alloc;
-    let mut patches = Patches::new(alloc);
+    let mut patches = Patches::new(alloc, inner);
     for at in 0..work.plans.len() {
-        if !add_tree(tools, source, &mut patches, work, at, events, inner)? {
+        if !add_tree(tools, source, &mut patches, work, at, events)? {
             return Ok(None);
         }
     }
     if patches.redefines() {
-        let found = ExtendedReader::new().definitions(alloc, source, tools.flags)?;
+        let found = tools
+            .reader
+            .reference_definitions(alloc, source, tools.flags)?;
         patches.add_definitions(alloc, source, &found)?;
     }
     patches.sort()?;
@@ -258,7 +260,7 @@ fn all_patches<'a, R: Reader>(
 
 /// The source with just what was edited replaced, if it is read as the events: where blocks in trees may be
 /// written by themselves, and where they may not.
-fn patched_text<'a, R: Reader>(
+fn patched_text<'a, R: DefinitionReader>(
     tools: &Tools<'_, '_, R>,
     source: &str,
     work: &Work<'_>,
@@ -305,24 +307,22 @@ fn is_tree<'e>(
     }
 }
 
-/// The first tree at which a text is read otherwise.
-fn difference<R: Reader>(
-    tools: &Tools<'_, '_, R>,
+/// The first tree at which a text is read otherwise, by what was found in the text.
+fn difference<'e>(
+    alloc: Global,
+    found: &'e [(Event<'e>, (usize, usize))],
     work: &Work<'_>,
     events: &[(Event<'_>, (usize, usize))],
-    text: &str,
 ) -> Result<Place, AllocError> {
-    let alloc = tools.alloc;
-    let reading = tools.reader.read(alloc, text, tools.flags)?;
-    let found = trees(alloc, &reading.events)?;
+    let read = trees(alloc, found)?;
     let mut place = Place {
         event: 0,
         lines: None,
     };
     for (at, plan) in work.plans.iter().enumerate() {
         place = place_of(work.blocks, plan);
-        let is_read = match found.get(at) {
-            Some(tree) => is_tree(alloc, &reading.events, *tree, events, plan.tree)?,
+        let is_read = match read.get(at) {
+            Some(tree) => is_tree(alloc, found, *tree, events, plan.tree)?,
             None => false,
         };
         if !is_read {
@@ -332,8 +332,28 @@ fn difference<R: Reader>(
     Ok(place)
 }
 
+/// The first tree at which a text is read otherwise than the events; none if it is read as them.
+fn refusal<R: Reader>(
+    tools: &Tools<'_, '_, R>,
+    work: &Work<'_>,
+    text: &str,
+    events: &[(Event<'_>, (usize, usize))],
+) -> Result<Option<Place>, AllocError>
+    ensures { IfOk result (λ place. IsNone place
+        → merged (found_events (R.reading tools.now.reader.now text.now tools.now.flags))
+        ≡ merged (given_events events.now)) }
+{
+    let reading = tools.reader.read(tools.alloc, text, tools.flags)?;
+    let same = are_same(tools.alloc, &reading.events, events)?;
+    if same {
+        return Ok(None);
+    }
+    let place = difference(tools.alloc, &reading.events, work, events)?;
+    Ok(Some(place))
+}
+
 /// The definitions of the source that others take the place of.
-fn redefined<R: Reader>(
+fn redefined<R: DefinitionReader>(
     tools: &Tools<'_, '_, R>,
     source: &str,
     definitions: &Definitions,
@@ -342,12 +362,26 @@ fn redefined<R: Reader>(
     if definitions.is_empty() {
         return Ok(Vec::new(alloc));
     }
-    let found = ExtendedReader::new().definitions(alloc, source, tools.flags)?;
+    let found = tools
+        .reader
+        .reference_definitions(alloc, source, tools.flags)?;
     definitions.patches(alloc, &found)
 }
 
+/// The manners in which blocks are put side by side, as they are tried: apart or not, with the source's definitions
+/// redefined or not, with definitions at the end or not. The last one, with all three, is no part of it.
+const MANNERS: [(bool, bool, bool); 7] = [
+    (false, false, false),
+    (false, true, false),
+    (false, false, true),
+    (false, true, true),
+    (true, false, false),
+    (true, true, false),
+    (true, false, true),
+];
+
 /// Kept blocks and written ones side by side, in the first manner in which they are read as the events.
-fn joined_text<'a, R: Reader>(
+fn joined_text<'a, R: DefinitionReader>(
     tools: &Tools<'_, '_, R>,
     source: &str,
     work: &Work<'_>,
@@ -369,31 +403,23 @@ fn joined_text<'a, R: Reader>(
         definitions: &definitions,
         redefined: &redefined,
     };
-    let mut manner = Manner {
-        apart: false,
-        redefines: false,
-        defines: false,
-    };
-    for apart in [false, true] {
-        for (redefines, defines) in [(false, false), (true, false), (false, true), (true, true)] {
-            manner = Manner {
-                apart,
-                redefines,
-                defines,
-            };
-            let output = joined(alloc, source, blocks, plans, written, manner)?;
-            if let Some(output) = accepted(tools, source, output, events)? {
-                return Ok(output);
-            }
+    for (apart, redefines, defines) in MANNERS {
+        let manner = Manner::new(apart, redefines, defines);
+        let output = joined(alloc, source, blocks, plans, written, manner)?;
+        if let Some(output) = accepted(tools, source, output, events)? {
+            return Ok(output);
         }
     }
+    let manner = Manner::new(true, true, true);
     let last = joined(alloc, source, blocks, plans, written, manner)?;
-    let place = difference(tools, work, events, last.text.as_str())?;
-    Err(Fault::ReadOtherwise(place))
+    match refusal(tools, work, last.text.as_str(), events)? {
+        None => Ok(last),
+        Some(place) => Err(Fault::ReadOtherwise(place)),
+    }
 }
 
 /// The new text: the source if nothing was changed, else with patches, else kept and written blocks.
-fn new_text<'a, R: Reader>(
+fn new_text<'a, R: DefinitionReader>(
     tools: &Tools<'_, '_, R>,
     source: &str,
     work: &Work<'_>,
@@ -422,7 +448,7 @@ fn new_text<'a, R: Reader>(
 
 /// The same for events in a slice, each with a range, which aren't copied: an event that is new has that of what it
 /// replaces, or an empty one at its place.
-pub fn rewritten_slice<'a, R: Reader>(
+pub fn rewritten_slice<'a, R: DefinitionReader>(
     alloc: Global,
     source: &str,
     events: &'a [(Event<'a>, (usize, usize))],
@@ -445,8 +471,7 @@ pub fn rewritten_slice<'a, R: Reader>(
 {
     let reading = reader.read(alloc, source, flags)?;
     let blocks = blocks(alloc, source, &reading.events)?;
-    let trees = trees(alloc, events)?;
-    let plans = planned(alloc, &reading.events, &blocks, events, &trees)?;
+    let plans = planned(alloc, &reading.events, &blocks, events)?;
     let work = Work {
         found: &reading.events,
         blocks: &blocks,
@@ -461,8 +486,7 @@ pub fn rewritten_slice<'a, R: Reader>(
         has_ranges: true,
     };
     let output = new_text(&tools, source, &work, events)?;
-    let answer = answer(alloc, &work, output)?;
-    Ok(answer)
+    Ok(answer(alloc, &work, output)?)
 }
 
 /// The edited document: what wasn't changed stays byte for byte.
@@ -497,7 +521,7 @@ pub fn rewritten<'a, R, I>(
     options: Options<'_>,
 ) -> Result<Rewritten, Fault>
 where
-    R: Reader,
+    R: DefinitionReader,
     I: IntoIterator<Item = (&'a Event<'a>, Option<(usize, usize)>)>,
     requires { (it : I.IntoIter) → I.into_iter_gives events it
         → I.IntoIter.can_next it × IsFinite (I.IntoIter.remaining it) }

@@ -8,7 +8,7 @@ use Rattle.tocmark_rewrite.proofs.rewrite.rewritten_slice.Goals as goal
 
 pub new_text-requires : goal.new_text-requires
 new_text-requires g c =
-    ap given_events c.deref-5.ensures.value
+    ap given_events c.deref-4.ensures.value
     ∙ sym (found-given c.in_ok-reading.reading)
     ∙ ap found_events c.in_ok-reading.ensures
 
@@ -19,9 +19,9 @@ returns-clause-kept g c =
     ap given_events c.deref-2.ensures.value
     ∙ sym (found-given c.in_ok-reading.reading)
     ∙ ap found_events c.in_ok-reading.ensures in
-    let honest : All (IsHonest (given_events c.deref-2.result.now) given) c.deref-7.result.now =
-    subst (All (IsHonest (given_events c.deref-2.result.now) given)) (sym c.deref-7.ensures.value) c.in_ok-plans.ensures in
-    subst (λ (found : List EventView). All (IsTold found given c.in_ok-answer.answer.parts.items) c.in_ok-answer.answer.trees.items) read
+    let honest : All (IsHonest (given_events c.deref-2.result.now) given) c.deref-6.result.now =
+    subst (All (IsHonest (given_events c.deref-2.result.now) given)) (sym c.deref-6.ensures.value) c.in_ok-plans.ensures in
+    subst (λ (found : List EventView). All (IsTold found given c.in_ok-answer.field-0.parts.items) c.in_ok-answer.field-0.trees.items) read
     (c.in_ok-answer.ensures.told (given_events c.deref-2.result.now) given honest)
 
 pub returns-clause-unchanged : goal.returns-clause-unchanged

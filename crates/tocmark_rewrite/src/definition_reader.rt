@@ -1,0 +1,58 @@
+//! Readers that say where links are defined.
+
+use std::alloc::{AllocError, Global};
+use tocmark_event::event::ParserOptions;
+use tocmark_event::reader::Reader;
+use tocmark_read_scan::syntax::CORE;
+use tocmark_reader::{CoreReader, ExtendedReader, ReferenceDefinition, find_definitions};
+
+/// A reader that can say where the links in a text are defined.
+///
+/// Where a link by a label leads elsewhere, `rewritten` replaces the bytes of the label's definition at the place that
+/// its reader names. A reader that can't name any is taken as well: `impl DefinitionReader for MyReader {}`. Then the
+/// link is written with a definition of its own.
+pub trait DefinitionReader: Reader {
+    /// The definitions of links that the reader finds in a text, in their order. It fails if memory runs out.
+    fn reference_definitions(
+        &self,
+        alloc: Global,
+        _text: &str,
+        _flags: ParserOptions,
+    ) -> Result<Vec<ReferenceDefinition>, AllocError> {
+        Ok(Vec::new(alloc))
+    }
+}
+
+impl DefinitionReader for CoreReader {
+    fn reference_definitions(
+        &self,
+        alloc: Global,
+        text: &str,
+        _flags: ParserOptions,
+    ) -> Result<Vec<ReferenceDefinition>, AllocError> {
+        find_definitions(alloc, CORE, text)
+    }
+}
+
+impl DefinitionReader for ExtendedReader {
+    fn reference_definitions(
+        &self,
+        alloc: Global,
+        text: &str,
+        flags: ParserOptions,
+    ) -> Result<Vec<ReferenceDefinition>, AllocError> {
+        self.definitions(alloc, text, flags)
+    }
+}
+
+/// A reference to a reader names the reader's definitions.
+impl<R: DefinitionReader> DefinitionReader for &R {
+    fn reference_definitions(
+        &self,
+        alloc: Global,
+        text: &str,
+        flags: ParserOptions,
+    ) -> Result<Vec<ReferenceDefinition>, AllocError> {
+        (**self).reference_definitions(alloc, text, flags)
+    }
+}
