@@ -64,7 +64,6 @@ fn enter_heading<'a>(
 /// It fails if memory runs out, or if this is a heading in a heading.
 pub fn open_heading<'a>(
     renderer: &mut Renderer<'a>,
-    alloc: Global,
     tag: &'a TagOf<String>,
     level: HeadingLevel,
     broken: bool,

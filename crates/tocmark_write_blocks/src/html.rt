@@ -18,7 +18,7 @@ ghost use Rattle.tocmark_write_renderer.specs.WriterOf.{levels_of, page_of, Arri
 
 use crate::block_ends::begins_with;
 use crate::trail::{note_raw_end, set_open_html};
-use std::alloc::{AllocError, Global};
+use std::alloc::AllocError;
 use tocmark_event::event::{TagEnd, TagOf};
 use tocmark_event::options::Options;
 use tocmark_spelling::trail::Last;
@@ -30,7 +30,6 @@ use tocmark_write_renderer::renderer::Renderer;
 /// end stands in it.
 pub fn open_html<'a>(
     renderer: &mut Renderer<'a>,
-    alloc: Global,
     tag: &'a TagOf<String>,
     blank: bool,
     closed: bool,
