@@ -3,7 +3,6 @@ pub mod RunLemmas
 pub mod ClosedLemmas
 pub mod Found
 pub mod HtmlLemmas
-pub mod Parts
 pub mod PlaceLemmas
 pub mod RawLemmas
 pub mod Silent

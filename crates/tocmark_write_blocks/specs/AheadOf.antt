@@ -1,10 +1,8 @@
 -- What an opening is told of its body and of what follows, and which openings are written.
 use Rattle.std.specs.Prelude.{◌≡◌, ℕ, Bool, true, false}
-use Rattle.tocmark_write_pending.specs.BodyFacts.{IsForeseen}
 use Rattle.tocmark_event.specs.Options.{OptionsView}
 use Rattle.tocmark_event.specs.View.{TagView, Paragraph, BlockQuote, CodeBlock, CodeView, Indented, Fenced, HtmlBlock, FootnoteDefinition, DefinitionList, DefinitionListTitle, Table, TableHead, TableRow, TableCell, Emphasis, Strong, Link, Image, MetadataBlock}
 use Rattle.tocmark_write_texts.specs.Texts.{IsLongest}
-use Rattle.tocmark_spelling.specs.Buffered.{following_view}
 use Rattle.tocmark_spelling.specs.Html.{is_blank_terminated, is_html_closed}
 use Rattle.tocmark_spelling.specs.Look.{Look}
 use Rattle.tocmark_spelling.specs.Opening.{fence_token}
@@ -26,12 +24,6 @@ abbrev pub IsTextAhead : OptionsView → TagView → Look → Ahead → Type 0
 IsTextAhead o (CodeBlock kind) l a = IsRunAhead o kind l a.longest
 IsTextAhead o HtmlBlock l a = IsHtmlAhead l a
 IsTextAhead o t l a = Unit {0}
-
--- what is told is what the look says
-pub record IsAhead (o : OptionsView) (t : TagView) (l : Look) (a : Ahead) : Type 0 where
-  pub body : IsForeseen l a.body
-  pub next : l.next ≡ following_view a.next
-  pub text : IsTextAhead o t l a
 
 -- a container whose body is never left out, and which has no markers of emphasis
 abbrev pub is_opened : TagView → Bool

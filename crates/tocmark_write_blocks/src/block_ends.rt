@@ -43,7 +43,8 @@ pub fn no_ends() -> BlockEnds
     }
 }
 
-fn begins_with(text: &[u8], piece: &[u8]) -> bool
+/// Whether a text begins with a piece.
+pub(crate) fn begins_with(text: &[u8], piece: &[u8]) -> bool
     ensures { result ≡ begins_with text.now piece.now }
 {
     text.starts_with(piece)

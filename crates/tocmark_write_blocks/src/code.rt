@@ -45,11 +45,7 @@ fn begin_indented(renderer: &mut Renderer<'_>) -> Result<(), AllocError>
 }
 
 /// Opens indented code.
-fn open_indented<'a>(
-    renderer: &mut Renderer<'a>,
-    alloc: Global,
-    tag: &'a TagOf<String>,
-) -> Result<(), AllocError>
+fn open_indented<'a>(renderer: &mut Renderer<'a>, tag: &'a TagOf<String>) -> Result<(), AllocError>
     requires tag { tag_view string_bytes tag.now ≡ CodeBlock Indented }
     ensures stands { OnOk result (Arrives renderer.new
         (open_indented (levels_of renderer.old) (page_of renderer.old))) }
@@ -99,7 +95,7 @@ pub fn open_code<'a>(
     ensures mark { renderer.new.at_mark ≡ renderer.old.at_mark }
 {
     match kind {
-        CodeBlockKindOf::Indented => open_indented(renderer, job.alloc, tag),
+        CodeBlockKindOf::Indented => open_indented(renderer, tag),
         CodeBlockKindOf::Fenced(info) => {
             open_fenced(
                 renderer,

@@ -46,7 +46,6 @@ fn mark_of(level: HeadingLevel, underlined: bool) -> &'static str
 /// Writes a heading's mark, and opens it.
 fn enter_heading<'a>(
     renderer: &mut Renderer<'a>,
-    alloc: Global,
     tag: &'a TagOf<String>,
     level: HeadingLevel,
     broken: bool,
@@ -65,7 +64,6 @@ fn enter_heading<'a>(
 /// It fails if memory runs out, or if this is a heading in a heading.
 pub fn open_heading<'a>(
     renderer: &mut Renderer<'a>,
-    alloc: Global,
     tag: &'a TagOf<String>,
     level: HeadingLevel,
     broken: bool,
@@ -78,7 +76,7 @@ pub fn open_heading<'a>(
     if renderer.outside().in_heading {
         return Err(Error::UnexpectedEvent);
     }
-    enter_heading(renderer, alloc, tag, level, broken)?;
+    enter_heading(renderer, tag, level, broken)?;
     Ok(())
 }
 

@@ -11,14 +11,14 @@ ghost use Rattle.tocmark_spelling.specs.Closing.{with_raw_end, html_last, html_l
 ghost use Rattle.tocmark_spelling.specs.Html.{is_blank_terminated, is_html_closed, without_bracket, name_of, is_raw_name, ends_at_blank};
 ghost use Rattle.tocmark_spelling.specs.Look.{Look};
 ghost use Rattle.tocmark_spelling.specs.Opening.{open_html};
-ghost use Rattle.tocmark_spelling.specs.Words.{begins_with};
 ghost use Rattle.tocmark_write_blocks.specs.Leads.{Leads, OnPage};
 ghost use Rattle.tocmark_write_containers.specs.FrameOf.{content_view};
 ghost use Rattle.tocmark_write_blocks.specs.HtmlNames.{is_in_name};
 ghost use Rattle.tocmark_write_renderer.specs.WriterOf.{levels_of, page_of, Arrives};
 
+use crate::block_ends::begins_with;
 use crate::trail::{note_raw_end, set_open_html};
-use std::alloc::{AllocError, Global};
+use std::alloc::AllocError;
 use tocmark_event::event::{TagEnd, TagOf};
 use tocmark_event::options::Options;
 use tocmark_spelling::trail::Last;
@@ -30,7 +30,6 @@ use tocmark_write_renderer::renderer::Renderer;
 /// end stands in it.
 pub fn open_html<'a>(
     renderer: &mut Renderer<'a>,
-    alloc: Global,
     tag: &'a TagOf<String>,
     blank: bool,
     closed: bool,
@@ -81,12 +80,6 @@ pub fn close_html(renderer: &mut Renderer<'_>, options: &Options<'_>, content: &
         OpeningChoice::HtmlEnds { blank, closed } => leave_html(renderer, options, *blank, *closed),
         _ => {}
     }
-}
-
-fn begins_with(text: &[u8], piece: &[u8]) -> bool
-    ensures { result ≡ begins_with text.now piece.now }
-{
-    text.starts_with(piece)
 }
 
 fn without_bracket(text: &[u8]) -> &[u8]

@@ -10,7 +10,7 @@ ghost use Rattle.tocmark_write_renderer.specs.WriterOf.{levels_of, page_of, Arri
 
 use crate::paragraphs::open_plain;
 use crate::trail::end_block;
-use std::alloc::{AllocError, Global};
+use std::alloc::AllocError;
 use tocmark_event::event::{MetadataBlockKind, TagEnd, TagOf};
 use tocmark_event::options::Options;
 use tocmark_write_renderer::renderer::Renderer;
@@ -18,7 +18,6 @@ use tocmark_write_renderer::renderer::Renderer;
 /// Opens metadata of this kind, below the line that opens it.
 pub fn open_metadata<'a>(
     renderer: &mut Renderer<'a>,
-    alloc: Global,
     tag: &'a TagOf<String>,
     kind: MetadataBlockKind,
 ) -> Result<(), AllocError>
@@ -28,7 +27,7 @@ pub fn open_metadata<'a>(
     ensures mark { renderer.new.at_mark ≡ renderer.old.at_mark }
 {
     renderer.write(metadata_fence(kind))?;
-    open_plain(renderer, alloc, tag)
+    open_plain(renderer, tag)
 }
 
 /// The end of metadata of this kind, with the line that opened it.

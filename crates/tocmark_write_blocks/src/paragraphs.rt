@@ -9,7 +9,7 @@ ghost use Rattle.tocmark_write_blocks.specs.Leads.{Leads};
 ghost use Rattle.tocmark_write_renderer.specs.WriterOf.{levels_of, page_of, Arrives};
 
 use crate::trail::end_block;
-use std::alloc::{AllocError, Global};
+use std::alloc::AllocError;
 use tocmark_event::event::{TagEnd, TagOf};
 use tocmark_event::options::Options;
 use tocmark_write_containers::content::OpeningChoice;
@@ -17,11 +17,7 @@ use tocmark_write_containers::prefix::Prefix;
 use tocmark_write_renderer::renderer::Renderer;
 
 /// Opens a container that writes nothing and keeps nothing.
-pub fn open_plain<'a>(
-    renderer: &mut Renderer<'a>,
-    alloc: Global,
-    tag: &'a TagOf<String>,
-) -> Result<(), AllocError>
+pub fn open_plain<'a>(renderer: &mut Renderer<'a>, tag: &'a TagOf<String>) -> Result<(), AllocError>
     ensures stands { OnOk result (Arrives renderer.new (open_plain
         (tag_view string_bytes tag.entry.now) (levels_of renderer.old) (page_of renderer.old))) }
     ensures mark { renderer.new.at_mark ≡ renderer.old.at_mark }

@@ -38,7 +38,6 @@ fn write_mark(
 /// Opens a quote of this kind: its marker stands on a line of its own, but behind an item's marker.
 pub fn open_quote<'a>(
     renderer: &mut Renderer<'a>,
-    alloc: Global,
     tag: &'a TagOf<String>,
     kind: Option<BlockQuoteKind>,
 ) -> Result<(), AllocError>

@@ -122,7 +122,8 @@ fn behind_starts(event: &BufferedEvent, unit: &Pending, place: usize) -> Option<
     }
 }
 
-/// The same for ends.
+/// The character behind the run of ends that begins with the event at a place of a unit, or that of the
+/// event.
 fn behind_ends(event: &BufferedEvent, unit: &Pending, place: usize) -> Option<char>
     ensures { let e = buffered_view event.now in (rest : List SourcedEvent)
         → drop place unit.now.events ≡ e ∷ rest → result ≡ run_after close_width (e ∷ rest) }

@@ -44,7 +44,6 @@ fn open_named<'a>(
 /// Opens a link of this type; `named` says whether its id will stand in place of its body.
 pub fn open_link<'a>(
     renderer: &mut Renderer<'a>,
-    alloc: Global,
     tag: &'a TagOf<String>,
     kind: LinkType,
     named: bool,
@@ -60,7 +59,6 @@ pub fn open_link<'a>(
 /// Opens an image; `named` says whether its id will stand in place of its body.
 pub fn open_image<'a>(
     renderer: &mut Renderer<'a>,
-    alloc: Global,
     tag: &'a TagOf<String>,
     named: bool,
 ) -> Result<(), AllocError>

@@ -14,7 +14,7 @@ ghost use Rattle.tocmark_write_blocks.specs.Leads.{Closes, Leads, OnPage};
 ghost use Rattle.tocmark_write_pending.specs.BodyFacts.{IsForeseen};
 ghost use Rattle.tocmark_write_renderer.specs.WriterOf.{levels_of, page_of, Arrives, Stands};
 
-use std::alloc::{AllocError, Global};
+use std::alloc::AllocError;
 use tocmark_event::event::{TagEnd, TagOf};
 use tocmark_event::options::Options;
 use tocmark_spelling::trail::Last;
@@ -45,18 +45,14 @@ fn begin_title(renderer: &mut Renderer<'_>) -> Result<(), AllocError>
 }
 
 /// Opens a title in a definition list, on a line of its own, but behind an item's marker.
-pub fn open_title<'a>(
-    renderer: &mut Renderer<'a>,
-    alloc: Global,
-    tag: &'a TagOf<String>,
-) -> Result<(), AllocError>
+pub fn open_title<'a>(renderer: &mut Renderer<'a>, tag: &'a TagOf<String>) -> Result<(), AllocError>
     requires tag { tag_view string_bytes tag.now ≡ DefinitionListTitle }
     ensures stands { OnOk result (Arrives renderer.new
         (open_title (levels_of renderer.old) (page_of renderer.old))) }
     ensures mark { renderer.new.at_mark ≡ renderer.old.at_mark }
 {
     begin_title(renderer)?;
-    open_plain(renderer, alloc, tag)
+    open_plain(renderer, tag)
 }
 
 /// Writes a blank line if one is needed.
@@ -73,7 +69,6 @@ fn fill_if(renderer: &mut Renderer<'_>, needed: bool) -> Result<(), AllocError>
 /// if the body begins with a paragraph.
 pub fn open_definition<'a>(
     renderer: &mut Renderer<'a>,
-    alloc: Global,
     tag: &'a TagOf<String>,
     body: BodyFacts,
 ) -> Result<(), AllocError>

@@ -118,7 +118,8 @@ fn write_needed_label(
     }
 }
 
-/// The same with the reserved label, if there is one.
+/// Writes the definition of the reserved label, if there is one, where the item's list asks for it, or the item is an
+/// empty one in a list inside a list.
 fn write_reserved_label(
     renderer: &mut Renderer<'_>,
     alloc: Global,
@@ -212,7 +213,8 @@ fn is_empty_inner(renderer: &Renderer<'_>, empty: bool) -> bool
     empty && renderer.outside().in_two_lists
 }
 
-/// The same of an item that is empty or not.
+/// Writes the marker of an item that is empty or not, and the definition of the reserved label where that is needed;
+/// then opens the item. Its list has gone on to the next number already.
 fn enter_item<'a>(
     renderer: &mut Renderer<'a>,
     job: Job<'_, '_>,

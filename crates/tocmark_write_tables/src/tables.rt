@@ -53,11 +53,7 @@ fn is_directly_in_table(renderer: &Renderer<'_>) -> bool
 /// Opens a table's head, which writes nothing.
 ///
 /// It fails if memory runs out, or if the innermost container is no table.
-pub fn open_head<'a>(
-    renderer: &mut Renderer<'a>,
-    alloc: Global,
-    tag: &'a TagOf<String>,
-) -> Result<(), Error>
+pub fn open_head<'a>(renderer: &mut Renderer<'a>, tag: &'a TagOf<String>) -> Result<(), Error>
     requires tag { tag_view string_bytes tag.now ≡ TableHead }
     ensures comes { Comes result renderer.new
         (open_head (levels_of renderer.old) (page_of renderer.old)) }
@@ -66,16 +62,12 @@ pub fn open_head<'a>(
     if !is_directly_in_table(renderer) {
         return Err(Error::UnexpectedEvent);
     }
-    open_plain(renderer, alloc, tag)?;
+    open_plain(renderer, tag)?;
     Ok(())
 }
 
 /// Writes the bar before a cell, and opens the cell.
-fn enter_cell<'a>(
-    renderer: &mut Renderer<'a>,
-    alloc: Global,
-    tag: &'a TagOf<String>,
-) -> Result<(), AllocError>
+fn enter_cell<'a>(renderer: &mut Renderer<'a>, tag: &'a TagOf<String>) -> Result<(), AllocError>
     ensures stands { OnOk result (Arrives renderer.new (entered
         (tag_view string_bytes tag.entry.now) [] (Width 0) (levels_of renderer.old)
         (written (levels_of renderer.old) (codes "|") (page_of renderer.old)))) }
@@ -88,11 +80,7 @@ fn enter_cell<'a>(
 /// Opens a cell, behind the bar before it.
 ///
 /// It fails if memory runs out, or if no table is open.
-pub fn open_cell<'a>(
-    renderer: &mut Renderer<'a>,
-    alloc: Global,
-    tag: &'a TagOf<String>,
-) -> Result<(), Error>
+pub fn open_cell<'a>(renderer: &mut Renderer<'a>, tag: &'a TagOf<String>) -> Result<(), Error>
     requires tag { tag_view string_bytes tag.now ≡ TableCell }
     ensures comes { Comes result renderer.new
         (open_cell (levels_of renderer.old) (page_of renderer.old)) }
@@ -101,7 +89,7 @@ pub fn open_cell<'a>(
     if !renderer.outside().in_table {
         return Err(Error::UnexpectedEvent);
     }
-    enter_cell(renderer, alloc, tag)?;
+    enter_cell(renderer, tag)?;
     Ok(())
 }
 

@@ -136,7 +136,7 @@ impl Census {
         }
     }
 
-    /// The same with the start of a container in front.
+    /// The census of these events with the start of a container in front.
     fn with_start(self, tag: &TagOf<String>) -> Census
         ensures { (es : List SourcedEvent) → IsCensus es self
             → IsCensus (Start (tag_view string_bytes tag.now) ∷ es) result }
@@ -157,7 +157,7 @@ impl Census {
         }
     }
 
-    /// The same with a leaf in front.
+    /// The census of these events with a leaf in front.
     fn with_leaf(self, event: &BufferedEvent) -> Census
         requires leaf { is_leaf_event (buffered_view event.now) ≡ true }
         ensures { (es : List SourcedEvent) → IsCensus es self
@@ -178,7 +178,7 @@ impl Census {
         }
     }
 
-    /// The same with one event in front.
+    /// The census of these events with one more in front.
     fn with_event(self, event: &BufferedEvent) -> Census
         ensures { (es : List SourcedEvent) → IsCensus es self
             → IsCensus (buffered_view event.now ∷ es) result }

@@ -45,10 +45,10 @@ fn open_alone<'a>(
     ensures mark { renderer.new.at_mark ≡ renderer.old.at_mark }
 {
     match tag {
-        TagOf::TableHead => open_head(renderer, alloc, tag),
-        TagOf::TableCell => open_cell(renderer, alloc, tag),
+        TagOf::TableHead => open_head(renderer, tag),
+        TagOf::TableCell => open_cell(renderer, tag),
         TagOf::BlockQuote(kind) => {
-            open_quote(renderer, alloc, tag, *kind)?;
+            open_quote(renderer, tag, *kind)?;
             Ok(())
         }
         TagOf::FootnoteDefinition(label) => {
@@ -56,7 +56,7 @@ fn open_alone<'a>(
             Ok(())
         }
         TagOf::DefinitionListTitle => {
-            open_title(renderer, alloc, tag)?;
+            open_title(renderer, tag)?;
             Ok(())
         }
         TagOf::Table(_) => {
@@ -64,11 +64,11 @@ fn open_alone<'a>(
             Ok(())
         }
         TagOf::MetadataBlock(kind) => {
-            open_metadata(renderer, alloc, tag, *kind)?;
+            open_metadata(renderer, tag, *kind)?;
             Ok(())
         }
         _ => {
-            open_plain(renderer, alloc, tag)?;
+            open_plain(renderer, tag)?;
             Ok(())
         }
     }
@@ -99,15 +99,13 @@ pub fn open<'a>(
 {
     renderer.set_last(Last::Other);
     match tag {
-        TagOf::Heading { level, .. } => {
-            open_heading(renderer, job.alloc, tag, *level, ahead.body.broken)
-        }
+        TagOf::Heading { level, .. } => open_heading(renderer, tag, *level, ahead.body.broken),
         TagOf::CodeBlock(kind) => {
             open_code(renderer, job, tag, kind, ahead.longest)?;
             Ok(())
         }
         TagOf::HtmlBlock => {
-            open_html(renderer, job.alloc, tag, ahead.blank, ahead.closed)?;
+            open_html(renderer, tag, ahead.blank, ahead.closed)?;
             Ok(())
         }
         TagOf::List(number) => {
@@ -116,7 +114,7 @@ pub fn open<'a>(
         }
         TagOf::Item => open_item(renderer, job, tag, ahead.body.empty),
         TagOf::DefinitionListDefinition => {
-            open_definition(renderer, job.alloc, tag, ahead.body)?;
+            open_definition(renderer, tag, ahead.body)?;
             Ok(())
         }
         TagOf::Strikethrough | TagOf::Superscript | TagOf::Subscript => {

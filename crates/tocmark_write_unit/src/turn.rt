@@ -67,7 +67,6 @@ pub struct Neighbours<'e> {
 /// The opening of a link or image; `named` says whether its id will stand in place of its body.
 fn open_named<'a>(
     renderer: &mut Renderer<'a>,
-    alloc: Global,
     tag: &'a TagOf<String>,
     named: bool,
 ) -> Result<(), AllocError>
@@ -78,17 +77,16 @@ fn open_named<'a>(
     ensures mark { renderer.new.at_mark ≡ renderer.old.at_mark }
 {
     match tag {
-        TagOf::Link { link_type, .. } => open_link(renderer, alloc, tag, *link_type, named),
-        TagOf::Image { .. } => open_image(renderer, alloc, tag, named),
+        TagOf::Link { link_type, .. } => open_link(renderer, tag, *link_type, named),
+        TagOf::Image { .. } => open_image(renderer, tag, named),
         _ => Ok(()),
     }
 }
 
-/// The same; what is written before it is no inline content.
+/// The start of a link or image; what is written before it is no inline content.
 #[tactic(auto, unfolding(tocmark_spelling::specs::Opening::opening))]
 fn start_named<'a>(
     renderer: &mut Renderer<'a>,
-    alloc: Global,
     tag: &'a TagOf<String>,
     named: bool,
 ) -> Result<(), AllocError>
@@ -99,7 +97,7 @@ fn start_named<'a>(
     ensures mark { renderer.new.at_mark ≡ renderer.old.at_mark }
 {
     renderer.set_last(Last::Other);
-    open_named(renderer, alloc, tag, named)
+    open_named(renderer, tag, named)
 }
 
 /// Whether the layout is the preferred one.
@@ -170,11 +168,11 @@ fn open_container<'a, R: Reader>(
 {
     match tag {
         TagOf::Link { .. } => {
-            start_named(renderer, job.alloc, tag, is_named(around))?;
+            start_named(renderer, tag, is_named(around))?;
             Ok(())
         }
         TagOf::Image { .. } => {
-            start_named(renderer, job.alloc, tag, is_named(around))?;
+            start_named(renderer, tag, is_named(around))?;
             Ok(())
         }
         TagOf::Emphasis => {

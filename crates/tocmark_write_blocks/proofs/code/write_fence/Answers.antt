@@ -1,7 +1,7 @@
 use Rattle.std.proofs.Common.{flat_map}
 use Rattle.tocmark_spelling.specs.Opening.{info_byte}
 use Rattle.tocmark_write_renderer.specs.WriterOf.{levels_of, page_of}
-use Rattle.tocmark_write_blocks.proofs.Parts.{part-written}
+use Rattle.tocmark_write_renderer.proofs.Laid.{part-written}
 use Rattle.tocmark_write_blocks.proofs.code.write_fence.Goals as goal
 
 pub returns-clause-stands : goal.returns-clause-stands
