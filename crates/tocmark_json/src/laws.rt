@@ -5,13 +5,14 @@ ghost use Rattle.tocmark_event.specs.View.{EventView};
 ghost use Rattle.tocmark_json.specs.Json.{events_json, pairs_json};
 
 /// Two lists of events that have one JSON value are the same. So `events_from_json`, if it succeeds on
-/// what `events_to_json` made, gives the events that this was made of.
+/// the value of a text that `events_to_text` made, gives the events that this was made of.
 pub fn events_are_told_apart()
     ensures { (es fs : List EventView) → events_json es ≡ events_json fs → es ≡ fs }
 {}
 
 /// Two lists of events with their ranges that have one JSON value are the same. So `pairs_from_json`, if
-/// it succeeds on what `pairs_to_json` made, gives the events and ranges that this was made of.
+/// it succeeds on the value of a text that `pairs_to_text` made, gives the events and ranges that this was
+/// made of.
 pub fn pairs_are_told_apart()
     ensures { (ps qs : List (EventView × Option (ℕ × ℕ)))
         → pairs_json ps ≡ pairs_json qs → ps ≡ qs }

@@ -1,9 +1,9 @@
 //! Events as JSON, in the form of pulldown-cmark's feature `serde`, and JSON as events. `docs/JSON.md` has the form.
 //!
-//! Below it stand `tocmark_event` and the kit's `serde_json` and `json`, above it what takes such texts. Enter at `writing`
-//! for events as JSON values, at `printing` for events as JSON text, and at `reading` for JSON as events. `parts` reads one
-//! value of one sort, `names` has the names that stand in JSON, `fault` what is wrong with a value and where, and `laws`
-//! says that what is written is read back.
+//! Below it stand `tocmark_event` and the kit's `serde_json` and `json`, above it what takes such texts. Enter at `printing`
+//! for events as JSON text, and at `reading` for the events that a JSON value has. `parts` reads one value of one sort,
+//! `names` has the names that stand in JSON, `fault` what is wrong with a value and where, and `laws` says that different
+//! events have different JSON.
 #![tactic(auto)]
 
 pub mod fault;
@@ -12,4 +12,3 @@ pub mod names;
 pub mod parts;
 pub mod printing;
 pub mod reading;
-pub mod writing;

@@ -338,51 +338,6 @@ fn print_metadata(out: &mut Writer, kind: MetadataBlockKind) -> Result<(), Alloc
     print_tagged_name(out, "MetadataBlock", metadata_name(kind))
 }
 
-fn print_tag<T: Words>(out: &mut Writer, tag: &TagOf<T>) -> Result<(), AllocError>
-    ensures { OnOk result (Adds (tag_json (tag_view T.bytes tag.now)) out.old out.new) }
-{
-    match tag {
-        TagOf::Paragraph => print_name(out, "Paragraph"),
-        TagOf::Heading {
-            level,
-            id,
-            classes,
-            attrs,
-        } => print_heading(out, *level, id, classes, attrs),
-        TagOf::BlockQuote(kind) => print_quote(out, *kind),
-        TagOf::CodeBlock(kind) => print_code_block(out, kind),
-        TagOf::HtmlBlock => print_name(out, "HtmlBlock"),
-        TagOf::List(start) => print_list(out, *start),
-        TagOf::Item => print_name(out, "Item"),
-        TagOf::FootnoteDefinition(label) => print_tagged_text(out, "FootnoteDefinition", label),
-        TagOf::DefinitionList => print_name(out, "DefinitionList"),
-        TagOf::DefinitionListTitle => print_name(out, "DefinitionListTitle"),
-        TagOf::DefinitionListDefinition => print_name(out, "DefinitionListDefinition"),
-        TagOf::Table(alignments) => print_table(out, alignments),
-        TagOf::TableHead => print_name(out, "TableHead"),
-        TagOf::TableRow => print_name(out, "TableRow"),
-        TagOf::TableCell => print_name(out, "TableCell"),
-        TagOf::Emphasis => print_name(out, "Emphasis"),
-        TagOf::Strong => print_name(out, "Strong"),
-        TagOf::Strikethrough => print_name(out, "Strikethrough"),
-        TagOf::Superscript => print_name(out, "Superscript"),
-        TagOf::Subscript => print_name(out, "Subscript"),
-        TagOf::Link {
-            link_type,
-            dest_url,
-            title,
-            id,
-        } => print_link(out, "Link", *link_type, dest_url, title, id),
-        TagOf::Image {
-            link_type,
-            dest_url,
-            title,
-            id,
-        } => print_link(out, "Image", *link_type, dest_url, title, id),
-        TagOf::MetadataBlock(kind) => print_metadata(out, *kind),
-    }
-}
-
 fn print_end(out: &mut Writer, end: TagEnd) -> Result<(), AllocError>
     ensures { OnOk result (Adds (end_json end) out.old out.new) }
 {
@@ -410,6 +365,37 @@ fn print_end(out: &mut Writer, end: TagEnd) -> Result<(), AllocError>
         TagEnd::Link => print_name(out, "Link"),
         TagEnd::Image => print_name(out, "Image"),
         TagEnd::MetadataBlock(kind) => print_metadata(out, kind),
+    }
+}
+
+/// Prints a tag. One that holds nothing prints as its end does.
+fn print_tag<T: Words>(out: &mut Writer, tag: &TagOf<T>) -> Result<(), AllocError>
+    ensures { OnOk result (Adds (tag_json (tag_view T.bytes tag.now)) out.old out.new) }
+{
+    match tag {
+        TagOf::Heading {
+            level,
+            id,
+            classes,
+            attrs,
+        } => print_heading(out, *level, id, classes, attrs),
+        TagOf::CodeBlock(kind) => print_code_block(out, kind),
+        TagOf::List(start) => print_list(out, *start),
+        TagOf::FootnoteDefinition(label) => print_tagged_text(out, "FootnoteDefinition", label),
+        TagOf::Table(alignments) => print_table(out, alignments),
+        TagOf::Link {
+            link_type,
+            dest_url,
+            title,
+            id,
+        } => print_link(out, "Link", *link_type, dest_url, title, id),
+        TagOf::Image {
+            link_type,
+            dest_url,
+            title,
+            id,
+        } => print_link(out, "Image", *link_type, dest_url, title, id),
+        _ => print_end(out, tag.to_end()),
     }
 }
 
@@ -538,7 +524,7 @@ fn text_of(out: Writer) -> Result<String, AllocError>
     }
 }
 
-/// The JSON text of a list of events, without spaces: that of the value of `events_to_json`.
+/// The JSON text of a list of events, an array, without spaces.
 pub fn events_to_text<T: Words>(alloc: Global, events: &[EventOf<T>]) -> Result<String, AllocError>
     ensures text { IfOk result (λ text. string_bytes text
         ≡ compact_text (events_json (map (event_view T.bytes) events.now))) }
@@ -550,8 +536,8 @@ pub fn events_to_text<T: Words>(alloc: Global, events: &[EventOf<T>]) -> Result<
     text_of(out)
 }
 
-/// The JSON text of a list of events with their ranges, where they have one, without spaces: that of
-/// the value of `pairs_to_json`.
+/// The JSON text of a list of events with their ranges, or `null` where they have none, without spaces: an
+/// array of arrays of two.
 pub fn pairs_to_text<T: Words>(
     alloc: Global,
     pairs: &[(EventOf<T>, Option<(usize, usize)>)],

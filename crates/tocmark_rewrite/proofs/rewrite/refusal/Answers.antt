@@ -1,7 +1,7 @@
 use Rattle.std.proofs.Common.{◌≡◌, ◌∙◌, ap, sym}
 use Rattle.tocmark_event.specs.Merged.{merged}
 use Rattle.tocmark_compare.specs.Given.{given_events, found_events}
-use Rattle.tocmark_rewrite.proofs.Readings.{found-given}
+use Rattle.tocmark_compare.proofs.Found.{found-given}
 use Rattle.tocmark_rewrite.proofs.rewrite.refusal.Goals as goal
 
 pub returns-then-same : goal.returns-then-same
