@@ -1,6 +1,6 @@
 -- What is written for a unit is what is chosen for it.
-use Rattle.std.proofs.Common.{◌≡◌, ◌∙◌, ap, subst, Bool, true, false, Option, Some, None, Err, List, [], ◌∷◌, arith, length, map, refl}
-use Rattle.std.specs.Prelude.{◌==◌, is_some}
+use Rattle.std.proofs.Common.{◌≡◌, ◌∙◌, ap, subst, Bool, true, false, Option, Some, None, Result, Ok, Err, List, [], ◌∷◌, arith, length, map, refl}
+use Rattle.std.specs.Prelude.{◌==◌, OnErr, is_some}
 use Rattle.std.proofs.lemmas.Bool.{false≢true, true≢false}
 use Rattle.std.proofs.lemmas.Bool.Decides.{nat_tests}
 use Rattle.tocmark_event.specs.View.{EventView, SourcedEvent}
@@ -53,6 +53,11 @@ behind-none ds d e = ap (λ ds. behind (map reference_view ds) d) e ∙ known-no
 pub behind-empty : (ds : List declared.Reference) (d : DocumentView) → (length ds == 0) ≡ true → behind (map reference_view ds) d ≡ d
 behind-empty [] d h = known-none d.flushed d
 behind-empty (r ∷ ds) d h = absurd (grind (arith, nat_tests))
+
+-- what a document keeps, it keeps where a call fails
+pub stays-refused : {T E P : Type 0} (r : Result T E) → P → OnErr r P
+stays-refused (Ok x) kept = tt
+stays-refused (Err e) kept = kept
 
 -- ---- a unit as its events
 

@@ -12,7 +12,7 @@ use Rattle.tocmark_write_renderer.specs.WriterOf.{reference_view}
 use Rattle.tocmark_render.specs.Choice.{choice}
 use Rattle.tocmark_render.specs.DocumentOf.{document_flags, document_view, Spells}
 use Rattle.tocmark_render.specs.TrialOf.{or_no_trees, setting_with}
-use Rattle.tocmark_render.proofs.Documents.{balanced-chosen, behind-none, unbalanced-refused}
+use Rattle.tocmark_render.proofs.Documents.{balanced-chosen, behind-none, stays-refused, unbalanced-refused}
 use Rattle.tocmark_render.proofs.document.Document.block.Goals as goal
 
 pub returns-then-not-is_whole-clause-chosen : goal.returns-then-not-is_whole-clause-chosen
@@ -45,16 +45,18 @@ returns-clause-chosen g c =
     (subst N (c.lent_event.ensures ∙ c.in_ok-next.ensures) (subst L label (subst D knows (subst F flags c.chosen-text.ensures.chosen))))
 
 pub returns-in_err-know-clause-stays : goal.returns-in_err-know-clause-stays
-returns-in_err-know-clause-stays g c none = c.in_err-know.ensures.stays none
+returns-in_err-know-clause-stays g c none = stays-refused c.from_residual.result (c.in_err-know.ensures.stays none)
 
 pub returns-then-not-is_whole-clause-stays : goal.returns-then-not-is_whole-clause-stays
 returns-then-not-is_whole-clause-stays g c none = c.in_ok-know.ensures.known ∙ behind-none c.args.tools.now.defined.now (document_view c.args.self.now) none
 
 pub returns-in_err-label-clause-stays : goal.returns-in_err-label-clause-stays
-returns-in_err-label-clause-stays g c none = c.in_ok-know.ensures.known ∙ behind-none c.args.tools.now.defined.now (document_view c.args.self.now) none
+returns-in_err-label-clause-stays g c none =
+    stays-refused c.from_residual-in_err-label.result (c.in_ok-know.ensures.known ∙ behind-none c.args.tools.now.defined.now (document_view c.args.self.now) none)
 
 pub returns-in_err-next-clause-stays : goal.returns-in_err-next-clause-stays
-returns-in_err-next-clause-stays g c none = c.in_ok-know.ensures.known ∙ behind-none c.args.tools.now.defined.now (document_view c.args.self.now) none
+returns-in_err-next-clause-stays g c none =
+    stays-refused c.from_residual-in_err-next.result (c.in_ok-know.ensures.known ∙ behind-none c.args.tools.now.defined.now (document_view c.args.self.now) none)
 
 pub returns-clause-stays : goal.returns-clause-stays
 returns-clause-stays g c none =

@@ -1,4 +1,4 @@
-use Rattle.std.proofs.Common.{◌≡◌, ◌∙◌, ap, subst, sym}
+use Rattle.std.proofs.Common.{◌≡◌, ◌∙◌, ap, refl, subst, sym}
 use Rattle.std.specs.Prelude.{IsSome, OnErr}
 use Rattle.tocmark_write_labels.specs.Document.{DocumentView}
 use Rattle.tocmark_write_renderer.specs.WriterOf.{site_of}
@@ -17,7 +17,7 @@ accept-requires-clause-marked g c =
     let here = site_of c.in_ok-renderer.renderer in
     let b = document_view c.begin.new.self in
     let w = written-at s f n b c.earlier-earlier.result here c.choose.new.renderer (document_at c.begin.new.self here) (c.earlier-earlier.ensures here) (c.in-Ok.ensures.chosen b) in
-    subst IsSome (sym w.marked) tt
+    subst IsSome (sym w.marked) refl
 
 pub returns-in-Ok-clause-chosen : goal.returns-in-Ok-clause-chosen
 returns-in-Ok-clause-chosen g c =

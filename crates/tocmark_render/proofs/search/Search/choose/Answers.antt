@@ -33,7 +33,7 @@ returns-in_err-write-clause-chosen g c other =
     let old = site_of c.args.renderer.now in
     let d = left_by other c.args.self.now.earlier old in
     let left = left-there q d old c.find_candidate.new.renderer c.in_ok-known.field-0 (none-left c.in_ok-known.field-0 c.in_default.not-Some) (c.in_ok-known.ensures.found other) in
-    rw (p.1, p.2) (plainly-written q d old c.find_candidate.new.renderer c.write.new.renderer (manner_view c.preferred_manner-manner.result) (Err c.in_err-write.field-0.0) c.requires.front left c.preferred_manner-manner.ensures c.in_err-write.ensures)
+    rw (p.1, p.2) (plainly-written q d {X = Unit {0}} old c.find_candidate.new.renderer c.write.new.renderer (manner_view c.preferred_manner-manner.result) (Err c.in_err-write.field-0.0) c.requires.front left c.preferred_manner-manner.ensures c.in_err-write.ensures)
 
 pub returns-clause-chosen : goal.returns-clause-chosen
 returns-clause-chosen g c other =
@@ -41,4 +41,4 @@ returns-clause-chosen g c other =
     let old = site_of c.args.renderer.now in
     let d = left_by other c.args.self.now.earlier old in
     let left = left-there q d old c.find_candidate.new.renderer c.in_ok-known.field-0 (none-left c.in_ok-known.field-0 c.in_default.not-Some) (c.in_ok-known.ensures.found other) in
-    plainly-written q d old c.find_candidate.new.renderer c.write.new.renderer (manner_view c.preferred_manner-manner.result) (Ok tt) c.requires.front left c.preferred_manner-manner.ensures c.in_ok-write.ensures
+    plainly-written q d {X = Unit {0}} old c.find_candidate.new.renderer c.write.new.renderer (manner_view c.preferred_manner-manner.result) (Ok tt) c.requires.front left c.preferred_manner-manner.ensures c.in_ok-write.ensures
