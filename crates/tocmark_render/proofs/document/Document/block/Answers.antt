@@ -1,4 +1,4 @@
-use Rattle.std.proofs.Common.{◌≡◌, ◌∙◌, ℕ, List, ap, refl, sym, subst, None, Option, map}
+use Rattle.std.proofs.Common.{◌∙◌, ℕ, List, ap, refl, sym, subst, None, Option, map}
 use Rattle.std.proofs.lemmas.Result.{on_err_weaker}
 use Rattle.tocmark_event.specs.View.{EventView}
 use Rattle.tocmark_event.specs.declared.event.flags.ParserOptions.{ParserOptions}

@@ -1,5 +1,4 @@
-use Rattle.std.proofs.Common.{◌≡◌, ◌∙◌, Ok, sym, refl}
-use Rattle.std.proofs.lemmas.Bool.{not-true}
+use Rattle.std.proofs.Common.{◌∙◌, Ok, sym, refl}
 use Rattle.std.proofs.lemmas.Result.{err_from_is_err_and}
 use Rattle.tocmark_write_renderer.specs.WriterOf.{site_of}
 use Rattle.tocmark_render.specs.TrialOf.{asked_of, is_checked_in, left_by}

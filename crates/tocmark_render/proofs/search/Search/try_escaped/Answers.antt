@@ -3,7 +3,7 @@ use Rattle.std.specs.List.{AllByRecursion}
 use Rattle.std.proofs.lemmas.Bool.{false≢true}
 use Rattle.tocmark_write_renderer.specs.JobOf.{manner_view}
 use Rattle.tocmark_write_renderer.specs.WriterOf.{site_of}
-use Rattle.tocmark_render.specs.Candidates.{delimiter_manners, escaped_manners, preferred_manner}
+use Rattle.tocmark_render.specs.Candidates.{delimiter_manners, escaped_manners}
 use Rattle.tocmark_render.specs.TrialOf.{IsLow, asked_of, earlier_at, is_checked_in, options_in}
 use Rattle.tocmark_render.proofs.Trials.{none-escaped, tries-same}
 use Rattle.tocmark_render.proofs.search.Search.try_escaped.Goals as goal
