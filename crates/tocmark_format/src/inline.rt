@@ -80,12 +80,26 @@ fn sign_text(byte: u8, is_strong: bool) -> &'static str {
     }
 }
 
-/// Whether a character is a letter or a digit.
-fn is_letter(character: Option<char>) -> bool {
+/// Whether an underscore is no sign of emphasis beside a character, for some program: it is one beside blanks and ASCII's
+/// punctuation alone.
+fn hinders_underscore(character: Option<char>) -> bool {
     match character {
-        Some(character) => character.is_alphanumeric(),
-        None => false,
+        Some(' ' | '\t' | '\n') | None => false,
+        Some(character) => !character.is_ascii_punctuation(),
     }
+}
+
+/// How far before the end of emphasis a bare web address is looked for, in bytes.
+const LONGEST_ADDRESS: usize = 256;
+
+/// Whether a text ends with a bare web address, of which programs that link it would take an underscore behind it for a
+/// part.
+fn ends_with_address(text: &str) -> bool {
+    let word = match text.rsplit_once(' ') {
+        Some((_, word)) => word,
+        None => text,
+    };
+    word.contains("://") || word.starts_with("www.")
 }
 
 /// Whether a character is a sign of emphasis.
@@ -209,7 +223,11 @@ impl<'d, 'p, 'e, 'g> Inlines<'d, 'p, 'e, 'g> {
             return false;
         }
         let (before, behind) = self.around(start, end);
-        if sign == b'_' && (is_letter(before) || is_letter(behind)) {
+        if sign == b'_' && (hinders_underscore(before) || hinders_underscore(behind)) {
+            return false;
+        }
+        let front = start.max(end.saturating_sub(LONGEST_ADDRESS));
+        if sign == b'_' && ends_with_address(self.scene.source.slice(front, end)) {
             return false;
         }
         let is_in_changed = match self.open.last() {
