@@ -317,6 +317,9 @@ impl<'d, 'p, 'e, 'g> Inlines<'d, 'p, 'e, 'g> {
         if is_kept || !source.slice(from, end).starts_with("](") {
             return self.add_slice(from, end);
         }
+        if end <= source.line_end(from) {
+            return self.pieces.add_tail(source.slice(from, end));
+        }
         let pieces = self.slice_pieces(from, end, Glue::Feed)?;
         let tail = pieces.lines(self.scene.alloc)?;
         let mut whole = String::new(self.scene.alloc);

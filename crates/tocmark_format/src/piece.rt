@@ -1,5 +1,6 @@
 //! What a leaf's text is made of: stretches of text, and the breaks between them.
 
+use crate::link::push_tail;
 use std::alloc::{AllocError, Global};
 
 /// A part of a leaf's text.
@@ -51,6 +52,13 @@ impl Pieces {
             return Ok(());
         }
         self.text.push_str(text)?;
+        let end = self.text.len();
+        self.push(Piece::Solid(end))
+    }
+
+    /// Adds the tail of a link on one line.
+    pub(crate) fn add_tail(&mut self, tail: &str) -> Result<(), AllocError> {
+        push_tail(&mut self.text, tail)?;
         let end = self.text.len();
         self.push(Piece::Solid(end))
     }
