@@ -198,7 +198,10 @@ impl Printer<'_> {
         let (start, end) = range;
         let content = self.source.past_blanks(start.saturating_add(1));
         let mut frame = Frame::new(self.alloc, Kind::Definition, content, end);
-        frame.first = String::from_str(self.alloc, ": ")?;
+        // a word between colons, as `:smile:`, stays one for other programs
+        let has_blank = content > start.saturating_add(1);
+        let sign = if has_blank { ": " } else { ":" };
+        frame.first = String::from_str(self.alloc, sign)?;
         frame.rest = Lead::Blanks(2);
         frame.columns = 2;
         frame.column = self.column_of(start, content);
