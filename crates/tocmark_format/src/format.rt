@@ -69,26 +69,26 @@ struct ReadBack {
     starts: Vec<usize>,
 }
 
-impl ReadBack {
-    /// Keeps where further trees begin.
-    fn add_starts(
-        &mut self,
-        events: &[(Event<'static>, (usize, usize))],
-    ) -> Result<(), AllocError> {
-        let mut depth = 0usize;
-        for (event, range) in events {
-            if depth == 0 {
-                self.starts.push(range.0)?;
-            }
-            match event {
-                Event::Start(_) => depth = depth.saturating_add(1),
-                Event::End(_) => depth = depth.saturating_sub(1),
-                _ => {}
-            }
+/// Adds where further trees begin.
+fn add_starts(
+    starts: &mut Vec<usize>,
+    events: &[(Event<'static>, (usize, usize))],
+) -> Result<(), AllocError> {
+    let mut depth = 0usize;
+    for (event, range) in events {
+        if depth == 0 {
+            starts.push(range.0)?;
         }
-        Ok(())
+        match event {
+            Event::Start(_) => depth = depth.saturating_add(1),
+            Event::End(_) => depth = depth.saturating_sub(1),
+            _ => {}
+        }
     }
+    Ok(())
+}
 
+impl ReadBack {
     /// The number of the first tree that begins here or behind.
     fn tree_from(&self, place: usize) -> usize {
         self.starts.partition_point(|start| *start < place)
@@ -99,7 +99,7 @@ impl PartTaker for ReadBack {
     ghost has_taken = { λ back events. SaysFirst back.says events };
 
     fn take(&mut self, alloc: Global, part: &Reading) -> Result<(), AllocError> {
-        self.add_starts(&part.events)?;
+        add_starts(&mut self.starts, &part.events)?;
         self.says.add(alloc, &part.events)
     }
 }

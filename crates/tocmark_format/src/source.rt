@@ -1,5 +1,7 @@
 //! The source of a document: its lines, and where a place stands on its line. All places are in bytes.
 
+ghost use Rattle.std.specs.Prelude.{◌≡◌, IfOk};
+
 use std::alloc::{AllocError, Global};
 
 /// A text, and where its lines begin.
@@ -26,7 +28,9 @@ pub(crate) fn without_blanks(text: &str) -> &str {
 
 impl<'s> Source<'s> {
     /// A text whose lines end with line feeds.
-    pub(crate) fn new(alloc: Global, text: &'s str) -> Result<Source<'s>, AllocError> {
+    pub(crate) fn new(alloc: Global, text: &'s str) -> Result<Source<'s>, AllocError>
+        ensures { IfOk result (λ source. source.text.now ≡ text.now) }
+    {
         let mut starts = Vec::new(alloc);
         starts.push(0usize)?;
         for (at, byte) in text.as_bytes().iter().enumerate() {

@@ -6,4 +6,4 @@ use Rattle.tocmark_format.proofs.format.print_source.Goals as goal
 pub returns : goal.returns
 returns g c =
     let j = c.args.job.now in
-    says-all c.read_parts.new.taker.said (found_events (g.R.Reader.reading j.reader.now j.source.now.text.now j.flags)) (c.in_ok-read_parts.ensures [] c.new-digest.ensures)
+    says-all c.read_parts.new.taker.said (found_events (g.R.Reader.reading j.reader.now j.source.now.text.now j.flags)) (c.in_ok-read_parts.ensures [] c.new-2.ensures)
