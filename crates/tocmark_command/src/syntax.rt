@@ -41,8 +41,6 @@ pub fn extension_named(name: &str) -> Option<ParserOptions> {
 }
 
 /// The command with `--syntax` and `--extension`, which have these helps.
-///
-/// It fails if memory runs out.
 pub fn with_syntax<'a>(
     alloc: Global,
     command: Command<'a>,
