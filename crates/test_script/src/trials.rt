@@ -9,7 +9,7 @@ use crate::unit::{Outcome, Unit, write};
 use std::alloc::{AllocError, Global};
 use tocmark_event::event::OwnedEvent;
 use tocmark_event::options::Options;
-use tocmark_render::candidates;
+use tocmark_render::manners::{fallback_plans, run_manners, source_manners, with_all_markers};
 use tocmark_spelling::trail::Trail;
 use tocmark_write_renderer::job::Manner;
 use tocmark_write_renderer::parts::Parts;
@@ -154,7 +154,12 @@ fn try_behind<'u>(
 
 /// The manners in which units are tried, and the first one again.
 fn manners<'a>(alloc: Global, options: &Options<'a>) -> Result<Vec<Manner<'a>>, AllocError> {
-    let mut manners = candidates(alloc, options, true, true, true)?;
+    let mut manners = Vec::new(alloc);
+    manners.extend_from_slice(&source_manners(options))?;
+    manners.extend_from_slice(&run_manners(options))?;
+    for plan in fallback_plans() {
+        manners.extend_from_slice(&with_all_markers(plan))?;
+    }
     if let Some(first) = manners.first() {
         let first = *first;
         manners.push(first)?;

@@ -80,12 +80,26 @@ fn sign_text(byte: u8, is_strong: bool) -> &'static str {
     }
 }
 
-/// Whether a character is a letter or a digit.
-fn is_letter(character: Option<char>) -> bool {
+/// Whether an underscore is no sign of emphasis beside a character, for some program: it is one beside blanks and ASCII's
+/// punctuation alone.
+fn hinders_underscore(character: Option<char>) -> bool {
     match character {
-        Some(character) => character.is_alphanumeric(),
-        None => false,
+        Some(' ' | '\t' | '\n') | None => false,
+        Some(character) => !character.is_ascii_punctuation(),
     }
+}
+
+/// How far before the end of emphasis a bare web address is looked for, in bytes.
+const LONGEST_ADDRESS: usize = 256;
+
+/// Whether a text ends with a bare web address, of which programs that link it would take an underscore behind it for a
+/// part.
+fn ends_with_address(text: &str) -> bool {
+    let word = match text.rsplit_once(' ') {
+        Some((_, word)) => word,
+        None => text,
+    };
+    word.contains("://") || word.starts_with("www.")
 }
 
 /// Whether a character is a sign of emphasis.
@@ -120,11 +134,12 @@ impl<'d, 'p, 'e, 'g> Inlines<'d, 'p, 'e, 'g> {
         (at, columns >= 4 || (!place.is_met && is_row))
     }
 
-    /// Adds a slice of the source that isn't broken, without the prefixes of containers in it.
-    fn add_slice(&mut self, from: usize, to: usize, glue: Glue) -> Result<(), AllocError> {
+    /// The pieces of a slice of the source that isn't broken, without the prefixes of containers in it.
+    fn slice_pieces(&self, from: usize, to: usize, glue: Glue) -> Result<Pieces, AllocError> {
         let source = self.scene.source;
+        let mut pieces = Pieces::new(self.scene.alloc);
         let mut end = source.line_end(from);
-        self.pieces.add_solid(source.slice(from, to.min(end)))?;
+        pieces.add_solid(source.slice(from, to.min(end)))?;
         for _ in 0..to.saturating_sub(from) {
             let start = end.saturating_add(1);
             if start > to || start > source.text.len() {
@@ -132,13 +147,23 @@ impl<'d, 'p, 'e, 'g> Inlines<'d, 'p, 'e, 'g> {
             }
             let (place, is_deep) = self.next_line(start);
             match glue {
-                Glue::Blank => self.pieces.add_solid(" ")?,
-                Glue::Feed => self.pieces.push(Piece::Feed { is_deep })?,
+                Glue::Blank => pieces.add_solid(" ")?,
+                Glue::Feed => pieces.push(Piece::Feed { is_deep })?,
             }
             end = source.line_end(place);
-            self.pieces.add_solid(source.slice(place, to.min(end)))?;
+            pieces.add_solid(source.slice(place, to.min(end)))?;
         }
-        Ok(())
+        Ok(pieces)
+    }
+
+    /// Adds a slice of the source that isn't broken, without the prefixes of containers in it.
+    fn add_slice(&mut self, from: usize, to: usize) -> Result<(), AllocError> {
+        let source = self.scene.source;
+        if to <= source.line_end(from) {
+            return self.pieces.add_solid(source.slice(from, to));
+        }
+        let pieces = self.slice_pieces(from, to, Glue::Feed)?;
+        self.pieces.append(&pieces)
     }
 
     /// Adds what stands before an event: backslashes, or a blank for blanks and a line's end behind a task's box.
@@ -148,13 +173,18 @@ impl<'d, 'p, 'e, 'g> Inlines<'d, 'p, 'e, 'g> {
         }
         let from = self.at;
         self.at = start;
-        let end = self.pieces.end();
-        self.add_slice(from, start, Glue::Blank)?;
-        if !without_blanks(self.pieces.text_from(end.0)).is_empty() {
-            return Ok(());
+        let source = self.scene.source;
+        if start <= source.line_end(from) {
+            let text = source.slice(from, start);
+            let is_blank = without_blanks(text).is_empty();
+            return self.pieces.add_solid(if is_blank { " " } else { text });
         }
-        self.pieces.cut(end);
-        self.pieces.add_solid(" ")
+        let pieces = self.slice_pieces(from, start, Glue::Blank)?;
+        if without_blanks(pieces.text.as_str()).is_empty() {
+            self.pieces.add_solid(" ")
+        } else {
+            self.pieces.append(&pieces)
+        }
     }
 
     /// Whether a hard break at a place of the source is printed as blanks.
@@ -209,7 +239,11 @@ impl<'d, 'p, 'e, 'g> Inlines<'d, 'p, 'e, 'g> {
             return false;
         }
         let (before, behind) = self.around(start, end);
-        if sign == b'_' && (is_letter(before) || is_letter(behind)) {
+        if sign == b'_' && (hinders_underscore(before) || hinders_underscore(behind)) {
+            return false;
+        }
+        let front = start.max(end.saturating_sub(LONGEST_ADDRESS));
+        if sign == b'_' && ends_with_address(self.scene.source.slice(front, end)) {
             return false;
         }
         let is_in_changed = match self.open.last() {
@@ -278,32 +312,19 @@ impl<'d, 'p, 'e, 'g> Inlines<'d, 'p, 'e, 'g> {
         }
         let from = self.at;
         self.at = end;
-        let first = self.pieces.end();
-        self.add_slice(from, end, Glue::Feed)?;
-        if self.scene.look.is_literal || !self.pieces.text_from(first.0).starts_with("](") {
-            return Ok(());
+        let source = self.scene.source;
+        let is_kept = self.scene.look.is_literal;
+        if is_kept || !source.slice(from, end).starts_with("](") {
+            return self.add_slice(from, end);
         }
-        let mut tail = String::new(self.scene.alloc);
-        self.push_lines(&mut tail, first)?;
-        self.pieces.cut(first);
+        if end <= source.line_end(from) {
+            return self.pieces.add_tail(source.slice(from, end));
+        }
+        let pieces = self.slice_pieces(from, end, Glue::Feed)?;
+        let tail = pieces.lines(self.scene.alloc)?;
         let mut whole = String::new(self.scene.alloc);
         push_tail(&mut whole, tail.as_str())?;
         self.add_lines(whole.as_str())
-    }
-
-    /// Puts behind a text the pieces from a place on, with their line feeds.
-    fn push_lines(&self, text: &mut String, first: (usize, usize)) -> Result<(), AllocError> {
-        let mut start = first.0;
-        for piece in self.pieces.list.get(first.1..).unwrap_or(&[]) {
-            match piece {
-                Piece::Text(end) | Piece::Solid(end) => {
-                    text.push_str(self.pieces.text.as_str().get(start..*end).unwrap_or(""))?;
-                    start = *end;
-                }
-                _ => text.push('\n')?,
-            }
-        }
-        Ok(())
     }
 
     /// Adds lines that aren't broken otherwise.
@@ -323,7 +344,7 @@ impl<'d, 'p, 'e, 'g> Inlines<'d, 'p, 'e, 'g> {
     fn add_copied(&mut self, range: (usize, usize)) -> Result<(), AllocError> {
         self.add_gap(range.0)?;
         self.at = range.1;
-        self.add_slice(range.0, range.1, Glue::Feed)
+        self.add_slice(range.0, range.1)
     }
 
     fn add_start(
@@ -353,7 +374,7 @@ impl<'d, 'p, 'e, 'g> Inlines<'d, 'p, 'e, 'g> {
             _ => {
                 let from = self.at;
                 self.at = range.1;
-                self.add_slice(from, range.1, Glue::Feed)
+                self.add_slice(from, range.1)
             }
         }
     }

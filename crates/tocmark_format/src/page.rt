@@ -1,5 +1,6 @@
 //! What is printed, and the containers that are open in it.
 
+use crate::piece::cut_blanks;
 use crate::source::{Source, is_blank};
 use std::alloc::{AllocError, Global};
 use std::mem;
@@ -272,6 +273,16 @@ impl Page {
         self.is_over
     }
 
+    /// Takes back what is printed behind a byte.
+    pub(crate) fn take_back(&mut self, start: usize) {
+        for _ in start..self.text.len() {
+            if self.text.len() <= start {
+                break;
+            }
+            self.text.pop();
+        }
+    }
+
     /// Starts a line: what the containers have before it. From here on their first lines are printed.
     fn start_line(&mut self) -> Result<(), AllocError> {
         for frame in self.outer.iter_mut() {
@@ -291,17 +302,10 @@ impl Page {
         self.is_over = prefix > self.budget;
         self.budget = self.budget.saturating_sub(prefix);
         if line.is_empty() {
-            self.cut_blanks(start);
+            cut_blanks(&mut self.text, prefix);
         }
         self.text.push_str(line)?;
         self.text.push('\n')
-    }
-
-    /// Takes away the blanks behind a place at the end of the text.
-    fn cut_blanks(&mut self, start: usize) {
-        let behind = self.text.as_str().get(start..).unwrap_or("");
-        let length = behind.trim_end_matches(' ').len();
-        self.text.truncate(start.saturating_add(length));
     }
 
     /// Prints an empty line between two blocks.
@@ -314,7 +318,8 @@ impl Page {
             push_lead(&mut self.text, frame.rest)?;
         }
         push_lead(&mut self.text, self.top.rest)?;
-        self.cut_blanks(start);
+        let prefix = self.text.len().saturating_sub(start);
+        cut_blanks(&mut self.text, prefix);
         self.text.push('\n')
     }
 

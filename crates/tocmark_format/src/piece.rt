@@ -1,5 +1,6 @@
 //! What a leaf's text is made of: stretches of text, and the breaks between them.
 
+use crate::link::push_tail;
 use std::alloc::{AllocError, Global};
 
 /// A part of a leaf's text.
@@ -55,20 +56,42 @@ impl Pieces {
         self.push(Piece::Solid(end))
     }
 
-    /// Where the next piece begins: its byte in the text, and its place in the list.
-    pub(crate) fn end(&self) -> (usize, usize) {
-        (self.text.len(), self.list.len())
+    /// Adds the tail of a link on one line.
+    pub(crate) fn add_tail(&mut self, tail: &str) -> Result<(), AllocError> {
+        push_tail(&mut self.text, tail)?;
+        let end = self.text.len();
+        self.push(Piece::Solid(end))
     }
 
-    /// The text from a byte on.
-    pub(crate) fn text_from(&self, from: usize) -> &str {
-        self.text.as_str().get(from..).unwrap_or("")
+    /// Adds the pieces of others behind these.
+    pub(crate) fn append(&mut self, other: &Pieces) -> Result<(), AllocError> {
+        let base = self.text.len();
+        self.text.push_str(other.text.as_str())?;
+        for piece in &other.list {
+            let piece = match piece {
+                Piece::Text(end) => Piece::Text(end.saturating_add(base)),
+                Piece::Solid(end) => Piece::Solid(end.saturating_add(base)),
+                _ => *piece,
+            };
+            self.push(piece)?;
+        }
+        Ok(())
     }
 
-    /// Takes away all pieces from such a place on.
-    pub(crate) fn cut(&mut self, end: (usize, usize)) {
-        self.text.truncate(end.0);
-        self.list.truncate(end.1);
+    /// The text with a line feed for each break.
+    pub(crate) fn lines(&self, alloc: Global) -> Result<String, AllocError> {
+        let mut text = String::new(alloc);
+        let mut start = 0usize;
+        for piece in &self.list {
+            match piece {
+                Piece::Text(end) | Piece::Solid(end) => {
+                    text.push_str(self.text.as_str().get(start..*end).unwrap_or(""))?;
+                    start = *end;
+                }
+                _ => text.push('\n')?,
+            }
+        }
+        Ok(text)
     }
 
     /// The text of the last piece; empty if that is a break, or if there is none.
@@ -96,12 +119,24 @@ pub(crate) fn ends_with_backslash(text: &str) -> bool {
     signs % 2 == 1
 }
 
+/// Takes away the blanks at the end of a text, of at most so many bytes.
+pub(crate) fn cut_blanks(text: &mut String, most: usize) {
+    for _ in 0..most {
+        if !text.as_str().ends_with(' ') {
+            break;
+        }
+        text.pop();
+    }
+}
+
 /// The lines of a leaf.
 #[derive(Drop)]
 pub(crate) struct Lines {
-    pub(crate) text: String,
+    text: String,
     /// Where each line ends in the text; each begins where the one before it ends.
     ends: Vec<usize>,
+    /// The line that isn't ended.
+    line: String,
 }
 
 impl Lines {
@@ -126,44 +161,41 @@ impl Lines {
     /// Adds to the last line.
     pub(crate) fn add_to_last(&mut self, text: &str) -> Result<(), AllocError> {
         self.text.push_str(text)?;
+        let length = self.text.len();
         if let Some(end) = self.ends.last_mut() {
-            *end = self.text.len();
+            *end = length;
         }
         Ok(())
     }
 
-    /// Ends a line that starts at this byte of the text; four blanks stand before one that would begin a block without.
-    fn end_line(&mut self, alloc: Global, start: usize, is_deep: bool) -> Result<(), AllocError> {
-        if is_deep {
-            let line = self.text.as_str().get(start..).unwrap_or("");
-            if is_hazard(first_word(line)) {
-                let copy = String::from_str(alloc, line)?;
-                self.text.truncate(start);
-                self.text.push_str("    ")?;
-                self.text.push_str(copy.as_str())?;
-            }
+    /// Ends the line; four blanks stand before one that would begin a block without.
+    fn end_line(&mut self, is_deep: bool) -> Result<(), AllocError> {
+        if is_deep && is_hazard(first_word(self.line.as_str())) {
+            self.text.push_str("    ")?;
         }
-        self.ends.push(self.text.len())?;
+        self.text.push_str(self.line.as_str())?;
+        self.line.truncate(0);
+        let length = self.text.len();
+        self.ends.push(length)?;
         Ok(())
     }
 
-    /// Ends a line at a break.
-    fn break_line(&mut self, start: usize, piece: Piece) -> Result<(), AllocError> {
+    /// Puts behind the line what stands before a break.
+    fn break_line(&mut self, piece: Piece) -> Result<(), AllocError> {
+        let length = self.line.len();
         match piece {
             Piece::Hard {
                 is_blanks: false,
                 ..
-            } => self.text.push('\\'),
+            } => self.line.push('\\'),
             Piece::Hard { .. } => {
-                self.cut_blanks(start);
-                self.text.push_str("  ")
+                cut_blanks(&mut self.line, length);
+                self.line.push_str("  ")
             }
             Piece::Soft { .. } => {
-                let length = self.text.len();
-                self.cut_blanks(start);
-                let line = self.text.as_str().get(start..).unwrap_or("");
-                if self.text.len() < length && ends_with_backslash(line) {
-                    return self.text.push(' ');
+                cut_blanks(&mut self.line, length);
+                if self.line.len() < length && ends_with_backslash(self.line.as_str()) {
+                    return self.line.push(' ');
                 }
                 Ok(())
             }
@@ -171,39 +203,31 @@ impl Lines {
         }
     }
 
-    /// Takes away the blanks at the end of a line that starts at this byte.
-    fn cut_blanks(&mut self, start: usize) {
-        let line = self.text.as_str().get(start..).unwrap_or("");
-        let length = line.trim_end_matches(' ').len();
-        self.text.truncate(start.saturating_add(length));
-    }
-
     /// The lines of pieces, broken where the source breaks them.
     pub(crate) fn kept(alloc: Global, pieces: &Pieces) -> Result<Lines, AllocError> {
         let mut lines = Lines {
             text: String::new(alloc),
             ends: Vec::new(alloc),
+            line: String::new(alloc),
         };
         let mut from = 0usize;
-        let mut start = 0usize;
         let mut is_deep = false;
         for piece in &pieces.list {
             let next_is_deep = match piece {
                 Piece::Text(end) | Piece::Solid(end) => {
                     let text = pieces.text.as_str().get(from..*end).unwrap_or("");
-                    lines.text.push_str(text)?;
+                    lines.line.push_str(text)?;
                     from = *end;
                     continue;
                 }
                 Piece::Feed { is_deep } | Piece::Soft { is_deep } | Piece::Hard { is_deep, .. } =>
                     *is_deep,
             };
-            lines.break_line(start, *piece)?;
-            lines.end_line(alloc, start, is_deep)?;
-            start = lines.text.len();
+            lines.break_line(*piece)?;
+            lines.end_line(is_deep)?;
             is_deep = next_is_deep;
         }
-        lines.end_line(alloc, start, is_deep)?;
+        lines.end_line(is_deep)?;
         Ok(lines)
     }
 }

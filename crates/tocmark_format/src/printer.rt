@@ -176,7 +176,7 @@ impl<'d> Printer<'d> {
             if let Some(block) = self.blocks.last_mut() {
                 block.is_outgrown = true;
                 let block = *block;
-                self.page.text.truncate(block.start);
+                self.page.take_back(block.start);
                 self.print_lines(block.range.0, block.range.1)?;
             }
         }
@@ -305,8 +305,7 @@ impl<'d> Printer<'d> {
         self.end_region()?;
         self.print_gap(self.source.text.len().saturating_add(1))?;
         if self.is_cut && self.page.text.as_str().ends_with('\n') {
-            let length = self.page.text.len().saturating_sub(1);
-            self.page.text.truncate(length);
+            self.page.text.pop();
         }
         if self.begins_metadata() {
             self.put_line_before()?;

@@ -7,7 +7,6 @@ pub mod Trials
 pub mod TrialUnits
 pub mod Refused
 pub mod LowManners
-pub mod CandidateLists
 pub mod FirstReadBack
 pub mod Unrepresentable
 pub mod Documents

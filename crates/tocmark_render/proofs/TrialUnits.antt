@@ -22,11 +22,11 @@ use Rattle.tocmark_write_renderer.specs.declared.job.Manner as declared
 use Rattle.tocmark_spelling.proofs.Refusals.{none-misplaced}
 use Rattle.tocmark_compare.specs.InParagraph.{in_paragraph}
 use Rattle.tocmark_render.specs.Candidates.{has_source, is_checked, is_delimiter_block, preferred_manner}
-use Rattle.tocmark_render.specs.Choice.{Chosen, accepted_if, first_that_reads_back, if_read_back, page_in, page_of, page_read_back, preferred, spelled}
+use Rattle.tocmark_render.specs.Choice.{Chosen, accepted_if, choice, first_that_reads_back, if_read_back, page_in, page_of, page_read_back, preferred, spelled}
 use Rattle.tocmark_write_labels.specs.Document.{DocumentView}
 use Rattle.tocmark_write_pending.specs.Placeholder.{whole}
 use Rattle.tocmark_render.specs.ReadsBack.{flags_at, found_in, is_taken, reads_back, whole_text}
-use Rattle.tocmark_render.specs.TrialOf.{Came, ComesOrBack, IsLow, IsReady, Refuses, WentBack, Writes, asked_of, events_in, options_in, or_no_trees, read_of, reads_back_in, spelled_at}
+use Rattle.tocmark_render.specs.TrialOf.{Came, ComesOrBack, FindsChoice, IsLow, IsPlain, IsReady, IsWritten, Refuses, WentBack, Writes, asked_of, events_in, options_in, or_no_trees, read_of, reads_back_in, spelled_at}
 use Rattle.tocmark_render.specs.Tries.{Asked, Found, Lost, Stopped, StopsTrial, first, misplaced}
 use Rattle.tocmark_write_pending.specs.Units.{trees_of}
 use Rattle.tocmark_render.specs.declared.trial.Trial.{Trial}
@@ -198,3 +198,18 @@ module _ (q : Asked) (d : DocumentView) where
     refused = refuses-page e (site q d plainly) (subst (IsRefusal e) (at-front q d plainly old front) h.refused);
     kept = h.kept;
   }
+
+  -- what a search found of a unit is what is chosen
+  pub found-there : {X : Type 0} (old : Site) (new : Rendering) (o : Option X) (x : X) → o ≡ Some x → FindsChoice q d old new (Ok o) → IsWritten q.setting d old new (choice q.setting d q.unit q.next)
+  found-there old new o x e h = subst (λ o. FindsChoice q d old new (Ok o)) e h
+
+  -- where it found nothing, the preferred spelling is left
+  pub left-there : {X : Type 0} (old : Site) (new : Rendering) (o : Option X) → o ≡ None → FindsChoice q d old new (Ok o) → IsPlain q d old new
+  left-there old new o e h = subst (λ o. FindsChoice q d old new (Ok o)) e h
+
+  -- a unit that is left to the preferred spelling was written in it
+  pub plainly-written : {X : Type 0} (old : Site) (mid new : Rendering) (m : Manner) (r : Result X Error) → old ≡ blank d.feeds d.trail → IsPlain q d old mid → m ≡ plainly → ComesOrBack r (site_of mid) new (spelled_at q (site_of mid) m) → Writes r q.setting d old new (choice q.setting d q.unit q.next)
+  plainly-written old mid new m r front left is h =
+      let there : ComesOrBack r (site_of mid) new (spelled_at q (site_of mid) plainly) = subst (λ m. ComesOrBack r (site_of mid) new (spelled_at q (site_of mid) m)) is h in
+      let here : ComesOrBack r old new (spelled_at q old plainly) = subst (λ x. ComesOrBack r x new (spelled_at q x plainly)) left.kept there in
+      subst (Writes r q.setting d old new) (sym left.plain) (preferred-written old new r front here)

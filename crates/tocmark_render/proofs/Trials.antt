@@ -22,7 +22,7 @@ use Rattle.tocmark_write_pending.specs.Placeholder.{whole}
 use Rattle.tocmark_render.specs.ReadsBack.{reads_back}
 use Rattle.tocmark_render.specs.Validates.{validates}
 use Rattle.tocmark_write_labels.specs.Document.{DocumentView, first_document}
-use Rattle.tocmark_render.specs.TrialOf.{IsLeft, IsWritten, Refuses, Writes}
+use Rattle.tocmark_render.specs.TrialOf.{IsLeft, IsPlain, IsWritten, Refuses}
 use Rattle.tocmark_render.specs.Tries.{if_source, manners_for, plan_view, Asked, Found, Lost, PlacedIfTried, Stopped, StopsTrial, Tries, first, misplaced}
 
 -- two truths, each by itself
@@ -384,10 +384,6 @@ module _ (q : Asked) (d : DocumentView) (o : OptionsView) (src del chk acc : Boo
   standard : (b : Bool) → has_standard_markers o ≡ b → has_standard_markers q.setting.options ≡ b
   standard b e = ap has_standard_markers is_options ∙ e
 
-  -- the unit is written in the preferred spelling, unsearched
-  pub writes-unsearched : {X : Type 0} (old : Site) (new : Rendering) (r : Result X Error) → has_standard_markers o ≡ false → Writes r q.setting d old new (preferred q.setting d q.unit q.next) → Writes r q.setting d old new (choice q.setting d q.unit q.next)
-  writes-unsearched old new r m h = subst (Writes r q.setting d old new) (sym (choice-unsearched q d (standard false m))) h
-
   -- an error stopped the search
   pub left-stopped : (old : Site) (new : Rendering) (e : Error) → Stopped q old new e → IsLeft old new e (choice q.setting d q.unit q.next)
   left-stopped old new e h = record { refused = stop-refuses q d e h.stops; kept = h.kept }
@@ -408,10 +404,6 @@ module _ (q : Asked) (d : DocumentView) (o : OptionsView) (src del chk acc : Boo
     checked : (chk && acc) ≡ (is_checked q.setting.options q.unit && validates q.setting.options q.setting.flags)
     checked = λ j. is_chk j && is_acc j
 
-    -- where the renderer stands again
-    pub stands-again : site_of mid ≡ old
-    stands-again = lost.kept
-
     -- no spelling was found, and the unit can't be represented
     pub left-unrepresentable : chk ≡ true → acc ≡ true → IsLeft old mid error.Unrepresentable (choice q.setting d q.unit q.next)
     left-unrepresentable td ta = record {
@@ -421,6 +413,6 @@ module _ (q : Asked) (d : DocumentView) (o : OptionsView) (src del chk acc : Boo
       kept = lost.kept;
     }
 
-    -- no spelling was found, and the unit is written in the preferred one
-    pub writes-lost : {Y : Type 0} (new : Rendering) (r : Result Y Error) → (chk && acc) ≡ false → Writes r q.setting d old new (preferred q.setting d q.unit q.next) → Writes r q.setting d old new (choice q.setting d q.unit q.next)
-    writes-lost new r n h = subst (Writes r q.setting d old new) (sym (choice-lost q d (standard true m) all-lost (sym checked ∙ n))) h
+    -- no spelling was found, and the unit is left to the preferred one
+    pub left-plain : (chk && acc) ≡ false → IsPlain q d old mid
+    left-plain n = record { plain = choice-lost q d (standard true m) all-lost (sym checked ∙ n); kept = lost.kept }

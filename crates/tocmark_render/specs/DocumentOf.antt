@@ -2,7 +2,6 @@
 use Rattle.std.specs.Prelude.{◌≡◌, ◌≤◌, ◌+◌, ◌++◌, ℕ, true, length, vec_capacity, List, Option, Some, None, Result, Ok, Err, map, string_bytes, String}
 use Rattle.std.specs.Global.{Global}
 use Rattle.tocmark_event.specs.View.{EventView, event_view}
-use Rattle.tocmark_event.specs.Reading.{ReadingView}
 use Rattle.tocmark_event.specs.declared.event.EventOf.{EventOf}
 use Rattle.tocmark_event.specs.declared.event.flags.ParserOptions.{ParserOptions}
 use Rattle.tocmark_event.specs.declared.options.Error.{Error}
@@ -11,9 +10,8 @@ use Rattle.tocmark_spelling.specs.Page.{Page, Site}
 use Rattle.tocmark_spelling.specs.Plan.{Setting}
 use Rattle.tocmark_spelling.specs.TrailOf.{trail_view}
 use Rattle.tocmark_render.specs.Choice.{Chosen, definitions_of, known_after}
-use Rattle.tocmark_render.specs.TrialOf.{Refuses, WritesChoice, asked_of}
-use Rattle.tocmark_render.specs.declared.trial.Trial.{Trial}
-use Rattle.tocmark_write_renderer.specs.WriterOf.{Rendering, reference_view, site_of}
+use Rattle.tocmark_render.specs.TrialOf.{Refuses}
+use Rattle.tocmark_write_renderer.specs.WriterOf.{reference_view}
 use Rattle.tocmark_write_labels.specs.Document.{DocumentView, bracketed_in}
 use Rattle.tocmark_write_labels.specs.LabelsOf.{labels_of}
 use Rattle.tocmark_render.specs.declared.document.Document.{Document}
@@ -64,7 +62,3 @@ abbrev pub Gives : Result (String Global) Error → List ℕ → Type 0
 Gives (Ok s) text = string_bytes s ≡ text
 Gives (Err error.OutOfMemory) text = Unit {0}
 Gives (Err e) text = ⊥
-
--- the unit of a trial was written as it is chosen behind a document, or refused so
-abbrev pub WritesChosen : {R X : Type 0} → (R → List ℕ → ParserOptions → ReadingView) → Trial R → Document → Rendering → Rendering → Result X Error → Type 0
-WritesChosen reading t d old new r = WritesChoice (asked_of reading t) (document_at d (site_of old)) old new r

@@ -1,5 +1,5 @@
 -- What a trial of a unit asks, as plain values.
-use Rattle.std.specs.Prelude.{◌≡◌, ◌<◌, ℕ, Bool, true, false, slice_index, List, Option, Some, None, Result, Ok, Err, IfOk, IfSome, is_some, string_bytes, String}
+use Rattle.std.specs.Prelude.{◌≡◌, ◌==◌, ◌&&◌, ◌||◌, ◌<◌, ℕ, Bool, true, false, not, length, slice_index, List, Option, Some, None, Result, Ok, Err, IfOk, IfSome, is_some, string_bytes, String}
 use Rattle.std.specs.Global.{Global}
 use Rattle.std.specs.List.{AllByRecursion}
 use Rattle.indexmap.specs.IndexSet.{IndexSet}
@@ -19,7 +19,7 @@ use Rattle.tocmark_spelling.specs.PlanOf.{setting_of}
 use Rattle.tocmark_spelling.specs.Spelling.{spelling}
 use Rattle.tocmark_write_unit.specs.FindingsOf.{AreFindings}
 use Rattle.tocmark_write_renderer.specs.WriterOf.{Arrives, IsRefusal, Rendering, blank, page_of, site_of}
-use Rattle.tocmark_render.specs.Choice.{Chosen, accepted, choice, definitions_of}
+use Rattle.tocmark_render.specs.Choice.{Chosen, accepted, choice, definitions_of, preferred}
 use Rattle.tocmark_write_labels.specs.Document.{DocumentView, first_document}
 use Rattle.tocmark_write_labels.specs.LabelsOf.{label_now, labels_of}
 use Rattle.tocmark_write_pending.specs.Placeholder.{whole}
@@ -28,6 +28,7 @@ use Rattle.tocmark_render.specs.Tries.{Asked, Tries}
 use Rattle.tocmark_write_pending.specs.Units.{trees_of}
 use Rattle.tocmark_render.specs.declared.earlier.Earlier.{Earlier}
 use Rattle.tocmark_render.specs.declared.read_back.ReadBack.{ReadBack}
+use Rattle.tocmark_render.specs.declared.tools.Tools.{Tools}
 use Rattle.tocmark_render.specs.declared.trial.Trial.{Trial}
 
 -- a forest that is there, or none of its trees
@@ -41,12 +42,20 @@ events_in t = t.unit.now.events
 
 -- the options that the unit is written with
 abbrev pub options_in : {R : Type 0} → Trial R → OptionsView
-options_in t = options_view t.options.now
+options_in t = options_view t.tools.now.options
+
+-- whether the unit is written only as it is read back, as its census has it
+abbrev pub is_checked_in : {R : Type 0} → Trial R → Bool
+is_checked_in t = t.found.now.census.delimiters || ((options_in t).check_plain_blocks && not (length (events_in t) == 0))
+
+-- how a unit is written with these tools, for events of a parser with these flags, and with this reserved label
+abbrev pub setting_with : {R : Type 0} → (R → List ℕ → ParserOptions → ReadingView) → Tools R → ParserOptions → Option (List ℕ) → Setting
+setting_with reading tools flags label = setting_of (options_view tools.options) flags (reading tools.reader.now) label
 
 -- what is asked of all spellings of the unit
 abbrev pub asked_of : {R : Type 0} → (R → List ℕ → ParserOptions → ReadingView) → Trial R → Asked
 asked_of reading t = record {
-  setting = setting_of (options_in t) t.flags (reading t.reader.now) (label_now t.label);
+  setting = setting_with reading t.tools.now t.flags (label_now t.label);
   unit = or_no_trees (trees_of (events_in t));
   next = following_view t.next;
 }
@@ -54,7 +63,7 @@ asked_of reading t = record {
 -- the unit's events are balanced, and what is found out of them is so
 pub record IsReady {R : Type 0} (reading : R → List ℕ → ParserOptions → ReadingView) (t : Trial R) : Type 0 where
   pub balanced : is_some (trees_of (events_in t)) ≡ true
-  pub found : AreFindings (reading t.reader.now) (options_in t) t.flags (events_in t) t.found.now
+  pub found : AreFindings (reading t.tools.now.reader.now) (options_in t) t.flags (events_in t) t.found.now
 
 -- where a manner's layout chooses among single bytes, the markers that it asks for are ASCII
 abbrev pub IsLow : Manner → Type 0
@@ -151,3 +160,18 @@ WritesChoice q d old new r = Writes r q.setting d (site_of old) new (choice q.se
 -- the unit of a trial was written as it is chosen behind each document that leaves this to it, or refused so
 abbrev pub Chooses : {R X : Type 0} → (R → List ℕ → ParserOptions → ReadingView) → Trial R → Earlier → Rendering → Rendering → Result X Error → Type 0
 Chooses reading t e old new r = (d : DocumentView) → WritesChoice (asked_of reading t) (left_by d e (site_of old)) old new r
+
+-- the preferred spelling is chosen for a unit, of which nothing is written yet
+pub record IsPlain (q : Asked) (d : DocumentView) (old : Site) (new : Rendering) : Type 0 where
+  pub plain : choice q.setting d q.unit q.next ≡ preferred q.setting d q.unit q.next
+  pub kept : site_of new ≡ old
+
+-- a search wrote the unit as it is chosen, left it to its preferred spelling, or refused it as the choice does
+abbrev pub FindsChoice : {X : Type 0} → Asked → DocumentView → Site → Rendering → Result (Option X) Error → Type 0
+FindsChoice q d old new (Ok (Some x)) = IsWritten q.setting d old new (choice q.setting d q.unit q.next)
+FindsChoice q d old new (Ok None) = IsPlain q d old new
+FindsChoice q d old new (Err e) = IsLeft old new e (choice q.setting d q.unit q.next)
+
+-- the same of the unit of a trial, behind each document that leaves this to it
+abbrev pub Finds : {R X : Type 0} → (R → List ℕ → ParserOptions → ReadingView) → Trial R → Earlier → Rendering → Rendering → Result (Option X) Error → Type 0
+Finds reading t e old new r = (d : DocumentView) → FindsChoice (asked_of reading t) (left_by d e (site_of old)) (site_of old) new r

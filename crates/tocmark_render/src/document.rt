@@ -1,32 +1,32 @@
 //! The text that is chosen for a unit, and what the unit leaves to later ones.
 
-ghost use Rattle.std.specs.Prelude.{◌≡◌, ◌==◌, ℕ, List, [], string_bytes, IfOk, IfSome, OnErr, OnOk, map, option_map, is_some, None, true};
+ghost use Rattle.std.specs.Prelude.{◌≡◌, ◌==◌, ℕ, List, [], string_bytes, IfOk, IfSome, OnErr, OnOk, map, option_map, is_some, IsSome, None, Some, true};
 ghost use Rattle.std.specs.List.{list_any};
-ghost use Rattle.tocmark_event.specs.Options.{options_view};
 ghost use Rattle.tocmark_event.specs.Reading.{ReadingView};
 ghost use Rattle.tocmark_spelling.specs.Buffered.{following_view, next_view};
+ghost use Rattle.tocmark_spelling.specs.Page.{Site};
 ghost use Rattle.tocmark_spelling.specs.Plan.{Setting};
-ghost use Rattle.tocmark_spelling.specs.PlanOf.{setting_of};
 ghost use Rattle.tocmark_write_renderer.specs.WriterOf.{page_of, reference_view, sheet_of, site_of};
-ghost use Rattle.tocmark_render.specs.Choice.{choice};
+ghost use Rattle.tocmark_render.specs.Choice.{accepted, choice};
 ghost use Rattle.tocmark_render.specs.Chosen.{chosen};
 ghost use Rattle.tocmark_write_labels.specs.Defined.{behind, undefined};
 ghost use Rattle.tocmark_write_labels.specs.Definitions.{definitions_text};
 ghost use Rattle.tocmark_write_labels.specs.Document.{bracketed_in, first_document, known_in};
 ghost use Rattle.tocmark_write_labels.specs.LabelsOf.{label_now, labels_of, Begins};
-ghost use Rattle.tocmark_render.specs.TrialOf.{IsFront, IsKnown, IsReady, Knows, asked_of, or_no_trees};
+ghost use Rattle.tocmark_render.specs.TrialOf.{IsFront, IsKnown, IsReady, asked_of, left_by, or_no_trees, setting_with};
 ghost use Rattle.tocmark_write_labels.specs.Units.{label_for};
 ghost use Rattle.tocmark_write_pending.specs.Units.{trees_of};
-ghost use Rattle.tocmark_render.specs.DocumentOf.{document_at, document_view, document_flags, Gives, HasRoom, Spells, WritesChosen, kept_view, noted, passed};
+ghost use Rattle.tocmark_render.specs.DocumentOf.{document_at, document_view, document_flags, Gives, HasRoom, Spells, kept_view, noted, passed};
 
 use crate::earlier::Earlier;
 use crate::read_back::ReadBack;
-use crate::search::choose;
+use crate::search::Search;
+use crate::tools::Tools;
 use crate::trial::Trial;
 use std::alloc::{AllocError, Global};
 use std::mem;
 use tocmark_event::event::{Event, OwnedEvent, ParserOptions};
-use tocmark_event::options::{Error, Options};
+use tocmark_event::options::Error;
 use tocmark_event::reader::Reader;
 use tocmark_spelling::trail::Trail;
 use tocmark_write_labels::defined::{add_labels, undefined_text};
@@ -99,7 +99,7 @@ fn note_known_labels<R: Reader>(
     trial: &Trial<'_, '_, R>,
     definitions: &str,
 ) -> Result<(), AllocError>
-    ensures known { let reading = R.reading trial.now.reader.now in
+    ensures known { let reading = R.reading trial.now.tools.now.reader.now in
         OnOk result (labels_of known.new
         ≡ known_in reading trial.now.flags (labels_of known.old) definitions.now) }
     ensures front { Begins (labels_of known.old) (labels_of known.new) }
@@ -108,8 +108,11 @@ fn note_known_labels<R: Reader>(
     if definitions.is_empty() {
         return Ok(());
     }
-    let found = trial.reader.read(trial.alloc, definitions, trial.flags)?;
-    known.add_all(trial.alloc, &found.defined)
+    let found = trial
+        .tools
+        .reader
+        .read(trial.tools.alloc, definitions, trial.flags)?;
+    known.add_all(trial.tools.alloc, &found.defined)
 }
 
 /// Keeps a copy of a unit's text, if that has a bracket. If memory runs out, it isn't kept.
@@ -177,7 +180,7 @@ impl Document {
         definitions: &str,
         text: &str,
     ) -> Result<(), AllocError>
-        ensures noted { let reading = R.reading trial.now.reader.now in
+        ensures noted { let reading = R.reading trial.now.tools.now.reader.now in
             let flags = trial.now.flags in
             let old = document_view self.old in
             OnOk result (document_view self.new ≡ record old {
@@ -190,7 +193,7 @@ impl Document {
     {
         let before = self.known.len();
         note_known_labels(&mut self.known, trial, definitions)?;
-        let noted = keep_bracketed(&mut self.bracketed, trial.alloc, text);
+        let noted = keep_bracketed(&mut self.bracketed, trial.tools.alloc, text);
         if noted.is_err() {
             self.known.truncate(before);
         }
@@ -211,7 +214,7 @@ impl Document {
         ensures references { self.new.references ≡ self.old.references }
     {
         let (references, newlines) = (renderer.references(), renderer.newlines());
-        let definitions = definitions_text(trial.alloc, references, newlines)?;
+        let definitions = definitions_text(trial.tools.alloc, references, newlines)?;
         self.note_labels(trial, definitions.as_str(), renderer.text())
     }
 
@@ -238,15 +241,36 @@ impl Document {
         }
     }
 
-    /// A renderer of the next unit, to which the trail is moved.
-    fn begin<'a>(&mut self, alloc: Global) -> Renderer<'a>
-        ensures front { IsFront (site_of result) }
-        ensures view { document_at self.new (site_of result) ≡ document_view self.old }
+    /// What the document leaves to the reading of its next unit.
+    fn earlier(&self) -> Earlier<'_>
+        ensures { (here : Site)
+            → left_by (document_view self.now) result here ≡ document_at self.now here }
+    {
+        Earlier {
+            known: &self.known,
+            flushed: self.flushed,
+        }
+    }
+
+    /// A renderer of the next unit, to which the trail is moved, with room for a text of likely this length.
+    /// If memory runs out, the document stays as it was.
+    fn begin<'a>(&mut self, alloc: Global, likely_len: usize) -> Result<Renderer<'a>, AllocError>
+        ensures front { IfOk result (λ renderer. IsFront (site_of renderer)) }
+        ensures view { IfOk result (λ renderer.
+            document_at self.new (site_of renderer) ≡ document_view self.old) }
+        ensures stays { OnErr result (document_view self.new ≡ document_view self.old) }
         ensures flags { document_flags self.new ≡ document_flags self.old }
     {
         let trail = mem::replace(&mut self.trail, Trail::new());
         let room = mem::replace(&mut self.room, String::new(alloc));
-        Renderer::resume(alloc, room, self.newlines, trail)
+        let mut renderer = Renderer::resume(alloc, room, self.newlines, trail);
+        match renderer.reserve_lines(likely_len) {
+            Ok(()) => Ok(renderer),
+            Err(error) => {
+                self.take_back(renderer);
+                Err(error)
+            }
+        }
     }
 
     /// Takes a unit's text back when it is handed on: the next unit is written in its room.
@@ -293,55 +317,39 @@ impl Document {
         text
     }
 
-    /// Writes the unit of a trial as it is chosen, with room for its text from the start, and hands on
-    /// what is known of that. At an `Err`, which is as in `block`, the renderer has gone back.
-    fn choose<'t, R: Reader>(
-        &self,
-        trial: &Trial<'t, '_, R>,
-        renderer: &mut Renderer<'t>,
-    ) -> Result<Option<ReadBack>, Error>
-        requires ready { IsReady R.reading trial.now }
-        requires front { IsFront (site_of renderer.old) }
-        ensures chosen { let reading = R.reading in
-            WritesChosen reading trial.now self.now renderer.old renderer.new result }
-        ensures known { Knows renderer.new result }
-    {
-        renderer.reserve_lines(trial.found.census.likely_len)?;
-        let earlier = Earlier {
-            known: &self.known,
-            flushed: self.flushed,
-        };
-        choose(trial, earlier, renderer)
-    }
-
-    /// Writes the unit of a trial as it is chosen, and notes its labels. At an `Err`, which is as in
-    /// `block`, the document is as it was, and the renderer has gone back.
-    fn write_chosen<'t, R: Reader>(
+    /// Notes the labels and the text of a unit that is written behind a mark, takes what it leaves, and
+    /// hands out its text. If memory runs out, here or in the reader, the document is again what it was
+    /// where the mark was set.
+    fn accept<R: Reader>(
         &mut self,
-        trial: &Trial<'t, '_, R>,
-        renderer: &mut Renderer<'t>,
-    ) -> Result<(), Error>
-        requires ready { IsReady R.reading trial.now }
-        requires front { IsFront (site_of renderer.old) }
-        ensures chosen { let reading = R.reading in
-            WritesChosen reading trial.now self.old renderer.old renderer.new result }
-        ensures noted { let s = (asked_of R.reading trial.now).setting in
-            OnOk result (document_view self.new
-            ≡ noted s (document_view self.old) (page_of renderer.new)) }
-        ensures room { OnOk result (HasRoom self.new (page_of renderer.new)) }
-        ensures stays { OnErr result (document_view self.new ≡ document_view self.old) }
+        trial: &Trial<'_, '_, R>,
+        mut renderer: Renderer<'_>,
+        known: Option<ReadBack>,
+    ) -> Result<String, Error>
+        requires known { IfSome known (IsKnown (page_of renderer)) }
+        requires marked { IsSome renderer.at_mark }
+        ensures accepted { (here : Site) → renderer.entry.at_mark ≡ Some here →
+            let s = (asked_of R.reading trial.now).setting in
+            Spells (document_view self.new) result
+            (accepted s (document_at self.old here) (page_of renderer.entry)) }
+        ensures stays { (here : Site) → renderer.entry.at_mark ≡ Some here →
+            OnErr result (document_view self.new ≡ document_at self.old here) }
         ensures flags { document_flags self.new ≡ document_flags self.old }
     {
-        let known = self.choose(trial, renderer)?;
-        if self.note(trial, renderer, known).is_err() {
-            renderer.back();
-            return Err(Error::OutOfMemory);
+        match self.note(trial, &renderer, known) {
+            Ok(()) => Ok(self.pass(renderer)),
+            Err(_error) => {
+                renderer.back();
+                self.take_back(renderer);
+                Err(Error::OutOfMemory)
+            }
         }
-        Ok(())
     }
 
-    /// Writes the unit of a trial, by one renderer for all candidates. An `Err` is as in `block`.
-    fn write_unit<R: Reader>(&mut self, trial: &Trial<'_, '_, R>) -> Result<String, Error>
+    /// Writes the unit of a trial, by one renderer for all candidates. An `Err` is as in `block`; the
+    /// document is then as it was.
+    #[inline]
+    fn spell<R: Reader>(&mut self, trial: &Trial<'_, '_, R>) -> Result<String, Error>
         requires ready { IsReady R.reading trial.now }
         ensures chosen { let q = asked_of R.reading trial.now in
             Spells (document_view self.new) result
@@ -349,9 +357,12 @@ impl Document {
         ensures stays { OnErr result (document_view self.new ≡ document_view self.old) }
         ensures flags { document_flags self.new ≡ document_flags self.old }
     {
-        let mut renderer = self.begin(trial.alloc);
-        match self.write_chosen(trial, &mut renderer) {
-            Ok(()) => Ok(self.pass(renderer)),
+        let likely_len = trial.found.census.likely_len;
+        let mut renderer = self.begin(trial.tools.alloc, likely_len)?;
+        let earlier = self.earlier();
+        let search = Search { trial, earlier };
+        match search.choose(&mut renderer) {
+            Ok(known) => self.accept(trial, renderer, known),
             Err(error) => {
                 self.take_back(renderer);
                 Err(error)
@@ -363,17 +374,17 @@ impl Document {
     /// here or in the reader.
     fn label_at_end<R: Reader>(
         &self,
-        alloc: Global,
-        reader: &R,
+        tools: &Tools<'_, R>,
         unit: &Pending,
     ) -> Result<Option<String>, AllocError>
-        ensures { (s : Setting) → s.reading ≡ R.reading reader.now
+        ensures { (s : Setting) → s.reading ≡ R.reading tools.now.reader.now
             → s.flags ≡ document_flags self.now
             → IfOk result (λ label. option_map string_bytes label ≡
             label_for s (document_view self.now) unit.now.events None) }
     {
         if unit.needs_placeholder() {
-            let literal = literal_labels(alloc, reader, self.flags, &self.bracketed)?;
+            let alloc = tools.alloc;
+            let literal = literal_labels(alloc, tools.reader, self.flags, &self.bracketed)?;
             let label = reserve_list_label(alloc, &self.known, &literal, unit.events())?;
             Ok(Some(label))
         } else {
@@ -385,83 +396,70 @@ impl Document {
     /// if it waits. It fails if memory runs out, here or in the reader.
     fn label_for<R: Reader>(
         &self,
-        alloc: Global,
-        reader: &R,
+        tools: &Tools<'_, R>,
         unit: &Pending,
         next: Option<&Event<'_>>,
     ) -> Result<Option<String>, AllocError>
-        ensures { (s : Setting) → s.reading ≡ R.reading reader.now
+        ensures { (s : Setting) → s.reading ≡ R.reading tools.now.reader.now
             → s.flags ≡ document_flags self.now
             → IfOk result (λ label. option_map string_bytes label ≡
             label_for s (document_view self.now) unit.now.events (next_view next.entry)) }
     {
         match next {
             Some(_) => Ok(None),
-            None => self.label_at_end(alloc, reader, unit),
+            None => self.label_at_end(tools, unit),
         }
     }
 
-    /// Writes a unit whose events are balanced. An `Err` is as in `block`.
+    /// Writes a unit whose events are balanced. An `Err` is as in `block`; the document is then as it was.
     fn chosen<'u, R: Reader>(
         &mut self,
-        alloc: Global,
-        reader: &'u R,
+        tools: &'u Tools<'_, R>,
         unit: &'u Pending,
         next: Option<&'u OwnedEvent>,
         label: Option<&'u str>,
-        options: &'u Options<'_>,
     ) -> Result<String, Error>
         requires balanced { is_some (trees_of unit.now.events) ≡ true }
-        ensures chosen { let flags = document_flags self.old in
-            let label = label_now label.entry in
-            let s = setting_of (options_view options.now) flags (R.reading reader.now) label in
+        ensures chosen { let label = label_now label.entry in
+            let s = setting_with R.reading tools.now (document_flags self.old) label in
             let f = or_no_trees (trees_of unit.now.events) in
             Spells (document_view self.new) result
             (choice s (document_view self.old) f (following_view next.entry)) }
         ensures stays { OnErr result (document_view self.new ≡ document_view self.old) }
         ensures flags { document_flags self.new ≡ document_flags self.old }
     {
-        let found = findings_of(alloc, reader, options, self.flags, unit)?;
+        let found = findings_of(tools.alloc, tools.reader, &tools.options, self.flags, unit)?;
         let trial = Trial {
-            alloc,
-            reader,
+            tools,
             flags: self.flags,
             unit,
             found: &found,
             next,
             label,
-            options,
         };
-        self.write_unit(&trial)
+        self.spell(&trial)
     }
 
-    /// Writes a unit whose events are balanced, before this event if one follows. An `Err` is as in `block`.
-    fn chosen_before<R: Reader>(
-        &mut self,
-        alloc: Global,
-        reader: &R,
-        unit: &Pending,
-        next: Option<&Event<'_>>,
-        label: Option<&str>,
-        options: &Options<'_>,
-    ) -> Result<String, Error>
-        requires balanced { is_some (trees_of unit.now.events) ≡ true }
-        ensures chosen { let flags = document_flags self.old in
-            let label = label_now label.entry in
-            let s = setting_of (options_view options.now) flags (R.reading reader.now) label in
-            let f = or_no_trees (trees_of unit.now.events) in
-            Spells (document_view self.new) result
-            (choice s (document_view self.old) f (next_view next.entry)) }
-        ensures stays { OnErr result (document_view self.new ≡ document_view self.old) }
+    /// Notes the labels of definitions that the document has already, unless a unit was written. If memory
+    /// runs out, some are noted.
+    fn know(&mut self, alloc: Global, defined: &[Reference]) -> Result<(), AllocError>
+        ensures known { OnOk result (document_view self.new
+            ≡ behind (map reference_view defined.now) (document_view self.old)) }
+        ensures stays { defined.now ≡ []
+            → OnErr result (document_view self.new ≡ document_view self.old) }
         ensures flags { document_flags self.new ≡ document_flags self.old }
     {
-        let next = kept_event(alloc, next)?;
-        let text = self.chosen(alloc, reader, unit, lent_event(&next), label, options);
-        drop(next);
-        text
+        if self.flushed {
+            return Ok(());
+        }
+        if defined.is_empty() {
+            return Ok(());
+        }
+        add_labels(&mut self.known, alloc, defined)
     }
 
-    /// Writes a unit and gives its text.
+    /// Writes a unit and gives its text, in a document that has some definitions of links already: their
+    /// labels are known to its first unit, and so to all.
     ///
     /// `next` is the event after the unit, if there is one. Where the options have markers that Markdown
     /// reads, spellings are tried in order, and the first is taken in which the reader finds the unit:
@@ -475,65 +473,32 @@ impl Document {
     /// An `Err` is `UnexpectedEvent` where a container of the unit is open, and where an event
     /// stands where it may not, as a heading in a heading; `Unrepresentable` where no spelling of a
     /// unit that is checked is read back, though the options are accepted; and `OutOfMemory` where memory
-    /// ran out or the reader answered it. The document is then as it was.
+    /// ran out or the reader answered it. The document is then as it was, but that it may know labels of the
+    /// definitions that it has already.
     pub fn block<R: Reader>(
         &mut self,
-        alloc: Global,
-        reader: &R,
+        tools: &Tools<'_, R>,
         unit: &Pending,
         next: Option<&Event<'_>>,
-        options: &Options<'_>,
     ) -> Result<String, Error>
-        ensures chosen { let flags = document_flags self.old in
-            let s = setting_of (options_view options.now) flags (R.reading reader.now) None in
+        ensures chosen { let s = setting_with R.reading tools.now (document_flags self.old) None in
+            let d = behind (map reference_view tools.now.defined.now) (document_view self.old) in
             Spells (document_view self.new) result
-            (chosen s (document_view self.old) unit.now.events (next_view next.entry)) }
-        ensures stays { OnErr result (document_view self.new ≡ document_view self.old) }
+            (chosen s d unit.now.events (next_view next.entry)) }
+        ensures stays { tools.now.defined.now ≡ []
+            → OnErr result (document_view self.new ≡ document_view self.old) }
         ensures flags { document_flags self.new ≡ document_flags self.old }
     {
+        self.know(tools.alloc, tools.defined)?;
         if !unit.is_whole() {
             return Err(Error::UnexpectedEvent);
         }
-        let label = self.label_for(alloc, reader, unit, next)?;
-        let text = self.chosen_before(alloc, reader, unit, next, lent_label(&label), options);
+        let label = self.label_for(tools, unit, next)?;
+        let next = kept_event(tools.alloc, next)?;
+        let text = self.chosen(tools, unit, lent_event(&next), lent_label(&label));
+        drop(next);
         drop(label);
         text
-    }
-
-    /// Notes the labels of definitions that the document has already, unless a unit was written. If memory
-    /// runs out, some are noted.
-    fn know(&mut self, alloc: Global, defined: &[Reference]) -> Result<(), AllocError>
-        ensures known { OnOk result (document_view self.new
-            ≡ behind (map reference_view defined.now) (document_view self.old)) }
-        ensures flags { document_flags self.new ≡ document_flags self.old }
-    {
-        if self.flushed {
-            return Ok(());
-        }
-        add_labels(&mut self.known, alloc, defined)
-    }
-
-    /// Writes a unit and gives its text, as `block` does, in a document that has these definitions
-    /// already: their labels are known to its first unit, and so to all. An `Err` is as in `block`, but
-    /// that some of their labels may be known then.
-    pub fn block_behind<R: Reader>(
-        &mut self,
-        alloc: Global,
-        reader: &R,
-        unit: &Pending,
-        next: Option<&Event<'_>>,
-        options: &Options<'_>,
-        defined: &[Reference],
-    ) -> Result<String, Error>
-        ensures chosen { let flags = document_flags self.old in
-            let s = setting_of (options_view options.now) flags (R.reading reader.now) None in
-            let d = behind (map reference_view defined.now) (document_view self.old) in
-            Spells (document_view self.new) result
-            (chosen s d unit.now.events (next_view next.entry)) }
-        ensures flags { document_flags self.new ≡ document_flags self.old }
-    {
-        self.know(alloc, defined)?;
-        self.block(alloc, reader, unit, next, options)
     }
 
     /// The definitions that are left: of each unit so far those that it needs, each once, one a line,

@@ -86,9 +86,16 @@ impl Earlier<'_> {
         };
         let flags = reading_flags(trial.flags, self.flushed);
         let unit = trial.unit.events();
-        let found = find(trial.alloc, trial.reader, flags, taken, unit, text)?;
+        let found = find(
+            trial.tools.alloc,
+            trial.tools.reader,
+            flags,
+            taken,
+            unit,
+            text,
+        )?;
         if !found {
-            refused.insert(String::from_str(trial.alloc, text)?)?;
+            refused.insert(String::from_str(trial.tools.alloc, text)?)?;
         }
         Ok(found)
     }
@@ -113,7 +120,7 @@ impl Earlier<'_> {
         if definitions.is_empty() {
             return self.find_in(trial, refused, text);
         }
-        let whole = behind_definitions(trial.alloc, definitions, text)?;
+        let whole = behind_definitions(trial.tools.alloc, definitions, text)?;
         self.find_in(trial, refused, whole.as_str())
     }
 
@@ -136,7 +143,7 @@ impl Earlier<'_> {
             OnOk result (AreRefused q (earlier_view self.now) refused.new) }
     {
         let (references, newlines) = (renderer.references(), renderer.newlines());
-        let definitions = definitions_text(trial.alloc, references, newlines)?;
+        let definitions = definitions_text(trial.tools.alloc, references, newlines)?;
         if self.find_behind(trial, refused, definitions.as_str(), renderer.text())? {
             Ok(Some(ReadBack { definitions }))
         } else {

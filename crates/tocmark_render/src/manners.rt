@@ -1,15 +1,14 @@
 //! The manners in which a unit may be written.
 
-ghost use Rattle.std.specs.Prelude.{◌≡◌, ◌++◌, map, false, true, IfOk, OnOk, flat_map};
+ghost use Rattle.std.specs.Prelude.{◌≡◌, map, false, true};
 ghost use Rattle.tocmark_event.specs.Options.{options_view};
 ghost use Rattle.tocmark_write_renderer.specs.JobOf.{manner_view};
 ghost use Rattle.tocmark_spelling.specs.declared.plan.Layout.TheVariants as layout;
 ghost use Rattle.tocmark_spelling.specs.declared.plan.TextSpelling.TheVariants as text_spelling;
-ghost use Rattle.tocmark_render.specs.Candidates.{escaped_manners, fallback_manners, fallbacks, in_manner, other_emphasis, other_strong, own_markers, pair, source_manners};
+ghost use Rattle.tocmark_render.specs.Candidates.{fallback_manners, fallbacks, in_manner, other_emphasis, other_strong, own_markers, pair, source_manners};
 ghost use Rattle.tocmark_render.specs.Choice.{has_standard_markers};
-ghost use Rattle.tocmark_render.specs.Tries.{manners_for, plan_view, run_manners};
+ghost use Rattle.tocmark_render.specs.Tries.{plan_view, run_manners};
 
-use std::alloc::{AllocError, Global};
 use tocmark_event::options::Options;
 use tocmark_spelling::plan::{Delimiters, Layout, TextSpelling};
 use tocmark_write_renderer::job::Manner;
@@ -147,71 +146,4 @@ pub fn run_manners<'a>(options: &Options<'a>) -> [Manner<'a>; 5]
         by_runs(emphasis, other_strong(strong), false),
         by_runs(other_emphasis(emphasis), other_strong(strong), false),
     ]
-}
-
-/// Adds the manners of a unit that is taken from the source.
-fn push_from_source<'a>(
-    manners: &mut Vec<Manner<'a>>,
-    options: &Options<'a>,
-    has_delimiters: bool,
-) -> Result<(), AllocError>
-    ensures { OnOk result (map manner_view manners.new.items ≡ map manner_view manners.old.items
-        ++ source_manners (options_view options.now) has_delimiters) }
-{
-    if has_delimiters {
-        manners.extend_from_slice(&source_manners(options))
-    } else {
-        manners.extend_from_slice(&[preferred_manner(options, true)])
-    }
-}
-
-/// Adds the fallbacks, each with all markers.
-fn push_fallbacks(manners: &mut Vec<Manner<'_>>) -> Result<(), AllocError>
-    ensures { OnOk result (map manner_view manners.new.items
-        ≡ map manner_view manners.old.items ++ flat_map fallback_manners fallbacks) }
-{
-    for plan in fallback_plans() {
-        manners.extend_from_slice(&with_all_markers(plan))?;
-    }
-    Ok(())
-}
-
-/// Adds the manners of a unit whose texts are escaped.
-fn push_escaped<'a>(
-    manners: &mut Vec<Manner<'a>>,
-    options: &Options<'a>,
-    has_delimiters: bool,
-    is_checked: bool,
-) -> Result<(), AllocError>
-    ensures { OnOk result (map manner_view manners.new.items ≡ map manner_view manners.old.items
-        ++ escaped_manners (options_view options.now) has_delimiters is_checked) }
-{
-    if has_delimiters {
-        manners.extend_from_slice(&run_manners(options))?;
-        push_fallbacks(manners)
-    } else if is_checked {
-        manners.extend_from_slice(&[preferred_manner(options, false)])
-    } else {
-        Ok(())
-    }
-}
-
-/// The manners in which a unit is tried, in order and as one list: from the source, where some text is
-/// known there, and escaped for a unit that is checked, as one with delimiters is.
-pub fn candidates<'a>(
-    alloc: Global,
-    options: &Options<'a>,
-    has_source: bool,
-    has_delimiters: bool,
-    is_checked: bool,
-) -> Result<Vec<Manner<'a>>, AllocError>
-    ensures { IfOk result (λ manners. map manner_view manners.items
-        ≡ manners_for (options_view options.now) has_source has_delimiters is_checked) }
-{
-    let mut manners = Vec::new(alloc);
-    if has_source {
-        push_from_source(&mut manners, options, has_delimiters)?;
-    }
-    push_escaped(&mut manners, options, has_delimiters, is_checked)?;
-    Ok(manners)
 }

@@ -2,14 +2,12 @@
 
 ghost use Rattle.tocmark_write_renderer.specs.JobOf.{manner_view};
 ghost use Rattle.tocmark_write_renderer.specs.WriterOf.{site_of};
-ghost use Rattle.tocmark_render.specs.Candidates.{preferred_manner};
-ghost use Rattle.tocmark_render.specs.TrialOf.{IsFront, IsLow, IsReady, WritesIn, options_in};
+ghost use Rattle.tocmark_render.specs.TrialOf.{IsFront, IsLow, IsReady, WritesIn};
 
-use crate::manners::preferred_manner;
+use crate::tools::Tools;
 use indexmap::IndexSet;
-use std::alloc::Global;
 use tocmark_event::event::{OwnedEvent, ParserOptions};
-use tocmark_event::options::{Error, Options};
+use tocmark_event::options::Error;
 use tocmark_event::reader::Reader;
 use tocmark_write_pending::pending::Pending;
 use tocmark_write_renderer::job::{Job, Manner};
@@ -23,8 +21,7 @@ pub(crate) type Refused = IndexSet<String>;
 /// What stays the same while spellings of a unit are tried.
 #[derive(Drop)]
 pub struct Trial<'t, 'o, R> {
-    pub alloc: Global,
-    pub reader: &'t R,
+    pub tools: &'t Tools<'o, R>,
     /// The flags of the parser that the unit is written for.
     pub flags: ParserOptions,
     pub unit: &'t Pending,
@@ -34,7 +31,6 @@ pub struct Trial<'t, 'o, R> {
     pub next: Option<&'t OwnedEvent>,
     /// The label that is reserved for lists, if there is one.
     pub label: Option<&'t str>,
-    pub options: &'t Options<'o>,
 }
 
 /// Writes the unit of a trial in one manner, behind a mark. An `Err` is as in `write_unit`; the
@@ -51,29 +47,16 @@ pub(crate) fn write<'t, R: Reader>(
         WritesIn R.reading trial.now renderer.old renderer.new m result }
 {
     let job = Job {
-        alloc: trial.alloc,
-        options: trial.options,
+        alloc: trial.tools.alloc,
+        options: &trial.tools.options,
         flags: trial.flags,
         label: trial.label,
     };
-    let (reader, unit, found) = (trial.reader, trial.unit, trial.found);
+    let (reader, unit, found) = (trial.tools.reader, trial.unit, trial.found);
     renderer.mark();
     let result = write_unit(renderer, job, reader, unit, found, trial.next, *manner);
     if result.is_err() {
         renderer.back();
     }
     result
-}
-
-/// Writes the unit of a trial in the preferred spelling, unread, as `write` does.
-pub(crate) fn write_preferred<'t, R: Reader>(
-    trial: &Trial<'t, '_, R>,
-    renderer: &mut Renderer<'t>,
-) -> Result<(), Error>
-    requires ready { IsReady R.reading trial.now }
-    requires front { IsFront (site_of renderer.old) }
-    ensures { let m = preferred_manner (options_in trial.now) in
-        WritesIn R.reading trial.now renderer.old renderer.new m result }
-{
-    write(trial, renderer, &preferred_manner(trial.options, false))
 }

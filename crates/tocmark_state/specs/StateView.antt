@@ -13,7 +13,7 @@ use Rattle.tocmark_state.specs.declared.state.State.{State}
 use Rattle.tocmark_state.specs.declared.state.Status.{Status}
 use Rattle.tocmark_state.specs.declared.state.Status.TheVariants.{Active, Finished, Failed}
 use Rattle.tocmark_state.specs.Ranges.{Pair}
-use Rattle.tocmark_state.specs.Walk.{done, Rendering, Standing, walk, nothing_yet, script}
+use Rattle.tocmark_state.specs.Walk.{done, Rendering, Standing, Walk, walk, nothing_yet, script}
 use Rattle.tocmark_state.specs.Writes.{Makes}
 use Rattle.tocmark_state.specs.WorkView.{Counts, flags_of, rendering_behind, standing_of}
 
@@ -47,6 +47,10 @@ pub record SameStanding {R : Type 0} (s t : State R) : Type 0 where
 -- how a state writes units
 abbrev pub rendering_of : {R : Type 0} → (R → List ℕ → ParserOptions → ReadingView) → State R → Rendering
 rendering_of reading s = rendering_behind (defined_of s) (owned_options_view s.options) (reading s.reader)
+
+-- what further pairs over the source come to
+abbrev pub walk_from : {R : Type 0} → (R → List ℕ → ParserOptions → ReadingView) → State R → List ℕ → List Pair → Walk Standing
+walk_from reading s source p = walk (rendering_of reading s) source (place_of s) p
 
 -- the state takes events
 abbrev pub IsActive : {R : Type 0} → State R → Type 0

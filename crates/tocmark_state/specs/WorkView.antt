@@ -1,5 +1,5 @@
 -- What a state makes of its events, as plain values.
-use Rattle.std.specs.Prelude.{◌≡◌, ℕ, ◌-◌, ◌^◌, min, List, map, Result, Ok, Err, Option, None, string_bytes, String}
+use Rattle.std.specs.Prelude.{◌≡◌, ℕ, ◌-◌, ◌^◌, min, List, length, map, sum_by, IfOk, Result, Ok, Err, Option, None, string_bytes, String}
 use Rattle.std.specs.Borrow.{Bor}
 use Rattle.std.specs.Global.{Global}
 use Rattle.tocmark_event.specs.Options.{OptionsView, options_view}
@@ -22,11 +22,11 @@ use Rattle.tocmark_render.specs.Chosen.{chosen}
 use Rattle.tocmark_write_pending.specs.Pending.{text_now}
 use Rattle.tocmark_write_pending.specs.Units.{waits}
 use Rattle.tocmark_render.specs.declared.document.Document.{Document}
+use Rattle.tocmark_render.specs.declared.tools.Tools.{Tools}
 use Rattle.tocmark_state.specs.declared.work.Progress.{Progress}
 use Rattle.tocmark_state.specs.declared.work.Work.{Work}
-use Rattle.tocmark_state.specs.declared.work.Tools.{Tools}
 use Rattle.tocmark_state.specs.Ranges.{Pair, Range, unranged}
-use Rattle.tocmark_state.specs.Walk.{Kept, Rendering, Standing}
+use Rattle.tocmark_state.specs.Walk.{Kept, Rendering, Standing, Walk}
 
 -- a call that left y where it succeeded
 abbrev pub Answers : {X Y : Type 0} → Result X Error → Y → Result Y Error → Type 0
@@ -115,6 +115,10 @@ at_most n = min n (2 ^ 64 - 1)
 pub record Counts (p : Progress) (events bytes : ℕ) : Type 0 where
   pub events_consumed : p.events_consumed ≡ at_most events
   pub bytes_written : p.bytes_written ≡ at_most bytes
+
+-- what a call that answers at all counts: its events, and the bytes of the texts of this walk
+abbrev pub CountsIn : {S : Type 0} → Result Progress Error → ℕ → Walk S → Type 0
+CountsIn r events walk = IfOk r (λ p. Counts p events (sum_by length walk.texts))
 
 -- nothing is known of what a writer refuses
 abbrev pub unknown : {W : Type 0} → W → List ℕ → W → Type 0

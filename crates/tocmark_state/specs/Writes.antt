@@ -35,3 +35,7 @@ TakesAllAt e walk = IsOk walk.outcome
 abbrev pub TakesAll : {X S : Type 0} → Result X Error → Walk S → Type 0
 TakesAll (Ok x) walk = Unit {0}
 TakesAll (Err e) walk = TakesAllAt e walk
+
+-- a call that answers this error at once: the writer is as it was
+abbrev pub Rejects : {W X : Type 0} → W → W → Result X Error → Error → Type 0
+Rejects w v r e = (r ≡ Err e) × (v ≡ w)

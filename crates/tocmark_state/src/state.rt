@@ -1,6 +1,6 @@
 //! A state that takes events.
 
-ghost use Rattle.std.specs.Prelude.{◌+◌, Option, ◌≡◌, IfOk, OnOk, OnErr, List, ℕ, IsOk, Some, [], length, map, sum_by};
+ghost use Rattle.std.specs.Prelude.{◌+◌, Option, ◌≡◌, IfOk, OnOk, OnErr, List, ℕ, IsOk, Some, [], length, map};
 ghost use Rattle.std.specs.Borrow.{Bor};
 ghost use Rattle.std.specs.Iterator.{IsFinite, DrainsIf};
 ghost use Rattle.tocmark_event.specs.Options.{options_view, owned_options_view};
@@ -10,20 +10,20 @@ ghost use Rattle.tocmark_write_labels.specs.Defined.{defined_view};
 ghost use Rattle.tocmark_write_renderer.specs.WriterOf.{reference_view};
 ghost use Rattle.tocmark_state.specs.Ranges.{Range};
 ghost use Rattle.tocmark_state.specs.Taken.{ranged_reading, unranged_reading};
-ghost use Rattle.tocmark_state.specs.StateView.{Adds, Ends, rendering_of};
-ghost use Rattle.tocmark_state.specs.Walk.{walk};
-ghost use Rattle.tocmark_state.specs.Writes.{Makes};
-ghost use Rattle.tocmark_state.specs.WorkView.{Counts, incoming_pairs, pairs, ranged_pairs, rendering, rendering_behind};
+ghost use Rattle.tocmark_state.specs.StateView.{Adds, Ends, rendering_of, walk_from};
+ghost use Rattle.tocmark_state.specs.Writes.{Makes, Rejects};
+ghost use Rattle.tocmark_state.specs.WorkView.{CountsIn, incoming_pairs, pairs, ranged_pairs, rendering, rendering_behind};
 
 use crate::ranges::Unranged;
 use crate::taken::{TakenEvents, TakenPairs, listed};
 use crate::taker::Taker;
-use crate::work::{Progress, Tools, Work, end, take_all};
+use crate::work::{Progress, Work};
 use std::alloc::{AllocError, Global};
 use std::fmt;
 use tocmark_event::event::{Event, ParserOptions};
 use tocmark_event::options::{Error, Options, OptionsOf};
 use tocmark_event::reader::{Reader, Reading};
+use tocmark_render::tools::Tools;
 pub use tocmark_write_labels::defined::DefinedLabel;
 use tocmark_write_labels::defined::copied_labels;
 use tocmark_write_labels::definitions::copied_references;
@@ -209,36 +209,28 @@ impl<R: Reader + Drop> State<R> {
 
     /// Takes events with their ranges, in any form that they come in. An `Err` is as in
     /// `process_with_source_range`.
-    fn process_pairs<E, I, W>(
+    fn process_pairs<E: Incoming + Drop, I, W: Taker>(
         &mut self,
         pairs: I,
         source: &str,
         writer: &mut W,
     ) -> Result<Progress, Error>
     where
-        E: Incoming + Drop,
         I: Iterator<Item = (E, Option<(usize, usize)>)>,
-        W: Taker,
         requires can { I.can_next pairs }
         requires ends { IsFinite (I.remaining pairs) }
         ensures active { IsActive self.old → (xs : List (E × Option Range))
             × DrainsIf I.next_gives (IsOk result) pairs xs
             × Makes W.takes W.refuses writer.old writer.new result (place_of self.new)
-            (walk (rendering_of R.reading self.old) source.now (place_of self.old)
-            (incoming_pairs E.event xs))
-            × IfOk result (λ p.
-            Counts p (length xs)
-            (sum_by length
-            (walk (rendering_of R.reading self.old) source.now (place_of self.old)
-            (incoming_pairs E.event xs)).texts)) }
+            (walk_from R.reading self.old source.now (incoming_pairs E.event xs))
+            × CountsIn result (length xs)
+            (walk_from R.reading self.old source.now (incoming_pairs E.event xs)) }
         ensures same { rendering_of R.reading self.new ≡ rendering_of R.reading self.old }
         ensures flags { state_flags self.new ≡ state_flags self.old }
         ensures stands { OnOk result (status_of self.new ≡ status_of self.old) }
         ensures refused { OnErr result (IsFailed self.new) }
-        ensures finished { IsFinished self.old
-            → (result ≡ Err Error.Finished) × (writer.new ≡ writer.old) }
-        ensures failed { IsFailed self.old
-            → (result ≡ Err Error.Failed) × (writer.new ≡ writer.old) }
+        ensures finished { IsFinished self.old → Rejects writer.old writer.new result Error.Finished }
+        ensures failed { IsFailed self.old → Rejects writer.old writer.new result Error.Failed }
     {
         match self.status {
             Status::Active => {
@@ -248,7 +240,7 @@ impl<R: Reader + Drop> State<R> {
                     options: lent_options(&self.options),
                     defined: &self.defined,
                 };
-                match take_all(&tools, &mut self.work, pairs, source, writer) {
+                match self.work.take_all(&tools, pairs, source, writer) {
                     Ok(progress) => Ok(progress),
                     Err(error) => Err(self.failed(error)),
                 }
@@ -456,7 +448,7 @@ impl<R: Reader + Drop> State<R> {
                     options: lent_options(&self.options),
                     defined: &self.defined,
                 };
-                match end(&tools, &mut self.work, writer) {
+                match self.work.end(&tools, writer) {
                     Ok(bytes_written) => {
                         self.status = Status::Finished;
                         Ok(Progress {

@@ -18,7 +18,7 @@ returns-in-Ok-clause-active g c a =
     let same = behind-same (defined_of c.args.self.now) (map reference_view c.deref.result.now) (owned_options_view c.args.self.now.options) (options_view c.lent_options.result) (g.R.Reader.reading c.args.self.now.reader) (ap (map reference_view) c.deref.ensures.value) c.lent_options.ensures in (
       e.0,
       e.1,
-      subst (λ (how : Rendering). Makes {X = Progress} g.W.Taker.takes g.W.Taker.refuses c.args.writer.now c.take_all.new.writer (Ok c.in-Ok.progress) (standing_of c.take_all.new.work) (walk how c.args.source.now s pairs)) same e.2,
+      subst (λ (how : Rendering). Makes {X = Progress} g.W.Taker.takes g.W.Taker.refuses c.args.writer.now c.take_all.new.writer (Ok c.in-Ok.progress) (standing_of c.take_all.new.self) (walk how c.args.source.now s pairs)) same e.2,
       subst (λ (how : Rendering). Counts c.in-Ok.progress (length e.0) (sum_by length (walk how c.args.source.now s pairs).texts)) same e.3,
     )
 
@@ -31,7 +31,7 @@ returns-in-Err-clause-active g c a =
     rw c.failed.ensures.error (
       e.0,
       e.1,
-      subst (λ (how : Rendering). Makes {X = Progress} g.W.Taker.takes g.W.Taker.refuses c.args.writer.now c.take_all.new.writer (Err c.in-Err.error) (standing_of c.take_all.new.work) (walk how c.args.source.now s pairs)) same e.2,
+      subst (λ (how : Rendering). Makes {X = Progress} g.W.Taker.takes g.W.Taker.refuses c.args.writer.now c.take_all.new.writer (Err c.in-Err.error) (standing_of c.take_all.new.self) (walk how c.args.source.now s pairs)) same e.2,
       tt,
     )
 
