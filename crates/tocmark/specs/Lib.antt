@@ -1,2 +1,3 @@
 pub mod TokenCount
 pub mod SeenTokens
+pub mod Writing

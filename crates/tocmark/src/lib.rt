@@ -1,12 +1,14 @@
 //! Turns Markdown events back into Markdown text that reads back as those events.
 //!
-//! It hands on what its users need of the crates below: `event`, `reader`, `core_reader`, and the `State` of
-//! `tocmark_state`. Programs stand on it. Enter at `cmark`; `token_count` says how long a fence has to be.
+//! Start at `cmark`, which writes a whole list. `State` takes a list in parts. Both have a form for
+//! events with ranges in a source, which keeps the source's spelling of texts.
 //!
-//! `cmark` writes a whole list, and `State` takes a list in parts; both have a form for events with
-//! ranges in a source, whose texts are then written as they stand in it. A unit, a tree at the top of
-//! the list, is written as a whole, or refused: as `UnexpectedEvent` where an event stands in it that
-//! may not stand there, and as `Unrepresentable` where no spelling of it reads back.
+//! A unit is a tree at the top of the list, such as a paragraph. Each unit is written whole or
+//! refused: as `UnexpectedEvent` if an event stands where it may not, and as `Unrepresentable` if
+//! no spelling of the unit reads back.
+//!
+//! `token_count` computes the length of a fence. The crate re-exports what its users need of the
+//! crates below: `event`, `reader`, `core_reader` and `State`.
 //!
 //! ```
 //! let events = [
@@ -22,15 +24,13 @@
 
 pub mod token_count;
 
-ghost use Rattle.std.specs.Prelude.{◌≡◌, ◌∷◌, List, [], Option, ℕ, IfOk, IsOk, IsTrue, OnOk};
+ghost use Rattle.std.specs.Prelude.{◌≡◌, List, [], Option, ℕ, IfOk, OnOk};
 ghost use Rattle.std.specs.Borrow.{Bor};
 ghost use Rattle.std.specs.Iterator.{IsFinite, DrainsIf};
-ghost use Rattle.std.specs.List.{list_all};
 ghost use Rattle.tocmark_event.specs.Text.{ParserEvent};
 ghost use Rattle.tocmark_event.specs.declared.event.flags.ParserOptions.{ParserOptions};
 ghost use Rattle.tocmark_event.specs.Options.{default_options, options_view};
 ghost use Rattle.tocmark_laws.specs.Documents.{MakesDocument};
-ghost use Rattle.tocmark_laws.specs.PlainLines.{HandsLines, is_line, paragraph_of_lines};
 ghost use Rattle.tocmark_laws.specs.SingleBlocks.{MakesCodeSpan, MakesFencedCode, MakesLink};
 ghost use Rattle.tocmark_state.specs.Ranges.{Range};
 ghost use Rattle.tocmark_laws.specs.TextBlocks.{MakesBlocks};
@@ -38,6 +38,7 @@ ghost use Rattle.tocmark_state.specs.Walk.{done, nothing_yet, script, walk};
 ghost use Rattle.tocmark_state.specs.Writes.{Makes, TakesAll};
 ghost use Rattle.tocmark_state.specs.StateView.{IsFinished, Stands, rendering_of, state_flags};
 ghost use Rattle.tocmark_state.specs.WorkView.{pairs, ranged_pairs, rendering};
+ghost use Rattle.tocmark.specs.Writing.{MakesLines, TakesEvents, WritesEvents, WritesRanged};
 
 pub use crate::token_count::calculate_code_block_token_count;
 use std::alloc::Global;
@@ -55,16 +56,18 @@ pub use tocmark_state::work::Progress;
 
 /// Writes events with the default options: `cmark_with_options` with `Options::default()`.
 ///
-/// A paragraph of lines, each with characters from U+0020 to U+007E alone and no space at its end, is
-/// handed as one text that `CoreReader` reads as exactly that paragraph (the clause `lines`). For paragraphs
-/// and headings that hold texts alone exactly one text each is handed: two line feeds unless it is the first
-/// one, as many `#` as its level and a space if it is a heading, and the escape of its texts (the clause
-/// `blocks`). A document of such paragraphs and of headings of one such line, in any number and order, is
-/// handed as texts that `CoreReader` reads, joined, as exactly that document (the clause `documents`).
+/// Some lists have a known text:
 ///
-/// A paragraph with one code span alone is handed as one text, the span that is read as its text (the clause
-/// `code`); one with an inline link round one text as the link (`link`); and a fenced code block alone with
-/// a fence that ends no sooner than its texts (`fence`).
+/// - Paragraphs and headings that hold only texts: each is one text, with two line feeds unless it
+///   is the first, a heading's `#` and a space, and the escape of its texts (the clause `blocks`).
+/// - A paragraph of plain lines: one text that `CoreReader` reads as exactly that paragraph
+///   (`lines`). A plain line has only characters from U+0020 to U+007E, at least one, and no space
+///   at its end.
+/// - A document of such paragraphs and of headings of one such line: texts that `CoreReader` reads,
+///   joined, as exactly that document (`documents`).
+/// - A paragraph that holds only a code span: one text, the span that reads as its text (`code`).
+/// - A paragraph that holds only an inline link round one text: one text, the link (`link`).
+/// - A fenced code block: one text, with a fence that ends no sooner than its texts (`fence`).
 pub fn cmark<'a, I, W, R>(
     alloc: Global,
     events: I,
@@ -78,58 +81,39 @@ where
     R: Reader + Drop,
     requires { (it : I.IntoIter) → I.into_iter_gives events it
         → I.IntoIter.can_next it × IsFinite (I.IntoIter.remaining it) }
-    ensures made { (it : I.IntoIter) × (xs : List (Bor ParserEvent)) × I.into_iter_gives events it
-        × DrainsIf I.IntoIter.next_gives
-        (TakesAll result
-        (walk (rendering default_options (R.reading reader)) [] (nothing_yet parser_options)
-        (pairs xs))) it xs
-        × ((source : List ℕ)
-        → Makes W.takes W.refuses writer.old writer.new result done
-        (script (rendering default_options (R.reading reader)) source (nothing_yet parser_options)
-        (pairs xs))) }
-    ensures lines { (it : I.IntoIter) × (xs : List (Bor ParserEvent)) × I.into_iter_gives events it
-        × DrainsIf I.IntoIter.next_gives (IsOk result) it xs
-        × ((l : List ℕ) (ms : List (List ℕ)) → IsTrue (list_all is_line (l ∷ ms))
-        → pairs xs ≡ paragraph_of_lines l ms
-        → HandsLines W.takes W.refuses writer.old writer.new result l ms) }
-    ensures blocks { (it : I.IntoIter) × (xs : List (Bor ParserEvent)) × I.into_iter_gives events it
-        × DrainsIf I.IntoIter.next_gives (IsOk result) it xs
-        × MakesBlocks W.takes W.refuses writer.old writer.new result parser_options (pairs xs) }
-    ensures documents { (it : I.IntoIter) × (xs : List (Bor ParserEvent)) × I.into_iter_gives events it
-        × DrainsIf I.IntoIter.next_gives (IsOk result) it xs
-        × MakesDocument W.takes W.refuses writer.old writer.new result (pairs xs) }
-    ensures code { (it : I.IntoIter) × (xs : List (Bor ParserEvent)) × I.into_iter_gives events it
-        × DrainsIf I.IntoIter.next_gives (IsOk result) it xs
-        × MakesCodeSpan W.takes W.refuses writer.old writer.new result (pairs xs) }
-    ensures link { (it : I.IntoIter) × (xs : List (Bor ParserEvent)) × I.into_iter_gives events it
-        × DrainsIf I.IntoIter.next_gives (IsOk result) it xs
-        × MakesLink W.takes W.refuses writer.old writer.new result parser_options (pairs xs) }
-    ensures fence { (it : I.IntoIter) × (xs : List (Bor ParserEvent)) × I.into_iter_gives events it
-        × DrainsIf I.IntoIter.next_gives (IsOk result) it xs
-        × MakesFencedCode W.takes W.refuses writer.old writer.new result (pairs xs) }
+    ensures made { WritesEvents I.into_iter_gives I.IntoIter.next_gives events
+        W.takes W.refuses writer.old writer.new result
+        (rendering default_options (R.reading reader)) parser_options }
+    ensures lines { TakesEvents I.into_iter_gives I.IntoIter.next_gives events result (λ xs.
+        MakesLines W.takes W.refuses writer.old writer.new result (pairs xs)) }
+    ensures blocks { TakesEvents I.into_iter_gives I.IntoIter.next_gives events result (λ xs.
+        MakesBlocks W.takes W.refuses writer.old writer.new result parser_options (pairs xs)) }
+    ensures documents { TakesEvents I.into_iter_gives I.IntoIter.next_gives events result (λ xs.
+        MakesDocument W.takes W.refuses writer.old writer.new result (pairs xs)) }
+    ensures code { TakesEvents I.into_iter_gives I.IntoIter.next_gives events result (λ xs.
+        MakesCodeSpan W.takes W.refuses writer.old writer.new result (pairs xs)) }
+    ensures link { TakesEvents I.into_iter_gives I.IntoIter.next_gives events result (λ xs.
+        MakesLink W.takes W.refuses writer.old writer.new result parser_options (pairs xs)) }
+    ensures fence { TakesEvents I.into_iter_gives I.IntoIter.next_gives events result (λ xs.
+        MakesFencedCode W.takes W.refuses writer.old writer.new result (pairs xs)) }
     ensures same { IfOk result (λ state.
         rendering_of R.reading state ≡ rendering default_options (R.reading reader)) }
     ensures flags { IfOk result (λ state. state_flags state ≡ parser_options) }
     ensures finished { IfOk result (λ state. IsFinished state) }
 {
-    cmark_with_options(
-        alloc,
-        events,
-        writer,
-        reader,
-        parser_options,
-        Options::default(),
-    )
+    let defaults = Options::default();
+    cmark_with_options(alloc, events, writer, reader, parser_options, defaults)
 }
 
 /// Writes events: one call of `State::process` and one of `State::finish` on a new state, which is
 /// returned.
 ///
-/// `events` is any finite iterable of `&Event`, `parser_options` are the flags under which the events
-/// were read and under which the text is to read back, and `reader` is what reads it. Each unit's text
-/// is handed to `writer` by one `write_str`. An `Err` is the first refusal of those calls; what was
-/// handed before it stays with the writer. The state that is returned is finished, and has the options, the
-/// reader (the clause `same`) and the flags (`flags`) that were given.
+/// `events` is any finite iterable of `&Event`. `parser_options` are the flags under which the
+/// events were read and the text is to read back, and `reader` reads it. `writer` gets each unit's
+/// text by one `write_str`: the texts that the definition lists for the events, up to the first
+/// error (the clause `made`). An `Err` is the first refusal of those calls, and `writer` keeps what
+/// it got before. The returned state is finished (`finished`), and has the given options and reader
+/// (`same`) and flags (`flags`).
 pub fn cmark_with_options<'a, I, W, R>(
     alloc: Global,
     events: I,
@@ -144,15 +128,9 @@ where
     R: Reader + Drop,
     requires { (it : I.IntoIter) → I.into_iter_gives events it
         → I.IntoIter.can_next it × IsFinite (I.IntoIter.remaining it) }
-    ensures made { (it : I.IntoIter) × (xs : List (Bor ParserEvent)) × I.into_iter_gives events it
-        × DrainsIf I.IntoIter.next_gives
-        (TakesAll result
-        (walk (rendering (options_view options.entry) (R.reading reader)) []
-        (nothing_yet parser_options) (pairs xs))) it xs
-        × ((source : List ℕ)
-        → Makes W.takes W.refuses writer.old writer.new result done
-        (script (rendering (options_view options.entry) (R.reading reader)) source
-        (nothing_yet parser_options) (pairs xs))) }
+    ensures made { WritesEvents I.into_iter_gives I.IntoIter.next_gives events
+        W.takes W.refuses writer.old writer.new result
+        (rendering (options_view options.entry) (R.reading reader)) parser_options }
     ensures same { IfOk result (λ state.
         rendering_of R.reading state
         ≡ rendering (options_view options.entry) (R.reading reader)) }
@@ -170,8 +148,8 @@ where
     }
 }
 
-/// Writes all events of a list: one call of `State::process` and one of `State::finish`. The state is
-/// lent, so that it isn't let go where one of them refuses.
+/// Writes all events of a list: one call of `State::process` and one of `State::finish`. The caller
+/// keeps the state, so that a refusal drops nothing here.
 fn write_all<'a, I, W, R>(state: &mut State<R>, events: I, writer: &mut W) -> Result<(), Error>
 where
     I: Iterator<Item = &'a Event<'a>>,
@@ -212,15 +190,9 @@ where
     R: Reader + Drop,
     requires { (it : I.IntoIter) → I.into_iter_gives pairs it
         → I.IntoIter.can_next it × IsFinite (I.IntoIter.remaining it) }
-    ensures made { (it : I.IntoIter) × (xs : List (Bor ParserEvent × Option Range))
-        × I.into_iter_gives pairs it
-        × DrainsIf I.IntoIter.next_gives
-        (TakesAll result
-        (walk (rendering default_options (R.reading reader)) source.now
-        (nothing_yet parser_options) (ranged_pairs xs))) it xs
-        × Makes W.takes W.refuses writer.old writer.new result done
-        (script (rendering default_options (R.reading reader)) source.now
-        (nothing_yet parser_options) (ranged_pairs xs)) }
+    ensures made { WritesRanged I.into_iter_gives I.IntoIter.next_gives pairs source.now
+        W.takes W.refuses writer.old writer.new result
+        (rendering default_options (R.reading reader)) parser_options }
     ensures same { IfOk result (λ state.
         rendering_of R.reading state ≡ rendering default_options (R.reading reader)) }
     ensures flags { IfOk result (λ state. state_flags state ≡ parser_options) }
@@ -238,11 +210,11 @@ where
     )
 }
 
-/// Writes events with their ranges in a source: one call of `State::process_with_source_range` and one
-/// of `State::finish` on a new state, which is returned.
+/// Writes events with their ranges in a source: one call of `State::process_with_source_range` and
+/// one of `State::finish` on a new state, which is returned.
 ///
-/// `pairs` is any finite iterable of an `&Event` and its byte range, if it has one; the rest is as in
-/// `cmark_with_options`.
+/// `pairs` is any finite iterable of an `&Event` and its byte range, if it has one. All else is as
+/// in `cmark_with_options`.
 pub fn cmark_with_source_range_and_options<'a, I, W, R>(
     alloc: Global,
     pairs: I,
@@ -258,15 +230,9 @@ where
     R: Reader + Drop,
     requires { (it : I.IntoIter) → I.into_iter_gives pairs it
         → I.IntoIter.can_next it × IsFinite (I.IntoIter.remaining it) }
-    ensures made { (it : I.IntoIter) × (xs : List (Bor ParserEvent × Option Range))
-        × I.into_iter_gives pairs it
-        × DrainsIf I.IntoIter.next_gives
-        (TakesAll result
-        (walk (rendering (options_view options.entry) (R.reading reader)) source.now
-        (nothing_yet parser_options) (ranged_pairs xs))) it xs
-        × Makes W.takes W.refuses writer.old writer.new result done
-        (script (rendering (options_view options.entry) (R.reading reader)) source.now
-        (nothing_yet parser_options) (ranged_pairs xs)) }
+    ensures made { WritesRanged I.into_iter_gives I.IntoIter.next_gives pairs source.now
+        W.takes W.refuses writer.old writer.new result
+        (rendering (options_view options.entry) (R.reading reader)) parser_options }
     ensures same { IfOk result (λ state.
         rendering_of R.reading state
         ≡ rendering (options_view options.entry) (R.reading reader)) }

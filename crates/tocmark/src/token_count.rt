@@ -148,14 +148,16 @@ fn count_beyond(run: usize) -> Option<usize>
     }
 }
 
-/// The count of tokens that a code fence needs, so that no run of backticks or of `~` in the code blocks
-/// of these events is as long: one more than the longest such run, in characters, where that has three or
-/// more. `None` says that `DEFAULT_CODE_BLOCK_TOKEN_COUNT` is enough.
+/// How many tokens a code fence needs, so that no run of backticks or of `~` in the code blocks of
+/// these events is as long.
 ///
-/// `events` is any finite iterable of `&Event`. The Texts behind a Start of a code block are looked at, up
-/// to the next End of one. Those that follow one another are one text, and a further Start of a code block
-/// among them changes nothing; every other event ends a run. The answer stops at the greatest `usize`. It
-/// takes no memory.
+/// `events` is any finite iterable of `&Event`. The result is one more than the longest such run,
+/// in characters, if that has at least three. `None` means that `DEFAULT_CODE_BLOCK_TOKEN_COUNT` is
+/// enough.
+///
+/// A code block goes from its Start to the next End of a code block. Texts that follow one another
+/// in it are one text, and a further Start of a code block changes nothing. Every other event ends
+/// a run. The result is at most the greatest `usize`. It takes no memory.
 ///
 /// ```
 /// let code = [

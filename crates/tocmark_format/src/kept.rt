@@ -132,6 +132,24 @@ impl Printer<'_> {
         self.finish(Kind::Kept, to)
     }
 
+    /// Passes a block or bare text in a stretch that a comment keeps, up to this place of the source.
+    fn extend_region(
+        &mut self,
+        region: Region,
+        comment: Option<&str>,
+        end: usize,
+    ) -> Result<(), AllocError> {
+        let is_last = match region.until {
+            Until::Next => true,
+            Until::Comment(text) => comment == Some(text),
+        };
+        if is_last {
+            return self.print_region(region.from, end);
+        }
+        self.region = Some(Region { to: end, ..region });
+        Ok(())
+    }
+
     /// Passes a block or bare text that a comment keeps, or such a comment; the place behind it.
     pub(crate) fn pass_kept(
         &mut self,
@@ -143,35 +161,26 @@ impl Printer<'_> {
         } else {
             part.past_inlines(at)
         };
-        let (start, _) = part.range(at);
-        let (_, end) = part.range(behind.saturating_sub(1));
+        let (from, _) = part.range(at);
+        let (_, to) = part.range(behind.saturating_sub(1));
         let comment = comment_at(part, at);
-        match self.region {
-            Some(mut region) if region.depth == self.page.depth() => {
-                region.to = end;
-                self.region = Some(region);
-                let is_last = match region.until {
-                    Until::Next => true,
-                    Until::Comment(text) => comment == Some(text),
-                };
-                if is_last {
-                    self.print_region(region.from, end)?;
-                }
-                Ok(Some(behind))
-            }
-            _ => {
-                let Some(until) = comment.and_then(kept_until) else {
-                    return Ok(None);
-                };
-                self.begin_events(Kind::Kept, start, end)?;
-                self.region = Some(Region {
-                    from: start,
-                    to: end,
-                    depth: self.page.depth(),
-                    until,
-                });
-                Ok(Some(behind))
-            }
+        let depth = self.page.depth();
+        if let Some(region) = self.region
+            && region.depth == depth
+        {
+            self.extend_region(region, comment, to)?;
+            return Ok(Some(behind));
         }
+        let Some(until) = comment.and_then(kept_until) else {
+            return Ok(None);
+        };
+        self.begin_events(Kind::Kept, from, to)?;
+        self.region = Some(Region {
+            from,
+            to,
+            depth,
+            until,
+        });
+        Ok(Some(behind))
     }
 }

@@ -11,7 +11,7 @@ use Rattle.tocmark_read_inlines.specs.declared.write.Node.{Node}
 use Rattle.tocmark_read_inlines.specs.declared.write.InlineKind.TheVariants as item
 use Rattle.tocmark_read_inlines.proofs.PlainNodes.{node, nodes_of, text_until, begun}
 use Rattle.tocmark_reader.specs.Emitted.{NodeView, Given, Writing, step, source_text}
-use Rattle.tocmark_reader.specs.Inlines.{inline_node, inline_item, leaf_item}
+use Rattle.tocmark_reader.specs.Inlines.{inline_node, inline_item, leaf_of}
 use Rattle.tocmark_reader.specs.Range.{snapped}
 use Rattle.tocmark_reader.specs.declared.emit.Open.{Open}
 use Rattle.tocmark_read_scan.specs.PlainParts.{Part, Bare, Escaped, Referred, Feed}
@@ -61,13 +61,13 @@ emit_until text es k o p ns more h =
     ∙ ap (λ (x : List Marked). at x k) (append_assoc es (text_event text o p) more)
 
 emit_character : (text : List ℕ) (es : List Marked) (k : Open) (c start end : ℕ) (ns : List Node) (more : List Marked) → fold (step text) (at (es ++ leaf_event text (Text (encode_utf8 c)) start end ∷ []) k) (viewed ns) ≡ at ((es ++ leaf_event text (Text (encode_utf8 c)) start end ∷ []) ++ more) k → fold (step text) (at es k) (viewed (node 1 (item.Leaf (leaf.Character c)) start end ∷ ns)) ≡ at (es ++ leaf_event text (Text (encode_utf8 c)) start end ∷ more) k
-unfolding inline_node inline_item leaf_item
+unfolding inline_node inline_item leaf_of
 emit_character text es k c start end ns more h =
     ap (λ (u : Writing). fold (step text) u (viewed ns)) (emit_leaf text es k (Text (encode_utf8 c)) start end)
     ∙ h ∙ ap (λ (x : List Marked). at x k) (append_assoc es (leaf_event text (Text (encode_utf8 c)) start end ∷ []) more)
 
 emit_break : (text : List ℕ) (es : List Marked) (k : Open) (start end : ℕ) (ns : List Node) (more : List Marked) → fold (step text) (at (es ++ leaf_event text SoftBreak start end ∷ []) k) (viewed ns) ≡ at ((es ++ leaf_event text SoftBreak start end ∷ []) ++ more) k → fold (step text) (at es k) (viewed (node 1 (item.Leaf leaf.SoftBreak) start end ∷ ns)) ≡ at (es ++ leaf_event text SoftBreak start end ∷ more) k
-unfolding inline_node inline_item leaf_item
+unfolding inline_node inline_item leaf_of
 emit_break text es k start end ns more h =
     ap (λ (u : Writing). fold (step text) u (viewed ns)) (emit_leaf text es k SoftBreak start end)
     ∙ h ∙ ap (λ (x : List Marked). at x k) (append_assoc es (leaf_event text SoftBreak start end ∷ []) more)

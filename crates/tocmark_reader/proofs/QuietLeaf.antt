@@ -21,7 +21,7 @@ use Rattle.tocmark_read_inlines.proofs.PlainLeaf.{known}
 use Rattle.tocmark_read_inlines.proofs.PlainNeighbours.{ArePlainParts, plain_parts_are_read}
 use Rattle.tocmark_read_inlines.proofs.PlainNodes.{node, nodes_of}
 use Rattle.tocmark_reader.specs.Emitted.{NodeView, Writing, step}
-use Rattle.tocmark_reader.specs.Inlines.{inline_item, inline_node, leaf_item}
+use Rattle.tocmark_reader.specs.Inlines.{inline_item, inline_node, leaf_of}
 use Rattle.tocmark_reader.specs.Pages.{State, Progress, content_line, leaf_inlines_in, with_inlines, written_by}
 use Rattle.tocmark_reader.specs.QuietLines.{is_text_byte, are_quiet_lines, further_nodes, quiet_nodes}
 use Rattle.tocmark_reader.proofs.PlacedParts.{parts_inlines_at}
@@ -133,7 +133,7 @@ nodes_of_lines text d l (n ∷ ns) h =
 
 -- the same nodes, as those of events
 shown_further : (texts : List ℕ) (targets : List Target) (d : ℕ) (ls : List Piece) → map (inline_node texts targets) (flat_map (further d) ls) ≡ flat_map (further_nodes d) ls
-unfolding inline_node inline_item leaf_item
+unfolding inline_node inline_item leaf_of
 shown_further texts targets d [] = refl
 shown_further texts targets d (l ∷ ls) = ap (λ (ns : List NodeView). further_nodes d l ++ ns) (shown_further texts targets d ls)
 

@@ -7,9 +7,6 @@ use Rattle.tocmark_event.specs.Text.{ParserEvent, text_of}
 use Rattle.tocmark_event.specs.View.{EventView, Start, End, Leaf, TagView, LeafView, Text, Code, Html, InlineHtml, SoftBreak, HardBreak, Rule, TaskListMarker, FootnoteReference, InlineMath, DisplayMath, tag_view, event_view, end_of}
 use Rattle.tocmark_reader.specs.Range.{snapped}
 use Rattle.tocmark_reader.specs.declared.emit.Emission.{Emission}
-use Rattle.tocmark_reader.specs.declared.emit.NodeKind.{NodeKind}
-use Rattle.tocmark_reader.specs.declared.emit.NodeKind.TheVariants as item
-use Rattle.tocmark_reader.specs.declared.emit.Node.{Node}
 use Rattle.tocmark_reader.specs.declared.emit.Open.{Open}
 
 -- what stands at a node: a container, the text of the node's own range, or a leaf as it is given
@@ -24,26 +21,6 @@ pub record NodeView : Type 0 where
   pub item : ItemView
   pub start : ℕ
   pub end : ℕ
-
--- an item whose texts are their bytes
-abbrev pub item_view : NodeKind → ItemView
-item_view (item.Container tag) = Container (tag_view text_of tag)
-item_view item.Source = Source
-item_view (item.Text t) = Given (Text (text_of t))
-item_view (item.Code t) = Given (Code (text_of t))
-item_view (item.Html t) = Given (Html (text_of t))
-item_view (item.InlineHtml t) = Given (InlineHtml (text_of t))
-item_view item.SoftBreak = Given SoftBreak
-item_view item.HardBreak = Given HardBreak
-item_view item.Rule = Given Rule
-item_view (item.TaskListMarker done) = Given (TaskListMarker done)
-item_view (item.FootnoteReference t) = Given (FootnoteReference (text_of t))
-item_view (item.InlineMath t) = Given (InlineMath (text_of t))
-item_view (item.DisplayMath t) = Given (DisplayMath (text_of t))
-
--- a node as plain values
-abbrev pub node_view : Node → NodeView
-node_view n = record { depth = n.depth; item = item_view n.item; start = n.start; end = n.end }
 
 -- an event with its range, as a reading shows it
 abbrev pub shown : ParserEvent × (ℕ × ℕ) → EventView × (ℕ × ℕ)
@@ -70,9 +47,13 @@ closings depth stack = map end_event (reverse (drop depth stack))
 abbrev pub closed : ℕ → Writing → Writing
 closed depth w = record { events = w.events ++ closings depth w.stack; stack = take depth w.stack }
 
+-- one more event, with which no container begins or ends
+abbrev pub with_event : EventView → ℕ × ℕ → Writing → Writing
+with_event event range w = record { events = w.events ++ (event, range) ∷ []; stack = w.stack }
+
 -- one more leaf
 abbrev pub with_leaf : LeafView → ℕ × ℕ → Writing → Writing
-with_leaf leaf range w = record { events = w.events ++ (Leaf leaf, range) ∷ []; stack = w.stack }
+with_leaf leaf range w = with_event (Leaf leaf) range w
 
 -- the text of a range of the source
 abbrev pub source_text : List ℕ → ℕ × ℕ → List ℕ

@@ -1,6 +1,6 @@
 -- From the nodes of inlines to those of events.
 use Rattle.std.specs.Prelude.{ℕ, List, encode_utf8, slice_get, unwrap_or}
-use Rattle.tocmark_event.specs.View.{TagView, Emphasis, Strong, Strikethrough, Link, Image, Subscript, Superscript, Text, Code, InlineHtml, SoftBreak, HardBreak, FootnoteReference, InlineMath, DisplayMath}
+use Rattle.tocmark_event.specs.View.{LeafView, TagView, Emphasis, Strong, Strikethrough, Link, Image, Subscript, Superscript, Text, Code, InlineHtml, SoftBreak, HardBreak, FootnoteReference, InlineMath, DisplayMath}
 use Rattle.tocmark_event.specs.declared.event.LinkType.TheVariants.{Inline}
 use Rattle.tocmark_read_spans.specs.Definitions.{stretch_text, no_stretch}
 use Rattle.tocmark_read_spans.specs.declared.role.Leaf.{Leaf}
@@ -36,23 +36,31 @@ span_tag texts targets (span.Image place) = image_of texts (target_at targets pl
 span_tag texts targets span.Subscript = Subscript
 span_tag texts targets span.Superscript = Superscript
 
--- the item that an inline without children is
-unfoldable pub leaf_item : List ℕ → Leaf → ItemView
-leaf_item texts (leaf.Character c) = Given (Text (encode_utf8 c))
-leaf_item texts (leaf.Code s) = Given (Code (stretch_text texts s))
-leaf_item texts (leaf.Html s) = Given (InlineHtml (stretch_text texts s))
-leaf_item texts leaf.SoftBreak = Given SoftBreak
-leaf_item texts leaf.HardBreak = Given HardBreak
-leaf_item texts (leaf.Text s) = Given (Text (stretch_text texts s))
-leaf_item texts (leaf.Note name) = Given (FootnoteReference (stretch_text texts name))
-leaf_item texts (leaf.InlineMath s) = Given (InlineMath (stretch_text texts s))
-leaf_item texts (leaf.DisplayMath s) = Given (DisplayMath (stretch_text texts s))
+-- the leaf that an inline without children is
+unfoldable pub leaf_of : List ℕ → Leaf → LeafView
+leaf_of texts (leaf.Character c) = Text (encode_utf8 c)
+leaf_of texts (leaf.Code s) = Code (stretch_text texts s)
+leaf_of texts (leaf.Html s) = InlineHtml (stretch_text texts s)
+leaf_of texts leaf.SoftBreak = SoftBreak
+leaf_of texts leaf.HardBreak = HardBreak
+leaf_of texts (leaf.Text s) = Text (stretch_text texts s)
+leaf_of texts (leaf.Note name) = FootnoteReference (stretch_text texts name)
+leaf_of texts (leaf.InlineMath s) = InlineMath (stretch_text texts s)
+leaf_of texts (leaf.DisplayMath s) = DisplayMath (stretch_text texts s)
 
 -- the item that an inline is
 unfoldable pub inline_item : List ℕ → List Target → InlineKind → ItemView
 inline_item texts targets item.Text = Source
 inline_item texts targets (item.Span s) = Container (span_tag texts targets s)
-inline_item texts targets (item.Leaf l) = leaf_item texts l
+inline_item texts targets (item.Leaf l) = Given (leaf_of texts l)
+
+-- a container of inlines at a node's place
+abbrev pub span_node : List ℕ → List Target → Node → Span → NodeView
+span_node texts targets n s = record { depth = n.depth; item = Container (span_tag texts targets s); start = n.start; end = n.end }
+
+-- an inline without children at a node's place
+abbrev pub leaf_node : List ℕ → Node → Leaf → NodeView
+leaf_node texts n l = record { depth = n.depth; item = Given (leaf_of texts l); start = n.start; end = n.end }
 
 -- the node of an inline
 unfoldable pub inline_node : List ℕ → List Target → Node → NodeView

@@ -1,199 +1,27 @@
 //! From blocks to events.
 
-ghost use Rattle.std.specs.Prelude.{◌≡◌, [], map, IfOk, OnOk};
-ghost use Rattle.std.specs.List.{fold};
-ghost use Rattle.tocmark_event.specs.Text.{text_of};
-ghost use Rattle.tocmark_event.specs.View.{tag_view};
+ghost use Rattle.std.specs.Prelude.{◌≡◌, [], OnOk};
 ghost use Rattle.tocmark_read_spans.specs.Definitions.{entry_of};
 ghost use Rattle.tocmark_read_inlines.specs.Inlines.{inlines_view};
-ghost use Rattle.tocmark_reader.specs.Emitted.{emission_view, step};
-ghost use Rattle.tocmark_reader.specs.Pages.{pieces_of, content_line, node, space_nodes, line_item, line_nodes, lines_nodes, block_tag, is_unwrapped, block_node, assembly_view, task_nodes, leaf_inlines_in, with_block, with_inlines, with_task, bare_in, with_lines, with_rule, wrapped_in, paragraph_taken_in, fence_node_in, with_fence_in, block_taken_in, nothing_written, written_by, cell_inlines_in, cell_taken_in};
+ghost use Rattle.tocmark_reader.specs.Pages.{is_unwrapped, assembly_view, leaf_inlines_in, with_block, with_inlines, with_task, bare_in, with_lines, with_rule, wrapped_in, paragraph_taken_in, with_fence_in, block_taken_in, nothing_written, written_by, cell_inlines_in, cell_taken_in};
 
-use crate::attributes::heading_tag;
-use crate::emit::{Emission, Node, NodeKind};
+use crate::code_lines::write_lines;
+use crate::containers::{write_block, write_fence, write_task};
+use crate::emit::Emission;
 use crate::inline::write_inlines;
+use crate::pieces::{content_lines, pieces_of};
 use crate::quiet::{are_quiet_lines, write_quiet_lines};
 use crate::searched::SearchedText;
-use crate::words::{info_text, name_text, part_of, spaces_text};
 use std::alloc::{AllocError, Global};
 use std::mem;
-use tocmark_event::event::{CodeBlockKind, CowStr, Tag};
-use tocmark_read_constructs::table::alignments;
+use tocmark_event::event::Event;
 use tocmark_read_inlines::inlines::{Inlines, SpareLists, read_cell, read_inlines};
-use tocmark_read_page::page::{Block, BlockKind, Task};
+use tocmark_read_page::page::{Block, BlockKind};
 use tocmark_read_page::piece::Piece;
-use tocmark_read_scan::basic::bytes_between;
 use tocmark_read_scan::content::{Content, ContentLine, content_of};
-use tocmark_read_scan::syntax::{Names, Syntax};
+use tocmark_read_scan::syntax::Syntax;
 use tocmark_read_scan::table_cell::cell_content;
 use tocmark_read_spans::definitions::Definitions;
-
-/// The pieces of a range, none where it is none of the list.
-fn pieces_of(pieces: &[Piece], first: usize, last: usize) -> &[Piece]
-    ensures { result.now ≡ pieces_of pieces.now first last }
-{
-    if first <= last && last <= pieces.len() {
-        &pieces[first..last]
-    } else {
-        &[]
-    }
-}
-
-#[tactic(auto, unfolding(crate::specs::Pages::content_line))]
-fn content_line(line: Piece) -> ContentLine
-    ensures { result ≡ content_line line }
-{
-    ContentLine {
-        start: line.start,
-        end: line.end,
-        next: line.next,
-    }
-}
-
-/// Writes the lines of a leaf over those of another one.
-fn content_lines(lines: &mut Vec<ContentLine>, pieces: &[Piece]) -> Result<(), AllocError>
-    ensures { OnOk result (lines.new.items ≡ map content_line pieces.now) }
-{
-    lines.clear();
-    for line in pieces {
-        lines.push(content_line(*line))?;
-    }
-    Ok(())
-}
-
-/// Writes the spaces that are left of a partly used tab.
-#[tactic(auto, unfolding(crate::specs::Pages::space_nodes))]
-fn write_spaces(
-    alloc: Global,
-    out: &mut Emission,
-    text: &SearchedText<'_>,
-    depth: usize,
-    line: Piece,
-) -> Result<(), AllocError>
-    ensures { OnOk result (emission_view out.new
-        ≡ fold (step text.now) (emission_view out.old) (space_nodes depth line)) }
-{
-    if 0 < line.spaces {
-        let spaces = spaces_text(alloc, line.spaces)?;
-        out.write_text(
-            text,
-            depth,
-            spaces,
-            line.start.saturating_sub(1),
-            line.start,
-        )?;
-    }
-    Ok(())
-}
-
-/// Writes what a line of code or HTML says.
-#[tactic(auto, unfolding(crate::specs::Pages::line_item))]
-fn write_words(
-    alloc: Global,
-    out: &mut Emission,
-    text: &SearchedText<'_>,
-    html: bool,
-    depth: usize,
-    line: Piece,
-) -> Result<(), AllocError>
-    ensures { OnOk result (emission_view out.new ≡ step text.now (emission_view out.old)
-        (node depth (line_item text.now html line) line.start line.next)) }
-{
-    let feed = line.end < line.next;
-    let words = part_of(alloc, text, line.start, line.end, feed)?;
-    if !html {
-        return out.write_text(text, depth, words, line.start, line.next);
-    }
-    let node = Node {
-        depth,
-        item: NodeKind::Html(CowStr::Owned(words)),
-        start: line.start,
-        end: line.next,
-    };
-    out.write(alloc, text, node)
-}
-
-/// Writes a line of code or HTML.
-#[tactic(auto, unfolding(crate::specs::Pages::line_nodes))]
-fn write_line(
-    alloc: Global,
-    out: &mut Emission,
-    text: &SearchedText<'_>,
-    html: bool,
-    depth: usize,
-    line: Piece,
-) -> Result<(), AllocError>
-    ensures { OnOk result (emission_view out.new
-        ≡ fold (step text.now) (emission_view out.old) (line_nodes text.now html depth line)) }
-{
-    write_spaces(alloc, out, text, depth, line)?;
-    if line.start < line.next {
-        write_words(alloc, out, text, html, depth, line)?;
-    }
-    Ok(())
-}
-
-fn write_lines(
-    alloc: Global,
-    out: &mut Emission,
-    text: &SearchedText<'_>,
-    html: bool,
-    depth: usize,
-    lines: &[Piece],
-) -> Result<(), AllocError>
-    ensures { OnOk result (emission_view out.new
-        ≡ fold (step text.now) (emission_view out.old)
-        (lines_nodes text.now html depth lines.now)) }
-{
-    for line in lines {
-        write_line(alloc, out, text, html, depth, *line)?;
-    }
-    Ok(())
-}
-
-/// The container that a block is. A thematic break is none, and stands as a paragraph here.
-#[tactic(auto, unfolding(crate::specs::Pages::block_tag))]
-fn block_tag(
-    alloc: Global,
-    text: &SearchedText<'_>,
-    kind: BlockKind,
-) -> Result<Tag<'static>, AllocError>
-    ensures { IfOk result (λ t. tag_view text_of t ≡ block_tag text.now kind) }
-{
-    match kind {
-        BlockKind::Quote(kind) => Ok(Tag::BlockQuote(kind)),
-        BlockKind::List(first) => Ok(Tag::List(first)),
-        BlockKind::Item => Ok(Tag::Item),
-        BlockKind::Paragraph => Ok(Tag::Paragraph),
-        BlockKind::Heading(level, braces) => heading_tag(alloc, text.as_str(), level, braces),
-        BlockKind::Indented => Ok(Tag::CodeBlock(CodeBlockKind::Indented)),
-        BlockKind::Fenced(from, to) => {
-            let info = info_text(
-                alloc,
-                Names::Four,
-                bytes_between(text.as_str().as_bytes(), from, to),
-            )?;
-            Ok(Tag::CodeBlock(CodeBlockKind::Fenced(CowStr::Owned(info))))
-        }
-        BlockKind::Html => Ok(Tag::HtmlBlock),
-        BlockKind::Rule => Ok(Tag::Paragraph),
-        BlockKind::Metadata(kind) => Ok(Tag::MetadataBlock(kind)),
-        BlockKind::Note(from, to) => {
-            let name = name_text(alloc, bytes_between(text.as_str().as_bytes(), from, to))?;
-            Ok(Tag::FootnoteDefinition(CowStr::Owned(name)))
-        }
-        BlockKind::Table(from, to) => {
-            let row = bytes_between(text.as_str().as_bytes(), from, to);
-            Ok(Tag::Table(alignments(alloc, row)?))
-        }
-        BlockKind::TableHead => Ok(Tag::TableHead),
-        BlockKind::TableRow => Ok(Tag::TableRow),
-        BlockKind::TableCell => Ok(Tag::TableCell),
-        BlockKind::DefinitionList => Ok(Tag::DefinitionList),
-        BlockKind::DefinitionListTitle => Ok(Tag::DefinitionListTitle),
-        BlockKind::DefinitionListDefinition => Ok(Tag::DefinitionListDefinition),
-    }
-}
 
 /// Whether a paragraph stands directly in an item of a tight list.
 #[tactic(auto, unfolding(crate::specs::Pages::is_unwrapped))]
@@ -207,93 +35,6 @@ pub(crate) fn is_unwrapped(blocks: &[Block], block: Block) -> bool
             Some(list) => !list.loose,
         },
     }
-}
-
-/// Writes the node of a block by its tag.
-fn write_tagged(
-    alloc: Global,
-    out: &mut Emission,
-    text: &SearchedText<'_>,
-    block: Block,
-) -> Result<(), AllocError>
-    ensures { OnOk result (emission_view out.new
-        ≡ step text.now (emission_view out.old) (block_node text.now block)) }
-{
-    let tag = block_tag(alloc, text, block.kind)?;
-    out.open(text, block.depth, tag, block.start, block.end)
-}
-
-/// Writes the node of a block. Paragraphs, lists and items are put into the list of events at once.
-#[tactic(auto, unfolding(crate::specs::Pages::block_tag))]
-fn write_block(
-    alloc: Global,
-    out: &mut Emission,
-    text: &SearchedText<'_>,
-    block: Block,
-) -> Result<(), AllocError>
-    ensures { OnOk result (emission_view out.new
-        ≡ step text.now (emission_view out.old) (block_node text.now block)) }
-{
-    match block.kind {
-        BlockKind::Paragraph => { out.open_paragraph(text, block.depth, block.start, block.end) }
-        BlockKind::Item => out.open_item(text, block.depth, block.start, block.end),
-        BlockKind::List(first) => {
-            out.open_list(text, block.depth, first, block.start, block.end)
-        }
-        _ => write_tagged(alloc, out, text, block),
-    }
-}
-
-/// Writes the node of a fenced code block, whose info string stands between two places.
-#[tactic(auto, unfolding(crate::specs::Pages::fence_node_in))]
-fn write_fence(
-    alloc: Global,
-    names: Names,
-    out: &mut Emission,
-    text: &SearchedText<'_>,
-    from: usize,
-    to: usize,
-    block: Block,
-) -> Result<(), AllocError>
-    ensures { OnOk result (emission_view out.new
-        ≡ step text.now (emission_view out.old) (fence_node_in names text.now from to block)) }
-{
-    let info = info_text(
-        alloc,
-        names,
-        bytes_between(text.as_str().as_bytes(), from, to),
-    )?;
-    let node = Node {
-        depth: block.depth,
-        item: NodeKind::Container(Tag::CodeBlock(CodeBlockKind::Fenced(CowStr::Owned(info)))),
-        start: block.start,
-        end: block.end,
-    };
-    out.write(alloc, text, node)
-}
-
-/// Writes the box of a task.
-#[tactic(auto, unfolding(crate::specs::Pages::task_nodes))]
-fn write_task(
-    alloc: Global,
-    out: &mut Emission,
-    text: &SearchedText<'_>,
-    task: Option<Task>,
-    depth: usize,
-) -> Result<(), AllocError>
-    ensures { OnOk result (emission_view out.new
-        ≡ fold (step text.now) (emission_view out.old) (task_nodes task depth)) }
-{
-    if let Some(task) = task {
-        let node = Node {
-            depth,
-            item: NodeKind::TaskListMarker(task.done),
-            start: task.start,
-            end: task.start.saturating_add(3),
-        };
-        out.write(alloc, text, node)?;
-    }
-    Ok(())
 }
 
 /// What inlines have beside the source where none is read yet; `texts` are those of the definitions.
@@ -310,19 +51,25 @@ fn no_inlines(alloc: Global, texts: Vec<u8>) -> Inlines
     }
 }
 
-/// A text with the syntax that it is read by, and what its brackets can lead to.
+/// What the inlines of a document are read by.
 #[derive(Clone, Copy)]
 pub struct Document<'t, 'd> {
+    /// The extensions that are read.
     pub syntax: Syntax,
+    /// The text of the document.
     pub text: &'d SearchedText<'t>,
+    /// What its labels are defined as.
     pub definitions: &'d Definitions,
 }
 
-/// What is written so far, what the inlines have beside the source, and a list for the lines of a leaf.
+/// The events of the blocks so far.
 #[derive(Drop)]
 pub struct Assembly {
+    /// The events, and the containers that are open.
     pub emission: Emission,
+    /// What the inlines so far have beside the source. Its list of nodes is empty between two leaves.
     pub inlines: Inlines,
+    /// A list of which nothing but its room counts: the lines of each leaf are written into it.
     pub lines: Vec<ContentLine>,
 }
 
@@ -353,14 +100,7 @@ impl Assembly {
         ensures { OnOk result (assembly_view self.new ≡ written_by text.now
             (with_inlines (inlines_view found)) (assembly_view self.old)) }
     {
-        write_inlines(
-            alloc,
-            &mut self.emission,
-            text,
-            &found.texts,
-            &found.targets,
-            &found.nodes,
-        )?;
+        write_inlines(alloc, &mut self.emission, text, &found)?;
         self.inlines = found;
         self.inlines.nodes.clear();
         Ok(())
@@ -460,20 +200,15 @@ impl Assembly {
     {
         write_block(alloc, &mut self.emission, text, block)?;
         let depth = block.depth.saturating_add(1);
-        write_task(alloc, &mut self.emission, text, block.task, depth)
+        write_task(&mut self.emission, text, block.task, depth)
     }
 
     #[tactic(auto, unfolding(crate::specs::Pages::with_task))]
-    fn take_task(
-        &mut self,
-        alloc: Global,
-        text: &SearchedText<'_>,
-        block: Block,
-    ) -> Result<(), AllocError>
+    fn take_task(&mut self, text: &SearchedText<'_>, block: Block) -> Result<(), AllocError>
         ensures { OnOk result (assembly_view self.new
             ≡ written_by text.now (with_task block) (assembly_view self.old)) }
     {
-        write_task(alloc, &mut self.emission, text, block.task, block.depth)
+        write_task(&mut self.emission, text, block.task, block.depth)
     }
 
     #[tactic(auto, unfolding(crate::specs::Pages::with_lines))]
@@ -500,20 +235,20 @@ impl Assembly {
         )
     }
 
-    /// A fenced code block with its lines; its info string stands between two places.
+    /// A fenced code block with its lines; its info string stands in a range.
     #[tactic(auto, unfolding(crate::specs::Pages::with_fence_in))]
     fn take_fence(
         &mut self,
         alloc: Global,
         document: &Document<'_, '_>,
-        from: usize,
-        to: usize,
+        info: (usize, usize),
         block: Block,
         lines: &[Piece],
     ) -> Result<(), AllocError>
         ensures { OnOk result (assembly_view self.new
             ≡ written_by document.now.text.now
-            (with_fence_in document.now.syntax.names document.now.text.now from to block lines.now)
+            (with_fence_in document.now.syntax.names document.now.text.now info.0 info.1 block
+            lines.now)
             (assembly_view self.old)) }
     {
         write_fence(
@@ -521,8 +256,7 @@ impl Assembly {
             document.syntax.names,
             &mut self.emission,
             document.text,
-            from,
-            to,
+            info,
             block,
         )?;
         write_lines(
@@ -536,22 +270,12 @@ impl Assembly {
     }
 
     #[tactic(auto, unfolding(crate::specs::Pages::with_rule))]
-    fn take_rule(
-        &mut self,
-        alloc: Global,
-        text: &SearchedText<'_>,
-        block: Block,
-    ) -> Result<(), AllocError>
+    fn take_rule(&mut self, text: &SearchedText<'_>, block: Block) -> Result<(), AllocError>
         ensures { OnOk result (assembly_view self.new
             ≡ written_by text.now (with_rule block) (assembly_view self.old)) }
     {
-        let node = Node {
-            depth: block.depth,
-            item: NodeKind::Rule,
-            start: block.start,
-            end: block.end,
-        };
-        self.emission.write(alloc, text, node)
+        self.emission
+            .write(text, block.depth, Event::Rule, block.start, block.end)
     }
 
     /// A paragraph, a heading or a title with its inlines.
@@ -584,7 +308,7 @@ impl Assembly {
             (entry_of document.now.definitions.now) pieces.now block)
             (assembly_view self.old)) }
     {
-        self.take_task(alloc, document.text, block)?;
+        self.take_task(document.text, block)?;
         self.read_leaf(alloc, document, pieces, block.depth)
     }
 
@@ -653,10 +377,10 @@ impl Assembly {
             BlockKind::Item => self.open(alloc, document.text, block),
             BlockKind::Indented => self.take_lines(alloc, document.text, false, block, pieces),
             BlockKind::Fenced(from, to) => {
-                self.take_fence(alloc, document, from, to, block, pieces)
+                self.take_fence(alloc, document, (from, to), block, pieces)
             }
             BlockKind::Html => self.take_lines(alloc, document.text, true, block, pieces),
-            BlockKind::Rule => self.take_rule(alloc, document.text, block),
+            BlockKind::Rule => self.take_rule(document.text, block),
             BlockKind::Metadata(_) => self.take_lines(alloc, document.text, false, block, pieces),
             BlockKind::Note(_, _) => self.open(alloc, document.text, block),
             BlockKind::Table(_, _) => self.open(alloc, document.text, block),

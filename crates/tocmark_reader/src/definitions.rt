@@ -9,6 +9,7 @@ ghost use Rattle.tocmark_reader.specs.Definitions.{byte_places, definitions_of, 
 ghost use Rattle.tocmark_reader.specs.Pages.{pieces_of};
 
 use crate::emit::snapped;
+use crate::pieces::pieces_of;
 use crate::words::replaced_bytes;
 use std::alloc::{AllocError, Global};
 use tocmark_read_blocks::{Blocks, read_blocks};
@@ -190,17 +191,6 @@ fn place_on(
     let lines = joined(alloc, text, lines)?;
     place_all(&lines, all)?;
     Ok(())
-}
-
-/// The pieces of a range, none where it is none of the list.
-fn pieces_of(pieces: &[Piece], first: usize, last: usize) -> &[Piece]
-    ensures { result.now ≡ pieces_of pieces.now first last }
-{
-    if first <= last && last <= pieces.len() {
-        &pieces[first..last]
-    } else {
-        &[]
-    }
 }
 
 /// Adds the places of the definitions in front of a block, where the pieces up to `next` are those of the

@@ -1,10 +1,13 @@
-//! From nodes to events.
+//! From nodes to events. A node has a depth, and a range of the text in bytes: from its first byte to behind its last
+//! one. Nodes are written in the order of their Starts; a node lies in the nearest container before it whose depth is
+//! less. Its event has its range if this is in order, within the text and on boundaries of characters; else an empty
+//! one at the front.
 
 ghost use Rattle.std.specs.Prelude.{◌≡◌, ◌++◌, ◌∷◌, [], map, string_bytes, IfOk, OnOk};
 ghost use Rattle.tocmark_event.specs.Text.{text_of};
 ghost use Rattle.tocmark_event.specs.View.{Item, Leaf, ListOf, Paragraph, Text, event_view, tag_view};
 ghost use Rattle.tocmark_reader.specs.Range.{is_cut, snapped, IsGoodRange};
-ghost use Rattle.tocmark_reader.specs.Emitted.{Container, Given, Source, item_view, node_view, emission_view, shown, closed, source_text, put, step};
+ghost use Rattle.tocmark_reader.specs.Emitted.{Container, Given, Source, emission_view, shown, closed, put, step, with_event};
 ghost use Rattle.tocmark_reader.specs.Pages.{node};
 
 use crate::searched::SearchedText;
@@ -12,56 +15,27 @@ use crate::words::part_of;
 use std::alloc::{AllocError, Global};
 use tocmark_event::event::{CowStr, Event, Tag, TagEnd};
 
-/// What stands at a node.
-#[derive(Drop)]
-pub enum NodeKind {
-    /// A container; what lies in it are the nodes behind it that are deeper.
-    Container(Tag<'static>),
-    /// A text: the bytes of the node's range, but U+FFFD for U+0000.
-    Source,
-    /// A text that differs from its source.
-    Text(CowStr<'static>),
-    Code(CowStr<'static>),
-    Html(CowStr<'static>),
-    InlineHtml(CowStr<'static>),
-    SoftBreak,
-    HardBreak,
-    Rule,
-    /// The box of a task, true where it is checked.
-    TaskListMarker(bool),
-    /// A reference to a footnote with its name.
-    FootnoteReference(CowStr<'static>),
-    InlineMath(CowStr<'static>),
-    DisplayMath(CowStr<'static>),
-}
-
-/// A part of a text, in bytes: `end` is the place behind the last one. Nodes stand in the order of
-/// their Starts; a node lies in the nearest container before it whose depth is less.
-#[derive(Drop)]
-pub struct Node {
-    pub depth: usize,
-    pub item: NodeKind,
-    pub start: usize,
-    pub end: usize,
-}
-
 /// A container whose End is still to come.
 #[derive(Clone, Copy)]
 pub struct Open {
+    /// The End that is to come.
     pub end: TagEnd,
+    /// The range of the Start, which the End gets, too.
     pub range: (usize, usize),
 }
 
-/// The events so far, each with its range in bytes, and the containers that are open, the outermost
-/// first.
+/// What is written so far.
 #[derive(Drop)]
 pub struct Emission {
+    /// The events, each with its range in bytes.
     pub events: Vec<Marked>,
+    /// The containers that are open, the outermost first.
     pub stack: Vec<Open>,
 }
 
 type Marked = (Event<'static>, (usize, usize));
 
+/// Whether a text may be cut at a byte: at its end, or before the first byte of a character.
 fn is_cut(text: &str, at: usize) -> bool
     ensures { result ≡ is_cut text.now at }
 {
@@ -73,6 +47,8 @@ fn is_cut(text: &str, at: usize) -> bool
     }
 }
 
+/// The range from one byte to before another, if it is in order, within the text and on boundaries of characters; else
+/// an empty one at the front.
 pub fn snapped(text: &str, start: usize, end: usize) -> (usize, usize)
     ensures exact { result ≡ snapped text.now start end }
     ensures good { IsGoodRange text.now result }
@@ -82,16 +58,6 @@ pub fn snapped(text: &str, start: usize, end: usize) -> (usize, usize)
     } else {
         (0, 0)
     }
-}
-
-fn source_text(
-    alloc: Global,
-    text: &SearchedText<'_>,
-    range: (usize, usize),
-) -> Result<CowStr<'static>, AllocError>
-    ensures { IfOk result (λ copy. text_of copy ≡ source_text text.now range) }
-{
-    Ok(CowStr::Owned(part_of(alloc, text, range.0, range.1, false)?))
 }
 
 /// Adds an item to a list.
@@ -149,35 +115,6 @@ impl Emission {
         push(&mut self.events, Event::Start(tag), range)?;
         self.stack.push(Open { end, range })?;
         Ok(())
-    }
-
-    /// Puts one item behind the events so far.
-    fn put(
-        &mut self,
-        alloc: Global,
-        text: &SearchedText<'_>,
-        item: NodeKind,
-        range: (usize, usize),
-    ) -> Result<(), AllocError>
-        ensures { OnOk result (emission_view self.new
-            ≡ put text.now (item_view item) range (emission_view self.old)) }
-    {
-        let event = match item {
-            NodeKind::Container(tag) => return self.begin(text, tag, range),
-            NodeKind::Source => Event::Text(source_text(alloc, text, range)?),
-            NodeKind::Text(words) => Event::Text(words),
-            NodeKind::Code(words) => Event::Code(words),
-            NodeKind::Html(words) => Event::Html(words),
-            NodeKind::InlineHtml(words) => Event::InlineHtml(words),
-            NodeKind::SoftBreak => Event::SoftBreak,
-            NodeKind::HardBreak => Event::HardBreak,
-            NodeKind::Rule => Event::Rule,
-            NodeKind::TaskListMarker(done) => Event::TaskListMarker(done),
-            NodeKind::FootnoteReference(name) => Event::FootnoteReference(name),
-            NodeKind::InlineMath(words) => Event::InlineMath(words),
-            NodeKind::DisplayMath(words) => Event::DisplayMath(words),
-        };
-        push(&mut self.events, event, range)
     }
 
     /// Writes the node of a container.
@@ -298,23 +235,24 @@ impl Emission {
         push_text(&mut self.events, words, range)
     }
 
-    /// Writes one node. Its range is that of the event if it is in order, within the text and on
-    /// boundaries of characters; else the event gets an empty one at the front.
+    /// Writes the node of an event that begins no container.
     pub fn write(
         &mut self,
-        alloc: Global,
         text: &SearchedText<'_>,
-        node: Node,
+        depth: usize,
+        event: Event<'static>,
+        start: usize,
+        end: usize,
     ) -> Result<(), AllocError>
         ensures { OnOk result (emission_view self.new
-            ≡ step text.now (emission_view self.old) (node_view node)) }
+            ≡ with_event (event_view text_of event.entry) (snapped text.now start end)
+            (closed depth (emission_view self.old))) }
     {
-        let closed = self.close_to(node.depth);
+        let closed = self.close_to(depth);
         if closed.is_err() {
-            drop(node);
+            drop(event);
             return closed;
         }
-        let range = snapped(text.as_str(), node.start, node.end);
-        self.put(alloc, text, node.item, range)
+        push(&mut self.events, event, snapped(text.as_str(), start, end))
     }
 }

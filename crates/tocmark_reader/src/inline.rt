@@ -1,21 +1,23 @@
-//! From the nodes of inlines to those of events.
+//! From inlines to events.
 
 ghost use Rattle.std.specs.Prelude.{◌≡◌, map, IfOk, OnOk};
 ghost use Rattle.std.specs.List.{fold};
 ghost use Rattle.tocmark_event.specs.Text.{text_of};
-ghost use Rattle.tocmark_event.specs.View.{tag_view};
-ghost use Rattle.tocmark_reader.specs.Emitted.{item_view, node_view, emission_view, step};
-ghost use Rattle.tocmark_reader.specs.Inlines.{target_at, link_of, image_of, span_tag, leaf_item, inline_item, inline_node};
+ghost use Rattle.tocmark_event.specs.View.{Leaf as EventLeaf, event_view, tag_view};
+ghost use Rattle.tocmark_reader.specs.Emitted.{emission_view, step};
+ghost use Rattle.tocmark_reader.specs.Inlines.{target_at, link_of, image_of, span_tag, leaf_of, span_node, leaf_node, inline_node};
 ghost use Rattle.std.specs.Prelude.{encode_utf8};
 
-use crate::emit::{Emission, Node, NodeKind};
+use crate::emit::Emission;
 use crate::searched::SearchedText;
 use crate::words::stretch_text;
 use std::alloc::{AllocError, Global};
-use tocmark_event::event::{CowStr, LinkType, Tag};
-use tocmark_read_inlines::write as inline;
+use tocmark_event::event::{CowStr, Event, LinkType, Tag};
+use tocmark_read_inlines::inlines::Inlines;
+use tocmark_read_inlines::write::{InlineKind, Node};
 use tocmark_read_spans::role::{Leaf, Span, Stretch, Target};
 
+/// The target of a link or an image, by its number; an empty one where there is none.
 #[tactic(auto, unfolding(crate::specs::Inlines::target_at))]
 fn target_at(targets: &[Target], place: usize) -> Target
     ensures { result ≡ target_at targets.now place }
@@ -81,98 +83,87 @@ fn character_text(alloc: Global, character: char) -> Result<CowStr<'static>, All
     Ok(CowStr::Owned(text))
 }
 
-#[tactic(auto, unfolding(crate::specs::Inlines::leaf_item))]
-fn leaf_item(alloc: Global, texts: &[u8], leaf: Leaf) -> Result<NodeKind, AllocError>
-    ensures { IfOk result (λ i. item_view i ≡ leaf_item texts.now leaf) }
+#[tactic(auto, unfolding(crate::specs::Inlines::leaf_of))]
+fn leaf_event(alloc: Global, texts: &[u8], leaf: Leaf) -> Result<Event<'static>, AllocError>
+    ensures { IfOk result (λ e. event_view text_of e ≡ EventLeaf (leaf_of texts.now leaf)) }
 {
     match leaf {
-        Leaf::Character(character) => Ok(NodeKind::Text(character_text(alloc, character)?)),
-        Leaf::Code(stretch) => Ok(NodeKind::Code(stretch_text(alloc, texts, stretch)?)),
-        Leaf::Html(stretch) => Ok(NodeKind::InlineHtml(stretch_text(alloc, texts, stretch)?)),
-        Leaf::SoftBreak => Ok(NodeKind::SoftBreak),
-        Leaf::HardBreak => Ok(NodeKind::HardBreak),
-        Leaf::Text(stretch) => Ok(NodeKind::Text(stretch_text(alloc, texts, stretch)?)),
-        Leaf::Note(name) => Ok(NodeKind::FootnoteReference(stretch_text(alloc, texts, name)?)),
-        Leaf::InlineMath(stretch) => {
-            Ok(NodeKind::InlineMath(stretch_text(alloc, texts, stretch)?))
-        }
-        Leaf::DisplayMath(stretch) => {
-            Ok(NodeKind::DisplayMath(stretch_text(alloc, texts, stretch)?))
-        }
+        Leaf::Character(character) => Ok(Event::Text(character_text(alloc, character)?)),
+        Leaf::Code(stretch) => Ok(Event::Code(stretch_text(alloc, texts, stretch)?)),
+        Leaf::Html(stretch) => Ok(Event::InlineHtml(stretch_text(alloc, texts, stretch)?)),
+        Leaf::SoftBreak => Ok(Event::SoftBreak),
+        Leaf::HardBreak => Ok(Event::HardBreak),
+        Leaf::Text(stretch) => Ok(Event::Text(stretch_text(alloc, texts, stretch)?)),
+        Leaf::Note(name) => Ok(Event::FootnoteReference(stretch_text(alloc, texts, name)?)),
+        Leaf::InlineMath(stretch) => Ok(Event::InlineMath(stretch_text(alloc, texts, stretch)?)),
+        Leaf::DisplayMath(stretch) => Ok(Event::DisplayMath(stretch_text(alloc, texts, stretch)?)),
     }
 }
 
-#[tactic(auto, unfolding(crate::specs::Inlines::inline_item))]
-fn inline_item(
+/// Writes a container of inlines.
+fn write_span(
     alloc: Global,
-    texts: &[u8],
-    targets: &[Target],
-    item: inline::InlineKind,
-) -> Result<NodeKind, AllocError>
-    ensures { IfOk result (λ i. item_view i ≡ inline_item texts.now targets.now item) }
+    out: &mut Emission,
+    text: &SearchedText<'_>,
+    found: &Inlines,
+    node: Node,
+    span: Span,
+) -> Result<(), AllocError>
+    ensures { OnOk result (emission_view out.new ≡ step text.now (emission_view out.old)
+        (span_node found.now.texts.items found.now.targets.items node span)) }
 {
-    match item {
-        inline::InlineKind::Text => Ok(NodeKind::Source),
-        inline::InlineKind::Span(span) => Ok(NodeKind::Container(span_tag(
-            alloc, texts, targets, span,
-        )?)),
-        inline::InlineKind::Leaf(leaf) => leaf_item(alloc, texts, leaf),
-    }
+    let tag = span_tag(alloc, &found.texts, &found.targets, span)?;
+    out.open(text, node.depth, tag, node.start, node.end)
 }
 
-#[tactic(auto, unfolding(crate::specs::Inlines::inline_node))]
-fn inline_node(
+/// Writes an inline without children, other than a text of the source.
+fn write_leaf(
     alloc: Global,
+    out: &mut Emission,
+    text: &SearchedText<'_>,
     texts: &[u8],
-    targets: &[Target],
-    node: inline::Node,
-) -> Result<Node, AllocError>
-    ensures { IfOk result (λ n. node_view n ≡ inline_node texts.now targets.now node) }
+    node: Node,
+    leaf: Leaf,
+) -> Result<(), AllocError>
+    ensures { OnOk result (emission_view out.new
+        ≡ step text.now (emission_view out.old) (leaf_node texts.now node leaf)) }
 {
-    Ok(Node {
-        depth: node.depth,
-        item: inline_item(alloc, texts, targets, node.item)?,
-        start: node.start,
-        end: node.end,
-    })
+    let event = leaf_event(alloc, texts, leaf)?;
+    out.write(text, node.depth, event, node.start, node.end)
 }
 
-/// Writes the node of an inline.
+/// Writes an inline.
 #[tactic(auto, unfolding(crate::specs::Inlines::inline_node, crate::specs::Inlines::inline_item))]
 fn write_inline(
     alloc: Global,
     out: &mut Emission,
     text: &SearchedText<'_>,
-    texts: &[u8],
-    targets: &[Target],
-    node: inline::Node,
+    found: &Inlines,
+    node: Node,
 ) -> Result<(), AllocError>
     ensures { OnOk result (emission_view out.new ≡ step text.now (emission_view out.old)
-        (inline_node texts.now targets.now node)) }
+        (inline_node found.now.texts.items found.now.targets.items node)) }
 {
     match node.item {
-        inline::InlineKind::Text => {
-            out.write_source(alloc, text, node.depth, node.start, node.end)
-        }
-        _ => out.write(alloc, text, inline_node(alloc, texts, targets, node)?),
+        InlineKind::Text => out.write_source(alloc, text, node.depth, node.start, node.end),
+        InlineKind::Span(span) => write_span(alloc, out, text, found, node, span),
+        InlineKind::Leaf(leaf) => write_leaf(alloc, out, text, &found.texts, node, leaf),
     }
 }
 
-/// Writes the nodes of inlines behind what is written.
+/// Writes inlines behind what is written.
 pub fn write_inlines(
     alloc: Global,
     out: &mut Emission,
     text: &SearchedText<'_>,
-    texts: &[u8],
-    targets: &[Target],
-    nodes: &[inline::Node],
+    found: &Inlines,
 ) -> Result<(), AllocError>
     ensures { OnOk result (emission_view out.new
         ≡ fold (step text.now) (emission_view out.old)
-        (map (inline_node texts.now targets.now) nodes.now)) }
+        (map (inline_node found.now.texts.items found.now.targets.items) found.now.nodes.items)) }
 {
-    for node in nodes {
-        write_inline(alloc, out, text, texts, targets, *node)?;
+    for node in &found.nodes {
+        write_inline(alloc, out, text, found, *node)?;
     }
     Ok(())
 }

@@ -1,21 +1,36 @@
-//! Two readers of CommonMark 0.31.2: `CoreReader`, which knows no extension, and `ExtendedReader`, which takes those that
-//! flags name. Each reads a text into events with their ranges.
+//! Readers of CommonMark 0.31.2: a text goes in, its events with their ranges and its labels come out.
 //!
-//! Below it stand `tocmark_read_blocks` and `tocmark_read_inlines`, above it the library, which hands it to its users. Enter
-//! at `CoreReader` (`reader`) or `ExtendedReader` (`extended`). `block_events` makes the events of the blocks, `inline`
-//! those of the lines in them, `quiet` those of lines without marks, `words` their texts, and `emit` writes them out;
-//! `block_reading` does so block by block, and `definitions` finds where links are defined. `searched` is the text, in
-//! which U+0000 is sought once. `is_plain` (`plain`) tells the texts that it reads as they stand.
+//! Enter at `CoreReader` (`reader`), which knows no extension, or at `ExtendedReader` (`extended`), which takes those that
+//! flags name. Below this crate stand `tocmark_read_blocks` and `tocmark_read_inlines`. Above it stands the library, which
+//! hands it to its users.
+//!
+//! A text is read in these steps:
+//!
+//! 1. `reader` finds the blocks of the text, and what labels are defined as in it.
+//! 2. `block_reading` makes the events of the blocks: all at once, or block by block as a caller asks for them.
+//! 3. `block_events` takes a block. A container comes from `containers` and `attributes`, code and HTML come from
+//!    `code_lines`, and the inlines of a paragraph, a heading or a cell come from `inline`. `quiet` is the short way for
+//!    lines without marks.
+//! 4. `emit` puts the events behind one another, and ends the containers.
+//!
+//! Some modules serve several steps. `words` makes the texts that the source doesn't spell as they are. `searched` is the
+//! source, in which U+0000 is sought once. `pieces` takes a leaf's lines from those of all leaves.
+//!
+//! Two modules answer other questions: `definitions` tells where links are defined, and `plain` which texts are read as
+//! they stand.
 #![tactic(auto)]
 
 mod attributes;
 pub mod block_events;
 pub mod block_reading;
+mod code_lines;
+mod containers;
 pub mod definitions;
 mod emit;
 pub mod extended;
 mod inline;
 pub mod laws;
+mod pieces;
 mod plain;
 mod quiet;
 mod reader;

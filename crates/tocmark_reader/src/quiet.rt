@@ -7,10 +7,11 @@ ghost use Rattle.tocmark_reader.specs.Emitted.{emission_view, step};
 ghost use Rattle.tocmark_reader.specs.Pages.{content_line};
 ghost use Rattle.tocmark_reader.specs.QuietLines.{is_text_byte, is_quiet_line, are_quiet_from, are_quiet_lines, further_nodes, quiet_nodes};
 
-use crate::emit::{Emission, Node, NodeKind};
+use crate::emit::Emission;
 use crate::plain::last_byte;
 use crate::searched::SearchedText;
 use std::alloc::{AllocError, Global};
+use tocmark_event::event::Event;
 use tocmark_read_page::piece::Piece;
 use tocmark_read_scan::basic::{byte_at, bytes_between};
 use tocmark_read_scan::class::{Class, is_in};
@@ -100,13 +101,8 @@ fn write_further_line(
     ensures { OnOk result (emission_view out.new
         ≡ fold (step text.now) (emission_view out.old) (further_nodes depth line)) }
 {
-    let node = Node {
-        depth,
-        item: NodeKind::SoftBreak,
-        start: line.start.saturating_sub(1),
-        end: line.start,
-    };
-    out.write(alloc, text, node)?;
+    let feed = line.start.saturating_sub(1);
+    out.write(text, depth, Event::SoftBreak, feed, line.start)?;
     out.write_source(alloc, text, depth, line.start, line.end)
 }
 

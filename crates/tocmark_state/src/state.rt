@@ -229,7 +229,8 @@ impl<R: Reader + Drop> State<R> {
         ensures flags { state_flags self.new ≡ state_flags self.old }
         ensures stands { OnOk result (status_of self.new ≡ status_of self.old) }
         ensures refused { OnErr result (IsFailed self.new) }
-        ensures finished { IsFinished self.old → Rejects writer.old writer.new result Error.Finished }
+        ensures finished { IsFinished self.old
+            → Rejects writer.old writer.new result Error.Finished }
         ensures failed { IsFailed self.old → Rejects writer.old writer.new result Error.Failed }
     {
         match self.status {

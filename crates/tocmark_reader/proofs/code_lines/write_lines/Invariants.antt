@@ -2,7 +2,7 @@ use Rattle.std.proofs.Common.{◌≡◌, take}
 use Rattle.std.specs.List.{fold}
 use Rattle.tocmark_reader.specs.Emitted.{emission_view, step}
 use Rattle.tocmark_reader.specs.Pages.{lines_nodes}
-use Rattle.tocmark_reader.proofs.block_events.write_lines.Given as goal
+use Rattle.tocmark_reader.proofs.code_lines.write_lines.Given as goal
 
 abbrev pub invariant-loop-line : goal.invariant-loop-line
 invariant-loop-line l =
