@@ -1,13 +1,11 @@
-//! What a call of the formatter asks for: what is done, how much is said, and how each file is read and is to look.
-//! `docs/FORMAT.md` has the options.
+//! What the programs with a command line share: its words, the syntaxes and extensions that it names, a text that is read
+//! or written whole, and what is said on standard error.
 //!
-//! Below it stand `tocmark_format`, whose styles the options name, the reader of extensions, and the kit's `clap` and
-//! `toml`; above it stands `tocmark_format_program`, which does what is asked. Enter at `command` (`arguments`), the
-//! command line, and at `settings_of_files` (`lookup`), the settings of each file. `settings` has what the options and a
-//! configuration file's keys name, and `configuration` such a file.
+//! Below it stand the reader of extensions, whose flags the names stand for, and the kit's `clap`; above it stand
+//! `tocmark_events_program` and `tocmark_format_program`. Enter at `Program` (`program`), which says what is wrong with a
+//! call. `syntax` has `--syntax` and `--extension` with their help, and `streams` what is read and written whole.
 #![tactic(auto)]
 
-pub mod arguments;
-pub mod configuration;
-pub mod lookup;
-pub mod settings;
+pub mod program;
+pub mod streams;
+pub mod syntax;

@@ -1,11 +1,12 @@
 //! What a call asks for.
 
-use crate::settings::{Unset, extension_named, set, syntax_named};
+use crate::settings::{Unset, set};
 use clap::{Arg, ArgAction, ArgMatches, Command};
 use std::alloc::{AllocError, Global};
 use std::fmt;
 use tocmark::event::ParserOptions;
 use tocmark::{Options, OptionsError};
+use tocmark_command::syntax::{GFM, extension_named, syntax_named, with_syntax};
 use tocmark_interchange::OptionFault;
 
 /// What is to be done.
@@ -54,25 +55,10 @@ impl<'a> fmt::Display for Refusal<'a> {
 }
 
 /// The command's name.
-const NAME: &str = "tocmark-events";
+pub const NAME: &str = "tocmark-events";
 
-/// The command with `--syntax`, which has this help, and `--extension`.
-fn with_syntax<'a>(
-    alloc: Global,
-    command: Command<'a>,
-    syntax_help: &'a str,
-) -> Result<Command<'a>, AllocError> {
-    let syntax = Arg::new(alloc, "syntax")
-        .long("syntax")
-        .value_name("NAME")
-        .help(syntax_help);
-    let extension = Arg::new(alloc, "extension")
-        .long("extension")
-        .value_name("NAME")
-        .action(ArgAction::Append)
-        .help("Add one of these extensions; repeatable");
-    command.arg(syntax)?.arg(extension)
-}
+/// What `--help` says of `--extension`.
+const EXTENSION: &str = "Add one of these extensions; repeatable";
 
 const READ: &str = "Turn Markdown on standard input into events as JSON";
 
@@ -115,14 +101,15 @@ pub fn command<'a>(alloc: Global, syntax_help: &'a str) -> Result<Command<'a>, A
         .version("0.1.0")
         .about("Turn Markdown into events as JSON, and back")
         .subcommand_required(true)
-        .subcommand(with_syntax(alloc, read, syntax_help)?)?
-        .subcommand(with_syntax(alloc, write, syntax_help)?)?
+        .subcommand(with_syntax(alloc, read, syntax_help, EXTENSION)?)?
+        .subcommand(with_syntax(alloc, write, syntax_help, EXTENSION)?)?
         .subcommand(check)
 }
 
 /// The flags of the syntax and the extensions that are named.
 fn flags_of(matches: &ArgMatches<'_>) -> Result<ParserOptions, Refusal<'static>> {
-    let Some(mut flags) = syntax_named(matches.get_str("syntax").unwrap_or("commonmark")) else {
+    let syntax = matches.get_str("syntax").unwrap_or("commonmark");
+    let Some(mut flags) = syntax_named(syntax, GFM) else {
         return Err(Refusal::Syntax);
     };
     if let Some(names) = matches.get_strs("extension") {

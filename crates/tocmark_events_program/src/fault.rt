@@ -7,33 +7,34 @@ ghost use Rattle.tocmark_events_program.specs.declared.fault.Fault.TheVariants.{
 use std::alloc::{AllocError, AllocFailed};
 use thiserror::Error;
 use tocmark::Error as MarkdownError;
+use tocmark_command::streams::InputError;
 use tocmark_interchange::{DocumentError, OptionsTextError, WriteError};
 use tocmark_json::fault::JsonError;
 
-/// A fault, shown as one line on standard error.
+/// A fault, shown as one line on standard error, behind the name of the program.
 #[derive(Debug, Drop, Error)]
 pub enum Fault {
-    #[error("tocmark-events: cannot read standard input")]
+    #[error("cannot read standard input")]
     Read,
-    #[error("tocmark-events: cannot read the source, or it is not UTF-8")]
+    #[error("cannot read the source, or it is not UTF-8")]
     Source,
-    #[error("tocmark-events: cannot read the options, or they are not UTF-8")]
+    #[error("cannot read the options, or they are not UTF-8")]
     Options,
-    #[error("tocmark-events: {0}")]
+    #[error("{0}")]
     NotOptions(OptionsTextError),
-    #[error("tocmark-events: standard input is not UTF-8")]
+    #[error("standard input is not UTF-8")]
     NotUtf8,
-    #[error("tocmark-events: standard input is no JSON: {0}")]
+    #[error("standard input is no JSON: {0}")]
     NotJson(serde_json::Error),
-    #[error("tocmark-events: {0}")]
+    #[error("{0}")]
     NotEvents(JsonError),
-    #[error("tocmark-events: {0}")]
+    #[error("{0}")]
     Markdown(MarkdownError),
-    #[error("tocmark-events: event {0}: it doesn't come back as it is written")]
+    #[error("event {0}: it doesn't come back as it is written")]
     Changed(usize),
-    #[error("tocmark-events: out of memory")]
+    #[error("out of memory")]
     OutOfMemory,
-    #[error("tocmark-events: cannot write standard output")]
+    #[error("cannot write standard output")]
     Write,
 }
 
@@ -50,6 +51,17 @@ impl<T: Drop> From<AllocFailed<T>> for Fault {
 
     fn from(_fault: AllocFailed<T>) -> Fault {
         Fault::OutOfMemory
+    }
+}
+
+impl From<InputError> for Fault {
+    ghost from_gives = { λ _ e. ¬ (IsWriteFault e) };
+
+    fn from(error: InputError) -> Fault {
+        match error {
+            InputError::Unreadable(_) => Fault::Read,
+            InputError::NotUtf8 => Fault::NotUtf8,
+        }
     }
 }
 

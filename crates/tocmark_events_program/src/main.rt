@@ -1,8 +1,9 @@
 //! The program for other languages: Markdown on standard input to events as JSON on standard output, and back.
 //! `docs/JSON.md` has the form.
 //!
-//! It stands on `tocmark_interchange`, which makes its answers. `arguments` has its options, `settings` what they name, and
-//! `fault` its lines on standard error.
+//! It stands on `tocmark_interchange`, which makes its answers, and on `tocmark_command`, which has what it shares with the
+//! formatter. `arguments` has its options, `settings` sets those of the writer, and `fault` has what it says on standard
+//! error.
 #![tactic(auto)]
 
 mod arguments;
@@ -17,17 +18,25 @@ ghost use Rattle.tocmark_interchange.specs.Interchange.{IsWrittenAgain, IsWritte
 ghost use Rattle.tocmark_interchange.specs.Document.{IsWrittenTheSame};
 ghost use Rattle.tocmark_events_program.specs.Events.{IsAnswer, IsAnswered, IsWriteFault, WritesLate};
 
-use arguments::{Job, asked, command, options_file};
+use arguments::{Job, NAME, asked, command, options_file};
 use clap::ArgMatches;
 use fault::Fault;
-use settings::syntax_help;
 use std::alloc::Global;
+use std::fs;
 use std::io::{Read, Write};
 use std::process::ExitCode;
-use std::{env, fs, io};
 use tocmark::Options;
 use tocmark::event::ParserOptions;
+use tocmark_command::program::{Program, words_of};
+use tocmark_command::streams::{text_in, write_out};
+use tocmark_command::syntax::{GFM, syntax_help};
 use tocmark_interchange::{check_json, checked_over, options_in_json, read_json, write_over};
+
+/// This program.
+const EVENTS: Program = Program { name: NAME };
+
+/// The first line of what `--help` says of `--syntax`.
+const SYNTAX: &str = "Kind of Markdown: commonmark (default), gfm or all";
 
 /// The JSON of the events of a text under these flags, with their ranges.
 fn read_events(alloc: Global, text: &str, flags: ParserOptions) -> Result<String, Fault>
@@ -88,14 +97,8 @@ fn converted<I: Read>(
     ensures answers { IfSome (I.remaining input.old) (λ bytes.
         IfOk result (λ output. IsAnswer job.entry source.now bytes (string_bytes output))) }
 {
-    let mut bytes = Vec::new(alloc);
-    if input.read_to_end(&mut bytes).is_err() {
-        return Err(Fault::Read);
-    }
-    let Ok(text) = std::str::from_utf8(&bytes) else {
-        return Err(Fault::NotUtf8);
-    };
-    answered(alloc, job, source, text)
+    let text = text_in(alloc, input)?;
+    answered(alloc, job, source, text.as_str())
 }
 
 /// What a job makes of its text.
@@ -122,16 +125,6 @@ fn answered(alloc: Global, job: Job<'_>, source: &str, text: &str) -> Result<Str
     }
 }
 
-fn write_out<O: Write>(output: &mut O, text: &str) -> Result<(), Fault>
-    ensures done { OnOk result (Appends (O.contents output.old) (O.contents output.new) text.now) }
-    ensures fault { IfErr result IsWriteFault }
-{
-    if output.write_all(text.as_bytes()).is_err() || output.flush().is_err() {
-        return Err(Fault::Write);
-    }
-    Ok(())
-}
-
 /// A call with right arguments. Output is written only after all of it is there.
 fn convert<I: Read, O: Write>(
     alloc: Global,
@@ -147,7 +140,10 @@ fn convert<I: Read, O: Write>(
         (WritesLate job.entry source.now (I.remaining input.old) output.old output.new) }
 {
     let text = converted(alloc, job, source, input)?;
-    write_out(output, text.as_str())
+    match write_out(output, text.as_str()) {
+        Ok(()) => Ok(()),
+        Err(_error) => Err(Fault::Write),
+    }
 }
 
 /// The program after its arguments: the status that it ends with. It writes nothing before the whole answer is there.
@@ -168,23 +164,10 @@ pub fn run<I: Read, O: Write, F: Write>(
     match convert(alloc, job, source, input, output) {
         Ok(()) => 0,
         Err(fault) => {
-            complain(faults, &fault);
+            EVENTS.complain(faults, &fault);
             1
         }
     }
-}
-
-/// Writes a fault's line. One that can't be written changes nothing.
-fn complain<F: Write>(faults: &mut F, fault: &Fault) {
-    let _ = writeln!(faults, "{fault}");
-}
-
-fn words_of(rt: &HostRuntime) -> io::Result<Vec<String>> {
-    let mut words = Vec::new(rt.alloc());
-    for word in env::args(rt)? {
-        words.push(word)?;
-    }
-    Ok(words)
 }
 
 fn source_of(rt: &HostRuntime, job: Job<'_>) -> Result<String, Fault> {
@@ -212,26 +195,12 @@ fn options_of(rt: &HostRuntime, matches: &ArgMatches<'_>) -> Result<Options<'sta
     }
 }
 
-/// Says what is wrong with the arguments: the first line of it.
-fn refuse<F: Write>(faults: &mut F, why: &str) -> ExitCode {
-    let line = why.lines().next().unwrap_or("");
-    let _ = writeln!(faults, "tocmark-events: {line}");
-    ExitCode::from(2)
-}
-
 /// Shows the help or the version, or says what is wrong with the arguments.
 fn show(rt: &HostRuntime, error: &clap::Error) -> ExitCode {
-    let mut faults = rt.stderr();
-    let Ok(text) = format!(in rt.alloc(); "{error}") else {
-        return refuse(&mut faults, "out of memory");
-    };
-    if error.use_stderr() {
-        return refuse(&mut faults, text.as_str());
-    }
-    match write_out(&mut rt.stdout(), text.as_str()) {
-        Ok(()) => ExitCode::from(0),
-        Err(fault) => {
-            complain(&mut faults, &fault);
+    match EVENTS.show(rt, error) {
+        Ok(status) => status,
+        Err(_error) => {
+            EVENTS.complain(&mut rt.stderr(), &Fault::Write);
             ExitCode::from(1)
         }
     }
@@ -242,7 +211,7 @@ fn perform(rt: &HostRuntime, job: Job<'_>) -> ExitCode {
     let source = match source_of(rt, job) {
         Ok(source) => source,
         Err(fault) => {
-            complain(&mut faults, &fault);
+            EVENTS.complain(&mut faults, &fault);
             return ExitCode::from(1);
         }
     };
@@ -264,14 +233,14 @@ fn start(rt: &HostRuntime, matches: &ArgMatches<'_>) -> ExitCode {
     let options = match options_of(rt, matches) {
         Ok(options) => options,
         Err(fault) => {
-            complain(&mut rt.stderr(), &fault);
+            EVENTS.complain(&mut rt.stderr(), &fault);
             return ExitCode::from(1);
         }
     };
     match asked(rt.alloc(), matches, options) {
         Ok(job) => perform(rt, job),
         Err(refusal) => {
-            let _ = writeln!(rt.stderr(), "tocmark-events: {refusal}");
+            EVENTS.complain(&mut rt.stderr(), &refusal);
             ExitCode::from(2)
         }
     }
@@ -279,13 +248,13 @@ fn start(rt: &HostRuntime, matches: &ArgMatches<'_>) -> ExitCode {
 
 fn main(rt: HostRuntime) -> ExitCode {
     let Ok(words) = words_of(&rt) else {
-        return refuse(&mut rt.stderr(), "the arguments cannot be read");
+        return EVENTS.refuse(&mut rt.stderr(), "the arguments cannot be read");
     };
-    let Ok(syntax_help) = syntax_help(rt.alloc()) else {
-        return refuse(&mut rt.stderr(), "out of memory");
+    let Ok(syntax_help) = syntax_help(rt.alloc(), SYNTAX, GFM) else {
+        return EVENTS.refuse(&mut rt.stderr(), "out of memory");
     };
     let Ok(command) = command(rt.alloc(), syntax_help.as_str()) else {
-        return refuse(&mut rt.stderr(), "out of memory");
+        return EVENTS.refuse(&mut rt.stderr(), "out of memory");
     };
     match command.try_get_matches_from(words.as_slice()) {
         Ok(matches) => start(&rt, &matches),

@@ -3,8 +3,8 @@
 ghost use Rattle.std.specs.Prelude.{◌≡◌, ◌≢◌, IfOk, IfSome, string_bytes};
 ghost use Rattle.tocmark_format_program.specs.Formats.{SaysTheSame};
 
+use crate::settings::Settings;
 use std::alloc::{AllocError, Global};
-use tocmark_command::settings::Settings;
 use tocmark_format::{Formatted, Left, PartReader, formatted};
 
 /// What becomes of a text.

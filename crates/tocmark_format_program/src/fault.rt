@@ -1,11 +1,13 @@
 //! Why a file or a call isn't done.
 
 ghost use Rattle.std.specs.Prelude.{◌≡◌};
+ghost use Rattle.tocmark_format_program.specs.Formats.{IsOutputFault};
 ghost use Rattle.tocmark_format_program.specs.declared.fault.Fault.TheVariants.{OutOfMemory};
 
 use std::alloc::{AllocError, AllocFailed};
 use std::io;
 use thiserror::Error;
+use tocmark_command::streams::InputError;
 
 /// What is wrong with one file, said behind its name.
 #[derive(Debug, Drop, Error)]
@@ -41,5 +43,16 @@ impl<T: Drop> From<AllocFailed<T>> for Fault {
 
     fn from(_fault: AllocFailed<T>) -> Fault {
         Fault::OutOfMemory
+    }
+}
+
+impl From<InputError> for Fault {
+    ghost from_gives = { λ _ e. ¬ (IsOutputFault e) };
+
+    fn from(error: InputError) -> Fault {
+        match error {
+            InputError::Unreadable(error) => Fault::Read(error),
+            InputError::NotUtf8 => Fault::NotUtf8,
+        }
     }
 }

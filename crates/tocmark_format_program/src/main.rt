@@ -2,34 +2,50 @@
 //! compared, so a document never says anything else afterwards (the clause `same` of `decided`). `docs/FORMAT.md` has the
 //! options.
 //!
-//! It stands on `tocmark_format` and on `tocmark_command`, which has the command line, configuration files and what
-//! both name. Enter at `main`. `walk` has which files are meant, `decide` what is written for a text, `stream` how standard
-//! input is answered, `diff` what is shown of a text, `replace` how a file is replaced, and `report` and `fault` what is said.
+//! It stands on `tocmark_format`, and on `tocmark_command`, which has what it shares with `tocmark-events`. Enter at `main`.
+//!
+//! What a call asks for: `arguments` has the command line, `lookup` finds the settings of each file, `configuration` reads a
+//! configuration file, `settings` has what the options and the keys of such a file name, and `walk` has which files are
+//! meant. What is done: `decide` has what is written for a text, `stream` how standard input is answered, `diff` what is
+//! shown of a text, `replace` how a file is replaced, and `report` and `fault` what is said.
 #![tactic(auto)]
 
+mod arguments;
+mod configuration;
 mod decide;
 mod diff;
 mod fault;
+mod lookup;
 mod replace;
 mod report;
+mod settings;
 mod stream;
 mod walk;
 
+use arguments::{Color, NAME, Task, color_of, command, task_of, voice_of};
 use clap::ArgMatches;
 use decide::{Decision, decided};
 use diff::{Look, unified_diff};
 use fault::Fault;
+use lookup::{Refused, settings_of_files};
 use replace::{Change, replace_text};
 use report::Report;
+use settings::{DOCUMENTS, Settings};
 use std::alloc::Global;
-use std::io::{IsTerminal, Stderr, Write};
+use std::io::{IsTerminal, Stderr};
 use std::process::ExitCode;
-use std::{env, fs, io};
-use stream::{Passed, READER, format_stream, text_in, write_out};
-use tocmark_command::arguments::{Color, Task, color_of, command, task_of, voice_of};
-use tocmark_command::lookup::{Refused, settings_of_files};
-use tocmark_command::settings::{Settings, syntax_help};
+use std::{env, fs};
+use stream::{Passed, READER, format_stream};
+use tocmark_command::program::{Program, words_of};
+use tocmark_command::streams::{text_in, write_out};
+use tocmark_command::syntax::syntax_help;
 use walk::{Found, files_of};
+
+/// This program.
+const FORMAT: Program = Program { name: NAME };
+
+/// The first line of what `--help` says of `--syntax`.
+const SYNTAX: &str = "Markdown to read: commonmark, gfm (default) or all";
 
 /// From how many files on a terminal is shown how far a call is.
 const MANY: usize = 20;
@@ -80,7 +96,7 @@ fn preview(
         });
     };
     let shown = shown_change(rt.alloc(), work, name, text, written.as_str())?;
-    write_out(&mut rt.stdout(), shown.as_str())?;
+    write_out(&mut rt.stdout(), shown.as_str()).map_err(Fault::Output)?;
     Ok(Passed {
         is_changed: true,
         left,
@@ -124,7 +140,7 @@ fn text_of(rt: &HostRuntime, path: &str) -> Result<String, Fault> {
         return Err(Fault::NotRegular);
     }
     let mut file = fs::open(rt, path).map_err(Fault::Read)?;
-    text_in(rt.alloc(), &mut file)
+    Ok(text_in(rt.alloc(), &mut file)?)
 }
 
 /// Formats standard input to standard output.
@@ -169,18 +185,6 @@ fn do_all(
     }
 }
 
-fn refuse<F: Write>(faults: &mut F, why: &str) -> ExitCode {
-    let line = why.lines().next().unwrap_or("");
-    let _ = writeln!(faults, "tocmark-format: {line}");
-    ExitCode::from(2)
-}
-
-/// Says why nothing is done.
-fn refuse_call(rt: &HostRuntime, refused: &Refused) -> ExitCode {
-    let _ = writeln!(rt.stderr(), "tocmark-format: {refused}");
-    ExitCode::from(2)
-}
-
 /// Whether a diff is coloured: on a terminal, unless the environment has `NO_COLOR`, or as is asked for.
 fn is_colored(rt: &HostRuntime, color: Color) -> bool {
     match color {
@@ -204,7 +208,7 @@ fn has_files(files: &[String]) -> bool {
 fn perform(rt: &HostRuntime, matches: &ArgMatches<'_>, work: Work) -> ExitCode {
     let paths = matches.get_strs("path").unwrap_or(&[]);
     let Ok(Found { files, unseen }) = files_of(rt, paths) else {
-        return refuse(&mut rt.stderr(), "out of memory");
+        return FORMAT.refuse(&mut rt.stderr(), "out of memory");
     };
     let settings = match settings_of_files(rt, matches, &files) {
         Ok(settings) => settings,
@@ -239,39 +243,30 @@ fn start(rt: &HostRuntime, matches: &ArgMatches<'_>) -> ExitCode {
 
 /// Shows the help or the version, or says what is wrong with the arguments.
 fn show(rt: &HostRuntime, error: &clap::Error) -> ExitCode {
-    let mut faults = rt.stderr();
-    let Ok(text) = format!(in rt.alloc(); "{error}") else {
-        return refuse(&mut faults, "out of memory");
-    };
-    if error.use_stderr() {
-        return refuse(&mut faults, text.as_str());
-    }
-    match write_out(&mut rt.stdout(), text.as_str()) {
-        Ok(()) => ExitCode::from(0),
-        Err(fault) => {
-            let _ = writeln!(faults, "tocmark-format: {fault}");
+    match FORMAT.show(rt, error) {
+        Ok(status) => status,
+        Err(error) => {
+            FORMAT.complain(&mut rt.stderr(), &Fault::Output(error));
             ExitCode::from(1)
         }
     }
 }
 
-fn words_of(rt: &HostRuntime) -> io::Result<Vec<String>> {
-    let mut words = Vec::new(rt.alloc());
-    for word in env::args(rt)? {
-        words.push(word)?;
-    }
-    Ok(words)
+/// Says why nothing is done.
+fn refuse_call(rt: &HostRuntime, refused: &Refused) -> ExitCode {
+    FORMAT.complain(&mut rt.stderr(), refused);
+    ExitCode::from(2)
 }
 
 fn main(rt: HostRuntime) -> ExitCode {
     let Ok(words) = words_of(&rt) else {
-        return refuse(&mut rt.stderr(), "the arguments cannot be read");
+        return FORMAT.refuse(&mut rt.stderr(), "the arguments cannot be read");
     };
-    let Ok(syntax_help) = syntax_help(rt.alloc()) else {
-        return refuse(&mut rt.stderr(), "out of memory");
+    let Ok(syntax_help) = syntax_help(rt.alloc(), SYNTAX, DOCUMENTS) else {
+        return FORMAT.refuse(&mut rt.stderr(), "out of memory");
     };
     let Ok(command) = command(rt.alloc(), syntax_help.as_str()) else {
-        return refuse(&mut rt.stderr(), "out of memory");
+        return FORMAT.refuse(&mut rt.stderr(), "out of memory");
     };
     match command.try_get_matches_from(words.as_slice()) {
         Ok(matches) => start(&rt, &matches),

@@ -1,10 +1,10 @@
 //! What is said on standard error.
 
+use crate::arguments::Voice;
 use crate::fault::Fault;
 use crate::stream::Passed;
 use std::fmt;
 use std::io::Write;
-use tocmark_command::arguments::Voice;
 use tocmark_format::Left;
 
 /// How many files there were, and what became of them.

@@ -6,9 +6,10 @@ ghost use Rattle.tocmark_format_program.specs.Formats.{IsFormatted, IsOutputFaul
 
 use crate::decide::{Decision, decided};
 use crate::fault::Fault;
+use crate::settings::Settings;
 use std::alloc::Global;
 use std::io::{Read, Write};
-use tocmark_command::settings::Settings;
+use tocmark_command::streams::{text_in, write_out};
 use tocmark_format::{Left, PartReader};
 use tocmark_reader::{ExtendedReader, Names};
 
@@ -21,36 +22,6 @@ pub struct Passed {
     pub is_changed: bool,
     /// The blocks of it that were left as they stand.
     pub left: Vec<Left>,
-}
-
-/// All that a reader has, as text.
-pub fn text_in<I: Read>(alloc: Global, input: &mut I) -> Result<String, Fault>
-    ensures text { IfSome (I.remaining input.old) (λ bytes.
-        IfOk result (λ text. string_bytes text ≡ bytes)) }
-    ensures fault { IfErr result (λ fault. ¬ (IsOutputFault fault)) }
-{
-    let mut bytes = Vec::new(alloc);
-    if let Err(error) = input.read_to_end(&mut bytes) {
-        return Err(Fault::Read(error));
-    }
-    match String::from_utf8(bytes) {
-        Ok(text) => Ok(text),
-        Err(_) => Err(Fault::NotUtf8),
-    }
-}
-
-/// Writes a text.
-pub fn write_out<O: Write>(output: &mut O, text: &str) -> Result<(), Fault>
-    ensures done { OnOk result (Appends (O.contents output.old) (O.contents output.new) text.now) }
-    ensures fault { IfErr result IsOutputFault }
-{
-    if let Err(error) = output.write_all(text.as_bytes()) {
-        return Err(Fault::Output(error));
-    }
-    match output.flush() {
-        Ok(()) => Ok(()),
-        Err(error) => Err(Fault::Output(error)),
-    }
 }
 
 /// A text as it is formatted, and what became of it.
@@ -120,6 +91,8 @@ pub fn format_stream<R: PartReader, I: Read, O: Write>(
         ¬ (IsOutputFault fault) → output.new ≡ output.old) }
 {
     let (text, passed) = formatted_input(alloc, reader, settings, input)?;
-    write_out(output, text.as_str())?;
-    Ok(passed)
+    match write_out(output, text.as_str()) {
+        Ok(()) => Ok(passed),
+        Err(error) => Err(Fault::Output(error)),
+    }
 }

@@ -3,6 +3,7 @@
 use crate::settings::{KEYS, Key, Settings, set};
 use clap::{Arg, ArgAction, ArgMatches, Command};
 use std::alloc::{AllocError, Global};
+use tocmark_command::syntax::with_syntax;
 
 /// What becomes of formatted texts.
 #[derive(Clone, Copy, Drop)]
@@ -48,12 +49,15 @@ pub struct Refusal {
 }
 
 /// The command's name.
-const NAME: &str = "tocmark-format";
+pub const NAME: &str = "tocmark-format";
 
 /// What `--help` says of the paths.
 const PATHS: &str = "FILE: format it in place
 FOLDER: format the files *.md and *.markdown below it
 - or no path: standard input to standard output";
+
+/// What `--help` says of `--extension`.
+const EXTENSION: &str = "Add one of these extensions, or remove it by\nno-NAME; repeatable";
 
 const COLORS: [(&str, Color); 3] = [
     ("auto", Color::Auto),
@@ -159,15 +163,6 @@ pub fn command<'a>(alloc: Global, syntax_help: &'a str) -> Result<Command<'a>, A
         .action(ArgAction::Append)
         .num_args(0..)
         .help(PATHS);
-    let syntax = Arg::new(alloc, "syntax")
-        .long("syntax")
-        .value_name("NAME")
-        .help(syntax_help);
-    let extension = Arg::new(alloc, "extension")
-        .long("extension")
-        .value_name("NAME")
-        .action(ArgAction::Append)
-        .help("Add one of these extensions, or remove it by\nno-NAME; repeatable");
     let command = Command::new(alloc, NAME)
         .bin_name(NAME)?
         .version("0.1.0")
@@ -175,7 +170,7 @@ pub fn command<'a>(alloc: Global, syntax_help: &'a str) -> Result<Command<'a>, A
         .after_help("The value source keeps what each list or fence has.")
         .arg(paths)?;
     let command = with_task(alloc, command)?;
-    with_style(alloc, command.arg(syntax)?.arg(extension)?)
+    with_style(alloc, with_syntax(alloc, command, syntax_help, EXTENSION)?)
 }
 
 /// What is to be done, as a command line says it.

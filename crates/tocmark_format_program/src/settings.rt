@@ -1,11 +1,9 @@
 //! What the options of formatting name, on the command line and in configuration files.
 
-use std::alloc::Global;
-use std::fmt;
-use std::fmt::Write;
+use tocmark_command::syntax::{GFM, extension_named, syntax_named};
 use tocmark_event::event::ParserOptions;
 use tocmark_format::{Bullet, Delimiter, Fence, HardBreak, Marker, Numbering, Rule, Style};
-use tocmark_reader::{EXTENSIONS, NAMED_EXTENSIONS};
+use tocmark_reader::EXTENSIONS;
 
 /// What a text is read as, and how it is to look.
 #[derive(Clone, Copy)]
@@ -54,28 +52,12 @@ pub(crate) const KEYS: [(&str, Key, &str); 12] = [
 ];
 
 /// What documents on GitHub have beside CommonMark, front matter among it, so far as the reader reads it.
-const GFM: ParserOptions = ParserOptions(
-    (ParserOptions::ENABLE_TABLES.0
-        | ParserOptions::ENABLE_STRIKETHROUGH.0
-        | ParserOptions::ENABLE_TASKLISTS.0
-        | ParserOptions::ENABLE_FOOTNOTES.0
-        | ParserOptions::ENABLE_GFM.0
-        | ParserOptions::ENABLE_YAML_STYLE_METADATA_BLOCKS.0
-        | ParserOptions::ENABLE_PLUSES_DELIMITED_METADATA_BLOCKS.0)
-        & EXTENSIONS.0,
+pub(crate) const DOCUMENTS: ParserOptions = ParserOptions(
+    GFM.0
+        | ((ParserOptions::ENABLE_YAML_STYLE_METADATA_BLOCKS.0
+            | ParserOptions::ENABLE_PLUSES_DELIMITED_METADATA_BLOCKS.0)
+            & EXTENSIONS.0),
 );
-
-/// The extensions that `all` has and `gfm` hasn't.
-const ONLY_IN_ALL: ParserOptions = ParserOptions(EXTENSIONS.0 & !GFM.0);
-
-/// How wide a line of an option's help may be. The names of options stand before it, and 80 columns are all.
-const HELP_WIDTH: usize = 51;
-
-const SYNTAXES: [(&str, ParserOptions); 3] = [
-    ("commonmark", ParserOptions(0)),
-    ("gfm", GFM),
-    ("all", EXTENSIONS),
-];
 
 const BULLETS: [(&str, Option<Bullet>); 4] = [
     ("*", Some(Bullet::Asterisk)),
@@ -118,7 +100,7 @@ impl Settings {
     /// GFM with front matter, in the style that changes least.
     pub(crate) fn new() -> Settings {
         Settings {
-            flags: GFM,
+            flags: DOCUMENTS,
             style: Style::new(),
         }
     }
@@ -159,11 +141,11 @@ fn put<T: Copy>(field: &mut T, value: Option<T>) -> bool {
 fn extended(flags: ParserOptions, name: &str) -> Option<ParserOptions> {
     match name.strip_prefix("no-") {
         Some(name) => {
-            let flag = named(&NAMED_EXTENSIONS, name)?;
+            let flag = extension_named(name)?;
             Some(ParserOptions(flags.0 & !flag.0))
         }
         None => {
-            let flag = named(&NAMED_EXTENSIONS, name)?;
+            let flag = extension_named(name)?;
             Some(ParserOptions(flags.0 | flag.0))
         }
     }
@@ -191,7 +173,7 @@ fn width_of(word: &str) -> Option<usize> {
 pub(crate) fn set(settings: &mut Settings, key: Key, word: &str) -> bool {
     let Settings { flags, style } = settings;
     match key {
-        Key::Syntax => put(flags, named(&SYNTAXES, word)),
+        Key::Syntax => put(flags, syntax_named(word, DOCUMENTS)),
         Key::Extension => {
             let extended = extended(*flags, word);
             put(flags, extended)
@@ -207,41 +189,4 @@ pub(crate) fn set(settings: &mut Settings, key: Key, word: &str) -> bool {
         Key::Rule => put(&mut style.rule, named(&RULES, word)),
         Key::TableWidth => put(&mut style.table_width, width_of(word)),
     }
-}
-
-/// Writes a line of help that begins with these words and goes on with the names of the extensions among these flags. It is
-/// broken before a name that would end beyond `HELP_WIDTH`.
-fn name_extensions(help: &mut String, start: &str, flags: ParserOptions) -> fmt::Result {
-    help.write_str(start)?;
-    let mut width = start.len();
-    let mut is_later = false;
-    for (name, flag) in &NAMED_EXTENSIONS {
-        if flags.contains(*flag) {
-            if is_later {
-                help.write_str(",")?;
-            }
-            is_later = true;
-            // A name has a space before it and a comma behind it.
-            let wider = width.saturating_add(name.len()).saturating_add(2);
-            if wider <= HELP_WIDTH {
-                help.write_str(" ")?;
-                width = wider;
-            } else {
-                help.write_str("\n")?;
-                width = name.len().saturating_add(1);
-            }
-            help.write_str(name)?;
-        }
-    }
-    Ok(())
-}
-
-/// What `--help` says of `--syntax`: its values, and which extensions each adds.
-pub fn syntax_help(alloc: Global) -> Result<String, fmt::Error> {
-    let mut help = String::new(alloc);
-    help.write_str("Markdown to read: commonmark, gfm (default) or all\n")?;
-    name_extensions(&mut help, "gfm adds", GFM)?;
-    help.write_str("\n")?;
-    name_extensions(&mut help, "all adds these and", ONLY_IN_ALL)?;
-    Ok(help)
 }

@@ -1,0 +1,55 @@
+//! A program as its user meets it: the words of a call, and what is said of them.
+
+use crate::streams::write_out;
+use std::io::Write;
+use std::process::ExitCode;
+use std::{env, fmt, io};
+
+/// A program, by the name that its lines on standard error begin with.
+#[derive(Clone, Copy)]
+pub struct Program {
+    /// The command's name.
+    pub name: &'static str,
+}
+
+impl Program {
+    /// Writes a line about what went wrong: the program's name, and the fault. One that can't be written changes nothing.
+    pub fn complain<F: Write, E: fmt::Display>(self, faults: &mut F, fault: &E) {
+        let name = self.name;
+        let _ = writeln!(faults, "{name}: {fault}");
+    }
+
+    /// Writes the first line of what is wrong with a call, and gives the status of wrong arguments: 2.
+    pub fn refuse<F: Write>(self, faults: &mut F, why: &str) -> ExitCode {
+        let line = why.lines().next().unwrap_or("");
+        self.complain(faults, &line);
+        ExitCode::from(2)
+    }
+
+    /// Shows the help or the version that a call asks for, and gives status 0, or says what is wrong with its arguments, and
+    /// gives status 2.
+    ///
+    /// The error is that of standard output, which can't be written.
+    pub fn show(self, rt: &HostRuntime, error: &clap::Error) -> io::Result<ExitCode> {
+        let mut faults = rt.stderr();
+        let Ok(text) = format!(in rt.alloc(); "{error}") else {
+            return Ok(self.refuse(&mut faults, "out of memory"));
+        };
+        if error.use_stderr() {
+            return Ok(self.refuse(&mut faults, text.as_str()));
+        }
+        write_out(&mut rt.stdout(), text.as_str())?;
+        Ok(ExitCode::from(0))
+    }
+}
+
+/// The words of this call, the program's own name first.
+///
+/// It fails if the host doesn't give them, or if memory runs out.
+pub fn words_of(rt: &HostRuntime) -> io::Result<Vec<String>> {
+    let mut words = Vec::new(rt.alloc());
+    for word in env::args(rt)? {
+        words.push(word)?;
+    }
+    Ok(words)
+}
