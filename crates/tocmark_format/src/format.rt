@@ -36,7 +36,7 @@ struct Job<'j, R> {
 /// How near to the source each tree at the top is printed.
 #[derive(Drop)]
 struct Ladder {
-    /// For each tree; empty as long as all have the style's look.
+    /// For each tree; those behind the last one have the style's look.
     rungs: Vec<Rung>,
     /// Whether definitions stay as they are spelled.
     keeps_definitions: bool,
@@ -152,6 +152,18 @@ fn read_back<R: PartReader>(job: &Job<'_, R>, text: &str) -> Result<ReadBack, Al
 }
 
 impl Ladder {
+    /// All trees in the style's look; but the first one keeps its lines behind a byte order mark, which would move.
+    fn new(alloc: Global, text: &str) -> Result<Ladder, AllocError> {
+        let mut rungs = Vec::new(alloc);
+        if text.starts_with(MARK) {
+            rungs.push(Rung::Lines)?;
+        }
+        Ok(Ladder {
+            rungs,
+            keeps_definitions: false,
+        })
+    }
+
     /// Prints a tree nearer to the source; false if it has its lines already.
     fn fall(&mut self, tree: usize) -> bool {
         match self.rungs.get_mut(tree) {
@@ -176,10 +188,8 @@ impl Ladder {
     ) -> Result<bool, AllocError> {
         let old = printed.said.tree_ends(alloc)?;
         let new = back.says.tree_ends(alloc)?;
-        if self.rungs.is_empty() {
-            for _ in &old {
-                self.rungs.push(Rung::Look)?;
-            }
+        for _ in self.rungs.len()..old.len() {
+            self.rungs.push(Rung::Look)?;
         }
         let mut has_fallen = !self.keeps_definitions;
         self.keeps_definitions = true;
@@ -243,10 +253,7 @@ fn rounds<R: PartReader>(job: &Job<'_, R>) -> Result<Option<Formatted>, AllocErr
         ≡ merged (found_events (R.reading job.now.reader.now job.now.source.now.text.now
         job.now.flags)))) }
 {
-    let mut ladder = Ladder {
-        rungs: Vec::new(job.alloc),
-        keeps_definitions: false,
-    };
+    let mut ladder = Ladder::new(job.alloc, job.source.text)?;
     for _ in 0..ROUNDS {
         let printed = print_source(job, &ladder)?;
         let back = read_back(job, printed.text.as_str())?;
