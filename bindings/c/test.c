@@ -230,7 +230,7 @@ static void styles(void) {
          "markers");
   expect(formats("~~~\na\n~~~", (struct tocmark_style){.size = size, .fence = '`', .fence_length = 4}, "````\na\n````\n"), 12,
          "fences");
-  expect(formats("a\\\nb\n\n* * *\n", (struct tocmark_style){.size = size, .hard_break = 2, .rule = 1}, "a  \nb\n\n* * *\n"), 14,
+  expect(formats("a\\\nb\n\n* * *\n", (struct tocmark_style){.size = size, .hard_break = 2, .rule = 1}, "a  \nb\n\n* * *\n"), 13,
          "breaks");
   expect(formats("|a|\n|-|\n", (struct tocmark_style){.size = size, .table_width = 1}, "| a |\n| --- |\n"), 14, "tables");
   expect(formats("\xFF", style, ""), TOCMARK_NOT_UTF8, "text that is formatted");
