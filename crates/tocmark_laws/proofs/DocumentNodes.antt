@@ -95,7 +95,7 @@ abbrev at : List NodeView → State
 at ns = record { nodes = ns; inlines = none }
 
 abbrev find : List ℕ → Option Entry
-find = first_entry [] []
+find = first_entry false [] []
 
 some_pieces : (all ps new qs : List Piece) (n c : ℕ) → all ≡ ps ++ (new ++ qs) → n ≡ length ps → length new ≡ suc c → pieces_of all n (n + suc c) ≡ new
 some_pieces all ps new qs n c e k count =
@@ -198,7 +198,7 @@ found_rows rs = record { nodes = row_nodes 0 rs; defined = []; unresolved = [] }
 abbrev found_from : List ℕ → BlocksView → FoundView
 found_from text blocks =
     let c = collected blocks.definitions in
-    let page = fold (block_step_in CORE text (first_entry c.keys c.entries) blocks.blocks blocks.pieces) (start_state c.texts) blocks.blocks in
+    let page = fold (block_step_in CORE text (first_entry false c.keys c.entries) blocks.blocks blocks.pieces) (start_state c.texts) blocks.blocks in
     record {
       nodes = page.nodes;
       defined = defs.distinct_labels c.texts c.labels;

@@ -53,7 +53,7 @@ pub struct Inlines {
     pub nodes: Vec<Node>,
     /// The targets, by the numbers of links and images.
     pub targets: Vec<Target>,
-    /// The bytes of the texts, of which stretches are parts.
+    /// The bytes of the texts. A stretch is a part of them.
     pub texts: Vec<u8>,
     /// The labels that were looked up in vain.
     pub missed: Vec<Stretch>,

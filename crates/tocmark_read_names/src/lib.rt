@@ -1,4 +1,4 @@
-//! The names of HTML's character references: 2,125, of which 93 stand for two characters.
+//! The names of HTML's character references. There are 2,125; 93 of them stand for two characters.
 //!
 //! Below it stands `tocmark_read_scan`, above it the references (`tocmark_read_tokens`). Enter at `characters_of`.
 //! `entries` has the names, as `tools/make-names` writes them.

@@ -156,7 +156,7 @@ fn line_count(content: &[u8], place: usize) -> usize
         .count()
 }
 
-/// Takes the definitions at the front of lines, of which the first begins with a bracket.
+/// Takes the definitions at the front of lines. The first line begins with a bracket.
 fn define_lines(
     alloc: Global,
     text: &[u8],

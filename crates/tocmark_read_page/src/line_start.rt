@@ -11,7 +11,7 @@ pub struct Known {
     pub syntax: Syntax,
     /// The number of the last line that closes metadata of dashes; 0 where none does or they aren't read.
     pub yaml_end: usize,
-    /// The same of pluses.
+    /// The number of the last line that closes metadata of pluses; 0 where none does or they aren't read.
     pub pluses_end: usize,
 }
 

@@ -38,6 +38,8 @@ pub struct Syntax {
     pub heading_attributes: bool,
     /// Definition lists: lines that begin with a colon, below a title.
     pub definition_lists: bool,
+    /// Whether a reference to a footnote counts without a definition of the footnote.
+    pub undefined_notes: bool,
     /// The names of character references.
     pub names: Names,
 }
@@ -56,5 +58,6 @@ pub const CORE: Syntax = Syntax {
     quote_kinds: false,
     heading_attributes: false,
     definition_lists: false,
+    undefined_notes: false,
     names: Names::Four,
 };

@@ -1,5 +1,5 @@
 -- The link reference definitions of a document, and lists of labels.
-use Rattle.std.specs.Prelude.{ℕ, List, [], ◌∷◌, ◌++◌, length, map, slice_get, string_bytes, Option, Some, None, unwrap_or}
+use Rattle.std.specs.Prelude.{ℕ, Bool, false, ◌==◌, ◌&&◌, if◌then◌else◌, List, [], ◌∷◌, ◌++◌, length, map, slice_get, string_bytes, Option, Some, None, unwrap_or}
 use Rattle.std.specs.HashMap.{get_by_text}
 use Rattle.std.specs.Str.Lossy.{utf8_lossy}
 use Rattle.tocmark_read_scan.specs.Basic.{bytes_between}
@@ -18,9 +18,22 @@ abbrev pub entry_at : List Entry → Option ℕ → Option Entry
 entry_at entries None = None
 entry_at entries (Some place) = slice_get entries place
 
+-- the entry of a footnote, which has neither a destination nor a title
+abbrev pub no_entry : Entry
+no_entry = record { destination = record { start = 0; end = 0 }; title = record { start = 0; end = 0 } }
+
+-- a key is that of a footnote's name: a bracket stands first
+pub is_note_key : List ℕ → Bool
+is_note_key [] = false
+is_note_key (b ∷ key) = b == 91
+
+-- what a label leads to: its first definition, or nothing for a footnote's name if each of these counts as defined
+abbrev pub leads_to : Bool → Option Entry → List ℕ → Option Entry
+leads_to has_all_notes first key = if has_all_notes && is_note_key key then Some no_entry else first
+
 -- the first definition of the label with a key
 abbrev pub entry_of : Definitions → List ℕ → Option Entry
-entry_of d key = entry_at d.entries.items (get_by_text d.places key)
+entry_of d key = leads_to d.has_all_notes (entry_at d.entries.items (get_by_text d.places key)) key
 
 -- the definitions found so far: the keys of their labels, labels and entries as stretches of texts
 pub record State : Type 0 where
@@ -92,5 +105,5 @@ distinct_labels texts labels =
 unfoldable pub noted_with : List ℕ → State → State
 noted_with name s = record s {
   keys = s.keys ++ note_key name ∷ [];
-  entries = s.entries ++ record { destination = no_stretch; title = no_stretch } ∷ [];
+  entries = s.entries ++ no_entry ∷ [];
 }

@@ -2,7 +2,7 @@
 
 ghost use Rattle.std.specs.Prelude.{◌≡◌, IfOk, OnOk, map, string_bytes};
 ghost use Rattle.tocmark_read_tokens.specs.Reference.{unescaped_in};
-ghost use Rattle.tocmark_read_spans.specs.Definitions.{entry_of, label_key, collected_view, collected_none, kept, defined_with_in, defined_in, label_at, distinct_labels, noted_with};
+ghost use Rattle.tocmark_read_spans.specs.Definitions.{entry_of, label_key, collected_view, collected_none, is_note_key, kept, defined_with_in, defined_in, label_at, distinct_labels, noted_with};
 
 use crate::note::note_key;
 use crate::role::Stretch;
@@ -30,6 +30,8 @@ pub struct Definitions {
     pub places: HashMap<String, usize>,
     /// What the labels are defined as, in the order of the document.
     pub entries: Vec<Entry>,
+    /// Whether each name of a footnote counts as defined.
+    pub has_all_notes: bool,
 }
 
 /// The definitions that were found so far, in order, with the keys of their labels; the labels and the
@@ -47,12 +49,32 @@ pub struct Collected {
 }
 
 impl Definitions {
-    /// What the label with a key is defined as first; `None` where it isn't.
+    /// What the label with a key is defined as first, or an empty entry for a footnote's name if each of these counts as
+    /// defined; `None` if the label isn't defined.
     pub fn find(&self, key: &str) -> Option<Entry>
         ensures { result ≡ entry_of self.now key.now }
     {
+        if self.has_all_notes && is_note_key(key) {
+            return Some(NO_ENTRY);
+        }
         let place = self.places.get(key).copied()?;
         self.entries.get(place).copied()
+    }
+}
+
+/// The entry of a footnote, which has neither a destination nor a title.
+const NO_ENTRY: Entry = Entry {
+    destination: Stretch { start: 0, end: 0 },
+    title: Stretch { start: 0, end: 0 },
+};
+
+/// Whether a key is that of a footnote's name: whether it begins with a bracket.
+fn is_note_key(key: &str) -> bool
+    ensures { result ≡ is_note_key key.now }
+{
+    match key.as_bytes().first() {
+        Some(byte) => *byte == b'[',
+        None => false,
     }
 }
 
@@ -148,12 +170,8 @@ impl Collected {
         ensures { OnOk result (collected_view self.new
             ≡ noted_with name.now (collected_view self.old)) }
     {
-        let none = Stretch { start: 0, end: 0 };
         self.keys.push(note_key(alloc, name)?)?;
-        self.entries.push(Entry {
-            destination: none,
-            title: none,
-        })?;
+        self.entries.push(NO_ENTRY)?;
         Ok(())
     }
 }

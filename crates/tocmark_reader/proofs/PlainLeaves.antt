@@ -36,7 +36,7 @@ use Rattle.tocmark_read_scan.specs.PlainParts.{Part, spelled}
 abbrev found_from : List ℕ → BlocksView → FoundView
 found_from text blocks =
     let c = collected blocks.definitions in
-    let page = assembled text (first_entry c.keys c.entries) blocks.blocks blocks.pieces c.texts in
+    let page = assembled text (first_entry false c.keys c.entries) blocks.blocks blocks.pieces c.texts in
     record {
       nodes = page.nodes;
       defined = defs.distinct_labels c.texts c.labels;
@@ -83,22 +83,22 @@ found_state page = record { nodes = page.nodes; defined = []; unresolved = defs.
 
 -- a paragraph with these pieces at the top
 abbrev taken : List ℕ → ℕ → ℕ → List Piece → State
-taken text n k pieces = paragraph_taken text (first_entry [] []) pieces false (paragraph_block n k) (start_state [])
+taken text n k pieces = paragraph_taken text (first_entry false [] []) pieces false (paragraph_block n k) (start_state [])
 
 found_taken : (text : List ℕ) (n : ℕ) (pieces : List Piece) → found_from text (one_block n pieces) ≡ found_state (taken text n (length pieces) (pieces_of pieces 0 (length pieces)))
 unfolding is_unwrapped block_taken_in paragraph_block
 found_taken text n pieces = refl
 
-taken_whole : (text : List ℕ) (n k : ℕ) (pieces : List Piece) → found_state (taken text n (suc k) pieces) ≡ found_of n (inlines.read_inlines (content.content_of text (map content_line pieces)) 1 (first_entry [] []) no_inlines)
+taken_whole : (text : List ℕ) (n k : ℕ) (pieces : List Piece) → found_state (taken text n (suc k) pieces) ≡ found_of n (inlines.read_inlines (content.content_of text (map content_line pieces)) 1 (first_entry false [] []) no_inlines)
 unfolding paragraph_taken_in wrapped_in with_block task_nodes leaf_inlines_in block_tag paragraph_block
 taken_whole text n k pieces = rw (some_pieces k) refl
 
-found_one : (text : List ℕ) (n : ℕ) (p : Piece) (ps : List Piece) (c : content.State) → content.content_of text (map content_line (p ∷ ps)) ≡ c → found_from text (one_block n (p ∷ ps)) ≡ found_of n (inlines.read_inlines c 1 (first_entry [] []) no_inlines)
+found_one : (text : List ℕ) (n : ℕ) (p : Piece) (ps : List Piece) (c : content.State) → content.content_of text (map content_line (p ∷ ps)) ≡ c → found_from text (one_block n (p ∷ ps)) ≡ found_of n (inlines.read_inlines c 1 (first_entry false [] []) no_inlines)
 found_one text n p ps c e =
     found_taken text n (p ∷ ps)
     ∙ ap (λ pieces. found_state (taken text n (suc (length ps)) pieces)) (whole_pieces p ps)
     ∙ taken_whole text n (length ps) (p ∷ ps)
-    ∙ ap (λ (x : content.State). found_of n (inlines.read_inlines x 1 (first_entry [] []) no_inlines)) e
+    ∙ ap (λ (x : content.State). found_of n (inlines.read_inlines x 1 (first_entry false [] []) no_inlines)) e
 
 -- the pieces of lines are these lines
 pieces_are_lines : (before start : ℕ) (l : List ℕ) (ms : List (List ℕ)) → map content_line (map line_piece (line_list before start l ms)) ≡ line_places start l ms
@@ -122,7 +122,7 @@ pub record IsReadText (l : List ℕ) (ms : List (List ℕ)) (parts : List Part) 
   pub bracket : (byte_at (feed_joined l ms) 0 == 91) ≡ false
   pub last : (body : List ℕ) × (y : ℕ) × (feed_joined l ms ≡ body ++ y ∷ []) × (is_in White y ≡ false)
   pub spells : feed_joined l ms ≡ spelled parts
-  pub read : AreRead (spelled parts) (known (spelled parts)) (first_entry [] []) 0 parts
+  pub read : AreRead (spelled parts) (known (spelled parts)) (first_entry false [] []) 0 parts
 
 -- the blocks of such a text
 text_blocks : (l : List ℕ) (ms : List (List ℕ)) → AllByRecursion IsTextLine (l ∷ ms) → AreClean (feed_joined l ms) → length (feed_joined l ms) < 2 ^ 64 → (byte_at (feed_joined l ms) 0 == 91) ≡ false → blocks_of (feed_joined l ms) ≡ one_block (length (feed_joined l ms)) (map line_piece (line_list 0 0 l ms))
@@ -136,7 +136,7 @@ text_blocks l (m ∷ ms) h clean fits k =
     ∙ ap (λ n. one_block n (map line_piece (line_list 0 0 l (m ∷ ms)))) (lines_end 0 0 0 l (m ∷ ms) ∙ (let q : 0 + length text ≡ length text = omega arith in q))
 
 -- a list of lines isn't empty
-found_lines : (text : List ℕ) (n : ℕ) (l : List ℕ) (ms : List (List ℕ)) (c : content.State) → content.content_of text (line_places 0 l ms) ≡ c → found_from text (one_block n (map line_piece (line_list 0 0 l ms))) ≡ found_of n (inlines.read_inlines c 1 (first_entry [] []) no_inlines)
+found_lines : (text : List ℕ) (n : ℕ) (l : List ℕ) (ms : List (List ℕ)) (c : content.State) → content.content_of text (line_places 0 l ms) ≡ c → found_from text (one_block n (map line_piece (line_list 0 0 l ms))) ≡ found_of n (inlines.read_inlines c 1 (first_entry false [] []) no_inlines)
 found_lines text n l [] c e = found_one text n _ _ c (ap (content.content_of text) (pieces_are_lines 0 0 l []) ∙ e)
 found_lines text n l (m ∷ ms) c e = found_one text n _ _ c (ap (content.content_of text) (pieces_are_lines 0 0 l (m ∷ ms)) ∙ e)
 
@@ -154,8 +154,8 @@ found_text l ms parts h =
     let fits : length (spelled parts) < 2 ^ 64 = subst (λ (xs : List ℕ). length xs < 2 ^ 64) h.spells h.fits in
     ap (found_from text) (text_blocks l ms h.lines h.clean h.fits h.bracket)
     ∙ found_lines text n l ms (leaf text) (content_of_lines l ms (h.last.0) (h.last.1) (h.last.2) (h.last.3) h.zeros h.fits)
-    ∙ ap (λ bytes. found (inlines.read_inlines (leaf bytes) 1 (first_entry [] []) no_inlines)) h.spells
-    ∙ ap found (parts_inlines parts 1 (first_entry [] []) no_inlines h.read fits)
+    ∙ ap (λ bytes. found (inlines.read_inlines (leaf bytes) 1 (first_entry false [] []) no_inlines)) h.spells
+    ∙ ap found (parts_inlines parts 1 (first_entry false [] []) no_inlines h.read fits)
 
 -- the reading of such a text: a paragraph with the events of its parts
 abbrev pub parts_reading : List ℕ → List Part → ReadingView

@@ -143,7 +143,7 @@ read_text l ms h =
       bracket = subst (λ (xs : List ℕ). (byte_at xs 0 == 91) ≡ false) same (no_bracket 10 parts h.parts);
       last = text_ends l ms h.lines;
       spells = sym same;
-      read = plain_parts_are_read (spelled parts) [] (known (spelled parts)) (first_entry [] []) 0 10 parts refl refl h.fits refl h.parts;
+      read = plain_parts_are_read (spelled parts) [] (known (spelled parts)) (first_entry false [] []) 0 10 parts refl refl h.fits refl h.parts;
     }
 
 -- a plain text is read as one paragraph with the events of its parts

@@ -1,5 +1,5 @@
 -- Which extensions flags name.
-use Rattle.std.specs.Prelude.{◌==◌, Bool, bit_and}
+use Rattle.std.specs.Prelude.{◌==◌, Bool, false, true, bit_and}
 use Rattle.tocmark_read_scan.specs.declared.syntax.Syntax.{Syntax}
 use Rattle.tocmark_read_scan.specs.declared.syntax.Names.{Names}
 use Rattle.tocmark_event.specs.declared.event.flags.ParserOptions.{ParserOptions}
@@ -24,5 +24,10 @@ syntax_of names flags = record {
   quote_kinds = has flags ENABLE_GFM;
   heading_attributes = has flags ENABLE_HEADING_ATTRIBUTES;
   definition_lists = has flags ENABLE_DEFINITION_LIST;
+  undefined_notes = false;
   names = names;
 }
+
+-- the same extensions, where a reference to a footnote counts without a definition of the footnote
+abbrev pub unit_syntax_of : Names → ParserOptions → Syntax
+unit_syntax_of names flags = record (syntax_of names flags) { undefined_notes = true }

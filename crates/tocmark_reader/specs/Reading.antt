@@ -1,5 +1,5 @@
 -- The reading of a text.
-use Rattle.std.specs.Prelude.{ℕ, if◌then◌else◌, List, Option}
+use Rattle.std.specs.Prelude.{ℕ, Bool, if◌then◌else◌, List, Option}
 use Rattle.std.specs.List.{flat_map, fold}
 use Rattle.tocmark_event.specs.Reading.{ReadingView}
 use Rattle.tocmark_read_tokens.specs.Label.{first_place}
@@ -56,9 +56,9 @@ collected_from syntax text blocks =
     if syntax.footnotes then noted text blocks.blocks (collected_in syntax.names blocks.definitions)
     else collected_in syntax.names blocks.definitions
 
--- of two definitions of a label the first counts
-abbrev pub first_entry : List (List ℕ) → List Entry → List ℕ → Option Entry
-first_entry keys entries q = defs.entry_at entries (first_place 0 keys q)
+-- of two definitions of a label the first counts; a footnote needs none if all notes are known
+abbrev pub first_entry : Bool → List (List ℕ) → List Entry → List ℕ → Option Entry
+first_entry has_all_notes keys entries q = defs.leads_to has_all_notes (defs.entry_at entries (first_place 0 keys q)) q
 
 -- the nodes of a text, and its labels
 pub record FoundView : Type 0 where
@@ -71,7 +71,7 @@ unfoldable pub found_under : Syntax → List ℕ → FoundView
 found_under syntax text =
     let blocks = blocks_in syntax text in
     let c = collected_from syntax text blocks in
-    let page = assembled_in syntax text (first_entry c.keys c.entries) blocks.blocks blocks.pieces c.texts in
+    let page = assembled_in syntax text (first_entry syntax.undefined_notes c.keys c.entries) blocks.blocks blocks.pieces c.texts in
     record {
       nodes = page.nodes;
       defined = defs.distinct_labels c.texts c.labels;

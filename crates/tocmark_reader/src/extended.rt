@@ -35,6 +35,18 @@ pub const EXTENSIONS: ParserOptions = ParserOptions(
         | ParserOptions::ENABLE_DEFINITION_LIST.0,
 );
 
+/// The flags of the Markdown that people keep in files for GitHub and the like: tables, footnotes, strikethrough, task lists,
+/// kinds of block quotes, and both kinds of front matter. Programs and bindings read by these if nothing else is asked.
+pub const GFM: ParserOptions = ParserOptions(
+    ParserOptions::ENABLE_TABLES.0
+        | ParserOptions::ENABLE_FOOTNOTES.0
+        | ParserOptions::ENABLE_STRIKETHROUGH.0
+        | ParserOptions::ENABLE_TASKLISTS.0
+        | ParserOptions::ENABLE_GFM.0
+        | ParserOptions::ENABLE_YAML_STYLE_METADATA_BLOCKS.0
+        | ParserOptions::ENABLE_PLUSES_DELIMITED_METADATA_BLOCKS.0,
+);
+
 /// The flag of each of these extensions, behind the name by which command lines and configuration files know it.
 pub const NAMED_EXTENSIONS: [(&str, ParserOptions); 12] = [
     ("tables", ParserOptions::ENABLE_TABLES),
@@ -62,7 +74,7 @@ pub const NAMED_EXTENSIONS: [(&str, ParserOptions); 12] = [
 
 /// The extensions that flags name, with the names of character references that are known.
 #[tactic(auto, unfolding(crate::specs::Flags::syntax_of))]
-fn syntax_of(names: Names, flags: ParserOptions) -> Syntax
+pub(crate) fn syntax_of(names: Names, flags: ParserOptions) -> Syntax
     ensures { result ≡ syntax_of names flags }
 {
     Syntax {
@@ -78,6 +90,7 @@ fn syntax_of(names: Names, flags: ParserOptions) -> Syntax
         quote_kinds: flags.contains(ParserOptions::ENABLE_GFM),
         heading_attributes: flags.contains(ParserOptions::ENABLE_HEADING_ATTRIBUTES),
         definition_lists: flags.contains(ParserOptions::ENABLE_DEFINITION_LIST),
+        undefined_notes: false,
         names,
     }
 }
@@ -141,7 +154,7 @@ fn syntax_of(names: Names, flags: ParserOptions) -> Syntax
 /// link labels do, and nothing that was open before a reference can become a link that has it in it.
 ///
 /// Under all flags alike a reference such as `&auml;` is the characters that HTML gives its name: 2,125
-/// names that end with a semicolon, of which 93 stand for two characters. Case matters, and what is no
+/// names that end with a semicolon; 93 of them stand for two characters. Case matters, and what is no
 /// name of these stays as it is. It counts in texts, destinations, titles and info strings, and not in
 /// code, raw HTML and labels; what it stands for is never markup.
 #[derive(Clone, Copy, Debug)]

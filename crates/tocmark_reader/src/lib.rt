@@ -1,7 +1,7 @@
 //! Readers of CommonMark 0.31.2: a text goes in, its events with their ranges and its labels come out.
 //!
 //! Enter at `CoreReader` (`reader`), which knows no extension, or at `ExtendedReader` (`extended`), which takes those that
-//! flags name. Below this crate stand `tocmark_read_blocks` and `tocmark_read_inlines`. Above it stands the library, which
+//! flags name. `UnitReader` (`unit_reader`) is the one to hand to the writer: it needs no definitions of footnotes. Below this crate stand `tocmark_read_blocks` and `tocmark_read_inlines`. Above it stands the library, which
 //! hands it to its users.
 //!
 //! A text is read in these steps:
@@ -16,8 +16,7 @@
 //! Some modules serve several steps. `words` makes the texts that the source doesn't spell as they are. `searched` is the
 //! source, in which U+0000 is sought once. `pieces` takes a leaf's lines from those of all leaves.
 //!
-//! Two modules answer other questions: `definitions` tells where links are defined, and `plain` which texts are read as
-//! they stand.
+//! Two modules answer other questions: `definitions` tells where links are defined, and `plain` which texts have no marks.
 #![tactic(auto)]
 
 mod attributes;
@@ -35,11 +34,13 @@ mod plain;
 mod quiet;
 mod reader;
 mod searched;
+mod unit_reader;
 mod words;
 
 pub use block_reading::BlockReading;
 pub use definitions::{DefinitionPlace, ReferenceDefinition, find_definitions};
-pub use extended::{EXTENSIONS, ExtendedReader, NAMED_EXTENSIONS};
+pub use extended::{EXTENSIONS, ExtendedReader, GFM, NAMED_EXTENSIONS};
 pub use plain::is_plain;
 pub use reader::{CoreReader, find, find_blocks};
 pub use tocmark_read_scan::syntax::Names;
+pub use unit_reader::UnitReader;

@@ -107,12 +107,17 @@ fn definitions(
     alloc: Global,
     keys: &[String],
     entries: Vec<Entry>,
+    has_all_notes: bool,
 ) -> Result<Definitions, AllocError>
     ensures { IfOk result (λ d. entry_of d
-        ≡ first_entry (map string_bytes keys.now) entries.items) }
+        ≡ first_entry has_all_notes (map string_bytes keys.now) entries.items) }
 {
     let places = first_places(alloc, keys)?;
-    Ok(Definitions { places, entries })
+    Ok(Definitions {
+        places,
+        entries,
+        has_all_notes,
+    })
 }
 
 /// Finds the blocks of a text, with the extensions of a syntax; their events are still to be made.
@@ -133,7 +138,7 @@ pub fn find_blocks(
         texts,
     } = collect_from(alloc, syntax, text.as_bytes(), &found)?;
     let defined = distinct_labels(alloc, &texts, &labels)?;
-    let definitions = definitions(alloc, &keys, entries)?;
+    let definitions = definitions(alloc, &keys, entries, syntax.undefined_notes)?;
     Ok(BlockReading {
         alloc,
         syntax,

@@ -35,7 +35,7 @@ impl Words for String {
 
 /// A text that can be made of any other, with memory of its own.
 pub trait OwnedWords: Words {
-    /// The same text, owned.
+    /// The text as a string of its own.
     fn from_text(alloc: Global, text: &str) -> Result<Self, AllocError>
         ensures { IfOk result (λ copy. Self.Words.bytes copy ≡ text.now) };
 }
