@@ -1,4 +1,4 @@
-//! Whether what a reader found is a body and what stands behind it, of which no event is copied.
+//! Whether what a reader found is a body and what stands behind it. No event is copied.
 
 ghost use Rattle.std.specs.Prelude.{◌≡◌, ◌++◌, ◌+◌, List, Option, Some, None, IsSome, false, map, string_bytes, drop, length, nat_eq, if◌then◌else◌};
 ghost use Rattle.std.specs.List.{starts_with};
@@ -112,7 +112,7 @@ fn text_found<'e>(found: Option<&'e Event<'_>>) -> Option<&'e str>
     }
 }
 
-/// The same of an event that must be read.
+/// The text of an event that must be read; none if it is no text or there is none.
 fn text_expected(expected: Option<&OwnedEvent>) -> Option<&str>
     ensures { option_map (λ t. t.now) result ≡ text_in (following_view expected.entry) }
 {

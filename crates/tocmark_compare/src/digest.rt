@@ -261,7 +261,7 @@ impl Digest {
         Ok(())
     }
 
-    /// A digest to which events are added, of which there are none yet.
+    /// The digest of no events. Further ones are added to it.
     pub fn new(alloc: Global) -> Digest
         ensures { SaysFirst result [] }
     {

@@ -64,7 +64,7 @@ pub fn merged_events<X>(
     merge_texts(alloc, &alone)
 }
 
-/// The same where stretches of texts are cut otherwise.
+/// Whether two lists say the same although their texts are cut otherwise.
 fn are_alike<X, Y>(
     alloc: Global,
     found: &[(Event<'_>, X)],

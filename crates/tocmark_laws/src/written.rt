@@ -39,10 +39,10 @@ pub fn chosen_units_read_back()
         × IsFirstReadBack (labelled s d unit next) d f next (candidates s.options f) p }
 {}
 
-/// Under such options the texts that a list of events hands are those of whole trees, in order, of which each
-/// with delimiters reads back in its document (`handed`); and so does the last unit, which is written at the
-/// end, if it has delimiters (`last`). What the script of the list hands are the texts of these units, and behind
-/// them what is handed at its end: the last unit's text and the definitions that are left (`script`).
+/// Under such options the texts that a list of events hands are those of whole trees, in order. Each tree with
+/// delimiters reads back in its document (`handed`). So does the last unit, which is written at the end, if it
+/// has delimiters (`last`). The script of the list hands the texts of these units, and then what is handed at its
+/// end: the last unit's text and the definitions that are left (`script`).
 pub fn what_is_written_reads_back()
     ensures handed { (options : OptionsView) (reading : List ℕ → ParserOptions → ReadingView)
         (source : List ℕ) (kept : Kept) (p : List Pair)

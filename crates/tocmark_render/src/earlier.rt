@@ -100,7 +100,7 @@ impl Earlier<'_> {
         Ok(found)
     }
 
-    /// The same for a text and the definitions that stand before it.
+    /// What the reader finds in a text behind the definitions that stand before it.
     fn find_behind<R: Reader>(
         &self,
         trial: &Trial<'_, '_, R>,

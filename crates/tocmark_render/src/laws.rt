@@ -44,10 +44,10 @@ pub fn units_that_cannot_be_represented()
         IsUnrepresentable s d f next → choice s d f next ≡ Err Unrepresentable }
 {}
 
-/// Under options that are accepted with the flags, with markers that Markdown reads, a unit with delimiters
-/// of which no node is misplaced is chosen among its candidates (`chosen`): it is the text of the first in
-/// which its spelling reads back, with the document that this leaves, or `Unrepresentable`, where in none
-/// its spelling does. No unit has more than 63 candidates (`few`).
+/// Suppose that the options are accepted with the flags and have markers that Markdown reads. Then a unit with
+/// delimiters and without a misplaced node is chosen among its candidates (`chosen`). Its text is that of the
+/// first candidate whose spelling reads back, with the document that this leaves, or the unit is
+/// `Unrepresentable` if no spelling does. No unit has more than 63 candidates (`few`).
 pub fn delimiter_blocks_are_the_first_read_back()
     ensures chosen { (s : Setting) (d : DocumentView) (f : Trees) (next : Option EventView)
         → has_standard_markers s.options ≡ true → validates s.options s.flags ≡ true
@@ -56,8 +56,8 @@ pub fn delimiter_blocks_are_the_first_read_back()
     ensures few { (o : OptionsView) (f : Trees) → length (candidates o f) ≤ 63 }
 {}
 
-/// The same holds of each unit that is checked: of one with delimiters, and of any other with an event, where
-/// the options ask for it.
+/// Each unit that is checked is chosen among its candidates likewise: one with delimiters, and any other with an
+/// event if the options ask for that.
 pub fn checked_units_are_the_first_read_back()
     ensures { (s : Setting) (d : DocumentView) (f : Trees) (next : Option EventView)
         → has_standard_markers s.options ≡ true → validates s.options s.flags ≡ true

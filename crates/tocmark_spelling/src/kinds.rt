@@ -40,24 +40,28 @@ pub fn is_inline_end(end: TagEnd) -> bool
     }
 }
 
+/// Whether a container is a heading.
 pub fn is_heading(tag: &TagOf<String>) -> bool
     ensures { result ≡ is_heading (tag_view string_bytes tag.now) }
 {
     matches!(tag, TagOf::Heading { .. })
 }
 
+/// Whether a container is a list.
 pub fn is_list(tag: &TagOf<String>) -> bool
     ensures { result ≡ is_list (tag_view string_bytes tag.now) }
 {
     matches!(tag, TagOf::List(_))
 }
 
+/// Whether a container is an item.
 pub fn is_item(tag: &TagOf<String>) -> bool
     ensures { result ≡ is_item (tag_view string_bytes tag.now) }
 {
     matches!(tag, TagOf::Item)
 }
 
+/// Whether a container is a table.
 pub fn is_table(tag: &TagOf<String>) -> bool
     ensures { result ≡ is_table (tag_view string_bytes tag.now) }
 {
@@ -87,42 +91,49 @@ pub fn is_raw_tag(tag: &TagOf<String>) -> bool
     }
 }
 
+/// Whether an event starts a list.
 pub fn starts_list(event: &OwnedEvent) -> bool
     ensures { result ≡ starts is_list (event_view string_bytes event.now) }
 {
     matches!(event, EventOf::Start(TagOf::List(_)))
 }
 
+/// Whether an event starts an item.
 pub fn starts_item(event: &OwnedEvent) -> bool
     ensures { result ≡ starts is_item (event_view string_bytes event.now) }
 {
     matches!(event, EventOf::Start(TagOf::Item))
 }
 
+/// Whether an event starts a title of a definition list.
 pub fn starts_title(event: &OwnedEvent) -> bool
     ensures { result ≡ starts is_definition_title (event_view string_bytes event.now) }
 {
     matches!(event, EventOf::Start(TagOf::DefinitionListTitle))
 }
 
+/// Whether an event starts a paragraph.
 pub fn starts_paragraph(event: &OwnedEvent) -> bool
     ensures { result ≡ starts is_paragraph (event_view string_bytes event.now) }
 {
     matches!(event, EventOf::Start(TagOf::Paragraph))
 }
 
+/// Whether an event starts a definition list.
 pub fn starts_definition_list(event: &OwnedEvent) -> bool
     ensures { result ≡ starts is_definition_list (event_view string_bytes event.now) }
 {
     matches!(event, EventOf::Start(TagOf::DefinitionList))
 }
 
+/// Whether an event starts a table.
 pub fn starts_table(event: &OwnedEvent) -> bool
     ensures { result ≡ starts is_table (event_view string_bytes event.now) }
 {
     matches!(event, EventOf::Start(TagOf::Table(_)))
 }
 
+/// Whether an event starts a block quote.
 pub fn starts_quote(event: &OwnedEvent) -> bool
     ensures { result ≡ starts is_quote (event_view string_bytes event.now) }
 {
@@ -135,6 +146,7 @@ fn is_indented_code(tag: &TagOf<String>) -> bool
     matches!(tag, TagOf::CodeBlock(CodeBlockKindOf::Indented))
 }
 
+/// Whether an event starts an indented code block.
 pub fn starts_indented_code(event: &OwnedEvent) -> bool
     ensures { result ≡ starts is_indented_code (event_view string_bytes event.now) }
 {
@@ -144,12 +156,14 @@ pub fn starts_indented_code(event: &OwnedEvent) -> bool
     }
 }
 
+/// Whether an event is a text.
 pub fn is_text(event: &OwnedEvent) -> bool
     ensures { result ≡ is_text (event_view string_bytes event.now) }
 {
     matches!(event, EventOf::Text(_))
 }
 
+/// Whether an event is a soft or a hard break.
 pub fn is_break(event: &OwnedEvent) -> bool
     ensures { result ≡ is_break (event_view string_bytes event.now) }
 {

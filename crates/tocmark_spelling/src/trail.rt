@@ -150,7 +150,7 @@ impl Carried {
         }
     }
 
-    /// The same where this was written last.
+    /// What is carried, with this as what was written last.
     pub fn with_last(mut self, last: Last) -> Carried
         ensures { Becomes self result (λ t. record t { last = last }) }
     {
@@ -158,7 +158,7 @@ impl Carried {
         self
     }
 
-    /// The same where so many line feeds are owed.
+    /// What is carried, with so many line feeds owed.
     pub fn with_owed(mut self, owed: usize) -> Carried
         ensures { Becomes self result (λ t. record t { owed = owed }) }
     {
@@ -166,7 +166,7 @@ impl Carried {
         self
     }
 
-    /// The same where the last list is this one, or none.
+    /// What is carried, with this list as the last one, or none.
     pub fn with_last_list(mut self, list: Option<LastList>) -> Carried
         ensures { Becomes self result (λ t. record t { last_list = list }) }
     {
@@ -174,7 +174,7 @@ impl Carried {
         self
     }
 
-    /// The same where raw text ended without a line feed, or didn't.
+    /// What is carried, with a note whether raw text ended without a line feed.
     pub fn with_raw_end(mut self, raw_end: bool) -> Carried
         ensures { Becomes self result (λ t. record t { raw_end = raw_end }) }
     {
@@ -182,7 +182,7 @@ impl Carried {
         self
     }
 
-    /// The same where HTML is open, or isn't.
+    /// What is carried, with a note whether HTML is open.
     pub fn with_open_html(mut self, open_html: bool) -> Carried
         ensures { Becomes self result (λ t. record t { open_html = open_html }) }
     {
@@ -190,7 +190,7 @@ impl Carried {
         self
     }
 
-    /// The same where at least so many line feeds are owed.
+    /// What is carried, with at least so many line feeds owed.
     pub fn raised(mut self, lines: usize) -> Carried
         ensures { Becomes self result (raised lines) }
     {

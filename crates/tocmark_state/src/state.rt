@@ -122,11 +122,11 @@ impl<R: Reader + Drop> State<R> {
     /// A state that took no event, of a part of a document that has these definitions of links already:
     /// `new`, but that they aren't written again. The options and the definitions aren't checked.
     ///
-    /// A link by a label is written as `new` has it. At the end it needs no definition where one of these
-    /// has its label, compared in Unicode's case folding, and its destination and title; of two with one
-    /// label the first counts. Where the label is defined otherwise, a definition is left at the end all
-    /// the same. The labels are known from the start: a unit that is read back may not leave one open, as
-    /// the text `[a]` would where `a` is defined.
+    /// A link by a label is written as a state of `new` writes it. It needs no definition at the end if
+    /// one of these has its label, compared in Unicode's case folding, and its destination and title; of
+    /// two with one label the first counts. If the label is defined otherwise, a definition is written at
+    /// the end all the same. The labels are known from the start, so a unit that is read back may not leave
+    /// one open: the text `[a]` would, if `a` is defined.
     ///
     /// It fails if memory runs out for copies of the definitions or of the strong token; the reader is
     /// dropped then.
@@ -293,11 +293,11 @@ impl<R: Reader + Drop> State<R> {
         self.process_pairs(pairs, "", writer)
     }
 
-    /// Takes events with their byte ranges in a source, as `process` does. A unit in which some text has
-    /// a range is written with such texts as they stand in the source, each with a backslash just before
-    /// it that no earlier range holds, if the reader finds the unit in that and the options have markers
-    /// that Markdown reads. All calls on a state are to name the same source, which needn't outlive a
-    /// call.
+    /// Takes events with their byte ranges in a source, as `process` does. If a text of a unit has a
+    /// range, such texts keep the source's spelling, provided that the reader finds the unit in the result
+    /// and that the options have markers that Markdown reads. A backslash just before a range belongs to
+    /// the spelling unless an earlier range has it. All calls on a state must name the same source, which
+    /// needn't outlive a call.
     ///
     /// An `Err` is as in `process`, or `InvalidSourceRange`, before anything else is looked at: a range
     /// is reversed, ends past the source or isn't on character boundaries.

@@ -58,7 +58,7 @@ impl Work {
         }
     }
 
-    /// The same again.
+    /// A copy of the work.
     pub fn copied(&self, alloc: Global) -> Result<Work, AllocError>
         ensures { IfOk result (λ copy. standing_of copy ≡ standing_of self.now) }
     {

@@ -49,7 +49,7 @@ pub fn opens_html(event: &BufferedEvent) -> bool
     }
 }
 
-/// Which of these blocks open among the events, found in one look at each.
+/// Which of these blocks open among the events. Each event is looked at once.
 pub fn kinds_in(events: &[BufferedEvent]) -> Kinds
     ensures fenced { result.fenced ≡ list_any (opens is_fenced) (map buffered_view events.now) }
     ensures html { result.html ≡ list_any (opens is_html_block) (map buffered_view events.now) }

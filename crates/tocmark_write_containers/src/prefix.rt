@@ -82,7 +82,7 @@ fn put_spaces(text: &mut String, count: usize)
     }
 }
 
-/// The same, one by one.
+/// Writes so many spaces, one by one.
 fn put_each(text: &mut String, count: usize)
     requires { length (string_bytes text.old) + count ≤ string_capacity text.old }
     ensures bytes { string_bytes text.new ≡ string_bytes text.old ++ replicate count 32 }

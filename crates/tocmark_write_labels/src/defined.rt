@@ -39,7 +39,7 @@ fn copied_label(alloc: Global, defined: &DefinedLabel<'_>) -> Result<Reference, 
     })
 }
 
-/// The same definitions, to keep.
+/// A copy of the definitions that can be kept.
 pub fn copied_labels(
     alloc: Global,
     defined: &[DefinedLabel<'_>],

@@ -22,7 +22,7 @@ fn copied_reference(alloc: Global, reference: &Reference) -> Result<Reference, A
     })
 }
 
-/// The same references.
+/// A copy of the references.
 pub fn copied_references(
     alloc: Global,
     references: &[Reference],

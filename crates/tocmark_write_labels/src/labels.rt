@@ -50,7 +50,7 @@ impl Labels {
         Ok(self.folded.contains(&folded))
     }
 
-    /// The same labels.
+    /// A copy of the labels.
     pub fn copied(&self) -> Result<Labels, AllocError>
         ensures { IfOk result (λ copy. labels_of copy ≡ labels_of self.now) }
     {

@@ -37,7 +37,7 @@ pub struct BodyFacts {
     /// How many of them are blocks, and how many are items.
     pub blocks: Few,
     pub items: Few,
-    /// The same of their children.
+    /// Whether a child of theirs is inline; `child_paragraph` and `child_blocks` are of the children, too.
     pub child_inline: bool,
     pub child_paragraph: bool,
     pub child_blocks: Few,
@@ -143,7 +143,7 @@ fn with_node(tag: &TagOf<String>, kids: BodyFacts, right: BodyFacts) -> BodyFact
     }
 }
 
-/// The same of a leaf, which is inline or not, and breaks its line or not.
+/// What is known with a leaf before the rest: it is inline or not, and breaks its line or not.
 fn with_leaf(inline: bool, breaks: bool, right: BodyFacts) -> BodyFacts
     ensures { result ≡ with_inline inline breaks right }
 {

@@ -290,7 +290,7 @@ impl Pending {
         self.is_ambiguous = false;
     }
 
-    /// The same events, copied.
+    /// A copy of the events.
     pub fn copied(&self, alloc: Global) -> Result<Pending, AllocError>
         ensures { IfOk result (λ copy. copy ≡ self.now) }
     {

@@ -1,4 +1,4 @@
-//! The runs of delimiters in a unit, of which each event changes the last one alone.
+//! The runs of delimiters in a unit. An event changes the last one alone.
 
 ghost use Rattle.std.specs.Prelude.{◌≡◌, ◌∷◌, ◌++◌, ◌+◌, ◌<◌, ◌≤◌, ◌&&◌, ◌||◌, ℕ, not, [], if◌then◌else◌, length, map, reverse, vec_capacity, IfOk, OnErr, OnOk, Some, drop, option_map, slice_get, slice_index_or, take, true};
 ghost use Rattle.tocmark_spelling.specs.Buffered.{buffered_view};

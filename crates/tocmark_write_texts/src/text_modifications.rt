@@ -58,7 +58,7 @@ fn write_destination_character<W: fmt::Write>(f: &mut fmt::Formatter<W>, c: char
     }
 }
 
-/// A link's title, which `{}` writes as it stands between double quotes, so that it is read back.
+/// A link's title. `{}` writes it as it has to stand between double quotes to be read back.
 #[derive(Clone, Copy)]
 pub struct EscapeLinkTitle<'a>(pub &'a str);
 

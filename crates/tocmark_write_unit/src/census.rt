@@ -1,4 +1,4 @@
-//! What kinds of events a unit has, found in one look at each.
+//! What kinds of events a unit has. Each event is looked at once.
 
 ghost use Rattle.std.specs.Prelude.{◌≡◌, ◌∷◌, [], List, string_bytes, true};
 ghost use Rattle.tocmark_event.specs.View.{tag_view, SourcedEvent, Start};
