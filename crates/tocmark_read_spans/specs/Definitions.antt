@@ -1,8 +1,8 @@
 -- The link reference definitions of a document, and lists of labels.
-use Rattle.std.specs.Prelude.{ℕ, Bool, false, ◌==◌, ◌&&◌, if◌then◌else◌, List, [], ◌∷◌, ◌++◌, length, map, slice_get, string_bytes, Option, Some, None, unwrap_or}
+use Rattle.std.specs.Prelude.{ℕ, Bool, ◌==◌, ◌&&◌, if◌then◌else◌, List, [], ◌∷◌, ◌++◌, length, map, slice_get, string_bytes, Option, Some, None, unwrap_or}
 use Rattle.std.specs.HashMap.{get_by_text}
 use Rattle.std.specs.Str.Lossy.{utf8_lossy}
-use Rattle.tocmark_read_scan.specs.Basic.{bytes_between}
+use Rattle.tocmark_read_scan.specs.Basic.{byte_at, bytes_between}
 use Rattle.tocmark_read_tokens.specs.Label.{collapsed, key_of, distinct_from}
 use Rattle.tocmark_read_tokens.specs.Reference.{unescaped_in}
 use Rattle.tocmark_read_scan.specs.declared.syntax.Names.{Names}
@@ -23,9 +23,8 @@ abbrev pub no_entry : Entry
 no_entry = record { destination = record { start = 0; end = 0 }; title = record { start = 0; end = 0 } }
 
 -- a key is that of a footnote's name: a bracket stands first
-pub is_note_key : List ℕ → Bool
-is_note_key [] = false
-is_note_key (b ∷ key) = b == 91
+abbrev pub is_note_key : List ℕ → Bool
+is_note_key key = byte_at key 0 == 91
 
 -- what a label leads to: its first definition, or nothing for a footnote's name if each of these counts as defined
 abbrev pub leads_to : Bool → Option Entry → List ℕ → Option Entry

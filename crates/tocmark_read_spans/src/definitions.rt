@@ -8,7 +8,7 @@ use crate::note::note_key;
 use crate::role::Stretch;
 use std::alloc::{AllocError, Global};
 use std::collections::HashMap;
-use tocmark_read_scan::basic::bytes_between;
+use tocmark_read_scan::basic::{byte_at, bytes_between};
 use tocmark_read_scan::syntax::Names;
 use tocmark_read_tokens::label::{collapsed, distinct, key_of};
 use tocmark_read_tokens::reference::unescaped;
@@ -72,10 +72,7 @@ const NO_ENTRY: Entry = Entry {
 fn is_note_key(key: &str) -> bool
     ensures { result ≡ is_note_key key.now }
 {
-    match key.as_bytes().first() {
-        Some(byte) => *byte == b'[',
-        None => false,
-    }
+    byte_at(key.as_bytes(), 0) == b'['
 }
 
 /// Writes a text behind others, and gives its stretch.
