@@ -22,8 +22,7 @@ IsAnswer (job.Rewrite flags options file reports) source input output = IsRewrit
 -- the output could not be written whole
 abbrev pub IsWriteFault : Fault → Type 0
 IsWriteFault fault.Read = ⊥
-IsWriteFault fault.Source = ⊥
-IsWriteFault fault.Options = ⊥
+IsWriteFault (fault.Unreadable name e) = ⊥
 IsWriteFault (fault.NotOptions e) = ⊥
 IsWriteFault fault.NotUtf8 = ⊥
 IsWriteFault (fault.NotJson e) = ⊥

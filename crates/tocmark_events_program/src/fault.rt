@@ -5,6 +5,7 @@ ghost use Rattle.tocmark_events_program.specs.Events.{IsWriteFault};
 ghost use Rattle.tocmark_events_program.specs.declared.fault.Fault.TheVariants.{OutOfMemory};
 
 use std::alloc::{AllocError, AllocFailed};
+use std::io;
 use thiserror::Error;
 use tocmark_command::streams::InputError;
 use tocmark_interchange::{DocumentError, OptionsTextError, RewriteError, WriteError};
@@ -15,10 +16,9 @@ use tocmark_json::fault::JsonError;
 pub enum Fault {
     #[error("cannot read standard input")]
     Read,
-    #[error("cannot read the source, or it is not UTF-8")]
-    Source,
-    #[error("cannot read the options, or they are not UTF-8")]
-    Options,
+    /// A file that is named can't be read as UTF-8.
+    #[error("{0}: cannot read it: {1}")]
+    Unreadable(String, io::Error),
     #[error("{0}")]
     NotOptions(OptionsTextError),
     #[error("standard input is not UTF-8")]

@@ -123,18 +123,27 @@ pub fn run<I: Read, O: Write, F: Write>(
     }
 }
 
+/// A file's text.
+fn text_of(rt: &HostRuntime, file: &str) -> Result<String, Fault> {
+    match fs::read_to_string(rt, file) {
+        Ok(text) => Ok(text),
+        Err(error) => {
+            let name = String::from_str(rt.alloc(), file)?;
+            Err(Fault::Unreadable(name, error))
+        }
+    }
+}
+
+/// The text of the source that a job names; an empty one if it names none.
 fn source_of(rt: &HostRuntime, job: Job<'_>) -> Result<String, Fault> {
     let file = match job {
         Job::Read { .. } | Job::Check => None,
         Job::Write { source, .. } => source,
         Job::Rewrite { source, .. } => Some(source),
     };
-    let Some(file) = file else {
-        return Ok(String::new(rt.alloc()));
-    };
-    match fs::read_to_string(rt, file) {
-        Ok(source) => Ok(source),
-        Err(_error) => Err(Fault::Source),
+    match file {
+        Some(file) => text_of(rt, file),
+        None => Ok(String::new(rt.alloc())),
     }
 }
 
@@ -143,10 +152,8 @@ fn options_of(rt: &HostRuntime, matches: &ArgMatches<'_>) -> Result<Options<'sta
     let Some(file) = options_file(matches) else {
         return Ok(Options::default());
     };
-    match fs::read_to_string(rt, file) {
-        Ok(text) => Ok(options_in_json(rt.alloc(), text.as_str())?),
-        Err(_error) => Err(Fault::Options),
-    }
+    let text = text_of(rt, file)?;
+    Ok(options_in_json(rt.alloc(), text.as_str())?)
 }
 
 /// Shows the help or the version, or says what is wrong with the arguments.
