@@ -1,6 +1,6 @@
 //! The JSON text of events, token by token: no value of it is made.
 
-ghost use Rattle.std.specs.Prelude.{◌≡◌, [], ◌∷◌, IfOk, OnOk, Some, codes, map, string_bytes};
+ghost use Rattle.std.specs.Prelude.{◌≡◌, [], ◌∷◌, ◌++◌, IfOk, OnOk, Some, codes, map, string_bytes};
 ghost use Rattle.std.specs.Option.{option_map};
 ghost use Rattle.json.specs.Lex.{tokens};
 ghost use Rattle.json.specs.Print.{IsPrintable, print};
@@ -588,6 +588,15 @@ fn ranged_event_to_text<T: Words>(
     text_of(out)
 }
 
+/// Adds a line and a line feed.
+fn push_line(text: &mut String, line: &String) -> Result<(), AllocError>
+    ensures { OnOk result (string_bytes text.new
+        ≡ string_bytes text.old ++ (string_bytes line.now ++ 10 ∷ [])) }
+{
+    text.push_str(line.as_str())?;
+    text.push('\n')
+}
+
 /// The JSON texts of events that all have a range, a line each: an array of two, the event and its range, and a line feed.
 pub fn ranged_to_lines<T: Words>(
     alloc: Global,
@@ -599,8 +608,7 @@ pub fn ranged_to_lines<T: Words>(
     let mut text = String::new(alloc);
     for pair in pairs {
         let line = ranged_event_to_text(alloc, pair)?;
-        text.push_str(line.as_str())?;
-        text.push('\n')?;
+        push_line(&mut text, &line)?;
     }
     Ok(text)
 }
