@@ -38,3 +38,11 @@ pub mod DocumentRowsWritten
 pub mod DocumentSpelling
 pub mod DocumentWalks
 pub mod DocumentsReadBack
+pub mod ExtensionBlocks
+pub mod ExtensionParagraphs
+pub mod FrontMatterBlocks
+pub mod FrontMatterReading
+pub mod WordsReading
+pub mod FormulaReading
+pub mod StrikethroughReading
+mod ExtensionExamples
