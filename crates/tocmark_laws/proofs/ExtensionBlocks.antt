@@ -8,22 +8,20 @@ use Rattle.tocmark_read_scan.specs.declared.syntax.Syntax.{Syntax}
 use Rattle.tocmark_read_scan.proofs.PlainContent.{byte_behind}
 use Rattle.tocmark_read_scan.proofs.PlainPieces.{feed_joined, piece_between}
 use Rattle.tocmark_read_scan.proofs.Repeats.{repeated_stop}
-use Rattle.tocmark_read_lines.specs.Cells.{cells_of, cell_byte, cell_place, first_cursor}
+use Rattle.tocmark_read_lines.specs.Cells.{cells_of, cell_byte, cell_place}
 use Rattle.tocmark_read_lines.specs.Containers.{container_at, container_in, item_at, raised_at}
 use Rattle.tocmark_read_lines.specs.DefinitionLists.{begins_definition, definition_start}
 use Rattle.tocmark_read_lines.specs.Html.{html_kind}
-use Rattle.tocmark_read_lines.specs.Lines.{lines_of, line}
+use Rattle.tocmark_read_lines.specs.Lines.{lines_of}
 use Rattle.tocmark_read_lines.specs.Marks.{tail_of}
 use Rattle.tocmark_read_lines.specs.Notes.{note_at, note_start}
 use Rattle.tocmark_read_lines.specs.declared.cell.Cell.{Cell}
-use Rattle.tocmark_read_lines.specs.declared.container.ContainerStart.{ContainerStart}
 use Rattle.tocmark_read_lines.specs.declared.line.Line.{Line}
 use Rattle.tocmark_read_lines.specs.declared.note.NoteStart.{NoteStart}
 use Rattle.tocmark_read_page.specs.Definitions.{begins_definition as begins_link, definitions_from}
 use Rattle.tocmark_read_page.specs.Leaves.{is_paragraph, is_table}
-use Rattle.tocmark_read_page.specs.Pages.{State, first_page, leaf_opened, leaf_closed, closed_to, times, list_left, begun, loosened, had_marked, list_of, is_apart, leaf_finished, finished, settled, shortened, piece_taken, one_closed, start_of}
+use Rattle.tocmark_read_page.specs.Pages.{State, first_page, leaf_opened, leaf_closed, closed_to, times, list_left, begun, loosened, had_marked, list_of, is_apart, leaf_finished, finished, settled, shortened, piece_taken, one_closed}
 use Rattle.tocmark_read_page.specs.Pieces.{piece_of, text_piece}
-use Rattle.tocmark_read_page.specs.declared.leaf.Leaf.{Leaf}
 use Rattle.tocmark_read_page.specs.declared.leaf.Leaf.TheVariants as leaf
 use Rattle.tocmark_read_page.specs.declared.line_start.Known.{Known}
 use Rattle.tocmark_read_page.specs.declared.line_start.LineStart.{LineStart}
@@ -41,7 +39,6 @@ use Rattle.tocmark_read_blocks.specs.Leaves.{leaf_at, mark_at, html_at, underlin
 use Rattle.tocmark_read_blocks.specs.Paragraphs.{text_taken, text_started}
 use Rattle.tocmark_read_blocks.specs.declared.leaf.LeafStart.{LeafStart}
 use Rattle.tocmark_read_blocks.specs.declared.leaf.LeafStart.TheVariants as start
-use Rattle.tocmark_read_blocks.specs.declared.leaf.Turn.{Turn}
 use Rattle.tocmark_read_blocks.specs.declared.leaf.Turn.TheVariants as turn
 use Rattle.tocmark_read_blocks.proofs.PlainLines.{IsWithin, cells_within, numbered}
 use Rattle.tocmark_read_blocks.proofs.PlainSteps.{BeginsNothing, front, line_piece}

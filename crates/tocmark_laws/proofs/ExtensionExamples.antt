@@ -1,11 +1,13 @@
 -- Examples: texts with a construct of an extension, and the events that the laws give them.
-use Rattle.std.proofs.Common.{◌≡◌, true, List, [], ◌∷◌, codes, refl, arith}
-use Rattle.tocmark_event.specs.View.{Start, End, Leaf, MetadataBlock, Paragraph, Strikethrough, Text, InlineMath, SoftBreak}
+use Rattle.std.proofs.Common.{◌≡◌, true, [], ◌∷◌, codes, refl, arith, Some}
+use Rattle.tocmark_event.specs.View.{Start, End, Leaf, Heading, MetadataBlock, Paragraph, Strikethrough, Text, InlineMath, SoftBreak}
+use Rattle.tocmark_event.specs.declared.event.HeadingLevel.TheVariants.{H1}
 use Rattle.tocmark_event.specs.declared.event.MetadataBlockKind.TheVariants.{YamlStyle, PlusesStyle}
 use Rattle.tocmark_event.specs.declared.event.TagEnd.TheVariants as end
 use Rattle.tocmark_read_scan.specs.declared.syntax.Syntax.{Syntax}
 use Rattle.tocmark_reader.specs.PlainTexts.{IsReadAs}
 use Rattle.tocmark_reader.specs.Reading.{reading_of}
+use Rattle.tocmark_laws.proofs.AttributedHeadings.{attributes_read}
 use Rattle.tocmark_laws.proofs.FormulaReading.{formula_read}
 use Rattle.tocmark_laws.proofs.FrontMatterReading.{front_matter_read}
 use Rattle.tocmark_laws.proofs.StrikethroughReading.{struck_read}
@@ -25,3 +27,6 @@ formula syntax math = formula_read syntax (codes "a_1 * [b] < `c`") math refl (o
 
 struck : (syntax : Syntax) → syntax.strikethrough ≡ true → IsReadAs (reading_of syntax (codes "~~two words~~")) (Start Paragraph ∷ Start Strikethrough ∷ Leaf (Text (codes "two words")) ∷ End end.Strikethrough ∷ End end.Paragraph ∷ [])
 struck syntax strike = struck_read syntax (codes "two words") strike refl (omega arith)
+
+attributed : (syntax : Syntax) → syntax.heading_attributes ≡ true → IsReadAs (reading_of syntax (codes "# two words {#name}")) (Start (Heading H1 (Some (codes "name")) [] []) ∷ Leaf (Text (codes "two words")) ∷ End (end.Heading H1) ∷ [])
+attributed syntax has = attributes_read syntax (codes "two words") (codes "name") has refl refl (omega arith)

@@ -1,12 +1,11 @@
 -- A formula between dollar signs is read as mathematics.
-use Rattle.std.proofs.Common.{◌≡◌, ℕ, zero, suc, ◌+◌, ◌-◌, ◌^◌, ◌<◌, ◌≤◌, Bool, true, false, not, ◌==◌, ◌&&◌, ◌||◌, if◌then◌else◌, nat_lt, nat_le, List, [], ◌∷◌, ◌++◌, length, map, replicate, codes, refl, ap, sym, subst, ◌∙◌, arith, append_assoc, append-nil, length-append, Option, None, Some, true≢false}
+use Rattle.std.proofs.Common.{◌≡◌, ℕ, zero, suc, ◌+◌, ◌-◌, ◌^◌, ◌<◌, ◌≤◌, true, false, not, ◌==◌, ◌&&◌, nat_le, List, [], ◌∷◌, ◌++◌, length, map, replicate, codes, refl, ap, sym, ◌∙◌, arith, append_assoc, append-nil, length-append, Option, None, Some, true≢false}
 use Rattle.std.proofs.lemmas.Bool.Decides.{nat_tests}
 use Rattle.std.proofs.lemmas.Str.{IsUtf8-from_ascii, utf8_lossy-IsUtf8}
 use Rattle.std.specs.Char.{char_set_contains}
-use Rattle.std.specs.List.{AllByRecursion, fold, list_all, list_any}
+use Rattle.std.specs.List.{AllByRecursion, fold, list_all}
 use Rattle.std.specs.Str.Lossy.{utf8_lossy}
 use Rattle.tocmark_event.specs.Merged.{merged}
-use Rattle.tocmark_event.specs.View.{EventView, Start, End, Leaf, Paragraph, InlineMath}
 use Rattle.tocmark_read_scan.specs.Basic.{plus, byte_at, bytes_between, starts_at}
 use Rattle.tocmark_read_scan.specs.Class.{is_in}
 use Rattle.tocmark_read_scan.specs.Content as content
@@ -24,7 +23,6 @@ use Rattle.tocmark_read_spans.specs.Math.{sign_in, sign_of, signs, partner, part
 use Rattle.tocmark_read_spans.specs.declared.definitions.Entry.{Entry}
 use Rattle.tocmark_read_spans.specs.declared.math.Math.{Math}
 use Rattle.tocmark_read_spans.specs.declared.role.Leaf.TheVariants as leaf
-use Rattle.tocmark_read_spans.specs.declared.role.Role.{Role}
 use Rattle.tocmark_read_spans.specs.declared.role.Role.TheVariants.{Plain, Single}
 use Rattle.tocmark_read_inlines.specs.Inlines as inlines
 use Rattle.tocmark_read_inlines.specs.Inlines.{scan_start}

@@ -1,5 +1,5 @@
 -- The blocks of front matter: one of metadata, with a piece for each line between its fences.
-use Rattle.std.proofs.Common.{◌≡◌, ℕ, zero, suc, ◌+◌, ◌-◌, ◌^◌, ◌<◌, ◌≤◌, Bool, true, false, not, ◌==◌, ◌&&◌, ◌||◌, if◌then◌else◌, nat_lt, nat_le, List, [], ◌∷◌, ◌++◌, length, map, take, drop, slice_get, codes, refl, ap, sym, subst, ◌∙◌, arith, append_assoc, append-nil, length-append, Option, None, Some, unwrap_or}
+use Rattle.std.proofs.Common.{◌≡◌, ℕ, zero, suc, ◌+◌, ◌-◌, ◌^◌, ◌<◌, Bool, true, false, ◌==◌, ◌&&◌, if◌then◌else◌, nat_lt, List, [], ◌∷◌, ◌++◌, length, drop, refl, ap, sym, subst, ◌∙◌, arith, append_assoc, append-nil, length-append, None, Some}
 use Rattle.std.proofs.Math.Seq.{take-length}
 use Rattle.std.proofs.lemmas.Bool.Decides.{nat_tests}
 use Rattle.std.specs.List.{AllByRecursion, fold}
@@ -8,20 +8,18 @@ use Rattle.tocmark_event.specs.declared.event.MetadataBlockKind.TheVariants.{Yam
 use Rattle.tocmark_read_scan.specs.Basic.{plus, byte_at, bytes_between, starts_at}
 use Rattle.tocmark_read_scan.specs.declared.syntax.Syntax.{Syntax}
 use Rattle.tocmark_read_scan.proofs.PlainContent.{byte_behind}
-use Rattle.tocmark_read_scan.proofs.PlainPieces.{piece_between, drop_behind}
+use Rattle.tocmark_read_scan.proofs.PlainPieces.{piece_between}
 use Rattle.tocmark_read_scan.proofs.Repeats.{repeated_stop}
 use Rattle.tocmark_read_tokens.specs.Notes.{note_label}
 use Rattle.tocmark_read_lines.specs.Cells.{cells_of, cell_byte, cell_place, first_cursor}
 use Rattle.tocmark_read_lines.specs.Containers.{container_at, container_in, item_at, raised_at}
-use Rattle.tocmark_read_lines.specs.DefinitionLists.{begins_definition, definition_start}
 use Rattle.tocmark_read_lines.specs.Lines.{ends_here, line_stop, lines_from, lines_of, line}
 use Rattle.tocmark_read_lines.specs.Marks.{tail_of, is_rule, is_rule_byte, marker_at, bullet_at, ordered_at, is_behind}
-use Rattle.tocmark_read_lines.specs.Notes.{note_at, note_start}
+use Rattle.tocmark_read_lines.specs.Notes.{note_at}
 use Rattle.tocmark_read_lines.specs.declared.cell.Cell.{Cell}
-use Rattle.tocmark_read_lines.specs.declared.cell.Cursor.{Cursor}
 use Rattle.tocmark_read_lines.specs.declared.line.Line.{Line}
 use Rattle.tocmark_read_page.specs.Leaves.{is_paragraph, is_table}
-use Rattle.tocmark_read_page.specs.Pages.{State, first_page, leaf_opened, leaf_closed, closed_to, times, list_left, begun, loosened, had_marked, list_of, is_apart, leaf_finished, finished, piece_taken, one_closed}
+use Rattle.tocmark_read_page.specs.Pages.{State, first_page, leaf_opened, leaf_closed, closed_to, times, list_left, begun, loosened, had_marked, list_of, is_apart, leaf_finished, finished, piece_taken}
 use Rattle.tocmark_read_page.specs.Pieces.{piece_of, code_piece, is_split, keeps_line}
 use Rattle.tocmark_read_page.specs.declared.leaf.Leaf.TheVariants as leaf
 use Rattle.tocmark_read_page.specs.declared.line_start.Known.{Known}
@@ -31,16 +29,14 @@ use Rattle.tocmark_read_page.specs.declared.page.HeaderLine.{HeaderLine}
 use Rattle.tocmark_read_page.specs.declared.page.HeaderLine.TheVariants.{Never}
 use Rattle.tocmark_read_page.specs.declared.piece.Piece.{Piece}
 use Rattle.tocmark_read_constructs.specs.Metadata.{known_of, metadata_in, metadata_started, begins_metadata, opens_metadata, closes_metadata, is_triple, is_blank_line, ends_line, mark_of, has_dots, last_step, last_closing, is_front, is_outside}
-use Rattle.tocmark_read_constructs.specs.Quotes.{quote_kind_in, is_new_quote, is_first_line, tag_in}
-use Rattle.tocmark_read_constructs.specs.Tables.{header_of, may_delimit, delimiters_taken}
-use Rattle.tocmark_read_constructs.specs.Tasks.{task_in, is_new_item}
+use Rattle.tocmark_read_constructs.specs.Quotes.{is_first_line, tag_in}
+use Rattle.tocmark_read_constructs.specs.Tables.{may_delimit, delimiters_taken}
 use Rattle.tocmark_read_blocks.specs.Blocks.{BlocksView, blocks_in, page_in, start_or, leaf_started_in, started_in, started_at_in, tabled_in, tabled_as, noted, passed_in, turn_in, turn_of, touched, taken_at_in, turn_taken_in, cells_taken_in, line_taken_in, leaf_ended}
 use Rattle.tocmark_read_blocks.specs.Codes.{code_taken, html_ended}
 use Rattle.tocmark_read_blocks.specs.Containers.{container_once_in, containers_opened_in, goes_directly, begun_at}
 use Rattle.tocmark_read_blocks.specs.Leaves.{leaf_at, leaf_turn, metadata_or, task_or, quote_kind_or, tag_or}
 use Rattle.tocmark_read_blocks.specs.declared.leaf.LeafStart.{LeafStart}
 use Rattle.tocmark_read_blocks.specs.declared.leaf.LeafStart.TheVariants as start
-use Rattle.tocmark_read_blocks.specs.declared.leaf.Turn.{Turn}
 use Rattle.tocmark_read_blocks.specs.declared.leaf.Turn.TheVariants as turn
 use Rattle.tocmark_read_blocks.proofs.PlainLines.{IsWithin, lines_within, cells_within, numbered}
 use Rattle.tocmark_read_blocks.proofs.PlainSteps.{front, line_piece}

@@ -1,6 +1,5 @@
 -- Front matter of fields is read as metadata with their text.
-use Rattle.std.proofs.Common.{◌≡◌, ℕ, suc, ◌+◌, ◌-◌, ◌^◌, ◌<◌, ◌≤◌, Bool, true, false, ◌==◌, if◌then◌else◌, nat_lt, nat_le, List, [], ◌∷◌, ◌++◌, length, map, flat_map, codes, refl, ap, sym, subst, ◌∙◌, arith, append_assoc, append-nil, length-append, Option, None, Some, true≢false}
-use Rattle.std.proofs.Math.Seq.{take-length}
+use Rattle.std.proofs.Common.{◌≡◌, ℕ, ◌+◌, ◌^◌, ◌<◌, ◌≤◌, Bool, true, false, ◌==◌, if◌then◌else◌, nat_lt, List, [], ◌∷◌, ◌++◌, length, flat_map, codes, refl, ap, sym, subst, ◌∙◌, arith, append_assoc, append-nil, length-append, true≢false}
 use Rattle.std.proofs.lemmas.Bool.Decides.{nat_tests}
 use Rattle.std.proofs.lemmas.Str.{IsUtf8-from_ascii, utf8_lossy-IsUtf8}
 use Rattle.std.specs.Char.{char_set_contains}
@@ -8,8 +7,7 @@ use Rattle.std.specs.List.{AllByRecursion, fold, list_all}
 use Rattle.std.specs.Prelude.{not}
 use Rattle.std.specs.Str.Lossy.{utf8_lossy}
 use Rattle.tocmark_event.specs.Merged.{merged, after_text}
-use Rattle.tocmark_event.specs.Reading.{ReadingView}
-use Rattle.tocmark_event.specs.View.{EventView, Start, End, Leaf, Text, MetadataBlock, TagView, LeafView}
+use Rattle.tocmark_event.specs.View.{EventView, Start, End, Leaf, Text, MetadataBlock}
 use Rattle.tocmark_event.specs.declared.event.MetadataBlockKind.{MetadataBlockKind}
 use Rattle.tocmark_event.specs.declared.event.MetadataBlockKind.TheVariants.{YamlStyle, PlusesStyle}
 use Rattle.tocmark_event.specs.declared.event.TagEnd.{TagEnd}
@@ -21,14 +19,14 @@ use Rattle.tocmark_read_scan.proofs.PlainTests.{both_true, is_not, differs, all_
 use Rattle.tocmark_read_page.specs.Definitions.{replaced}
 use Rattle.tocmark_read_page.specs.Pieces.{piece_of}
 use Rattle.tocmark_read_page.specs.declared.piece.Piece.{Piece}
-use Rattle.tocmark_read_blocks.specs.Blocks.{BlocksView, blocks_in}
+use Rattle.tocmark_read_blocks.specs.Blocks.{blocks_in}
 use Rattle.tocmark_read_blocks.proofs.PlainLines.{IsWithin}
 use Rattle.tocmark_read_spans.specs.Definitions as defs
 use Rattle.tocmark_reader.specs.Emitted.{NodeView, Container, Given, Writing, step, closed, emitted}
-use Rattle.tocmark_reader.specs.Pages.{pieces_of, assembled_in, is_unwrapped, block_taken_in, with_lines, block_tag, space_nodes, line_item, line_nodes, lines_nodes, node}
+use Rattle.tocmark_reader.specs.Pages.{pieces_of, is_unwrapped, block_taken_in, with_lines, block_tag, space_nodes, line_item, line_nodes, lines_nodes, node}
 use Rattle.tocmark_reader.specs.PlainTexts.{IsReadAs}
 use Rattle.tocmark_reader.specs.Range.{snapped}
-use Rattle.tocmark_reader.specs.Reading.{FoundView, collected_in, collected_from, first_entry, found_under, noted, noted_as, reading_of}
+use Rattle.tocmark_reader.specs.Reading.{FoundView, collected_in, collected_from, found_under, noted, noted_as, reading_of}
 use Rattle.tocmark_reader.specs.Words.{cleaned}
 use Rattle.tocmark_reader.specs.declared.emit.Open.{Open}
 use Rattle.tocmark_reader.proofs.PlainEvents.{Marked, at, unplaced}

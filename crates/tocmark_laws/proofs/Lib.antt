@@ -45,4 +45,5 @@ pub mod FrontMatterReading
 pub mod WordsReading
 pub mod FormulaReading
 pub mod StrikethroughReading
+pub mod AttributedHeadings
 mod ExtensionExamples

@@ -1,11 +1,10 @@
 -- A phrase between two tildes on either side is read as struck through.
-use Rattle.std.proofs.Common.{◌≡◌, ℕ, zero, suc, ◌+◌, ◌-◌, ◌^◌, ◌<◌, ◌≤◌, Bool, true, false, not, ◌==◌, ◌&&◌, ◌||◌, if◌then◌else◌, nat_lt, nat_le, List, [], ◌∷◌, ◌++◌, length, map, drop, replicate, slice_get, slice_set, refl, ap, sym, subst, ◌∙◌, arith, append_assoc, append-nil, length-append, Option, None, Some, true≢false}
+use Rattle.std.proofs.Common.{◌≡◌, ℕ, zero, suc, ◌+◌, ◌-◌, ◌^◌, ◌<◌, ◌≤◌, true, false, ◌==◌, ◌&&◌, ◌||◌, nat_lt, nat_le, List, [], ◌∷◌, ◌++◌, length, map, drop, replicate, slice_get, slice_set, refl, ap, sym, ◌∙◌, arith, append_assoc, length-append, Option, None, Some, true≢false}
 use Rattle.std.proofs.lemmas.Bool.Decides.{nat_tests}
 use Rattle.std.proofs.lemmas.List.Sums.{fold-append}
 use Rattle.std.specs.Char.{is_ascii_alphanumeric}
 use Rattle.std.specs.List.{AllByRecursion, fold, list_all}
 use Rattle.tocmark_event.specs.Merged.{merged}
-use Rattle.tocmark_event.specs.View.{EventView}
 use Rattle.tocmark_read_scan.specs.Basic.{plus, byte_at, character_of}
 use Rattle.tocmark_read_scan.specs.Class.{is_in, run_end}
 use Rattle.tocmark_read_scan.specs.Content as content
@@ -25,7 +24,7 @@ use Rattle.tocmark_read_lines.specs.Marks.{is_rule, is_rule_byte, marker_at, bul
 use Rattle.tocmark_read_blocks.proofs.PlainLines.{IsWithin, numbered}
 use Rattle.tocmark_read_blocks.proofs.PlainStarts.{some_cells, no_heading, no_underline}
 use Rattle.tocmark_read_blocks.proofs.PlainSteps.{front}
-use Rattle.tocmark_read_spans.specs.Emphasis.{emphasized, emphasis_fits, fits, is_tilde_or_caret, class_of, extended_span, span_of, width_of, matched, once, run_step}
+use Rattle.tocmark_read_spans.specs.Emphasis.{emphasized, fits, is_tilde_or_caret, class_of, extended_span, span_of, width_of, matched, once, run_step}
 use Rattle.tocmark_read_spans.specs.Run.{is_space, is_punctuation, tildes_open, tildes_close, are_read, is_subscript, tildes_between, tildes_at}
 use Rattle.tocmark_read_spans.specs.declared.definitions.Entry.{Entry}
 use Rattle.tocmark_read_spans.specs.declared.role.Role.{Role}
@@ -52,21 +51,21 @@ use Rattle.tocmark_reader.proofs.QuietContent.{split_last}
 use Rattle.tocmark_laws.specs.Extensions.{is_word_byte, is_phrase, in_tildes, struck_paragraph}
 use Rattle.tocmark_laws.proofs.ExtensionBlocks.{never, BeginsFreely, IsFreeText}
 use Rattle.tocmark_laws.proofs.WordsReading.{IsWordByte, word_byte, text_byte}
-use Rattle.tocmark_laws.proofs.ExtensionParagraphs.{IsFreeByte, free_note, free_row, free_html, no_inlines, found_of, paragraph_found, last_of, within_byte, clean_byte, at_start, skip_bytes}
+use Rattle.tocmark_laws.proofs.ExtensionParagraphs.{IsFreeByte, free_note, free_row, free_html, no_inlines, found_of, paragraph_found, within_byte, clean_byte, at_start, skip_bytes}
 
 -- a phrase
-record IsPhrase (b : ℕ) (bs : List ℕ) : Type 0 where
-  bytes : AllByRecursion IsWordByte (b ∷ bs)
-  first : is_ascii_alphanumeric b ≡ true
-  last : is_ascii_alphanumeric (last_byte b bs) ≡ true
+pub record IsPhrase (b : ℕ) (bs : List ℕ) : Type 0 where
+  pub bytes : AllByRecursion IsWordByte (b ∷ bs)
+  pub first : is_ascii_alphanumeric b ≡ true
+  pub last : is_ascii_alphanumeric (last_byte b bs) ≡ true
 
-phrase_from : (b : ℕ) (bs : List ℕ) → is_phrase (b ∷ bs) ≡ true → IsPhrase b bs
+pub phrase_from : (b : ℕ) (bs : List ℕ) → is_phrase (b ∷ bs) ≡ true → IsPhrase b bs
 phrase_from b bs h =
     let two = both_true (list_all is_word_byte (b ∷ bs) && is_ascii_alphanumeric b) (is_ascii_alphanumeric (last_byte b bs)) h in
     let one = both_true (list_all is_word_byte (b ∷ bs)) (is_ascii_alphanumeric b) (two.0) in
     record { bytes = all_from is_word_byte IsWordByte (b ∷ bs) word_byte (one.0); first = one.1; last = two.1 }
 
-small_letter : (b : ℕ) → is_ascii_alphanumeric b ≡ true → b < 123
+pub small_letter : (b : ℕ) → is_ascii_alphanumeric b ≡ true → b < 123
 small_letter b h = grind (arith, h, nat_tests)
 
 no_tilde : (b : ℕ) → is_ascii_alphanumeric b ≡ true → (b == 126) ≡ false

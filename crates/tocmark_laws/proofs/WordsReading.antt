@@ -1,50 +1,34 @@
 -- Lines of words are read alike under every syntax.
-use Rattle.std.proofs.Common.{◌≡◌, ℕ, suc, ◌+◌, ◌-◌, ◌^◌, ◌<◌, ◌≤◌, Bool, true, false, not, ◌==◌, ◌&&◌, if◌then◌else◌, nat_lt, nat_le, List, [], ◌∷◌, ◌++◌, length, map, codes, refl, ap, sym, subst, ◌∙◌, arith, append-nil, Option, None, Some, inl, inr, true≢false}
-use Rattle.std.proofs.Math.Seq.{take-length}
+use Rattle.std.proofs.Common.{◌≡◌, ℕ, ◌^◌, ◌<◌, ◌≤◌, true, false, not, ◌==◌, ◌&&◌, List, [], ◌∷◌, ◌++◌, length, map, codes, refl, ap, sym, subst, ◌∙◌, arith, append-nil, inl, inr, true≢false}
 use Rattle.std.proofs.lemmas.Bool.Decides.{nat_tests}
-use Rattle.std.specs.Char.{char_set_contains, is_ascii_alphabetic, is_ascii_digit}
+use Rattle.std.specs.Char.{char_set_contains, is_ascii_alphabetic}
 use Rattle.std.specs.List.{AllByRecursion, list_all}
 use Rattle.tocmark_event.specs.Reading.{ReadingView}
 use Rattle.tocmark_event.specs.View.{EventView}
-use Rattle.tocmark_read_scan.specs.Basic.{byte_at, starts_at}
 use Rattle.tocmark_read_scan.specs.Content as content
 use Rattle.tocmark_read_scan.specs.PlainParts.{Part, Bare, Feed, spelled, meant, last_byte}
-use Rattle.tocmark_read_scan.specs.declared.content.ContentLine.{ContentLine}
 use Rattle.tocmark_read_scan.specs.declared.syntax.Syntax.{Syntax}
 use Rattle.tocmark_read_scan.proofs.PlainContent.{places_of}
-use Rattle.tocmark_read_scan.proofs.PlainPieces.{feed_joined, line_places, content_of_lines}
+use Rattle.tocmark_read_scan.proofs.PlainPieces.{feed_joined, content_of_lines}
 use Rattle.tocmark_read_scan.proofs.PlainTests.{both_true, is_not, differs, turned, all_from}
-use Rattle.tocmark_read_tokens.specs.Notes.{note_label}
-use Rattle.tocmark_read_lines.specs.Html.{html_kind}
-use Rattle.tocmark_read_lines.specs.Notes.{note_at}
-use Rattle.tocmark_read_page.specs.declared.page.Block.{Block}
-use Rattle.tocmark_read_page.specs.declared.page.BlockKind.TheVariants as kind
-use Rattle.tocmark_read_page.specs.declared.piece.Piece.{Piece}
-use Rattle.tocmark_read_constructs.specs.Tables.{is_delimiter_row, is_delimiter_byte}
-use Rattle.tocmark_read_blocks.specs.Blocks.{BlocksView}
-use Rattle.tocmark_read_blocks.proofs.PlainLines.{IsWithin, numbered}
-use Rattle.tocmark_read_blocks.proofs.PlainStarts.{IsQuiet, quiet_begins_nothing}
-use Rattle.tocmark_read_blocks.proofs.PlainFronts.{BeginsPlainly}
-use Rattle.tocmark_read_blocks.proofs.PlainSteps.{line_piece}
-use Rattle.tocmark_read_blocks.proofs.PlainTexts.{line_list}
-use Rattle.tocmark_read_spans.specs.Definitions as defs
+use Rattle.tocmark_read_blocks.proofs.PlainLines.{IsWithin}
+use Rattle.tocmark_read_blocks.proofs.PlainStarts.{IsQuiet}
 use Rattle.tocmark_read_inlines.specs.Inlines as inlines
 use Rattle.tocmark_read_inlines.specs.Scan as scan
 use Rattle.tocmark_read_inlines.proofs.PlainInlines.{IsInert}
 use Rattle.tocmark_read_inlines.proofs.PlainLeaf.{known, parts_inlines}
 use Rattle.tocmark_read_inlines.proofs.PlainNeighbours.{ArePlainParts, plain_parts_are_read}
-use Rattle.tocmark_reader.specs.Emitted.{NodeView, emitted}
-use Rattle.tocmark_reader.specs.Pages.{State, start_state, pieces_of, is_unwrapped, block_taken_in, paragraph_taken_in, wrapped_in, task_nodes, with_block, leaf_inlines_in, with_inlines, content_line, block_tag}
+use Rattle.tocmark_reader.specs.Emitted.{emitted}
+use Rattle.tocmark_reader.specs.Pages.{task_nodes, with_block, block_tag}
 use Rattle.tocmark_reader.specs.PlainTexts.{is_printable, text_parts, lines_paragraph, IsReadAs}
-use Rattle.tocmark_reader.specs.Reading.{FoundView, collected_in, collected_from, first_entry, found_in, found_under, noted, noted_as, core_reading, reading_of}
+use Rattle.tocmark_reader.specs.Reading.{FoundView, first_entry, found_under, core_reading, reading_of}
 use Rattle.tocmark_reader.proofs.PlainLeaves.{IsReadText, found_parts, found_text}
 use Rattle.tocmark_reader.proofs.PlainReading.{IsPrintable, IsPlainLine, IsPlainText, read_text, plain_text_is_meant}
-use Rattle.tocmark_reader.proofs.PlainSources.{IsClean, AreClean, all_implied}
+use Rattle.tocmark_reader.proofs.PlainSources.{all_implied}
 use Rattle.tocmark_reader.proofs.PlainTests.{printable_from}
 use Rattle.tocmark_reader.proofs.QuietInlines.{IsTextOrFeed, read_alike}
-use Rattle.tocmark_reader.proofs.PlainEvents.{Marked}
 use Rattle.tocmark_laws.specs.Extensions.{lined, is_word_byte, is_word_line}
-use Rattle.tocmark_laws.proofs.ExtensionBlocks.{BeginsFreely, IsFreeText, one_block, text_blocks}
+use Rattle.tocmark_laws.proofs.ExtensionBlocks.{IsFreeText}
 use Rattle.tocmark_laws.proofs.ExtensionParagraphs.{IsFreeByte, begins_freely, no_inlines, found_of, paragraph_found, within_byte, no_returns, lined_is}
 
 -- ---- lines of words
@@ -186,7 +170,7 @@ spelled_parts : (l : List ℕ) (ms : List (List ℕ)) → spelled (parts_of l ms
 spelled_parts l [] = spelled_bare l
 spelled_parts l (m ∷ ms) = spelled_then l (Feed ∷ parts_of m ms) ∙ ap (λ (xs : List ℕ). l ++ 10 ∷ xs) (spelled_parts m ms)
 
-bare_plain : (before : ℕ) (xs : List ℕ) (more : List Part) → AllByRecursion IsWordByte xs → ArePlainParts (last_byte before xs) more → ArePlainParts before (bare xs ++ more)
+pub bare_plain : (before : ℕ) (xs : List ℕ) (more : List Part) → AllByRecursion IsWordByte xs → ArePlainParts (last_byte before xs) more → ArePlainParts before (bare xs ++ more)
 bare_plain before [] more h k = k
 bare_plain before (x ∷ xs) more h k = (inl (inert_byte x (h.0)), bare_plain x xs more (h.1) k)
 

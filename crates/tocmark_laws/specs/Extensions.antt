@@ -1,8 +1,9 @@
 -- Texts of one kind with a construct of an extension, and the events that they are read as.
-use Rattle.std.specs.Prelude.{◌≡◌, ℕ, ◌^◌, ◌<◌, Bool, true, false, not, ◌==◌, ◌&&◌, List, [], ◌∷◌, ◌++◌, codes, length}
+use Rattle.std.specs.Prelude.{◌≡◌, ℕ, ◌^◌, ◌<◌, Bool, true, false, not, ◌==◌, ◌&&◌, List, [], ◌∷◌, ◌++◌, codes, length, Some}
 use Rattle.std.specs.Char.{char_set_contains, is_ascii_alphabetic, is_ascii_alphanumeric}
 use Rattle.std.specs.List.{list_all}
-use Rattle.tocmark_event.specs.View.{EventView, Start, End, Leaf, MetadataBlock, Paragraph, Strikethrough, Text, InlineMath}
+use Rattle.tocmark_event.specs.View.{EventView, Start, End, Leaf, Heading, MetadataBlock, Paragraph, Strikethrough, Text, InlineMath}
+use Rattle.tocmark_event.specs.declared.event.HeadingLevel.TheVariants.{H1}
 use Rattle.tocmark_event.specs.declared.event.MetadataBlockKind.{MetadataBlockKind}
 use Rattle.tocmark_event.specs.declared.event.MetadataBlockKind.TheVariants.{YamlStyle, PlusesStyle}
 use Rattle.tocmark_event.specs.declared.event.TagEnd.TheVariants as end
@@ -110,3 +111,25 @@ abbrev pub StruckPhrasesAreRead : Type 0
 StruckPhrasesAreRead =
     (syntax : Syntax) (phrase : List ℕ) → syntax.strikethrough ≡ true → is_phrase phrase ≡ true → length (in_tildes phrase) < 2 ^ 64 →
     IsReadAs (reading_of syntax (in_tildes phrase)) (struck_paragraph phrase)
+
+-- ---- attributes of headings
+
+-- some letters and digits
+abbrev pub is_name : List ℕ → Bool
+is_name [] = false
+is_name (b ∷ bs) = list_all is_ascii_alphanumeric (b ∷ bs)
+
+-- a heading of level 1 with an id between braces
+abbrev pub attributed_line : List ℕ → List ℕ → List ℕ
+attributed_line phrase id = 35 ∷ 32 ∷ (phrase ++ 32 ∷ 123 ∷ 35 ∷ (id ++ 125 ∷ []))
+
+-- a heading of level 1 with an id, and no classes and attributes
+abbrev pub attributed_heading : List ℕ → List ℕ → List EventView
+attributed_heading phrase id = Start (Heading H1 (Some id) [] []) ∷ Leaf (Text phrase) ∷ End (end.Heading H1) ∷ []
+
+-- where a syntax has attributes of headings, the name between braces is the heading's id
+abbrev pub AttributesAreRead : Type 0
+AttributesAreRead =
+    (syntax : Syntax) (phrase id : List ℕ) →
+    syntax.heading_attributes ≡ true → is_phrase phrase ≡ true → is_name id ≡ true → length (attributed_line phrase id) < 2 ^ 64 →
+    IsReadAs (reading_of syntax (attributed_line phrase id)) (attributed_heading phrase id)

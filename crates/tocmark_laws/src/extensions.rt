@@ -4,7 +4,7 @@
 //! syntax they ask for the construct's own extension alone; all others may be on or off. They say nothing of how the
 //! reader finds the events, so they tie it to the rule, and not to its code.
 
-ghost use Rattle.tocmark_laws.specs.Extensions.{FormulasAreRead, FrontMatterIsRead, StruckPhrasesAreRead, WordsAreRead};
+ghost use Rattle.tocmark_laws.specs.Extensions.{AttributesAreRead, FormulasAreRead, FrontMatterIsRead, StruckPhrasesAreRead, WordsAreRead};
 
 /// Lines of words are read as a paragraph with a text for each line, under every syntax, and with the ranges that
 /// `CoreReader` gives: the extensions leave them alone. Each line begins with a letter, and none of its characters,
@@ -29,4 +29,10 @@ pub fn formulas_are_read()
 /// no marks, and a letter or a digit at either end.
 pub fn struck_phrases_are_read()
     ensures { StruckPhrasesAreRead }
+{}
+
+/// A name between braces behind the text of a heading, as `# two words {#name}`, is read as its id, under each syntax
+/// with attributes of headings. The text is a phrase as in `struck_phrases_are_read`, the name letters and digits.
+pub fn attributes_are_read()
+    ensures { AttributesAreRead }
 {}
