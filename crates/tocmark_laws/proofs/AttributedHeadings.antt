@@ -178,7 +178,7 @@ part_between fs ds es from to at end =
     let behind : drop from (fs ++ (ds ++ es)) ≡ ds ++ es = ap (λ m. drop m (fs ++ (ds ++ es))) at ∙ drop_behind fs (ds ++ es) in
     rw (order, fits, width, behind) (take_front ds es)
 
-trailing_none : (ds : List Cell) (c : Cell) (x : ℕ) → (c.byte == x) ≡ false → trailing (ds ++ c ∷ []) x ≡ 0
+pub trailing_none : (ds : List Cell) (c : Cell) (x : ℕ) → (c.byte == x) ≡ false → trailing (ds ++ c ∷ []) x ≡ 0
 trailing_none ds c x h = rw (reverse-append ds (c ∷ []), h) refl
 
 trailing_one : (ds : List Cell) (d c : Cell) (x : ℕ) → (c.byte == x) ≡ true → (d.byte == x) ≡ false → trailing ((ds ++ d ∷ []) ++ c ∷ []) x ≡ 1
@@ -215,13 +215,13 @@ printable_name c h = record { low = grind (arith, h, nat_tests); high = let smal
 clean_name : (c : ℕ) → IsName c → IsClean c
 clean_name c h = clean_byte c (printable_name c h)
 
-text_and_some : (x : ℕ) → IsWordByte x → is_text_byte x ≡ true
+pub text_and_some : (x : ℕ) → IsWordByte x → is_text_byte x ≡ true
 unfolding is_text_byte
 text_and_some x h =
     let some : (x == 0) ≡ false = (clean_byte x h.printable).some in
     rw (text_byte x h, some) refl
 
-ink_letter : (x : ℕ) → IsName x → is_in White x ≡ false
+pub ink_letter : (x : ℕ) → IsName x → is_in White x ≡ false
 unfolding is_in
 ink_letter x h =
     let space : (x == 32) ≡ false = turned is_ascii_alphanumeric 32 x h refl in
@@ -229,7 +229,7 @@ ink_letter x h =
     let feed : (x == 10) ≡ false = turned is_ascii_alphanumeric 10 x h refl in
     rw (space, tab, feed) refl
 
-nodes_on : (d p start : ℕ) (xs : List ℕ) → nodes_of d p (Some start) (bare xs) ≡ node d item.Text start (p + length xs) ∷ []
+pub nodes_on : (d p start : ℕ) (xs : List ℕ) → nodes_of d p (Some start) (bare xs) ≡ node d item.Text start (p + length xs) ∷ []
 nodes_on d p start [] = ap (λ m. node d item.Text start m ∷ []) (let q : p ≡ p + 0 = omega arith in q)
 nodes_on d p start (x ∷ xs) = nodes_on d (p + 1) start xs ∙ ap (λ m. node d item.Text start m ∷ []) (let q : p + 1 + length xs ≡ p + suc (length xs) = omega arith in q)
 
@@ -262,7 +262,7 @@ name_read i js h =
     in
     ap word_ended (word_kept (35 ∷ []) name h) ∙ rw (long, kept) refl
 
-mark_shown : (x : ℕ) → 32 ≤ x → x < 127 → IsPrintable x
+pub mark_shown : (x : ℕ) → 32 ≤ x → x < 127 → IsPrintable x
 mark_shown x low high = record { low = low; high = high }
 
 printable_line : (b : ℕ) (bs : List ℕ) (i : ℕ) (js : List ℕ) → IsPhrase b bs → AllByRecursion IsName (i ∷ js) → AllByRecursion IsPrintable (attributed_line (b ∷ bs) (i ∷ js))

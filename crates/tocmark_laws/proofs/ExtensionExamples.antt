@@ -1,6 +1,6 @@
 -- Examples: texts with a construct of an extension, and the events that the laws give them.
-use Rattle.std.proofs.Common.{◌≡◌, true, [], ◌∷◌, codes, refl, arith, Some}
-use Rattle.tocmark_event.specs.View.{Start, End, Leaf, Heading, MetadataBlock, Paragraph, Strikethrough, Text, InlineMath, SoftBreak}
+use Rattle.std.proofs.Common.{◌≡◌, true, false, [], ◌∷◌, codes, refl, arith, None, Some}
+use Rattle.tocmark_event.specs.View.{Start, End, Leaf, Heading, Item, ListOf, MetadataBlock, Paragraph, Strikethrough, Text, InlineMath, SoftBreak, TaskListMarker}
 use Rattle.tocmark_event.specs.declared.event.HeadingLevel.TheVariants.{H1}
 use Rattle.tocmark_event.specs.declared.event.MetadataBlockKind.TheVariants.{YamlStyle, PlusesStyle}
 use Rattle.tocmark_event.specs.declared.event.TagEnd.TheVariants as end
@@ -11,6 +11,7 @@ use Rattle.tocmark_laws.proofs.AttributedHeadings.{attributes_read}
 use Rattle.tocmark_laws.proofs.FormulaReading.{formula_read}
 use Rattle.tocmark_laws.proofs.FrontMatterReading.{front_matter_read}
 use Rattle.tocmark_laws.proofs.StrikethroughReading.{struck_read}
+use Rattle.tocmark_laws.proofs.TaskItems.{task_read}
 use Rattle.tocmark_laws.proofs.WordsReading.{words_read}
 
 words : (syntax : Syntax) → IsReadAs (reading_of syntax (codes "Term\ntwo | {3}: +4")) (Start Paragraph ∷ Leaf (Text (codes "Term")) ∷ Leaf SoftBreak ∷ Leaf (Text (codes "two | {3}: +4")) ∷ End end.Paragraph ∷ [])
@@ -30,3 +31,6 @@ struck syntax strike = struck_read syntax (codes "two words") strike refl (omega
 
 attributed : (syntax : Syntax) → syntax.heading_attributes ≡ true → IsReadAs (reading_of syntax (codes "# two words {#name}")) (Start (Heading H1 (Some (codes "name")) [] []) ∷ Leaf (Text (codes "two words")) ∷ End (end.Heading H1) ∷ [])
 attributed syntax has = attributes_read syntax (codes "two words") (codes "name") has refl refl (omega arith)
+
+task : (syntax : Syntax) → syntax.task_lists ≡ true → IsReadAs (reading_of syntax (codes "- [ ] two words")) (Start (ListOf None) ∷ Start Item ∷ Leaf (TaskListMarker false) ∷ Leaf (Text (codes "two words")) ∷ End end.Item ∷ End (end.List false) ∷ [])
+task syntax has = task_read syntax false (codes "two words") has refl (omega arith)

@@ -46,4 +46,5 @@ pub mod WordsReading
 pub mod FormulaReading
 pub mod StrikethroughReading
 pub mod AttributedHeadings
+pub mod TaskItems
 mod ExtensionExamples

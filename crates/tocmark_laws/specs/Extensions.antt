@@ -1,8 +1,8 @@
 -- Texts of one kind with a construct of an extension, and the events that they are read as.
-use Rattle.std.specs.Prelude.{◌≡◌, ℕ, ◌^◌, ◌<◌, Bool, true, false, not, ◌==◌, ◌&&◌, List, [], ◌∷◌, ◌++◌, codes, length, Some}
+use Rattle.std.specs.Prelude.{◌≡◌, ℕ, ◌^◌, ◌<◌, Bool, true, false, not, ◌==◌, ◌&&◌, List, [], ◌∷◌, ◌++◌, codes, length, None, Some}
 use Rattle.std.specs.Char.{char_set_contains, is_ascii_alphabetic, is_ascii_alphanumeric}
 use Rattle.std.specs.List.{list_all}
-use Rattle.tocmark_event.specs.View.{EventView, Start, End, Leaf, Heading, MetadataBlock, Paragraph, Strikethrough, Text, InlineMath}
+use Rattle.tocmark_event.specs.View.{EventView, Start, End, Leaf, Heading, Item, ListOf, MetadataBlock, Paragraph, Strikethrough, TaskListMarker, Text, InlineMath}
 use Rattle.tocmark_event.specs.declared.event.HeadingLevel.TheVariants.{H1}
 use Rattle.tocmark_event.specs.declared.event.MetadataBlockKind.{MetadataBlockKind}
 use Rattle.tocmark_event.specs.declared.event.MetadataBlockKind.TheVariants.{YamlStyle, PlusesStyle}
@@ -133,3 +133,25 @@ AttributesAreRead =
     (syntax : Syntax) (phrase id : List ℕ) →
     syntax.heading_attributes ≡ true → is_phrase phrase ≡ true → is_name id ≡ true → length (attributed_line phrase id) < 2 ^ 64 →
     IsReadAs (reading_of syntax (attributed_line phrase id)) (attributed_heading phrase id)
+
+-- ---- task lists
+
+-- what stands in a box, checked or not
+abbrev pub box_byte : Bool → ℕ
+box_byte true = 120
+box_byte false = 32
+
+-- an item of a phrase behind a box
+abbrev pub task_line : Bool → List ℕ → List ℕ
+task_line done phrase = 45 ∷ 32 ∷ 91 ∷ box_byte done ∷ 93 ∷ 32 ∷ phrase
+
+-- a list of one task
+abbrev pub task_events : Bool → List ℕ → List EventView
+task_events done phrase =
+    Start (ListOf None) ∷ Start Item ∷ Leaf (TaskListMarker done) ∷ Leaf (Text phrase) ∷ End end.Item ∷ End (end.List false) ∷ []
+
+-- where a syntax has task lists, a box in front of an item's text is its task
+abbrev pub TasksAreRead : Type 0
+TasksAreRead =
+    (syntax : Syntax) (done : Bool) (phrase : List ℕ) → syntax.task_lists ≡ true → is_phrase phrase ≡ true → length (task_line done phrase) < 2 ^ 64 →
+    IsReadAs (reading_of syntax (task_line done phrase)) (task_events done phrase)

@@ -1,38 +1,42 @@
-//! Laws of the readers' extensions: texts of one kind, each with one construct, and the events that they are read as.
+//! Laws of the extended reader: the exact events of texts of one kind, each with one construct.
 //!
-//! They hold for the definition `reading_of`, in which `ExtendedReader` reads by the syntax that its flags name. Of a
-//! syntax they ask for the construct's own extension alone; all others may be on or off. They say nothing of how the
-//! reader finds the events, so they tie it to the rule, and not to its code.
+//! They speak of `reading_of`, the definition of what `ExtendedReader` reads under a syntax. Each needs the construct's
+//! own extension; all others may be on or off. They don't say how the events are found, so they tie an extension to its
+//! rule, and not to the reader's code. A phrase has no marks, and a letter or a digit at either end.
 
-ghost use Rattle.tocmark_laws.specs.Extensions.{AttributesAreRead, FormulasAreRead, FrontMatterIsRead, StruckPhrasesAreRead, WordsAreRead};
+ghost use Rattle.tocmark_laws.specs.Extensions.{AttributesAreRead, FormulasAreRead, FrontMatterIsRead, StruckPhrasesAreRead, TasksAreRead, WordsAreRead};
 
-/// Lines of words are read as a paragraph with a text for each line, under every syntax, and with the ranges that
-/// `CoreReader` gives: the extensions leave them alone. Each line begins with a letter, and none of its characters,
-/// from U+0020 to U+007E, is a mark within a line.
+/// Under every syntax, lines of words are a paragraph with a text for each line, with the ranges that `CoreReader`
+/// gives. Each line begins with a letter, and none of its characters, from U+0020 to U+007E, is a mark.
 pub fn words_are_read()
     ensures { WordsAreRead }
 {}
 
-/// Lines between `---`, at the front of a text, are read as metadata with these lines as its text, under each syntax
-/// with metadata between dashes. Likewise for `+++`. No line begins with a space, `-`, `+` or `.`.
+/// Under each syntax with metadata of that kind, a text of lines between `---`, or between `+++`, is metadata with these
+/// lines as its text. No line begins with a space, `-`, `+` or `.`.
 pub fn front_matter_is_read()
     ensures { FrontMatterIsRead }
 {}
 
-/// A formula between dollar signs is read as mathematics with just this text, whatever else is in it, under each
-/// syntax with mathematics. It has no dollar sign, backslash or brace, and no space at either end.
+/// Under each syntax with mathematics, a formula between dollar signs is mathematics with just this text. It has no
+/// dollar sign, backslash or brace, and no space at either end. Other marks may stand in it, as in `$a_1 * b$`.
 pub fn formulas_are_read()
     ensures { FormulasAreRead }
 {}
 
-/// A phrase between two tildes on either side is read as struck through, under each syntax with strikethrough. It has
-/// no marks, and a letter or a digit at either end.
+/// Under each syntax with strikethrough, a phrase between two tildes on either side is struck through.
 pub fn struck_phrases_are_read()
     ensures { StruckPhrasesAreRead }
 {}
 
-/// A name between braces behind the text of a heading, as `# two words {#name}`, is read as its id, under each syntax
-/// with attributes of headings. The text is a phrase as in `struck_phrases_are_read`, the name letters and digits.
+/// Under each syntax with attributes of headings, a name behind a heading's phrase, as in `# two words {#name}`, is the
+/// heading's id. The name has letters and digits alone.
 pub fn attributes_are_read()
     ensures { AttributesAreRead }
+{}
+
+/// Under each syntax with task lists, an item of a box and a phrase, as `- [x] two words` or `- [ ] two words`, is a
+/// tight list with this one task.
+pub fn tasks_are_read()
+    ensures { TasksAreRead }
 {}
