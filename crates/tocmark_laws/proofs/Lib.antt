@@ -38,3 +38,13 @@ pub mod DocumentRowsWritten
 pub mod DocumentSpelling
 pub mod DocumentWalks
 pub mod DocumentsReadBack
+pub mod ExtensionBlocks
+pub mod ExtensionParagraphs
+pub mod FrontMatterBlocks
+pub mod FrontMatterReading
+pub mod WordsReading
+pub mod FormulaReading
+pub mod StrikethroughReading
+pub mod AttributedHeadings
+pub mod TaskItems
+mod ExtensionExamples

@@ -13,3 +13,4 @@ pub mod UnrepresentableLists
 pub mod Written
 pub mod LineFeeds
 pub mod Documents
+pub mod Extensions

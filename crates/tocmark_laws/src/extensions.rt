@@ -1,0 +1,42 @@
+//! Laws of the extended reader: the exact events of texts of one kind, each with one construct.
+//!
+//! They speak of `reading_of`, the definition of what `ExtendedReader` reads under a syntax. Each needs the construct's
+//! own extension; all others may be on or off. They don't say how the events are found, so they tie an extension to its
+//! rule, and not to the reader's code. A phrase has no marks, and a letter or a digit at either end.
+
+ghost use Rattle.tocmark_laws.specs.Extensions.{AttributesAreRead, FormulasAreRead, FrontMatterIsRead, StruckPhrasesAreRead, TasksAreRead, WordsAreRead};
+
+/// Under every syntax, lines of words are a paragraph with a text for each line, with the ranges that `CoreReader`
+/// gives. Each line begins with a letter, and none of its characters, from U+0020 to U+007E, is a mark.
+pub fn words_are_read()
+    ensures { WordsAreRead }
+{}
+
+/// Under each syntax with metadata of that kind, a text of lines between `---`, or between `+++`, is metadata with these
+/// lines as its text. No line begins with a space, `-`, `+` or `.`.
+pub fn front_matter_is_read()
+    ensures { FrontMatterIsRead }
+{}
+
+/// Under each syntax with mathematics, a formula between dollar signs is mathematics with just this text. It has no
+/// dollar sign, backslash or brace, and no space at either end. Other marks may stand in it, as in `$a_1 * b$`.
+pub fn formulas_are_read()
+    ensures { FormulasAreRead }
+{}
+
+/// Under each syntax with strikethrough, a phrase between two tildes on either side is struck through.
+pub fn struck_phrases_are_read()
+    ensures { StruckPhrasesAreRead }
+{}
+
+/// Under each syntax with attributes of headings, a name behind a heading's phrase, as in `# two words {#name}`, is the
+/// heading's id. The name has letters and digits alone.
+pub fn attributes_are_read()
+    ensures { AttributesAreRead }
+{}
+
+/// Under each syntax with task lists, an item of a box and a phrase, as `- [x] two words` or `- [ ] two words`, is a
+/// tight list with this one task.
+pub fn tasks_are_read()
+    ensures { TasksAreRead }
+{}
