@@ -9,6 +9,8 @@ declare -A crate_of=(
   [tocmark-format]=tocmark_format_program
   [tocmark-events]=tocmark_events_program
 )
+# Each script that runs as it is, and is installed beside the programs.
+scripts=(tocmark-filter)
 builder="tools/install proves and builds the programs, in some 60 processor minutes"
 
 # name_program COMMAND: from now on it is this program.
