@@ -5,26 +5,20 @@ use std::alloc::{AllocError, Global};
 use std::fmt;
 use std::fmt::Write;
 use tocmark_event::event::ParserOptions;
-use tocmark_reader::{EXTENSIONS, NAMED_EXTENSIONS};
+use tocmark_reader::{EXTENSIONS, GFM, NAMED_EXTENSIONS};
 
-/// Of what GitHub reads beside CommonMark, that which the reader reads.
-pub const GFM: ParserOptions = ParserOptions(
-    (ParserOptions::ENABLE_TABLES.0
-        | ParserOptions::ENABLE_STRIKETHROUGH.0
-        | ParserOptions::ENABLE_TASKLISTS.0
-        | ParserOptions::ENABLE_FOOTNOTES.0
-        | ParserOptions::ENABLE_GFM.0)
-        & EXTENSIONS.0,
-);
+/// What `--help` says of `--extension`.
+pub const EXTENSION_HELP: &str =
+    "Add one of these extensions, or remove it by\nno-NAME; repeatable";
 
 /// How wide a line of an option's help may be. The names of options stand before it, and 80 columns are all.
 const HELP_WIDTH: usize = 51;
 
-/// The flags of the syntax with this name, where `gfm` has these.
-pub fn syntax_named(name: &str, gfm: ParserOptions) -> Option<ParserOptions> {
+/// The flags of the syntax with this name.
+pub fn syntax_named(name: &str) -> Option<ParserOptions> {
     match name {
         "commonmark" => Some(ParserOptions::empty()),
-        "gfm" => Some(gfm),
+        "gfm" => Some(GFM),
         "all" => Some(EXTENSIONS),
         _ => None,
     }
@@ -38,6 +32,22 @@ pub fn extension_named(name: &str) -> Option<ParserOptions> {
         }
     }
     None
+}
+
+/// Adds the extension with this name to the flags, or removes it if `no-` stands before the name.
+///
+/// The answer is `None` if there is no such extension.
+pub fn extended(flags: ParserOptions, name: &str) -> Option<ParserOptions> {
+    match name.strip_prefix("no-") {
+        Some(name) => {
+            let flag = extension_named(name)?;
+            Some(ParserOptions(flags.0 & !flag.0))
+        }
+        None => {
+            let flag = extension_named(name)?;
+            Some(ParserOptions(flags.0 | flag.0))
+        }
+    }
 }
 
 /// The command with `--syntax` and `--extension`, which have these helps.
@@ -86,17 +96,16 @@ fn name_extensions(help: &mut String, start: &str, flags: ParserOptions) -> fmt:
     Ok(())
 }
 
-/// What `--help` says of `--syntax`: this line, and which extensions `gfm` adds, which has these flags, and which `all` adds
-/// to them.
+/// What `--help` says of `--syntax`: this line, which extensions `gfm` has, and which ones `all` adds to them.
 ///
 /// It fails if memory runs out.
-pub fn syntax_help(alloc: Global, line: &str, gfm: ParserOptions) -> Result<String, fmt::Error> {
+pub fn syntax_help(alloc: Global, line: &str) -> Result<String, fmt::Error> {
     let mut help = String::new(alloc);
     help.write_str(line)?;
     help.write_str("\n")?;
-    name_extensions(&mut help, "gfm adds", gfm)?;
+    name_extensions(&mut help, "gfm adds", GFM)?;
     help.write_str("\n")?;
-    let more = ParserOptions(EXTENSIONS.0 & !gfm.0);
+    let more = ParserOptions(EXTENSIONS.0 & !GFM.0);
     name_extensions(&mut help, "all adds these and", more)?;
     Ok(help)
 }

@@ -5,6 +5,7 @@ use Rattle.serde_json.specs.Written.{IsInOrder}
 use Rattle.tocmark_event.specs.Options.{options_view}
 use Rattle.tocmark_interchange.specs.Document.{IsWrittenTheSame}
 use Rattle.tocmark_interchange.specs.Interchange.{IsWrittenAgain, IsWrittenFrom, reading_json}
+use Rattle.tocmark_interchange.specs.Rewriting.{IsRewrittenText}
 use Rattle.tocmark_events_program.specs.declared.arguments.Job.{Job}
 use Rattle.tocmark_events_program.specs.declared.arguments.Job.TheVariants as job
 use Rattle.tocmark_events_program.specs.declared.fault.Fault.{Fault}
@@ -16,17 +17,18 @@ IsAnswer (job.Read flags) source input output = IsInOrder output (reading_json f
 IsAnswer job.Check source input output = IsWrittenAgain input output
 IsAnswer (job.Write flags options file true) source input output = IsWrittenTheSame (options_view options) flags (is_some file) source input output
 IsAnswer (job.Write flags options file false) source input output = IsWrittenFrom (options_view options) flags (is_some file) source input output
+IsAnswer (job.Rewrite flags options file reports) source input output = IsRewrittenText flags source input output
 
 -- the output could not be written whole
 abbrev pub IsWriteFault : Fault → Type 0
 IsWriteFault fault.Read = ⊥
-IsWriteFault fault.Source = ⊥
-IsWriteFault fault.Options = ⊥
+IsWriteFault (fault.Unreadable name e) = ⊥
 IsWriteFault (fault.NotOptions e) = ⊥
 IsWriteFault fault.NotUtf8 = ⊥
 IsWriteFault (fault.NotJson e) = ⊥
 IsWriteFault (fault.NotEvents e) = ⊥
-IsWriteFault (fault.Markdown e) = ⊥
+IsWriteFault (fault.Refused e) = ⊥
+IsWriteFault (fault.NotRewritten e) = ⊥
 IsWriteFault (fault.Changed n) = ⊥
 IsWriteFault fault.OutOfMemory = ⊥
 IsWriteFault fault.Write = Unit {0}

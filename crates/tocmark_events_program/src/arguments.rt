@@ -6,7 +6,7 @@ use std::alloc::{AllocError, Global};
 use std::fmt;
 use tocmark::event::ParserOptions;
 use tocmark::{Options, OptionsError};
-use tocmark_command::syntax::{GFM, extension_named, syntax_named, with_syntax};
+use tocmark_command::syntax::{EXTENSION_HELP, extended, syntax_named, with_syntax};
 use tocmark_interchange::OptionFault;
 
 /// What is to be done.
@@ -26,6 +26,14 @@ pub enum Job<'a> {
         /// Whether just these events have to be found in it again.
         is_document: bool,
     },
+    /// The document in a file, rewritten to events that were read from it under these flags.
+    Rewrite {
+        flags: ParserOptions,
+        options: Options<'static>,
+        source: &'a str,
+        /// Whether a line is to say what became of each block.
+        reports: bool,
+    },
 }
 
 /// Why arguments are wrong.
@@ -34,6 +42,7 @@ pub enum Refusal<'a> {
     NoVerb,
     Syntax,
     Extension,
+    NoSource,
     NoPair,
     Option(OptionFault<'a>),
     Invalid(OptionsError),
@@ -43,9 +52,13 @@ pub enum Refusal<'a> {
 impl<'a> fmt::Display for Refusal<'a> {
     fn fmt<W: fmt::Write>(&self, f: &mut fmt::Formatter<W>) -> fmt::Result {
         match self {
-            Refusal::NoVerb => write!(f, "read, write or check is wanted"),
+            Refusal::NoVerb => write!(f, "read, write, rewrite or check is wanted"),
             Refusal::Syntax => write!(f, "--syntax wants commonmark, gfm or all"),
-            Refusal::Extension => write!(f, "--extension wants a name that --help lists"),
+            Refusal::Extension => write!(
+                f,
+                "--extension wants a name that --help lists, or no- before one"
+            ),
+            Refusal::NoSource => write!(f, "rewrite wants --source FILE"),
             Refusal::NoPair => write!(f, "--option wants KEY=VALUE"),
             Refusal::Option(fault) => write!(f, "--option: {fault}"),
             Refusal::Invalid(error) => write!(f, "{error}"),
@@ -57,32 +70,33 @@ impl<'a> fmt::Display for Refusal<'a> {
 /// The command's name.
 pub const NAME: &str = "tocmark-events";
 
-/// What `--help` says of `--extension`.
-const EXTENSION: &str = "Add one of these extensions; repeatable";
-
 const READ: &str = "Turn Markdown on standard input into events as JSON";
 
 const WRITE: &str = "Turn events as JSON on standard input into Markdown";
 
+const REWRITE: &str =
+    "Edit a document: keep all that isn't changed in its\nevents, which come as JSON on standard input";
+
 const CHECK: &str = "Print the JSON of events without spaces, and with keys in one order";
 
-/// The command line, with this help of `--syntax`. `docs/JSON.md` says what its parts mean.
-pub fn command<'a>(alloc: Global, syntax_help: &'a str) -> Result<Command<'a>, AllocError> {
-    let read = Command::new(alloc, "read").about(READ);
-    let write = Command::new(alloc, "write").about(WRITE);
-    let check = Command::new(alloc, "check").about(CHECK);
-    let source = Arg::new(alloc, "source")
-        .long("source")
+/// An option that takes the name of a file.
+fn file<'a>(alloc: Global, name: &'a str, help: &'a str) -> Arg<'a> {
+    Arg::new(alloc, name)
+        .long(name)
         .value_name("FILE")
-        .help("Text that the ranges refer to; keep its spelling\nif that parses back");
-    let reads_back = Arg::new(alloc, "check-plain-blocks")
-        .long("check-plain-blocks")
+        .help(help)
+}
+
+/// An option that takes nothing.
+fn switch<'a>(alloc: Global, name: &'a str, help: &'a str) -> Arg<'a> {
+    Arg::new(alloc, name)
+        .long(name)
         .action(ArgAction::SetTrue)
-        .help("Parse each block back before it is written");
-    let document = Arg::new(alloc, "check-document")
-        .long("check-document")
-        .action(ArgAction::SetTrue)
-        .help("Parse the whole output, and refuse it unless it\nhas just these events");
+        .help(help)
+}
+
+/// The command with what the writer can be told.
+fn with_options<'a>(alloc: Global, command: Command<'a>) -> Result<Command<'a>, AllocError> {
     let option = Arg::new(alloc, "option")
         .long("option")
         .value_name("KEY=VALUE")
@@ -90,34 +104,84 @@ pub fn command<'a>(alloc: Global, syntax_help: &'a str) -> Result<Command<'a>, A
         .help(
             "One option of the writer, such as list_token=-;\nrepeatable, and overrides the file",
         );
-    let options = Arg::new(alloc, "options")
-        .long("options")
-        .value_name("FILE")
-        .help("Options of the writer, as a JSON object");
+    let options = file(alloc, "options", "Options of the writer, as a JSON object");
+    command.arg(options)?.arg(option)
+}
+
+fn write_command<'a>(alloc: Global, syntax_help: &'a str) -> Result<Command<'a>, AllocError> {
+    let source = file(
+        alloc,
+        "source",
+        "Text that the ranges refer to; keep its spelling\nif that parses back",
+    );
+    let reads_back = switch(
+        alloc,
+        "check-plain-blocks",
+        "Parse each block back before it is written",
+    );
+    let document = switch(
+        alloc,
+        "check-document",
+        "Parse the whole output, and refuse it unless it\nhas just these events",
+    );
+    let write = Command::new(alloc, "write").about(WRITE);
     let write = write.arg(source)?.arg(reads_back)?.arg(document)?;
-    let write = write.arg(options)?.arg(option)?;
+    with_syntax(
+        alloc,
+        with_options(alloc, write)?,
+        syntax_help,
+        EXTENSION_HELP,
+    )
+}
+
+fn rewrite_command<'a>(alloc: Global, syntax_help: &'a str) -> Result<Command<'a>, AllocError> {
+    let source = file(
+        alloc,
+        "source",
+        "The document, of which read gave the events",
+    );
+    let report = switch(
+        alloc,
+        "report",
+        "Tell on standard error what became of each block",
+    );
+    let rewrite = Command::new(alloc, "rewrite").about(REWRITE);
+    let rewrite = rewrite.arg(source)?.arg(report)?;
+    with_syntax(
+        alloc,
+        with_options(alloc, rewrite)?,
+        syntax_help,
+        EXTENSION_HELP,
+    )
+}
+
+/// The command line, with this help of `--syntax`. `docs/JSON.md` says what its parts mean.
+pub fn command<'a>(alloc: Global, syntax_help: &'a str) -> Result<Command<'a>, AllocError> {
+    let read = Command::new(alloc, "read").about(READ);
+    let check = Command::new(alloc, "check").about(CHECK);
     Command::new(alloc, NAME)
         .bin_name(NAME)?
         .version("0.1.0")
         .about("Turn Markdown into events as JSON, and back")
         .subcommand_required(true)
-        .subcommand(with_syntax(alloc, read, syntax_help, EXTENSION)?)?
-        .subcommand(with_syntax(alloc, write, syntax_help, EXTENSION)?)?
+        .subcommand(with_syntax(alloc, read, syntax_help, EXTENSION_HELP)?)?
+        .subcommand(rewrite_command(alloc, syntax_help)?)?
+        .subcommand(write_command(alloc, syntax_help)?)?
         .subcommand(check)
 }
 
 /// The flags of the syntax and the extensions that are named.
 fn flags_of(matches: &ArgMatches<'_>) -> Result<ParserOptions, Refusal<'static>> {
-    let syntax = matches.get_str("syntax").unwrap_or("commonmark");
-    let Some(mut flags) = syntax_named(syntax, GFM) else {
+    let syntax = matches.get_str("syntax").unwrap_or("gfm");
+    let Some(mut flags) = syntax_named(syntax) else {
         return Err(Refusal::Syntax);
     };
     if let Some(names) = matches.get_strs("extension") {
         for name in names {
-            let Some(flag) = extension_named(name) else {
+            let Some(more) = extended(flags, name) else {
                 return Err(Refusal::Extension);
             };
-            flags.insert(flag);
+            flags = more;
         }
     }
     Ok(flags)
@@ -129,9 +193,6 @@ fn options_of<'a>(
     given: Options<'static>,
 ) -> Result<Options<'static>, Refusal<'a>> {
     let mut options = given;
-    if matches.get_flag("check-plain-blocks") {
-        options.check_plain_blocks = true;
-    }
     if let Some(words) = matches.get_strs("option") {
         for word in words {
             match set(alloc, &mut options, word) {
@@ -148,7 +209,7 @@ fn options_of<'a>(
 /// The file of the options, if one is named.
 pub fn options_file<'a>(matches: &ArgMatches<'a>) -> Option<&'a str> {
     match matches.subcommand() {
-        Some(("write", matches)) => matches.get_str("options"),
+        Some((name, matches)) if name == "write" || name == "rewrite" => matches.get_str("options"),
         _ => None,
     }
 }
@@ -169,14 +230,28 @@ pub fn asked<'a>(
     if name == "read" {
         return Ok(Job::Read { flags });
     }
-    let options = options_of(alloc, matches, given)?;
+    let mut options = options_of(alloc, matches, given)?;
+    if name == "write" && matches.get_flag("check-plain-blocks") {
+        options.check_plain_blocks = true;
+    }
     if let Err(error) = options.validate(flags) {
         return Err(Refusal::Invalid(error));
     }
-    Ok(Job::Write {
+    if name == "write" {
+        return Ok(Job::Write {
+            flags,
+            options,
+            source: matches.get_str("source"),
+            is_document: matches.get_flag("check-document"),
+        });
+    }
+    let Some(source) = matches.get_str("source") else {
+        return Err(Refusal::NoSource);
+    };
+    Ok(Job::Rewrite {
         flags,
         options,
-        source: matches.get_str("source"),
-        is_document: matches.get_flag("check-document"),
+        source,
+        reports: matches.get_flag("report"),
     })
 }

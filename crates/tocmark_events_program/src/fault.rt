@@ -5,10 +5,10 @@ ghost use Rattle.tocmark_events_program.specs.Events.{IsWriteFault};
 ghost use Rattle.tocmark_events_program.specs.declared.fault.Fault.TheVariants.{OutOfMemory};
 
 use std::alloc::{AllocError, AllocFailed};
+use std::io;
 use thiserror::Error;
-use tocmark::Error as MarkdownError;
 use tocmark_command::streams::InputError;
-use tocmark_interchange::{DocumentError, OptionsTextError, WriteError};
+use tocmark_interchange::{DocumentError, OptionsTextError, RewriteError, WriteError};
 use tocmark_json::fault::JsonError;
 
 /// A fault, shown as one line on standard error, behind the name of the program.
@@ -16,10 +16,9 @@ use tocmark_json::fault::JsonError;
 pub enum Fault {
     #[error("cannot read standard input")]
     Read,
-    #[error("cannot read the source, or it is not UTF-8")]
-    Source,
-    #[error("cannot read the options, or they are not UTF-8")]
-    Options,
+    /// A file that is named can't be read as UTF-8.
+    #[error("{0}: cannot read it: {1}")]
+    Unreadable(String, io::Error),
     #[error("{0}")]
     NotOptions(OptionsTextError),
     #[error("standard input is not UTF-8")]
@@ -29,8 +28,10 @@ pub enum Fault {
     #[error("{0}")]
     NotEvents(JsonError),
     #[error("{0}")]
-    Markdown(MarkdownError),
-    #[error("event {0}: it doesn't come back as it is written")]
+    Refused(WriteError),
+    #[error("{0}")]
+    NotRewritten(RewriteError),
+    #[error("event {0}: the output would parse differently")]
     Changed(usize),
     #[error("out of memory")]
     OutOfMemory,
@@ -72,8 +73,26 @@ impl From<WriteError> for Fault {
         match error {
             WriteError::NotJson(error) => Fault::NotJson(error),
             WriteError::NotEvents(error) => Fault::NotEvents(error),
-            WriteError::Refused(error) => Fault::Markdown(error),
+            WriteError::Refused(place, error) => Fault::Refused(WriteError::Refused(place, error)),
             WriteError::OutOfMemory => Fault::OutOfMemory,
+        }
+    }
+}
+
+impl From<RewriteError> for Fault {
+    ghost from_gives = { λ _ e. ¬ (IsWriteFault e) };
+
+    fn from(error: RewriteError) -> Fault {
+        match error {
+            RewriteError::NotJson(error) => Fault::NotJson(error),
+            RewriteError::NotEvents(error) => Fault::NotEvents(error),
+            RewriteError::Refused(place, error) => {
+                Fault::NotRewritten(RewriteError::Refused(place, error))
+            }
+            RewriteError::ReadOtherwise(place) => {
+                Fault::NotRewritten(RewriteError::ReadOtherwise(place))
+            }
+            RewriteError::OutOfMemory => Fault::OutOfMemory,
         }
     }
 }

@@ -2,22 +2,20 @@
 //! `docs/JSON.md` has the form.
 //!
 //! It stands on `tocmark_interchange`, which makes its answers, and on `tocmark_command`, which has what it shares with the
-//! formatter. `arguments` has its options, `settings` sets those of the writer, and `fault` has what it says on standard
-//! error.
+//! formatter. `answer` asks for the answer to a call. `arguments` has the program's options, `settings` sets those of the
+//! writer, and `fault` has what the program says on standard error.
 #![tactic(auto)]
 
+mod answer;
 mod arguments;
 mod fault;
 mod settings;
 
 ghost use Rattle.std.specs.Prelude.{◌≡◌, ◌≤◌, IfErr, IfOk, IfSome, OnErr, OnOk, string_bytes};
 ghost use Rattle.std.specs.Io.KnownBytes.{Appends};
-ghost use Rattle.serde_json.specs.Written.{IsInOrder};
-ghost use Rattle.tocmark_event.specs.Options.{options_view};
-ghost use Rattle.tocmark_interchange.specs.Interchange.{IsWrittenAgain, IsWrittenFrom, reading_json};
-ghost use Rattle.tocmark_interchange.specs.Document.{IsWrittenTheSame};
 ghost use Rattle.tocmark_events_program.specs.Events.{IsAnswer, IsAnswered, IsWriteFault, WritesLate};
 
+use answer::{Answer, answered};
 use arguments::{Job, NAME, asked, command, options_file};
 use clap::ArgMatches;
 use fault::Fault;
@@ -26,124 +24,76 @@ use std::fs;
 use std::io::{Read, Write};
 use std::process::ExitCode;
 use tocmark::Options;
-use tocmark::event::ParserOptions;
 use tocmark_command::program::{Program, words_of};
 use tocmark_command::streams::{text_in, write_out};
-use tocmark_command::syntax::{GFM, syntax_help};
-use tocmark_interchange::{check_json, checked_over, options_in_json, read_json, write_over};
+use tocmark_command::syntax::syntax_help;
+use tocmark_interchange::options_in_json;
+use tocmark_rewrite::{Fate, RewrittenTree};
 
 /// This program.
 const EVENTS: Program = Program { name: NAME };
 
 /// The first line of what `--help` says of `--syntax`.
-const SYNTAX: &str = "Kind of Markdown: commonmark (default), gfm or all";
+const SYNTAX: &str = "Kind of Markdown: commonmark, gfm (default) or all";
 
-/// The JSON of the events of a text under these flags, with their ranges.
-fn read_events(alloc: Global, text: &str, flags: ParserOptions) -> Result<String, Fault>
-    ensures fault { IfErr result (λ fault. ¬ (IsWriteFault fault)) }
-    ensures read { IfOk result (λ output.
-        IsInOrder (string_bytes output) (reading_json flags text.now)) }
-{
-    Ok(read_json(alloc, text, flags)?)
-}
-
-/// The one form of a JSON text of events: without spaces, the keys in order.
-fn checked_events(alloc: Global, text: &str) -> Result<String, Fault>
-    ensures fault { IfErr result (λ fault. ¬ (IsWriteFault fault)) }
-    ensures again { IfOk result (λ output. IsWrittenAgain text.now (string_bytes output)) }
-{
-    Ok(check_json(alloc, text)?)
-}
-
-/// The Markdown of the events that a text has as JSON. Without a source their ranges are dropped.
-fn write_events(
-    alloc: Global,
-    text: &str,
-    source: &str,
-    has_source: bool,
-    flags: ParserOptions,
-    options: Options<'static>,
-) -> Result<String, Fault>
-    ensures fault { IfErr result (λ fault. ¬ (IsWriteFault fault)) }
-    ensures written { IfOk result (λ output. IsWrittenFrom (options_view options.entry) flags
-        has_source source.now text.now (string_bytes output)) }
-{
-    Ok(write_over(alloc, text, source, has_source, flags, options)?)
-}
-
-/// The same, if just these events are found in it.
-fn write_document(
-    alloc: Global,
-    text: &str,
-    source: &str,
-    has_source: bool,
-    flags: ParserOptions,
-    options: Options<'static>,
-) -> Result<String, Fault>
-    ensures fault { IfErr result (λ fault. ¬ (IsWriteFault fault)) }
-    ensures same { IfOk result (λ output. IsWrittenTheSame (options_view options.entry) flags
-        has_source source.now text.now (string_bytes output)) }
-{
-    Ok(checked_over(alloc, text, source, has_source, flags, options)?)
-}
-
+/// The answer to a job, of which the input has the text.
 fn converted<I: Read>(
     alloc: Global,
     job: Job<'_>,
     source: &str,
     input: &mut I,
-) -> Result<String, Fault>
+) -> Result<Answer, Fault>
     ensures fault { IfErr result (λ fault. ¬ (IsWriteFault fault)) }
     ensures answers { IfSome (I.remaining input.old) (λ bytes.
-        IfOk result (λ output. IsAnswer job.entry source.now bytes (string_bytes output))) }
+        IfOk result (λ answer. IsAnswer job.entry source.now bytes (string_bytes answer.text))) }
 {
     let text = text_in(alloc, input)?;
     answered(alloc, job, source, text.as_str())
 }
 
-/// What a job makes of its text.
-fn answered(alloc: Global, job: Job<'_>, source: &str, text: &str) -> Result<String, Fault>
-    ensures fault { IfErr result (λ fault. ¬ (IsWriteFault fault)) }
-    ensures answers { IfOk result (λ output.
-        IsAnswer job.entry source.now text.now (string_bytes output)) }
-{
-    match job {
-        Job::Read { flags } => read_events(alloc, text, flags),
-        Job::Check => checked_events(alloc, text),
-        Job::Write {
-            flags,
-            options,
-            source: file,
-            is_document: false,
-        } => write_events(alloc, text, source, file.is_some(), flags, options),
-        Job::Write {
-            flags,
-            options,
-            source: file,
-            is_document: true,
-        } => write_document(alloc, text, source, file.is_some(), flags, options),
-    }
-}
-
-/// A call with right arguments. Output is written only after all of it is there.
+/// A call with right arguments, and the blocks of a document that was rewritten. Output is written only after all of it is
+/// there.
 fn convert<I: Read, O: Write>(
     alloc: Global,
     job: Job<'_>,
     source: &str,
     input: &mut I,
     output: &mut O,
-) -> Result<(), Fault>
+) -> Result<Vec<RewrittenTree>, Fault>
     ensures unwritten { IfErr result (λ fault. ¬ (IsWriteFault fault) → output.new ≡ output.old) }
     ensures answered { IfSome (I.remaining input.old) (λ bytes. OnOk result
         (IsAnswered job.entry source.now bytes (O.contents output.old) (O.contents output.new))) }
     ensures late { OnErr result
         (WritesLate job.entry source.now (I.remaining input.old) output.old output.new) }
 {
-    let text = converted(alloc, job, source, input)?;
-    match write_out(output, text.as_str()) {
-        Ok(()) => Ok(()),
+    let answer = converted(alloc, job, source, input)?;
+    match write_out(output, answer.text.as_str()) {
+        Ok(()) => Ok(answer.blocks),
         Err(_error) => Err(Fault::Write),
     }
+}
+
+/// Writes a line about each block of a document that was rewritten, if the call asks for that.
+fn report<F: Write>(faults: &mut F, job: Job<'_>, blocks: &[RewrittenTree]) {
+    if let Job::Rewrite { reports: true, .. } = job {
+        for block in blocks {
+            tell(faults, block);
+        }
+    }
+}
+
+/// Writes what became of a block. A line that can't be written changes nothing.
+fn tell<F: Write>(faults: &mut F, block: &RewrittenTree) {
+    let fate = match block.fate {
+        Fate::Kept(_) => "kept",
+        Fate::Patched => "patched",
+        Fate::Written => "written",
+    };
+    let event = block.first;
+    let _ = match block.lines {
+        Some((first, last)) => writeln!(faults, "event {event}, lines {first} to {last}: {fate}"),
+        None => writeln!(faults, "event {event}: {fate}"),
+    };
 }
 
 /// The program after its arguments: the status that it ends with. It writes nothing before the whole answer is there.
@@ -162,7 +112,10 @@ pub fn run<I: Read, O: Write, F: Write>(
         → WritesLate job.entry source.now (I.remaining input.old) output.old output.new }
 {
     match convert(alloc, job, source, input, output) {
-        Ok(()) => 0,
+        Ok(blocks) => {
+            report(faults, job, &blocks);
+            0
+        }
         Err(fault) => {
             EVENTS.complain(faults, &fault);
             1
@@ -170,17 +123,27 @@ pub fn run<I: Read, O: Write, F: Write>(
     }
 }
 
+/// A file's text.
+fn text_of(rt: &HostRuntime, file: &str) -> Result<String, Fault> {
+    match fs::read_to_string(rt, file) {
+        Ok(text) => Ok(text),
+        Err(error) => {
+            let name = String::from_str(rt.alloc(), file)?;
+            Err(Fault::Unreadable(name, error))
+        }
+    }
+}
+
+/// The text of the source that a job names; an empty one if it names none.
 fn source_of(rt: &HostRuntime, job: Job<'_>) -> Result<String, Fault> {
     let file = match job {
         Job::Read { .. } | Job::Check => None,
         Job::Write { source, .. } => source,
+        Job::Rewrite { source, .. } => Some(source),
     };
-    let Some(file) = file else {
-        return Ok(String::new(rt.alloc()));
-    };
-    match fs::read_to_string(rt, file) {
-        Ok(source) => Ok(source),
-        Err(_error) => Err(Fault::Source),
+    match file {
+        Some(file) => text_of(rt, file),
+        None => Ok(String::new(rt.alloc())),
     }
 }
 
@@ -189,10 +152,8 @@ fn options_of(rt: &HostRuntime, matches: &ArgMatches<'_>) -> Result<Options<'sta
     let Some(file) = options_file(matches) else {
         return Ok(Options::default());
     };
-    match fs::read_to_string(rt, file) {
-        Ok(text) => Ok(options_in_json(rt.alloc(), text.as_str())?),
-        Err(_error) => Err(Fault::Options),
-    }
+    let text = text_of(rt, file)?;
+    Ok(options_in_json(rt.alloc(), text.as_str())?)
 }
 
 /// Shows the help or the version, or says what is wrong with the arguments.
@@ -250,7 +211,7 @@ fn main(rt: HostRuntime) -> ExitCode {
     let Ok(words) = words_of(&rt) else {
         return EVENTS.refuse(&mut rt.stderr(), "the arguments cannot be read");
     };
-    let Ok(syntax_help) = syntax_help(rt.alloc(), SYNTAX, GFM) else {
+    let Ok(syntax_help) = syntax_help(rt.alloc(), SYNTAX) else {
         return EVENTS.refuse(&mut rt.stderr(), "out of memory");
     };
     let Ok(command) = command(rt.alloc(), syntax_help.as_str()) else {

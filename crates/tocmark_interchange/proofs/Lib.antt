@@ -3,3 +3,4 @@ mod Taken
 mod Refused
 mod FoundAgain
 mod Stretches
+mod Rewritten

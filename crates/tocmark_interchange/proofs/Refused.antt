@@ -9,7 +9,7 @@ use Rattle.tocmark_event.specs.declared.event.flags.ParserOptions.{ParserOptions
 use Rattle.tocmark_event.specs.declared.options.Error.{Error}
 use Rattle.tocmark_event.specs.declared.options.Error.TheVariants as error
 use Rattle.tocmark_reader.specs.Reading.{reading_of}
-use Rattle.tocmark_reader.specs.Flags.{syntax_of}
+use Rattle.tocmark_reader.specs.Flags.{unit_syntax_of}
 use Rattle.tocmark_read_scan.specs.declared.syntax.Names.TheVariants.{All}
 use Rattle.tocmark_event.specs.Options.{OptionsView}
 use Rattle.tocmark_event.specs.Reading.{lent_pair}
@@ -57,7 +57,7 @@ front_refused how source s front rest e (Err x) is refused all =
 
 -- all pairs of a call that took a front of them
 abbrev pub asked : OptionsView → Rendering
-asked options = rendering options (λ t f. reading_of (syntax_of All f) t)
+asked options = rendering options (λ t f. reading_of (unit_syntax_of All f) t)
 
 all_refused : (options : OptionsView) (source : List ℕ) (flags : ParserOptions) (front rest pairs : List Pair) (e : Error) → pairs ≡ front ++ rest → (script (asked options) source (nothing_yet flags) front).outcome ≡ Err e → (IsOk (walk (asked options) source (nothing_yet flags) front).outcome → rest ≡ []) → (writing options flags source pairs).outcome ≡ Err e
 all_refused options source flags front rest pairs e is refused all =

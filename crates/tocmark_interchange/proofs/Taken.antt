@@ -7,7 +7,7 @@ use Rattle.std.specs.List.{FoldsTo, concat}
 use Rattle.tocmark_event.specs.Text.{ParserEvent}
 use Rattle.tocmark_event.specs.declared.event.flags.ParserOptions.{ParserOptions}
 use Rattle.tocmark_reader.specs.Reading.{reading_of}
-use Rattle.tocmark_reader.specs.Flags.{syntax_of}
+use Rattle.tocmark_reader.specs.Flags.{unit_syntax_of}
 use Rattle.tocmark_read_scan.specs.declared.syntax.Names.TheVariants.{All}
 use Rattle.tocmark_laws.proofs.Handed.{drained, written_in_parts}
 use Rattle.tocmark_event.specs.Options.{OptionsView}
@@ -19,7 +19,7 @@ use Rattle.tocmark_interchange.specs.Interchange.{IsWritten, places_left, writin
 use Rattle.tocmark_interchange.specs.declared.pairs.EventPairs.{EventPairs}
 
 abbrev pub walked : OptionsView → List ℕ → ParserOptions → List Pair → Walk Done
-walked options source flags q = script (rendering options (λ t f. reading_of (syntax_of All f) t)) source (nothing_yet flags) q
+walked options source flags q = script (rendering options (λ t f. reading_of (unit_syntax_of All f) t)) source (nothing_yet flags) q
 
 -- the pairs of a call that took all of them
 pub pairs_taken : (xs : List (Bor ParserEvent × Option Range)) (it : EventPairs) → DrainsIf (YieldsFirstBy lent_pair places_left) (Unit {0}) it xs → ranged_pairs xs ≡ places_left it

@@ -7,7 +7,7 @@ use Rattle.serde_json.specs.Data.{Data}
 use Rattle.serde_json.specs.Read.{read}
 use Rattle.serde_json.specs.Written.{IsInOrder}
 use Rattle.tocmark_reader.specs.Reading.{reading_of}
-use Rattle.tocmark_reader.specs.Flags.{syntax_of}
+use Rattle.tocmark_reader.specs.Flags.{syntax_of, unit_syntax_of}
 use Rattle.tocmark_read_scan.specs.declared.syntax.Names.TheVariants.{All}
 use Rattle.tocmark_event.specs.Options.{OptionsView, default_options}
 use Rattle.tocmark_event.specs.Text.{text_of}
@@ -51,10 +51,11 @@ source_text None = []
 abbrev pub reading_json : ParserOptions → List ℕ → Data
 reading_json flags text = pairs_json (map (λ e. (e.0, Some e.1)) (reading_of (syntax_of All flags) text).events)
 
--- what events with ranges come to over a source, under these options and flags
+-- what events with ranges come to over a source, under these options and flags: a unit that is read back needs no
+-- definitions of footnotes, since these are units of their own
 abbrev pub writing : OptionsView → ParserOptions → List ℕ → List Pair → Walk Done
 writing options flags source pairs =
-    script (rendering options (λ t f. reading_of (syntax_of All f) t)) source (nothing_yet flags) pairs
+    script (rendering options (λ t f. reading_of (unit_syntax_of All f) t)) source (nothing_yet flags) pairs
 
 -- the events, written over the source, are this text
 pub record IsWritten (options : OptionsView) (flags : ParserOptions) (source : List ℕ) (pairs : List Pair) (output : List ℕ) : Type 0 where
@@ -99,19 +100,19 @@ IsNoList value e = StandsIn pair_json value e ⊎ StandsIn event_json value e
 abbrev pub IsNoEvents : List ℕ → WriteError → Type 0
 IsNoEvents input (write_error.NotJson e) = read input ≡ None
 IsNoEvents input (write_error.NotEvents e) = (value : Data) × (read input ≡ Some value) × IsNoList value e
-IsNoEvents input (write_error.Refused e) = ⊥
+IsNoEvents input (write_error.Refused p e) = ⊥
 IsNoEvents input write_error.OutOfMemory = Unit {0}
 
 -- why events are not written: the writer refuses them, or memory ran out
 abbrev pub IsPairsCause : OptionsView → ParserOptions → List ℕ → List Pair → WriteError → Type 0
 IsPairsCause options flags source pairs (write_error.NotJson e) = ⊥
 IsPairsCause options flags source pairs (write_error.NotEvents e) = ⊥
-IsPairsCause options flags source pairs (write_error.Refused e) = IsRefusal (writing options flags source pairs) e
+IsPairsCause options flags source pairs (write_error.Refused p e) = IsRefusal (writing options flags source pairs) e
 IsPairsCause options flags source pairs write_error.OutOfMemory = Unit {0}
 
 -- why the events that a text has as JSON are not written
 abbrev pub IsCause : OptionsView → ParserOptions → Bool → List ℕ → List ℕ → WriteError → Type 0
-IsCause options flags has_source source input (write_error.Refused e) = (pairs : List Pair) × IsTextOf input pairs × IsRefusal (writing options flags source (in_source has_source pairs)) e
+IsCause options flags has_source source input (write_error.Refused p e) = (pairs : List Pair) × IsTextOf input pairs × IsRefusal (writing options flags source (in_source has_source pairs)) e
 IsCause options flags has_source source input e = IsNoEvents input e
 
 -- the options that a text has as JSON

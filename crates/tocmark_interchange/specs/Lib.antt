@@ -1,3 +1,4 @@
 pub mod Document
 pub mod Interchange
 pub mod Options
+pub mod Rewriting

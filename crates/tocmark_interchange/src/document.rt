@@ -11,7 +11,7 @@ ghost use Rattle.tocmark_interchange.specs.Document.{IsDocumentCause, IsFirstBeh
 ghost use Rattle.tocmark_interchange.specs.Interchange.{source_text};
 
 use crate::fault::{DocumentError, WriteError};
-use crate::pairs::{EventPairs, Placed};
+use crate::pairs::Placed;
 use crate::writing::{lent, pairs_in, written_pairs};
 use std::alloc::{AllocError, Global};
 use tocmark::Options;
@@ -161,8 +161,8 @@ pub fn checked_over(
         Ok(pairs) => pairs,
         Err(error) => return Err(DocumentError::Write(error)),
     };
-    let placed = EventPairs::new(lent(&pairs), has_source);
-    let output = match written_pairs(alloc, placed, source, flags, options) {
+    let given = lent(&pairs);
+    let output = match written_pairs(alloc, given, source, has_source, flags, options) {
         Ok(output) => output,
         Err(error) => return Err(DocumentError::Write(error)),
     };

@@ -1,12 +1,25 @@
 //! Why a text is refused.
 
 ghost use Rattle.std.specs.Prelude.{◌≡◌};
+ghost use Rattle.tocmark_interchange.specs.Rewriting.{IsOfBlock};
+ghost use Rattle.tocmark_interchange.specs.declared.fault.RewriteError.TheVariants.{OutOfMemory as no_memory};
 ghost use Rattle.tocmark_interchange.specs.declared.fault.WriteError.TheVariants.{OutOfMemory as out_of_memory};
 
 use std::alloc::{AllocError, AllocFailed};
 use std::fmt;
 use tocmark::{Error, OptionsError};
 use tocmark_json::fault::JsonError;
+use tocmark_rewrite::{Fault, Place};
+
+/// Writes where an error is: the number of the event, and its lines if they are known.
+fn write_place<W: fmt::Write>(f: &mut fmt::Formatter<W>, place: Place) -> fmt::Result {
+    let event = place.event;
+    match place.lines {
+        None => write!(f, "event {event}: "),
+        Some((first, last)) if first == last => write!(f, "event {event}, line {first}: "),
+        Some((first, last)) => write!(f, "event {event}, lines {first} to {last}: "),
+    }
+}
 
 /// Why the events that a text has as JSON aren't written.
 #[derive(Debug, Drop)]
@@ -15,8 +28,8 @@ pub enum WriteError {
     NotJson(serde_json::Error),
     /// The JSON isn't that of events.
     NotEvents(JsonError),
-    /// The writer refuses the events.
-    Refused(Error),
+    /// The writer refuses the block that begins at this place, or the event there.
+    Refused(Place, Error),
     /// Memory ran out.
     OutOfMemory,
 }
@@ -42,13 +55,79 @@ impl fmt::Display for WriteError {
         match self {
             WriteError::NotJson(error) => write!(f, "the text is no JSON: {error}"),
             WriteError::NotEvents(error) => write!(f, "{error}"),
-            WriteError::Refused(error) => write!(f, "{error}"),
+            WriteError::Refused(place, error) => {
+                write_place(f, *place)?;
+                write!(f, "{error}")
+            }
             WriteError::OutOfMemory => write!(f, "out of memory"),
         }
     }
 }
 
 impl std::error::Error for WriteError {}
+
+/// Why a document isn't rewritten to the events that a text has as JSON.
+#[derive(Debug, Drop)]
+pub enum RewriteError {
+    /// The text is no JSON, or nested deeper than the kit's JSON is read.
+    NotJson(serde_json::Error),
+    /// The JSON isn't that of events.
+    NotEvents(JsonError),
+    /// The writer refuses the block that begins at this place, or the event there has no place.
+    Refused(Place, Error),
+    /// Every text that was tried parses to other events; this is the first block at which the last one does.
+    ReadOtherwise(Place),
+    /// Memory ran out.
+    OutOfMemory,
+}
+
+impl From<AllocError> for RewriteError {
+    ghost from_gives = { λ _ e. e ≡ no_memory };
+
+    fn from(_fault: AllocError) -> RewriteError {
+        RewriteError::OutOfMemory
+    }
+}
+
+impl<T: Drop> From<AllocFailed<T>> for RewriteError {
+    ghost from_gives = { λ _ e. e ≡ no_memory };
+
+    fn from(_fault: AllocFailed<T>) -> RewriteError {
+        RewriteError::OutOfMemory
+    }
+}
+
+impl From<Fault> for RewriteError {
+    ghost from_gives = { λ _ e. IsOfBlock e };
+
+    fn from(fault: Fault) -> RewriteError {
+        match fault {
+            Fault::Refused(place, error) => RewriteError::Refused(place, error),
+            Fault::ReadOtherwise(place) => RewriteError::ReadOtherwise(place),
+            Fault::OutOfMemory => RewriteError::OutOfMemory,
+        }
+    }
+}
+
+impl fmt::Display for RewriteError {
+    fn fmt<W: fmt::Write>(&self, f: &mut fmt::Formatter<W>) -> fmt::Result {
+        match self {
+            RewriteError::NotJson(error) => write!(f, "the text is no JSON: {error}"),
+            RewriteError::NotEvents(error) => write!(f, "{error}"),
+            RewriteError::Refused(place, error) => {
+                write_place(f, *place)?;
+                write!(f, "{error}")
+            }
+            RewriteError::ReadOtherwise(place) => {
+                write_place(f, *place)?;
+                write!(f, "no text was found that parses to these events")
+            }
+            RewriteError::OutOfMemory => write!(f, "out of memory"),
+        }
+    }
+}
+
+impl std::error::Error for RewriteError {}
 
 /// Why the events that a text has as JSON aren't written as a document that says the same.
 #[derive(Debug, Drop)]
@@ -65,7 +144,7 @@ impl fmt::Display for DocumentError {
             DocumentError::Write(error) => write!(f, "{error}"),
             DocumentError::Changed(place) => write!(
                 f,
-                "event {place}: it doesn't come back as it is written"
+                "event {place}: the output would parse differently"
             ),
         }
     }

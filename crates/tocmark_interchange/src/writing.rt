@@ -8,17 +8,19 @@ ghost use Rattle.tocmark_event.specs.Text.{text_of};
 ghost use Rattle.tocmark_event.specs.View.{event_view};
 ghost use Rattle.tocmark_json.specs.Json.{pair_view};
 ghost use Rattle.tocmark_state.specs.Ranges.{unranged};
-ghost use Rattle.tocmark_interchange.specs.Interchange.{IsCause, IsJsonOf, IsNoEvents, IsNoList, IsPairsCause, IsRefusal, IsTextOf, IsWritten, IsWrittenFrom, places_left, source_text, writing};
+ghost use Rattle.tocmark_interchange.specs.Interchange.{IsCause, IsJsonOf, IsNoEvents, IsNoList, IsPairsCause, IsRefusal, IsTextOf, IsWritten, IsWrittenFrom, in_source, places_left, source_text, writing};
 
 use crate::fault::WriteError;
 use crate::pairs::{EventPairs, Placed};
+use crate::refusal::{place_at, refused_at};
 use serde_json::Value;
 use std::alloc::{AllocError, Global};
 use tocmark::event::{Event, ParserOptions};
 use tocmark::{Error, Options, cmark_with_source_range_and_options};
 use tocmark_json::fault::JsonError;
 use tocmark_json::reading::{events_from_json, pairs_from_json};
-use tocmark_reader::{ExtendedReader, Names};
+use tocmark_reader::{Names, UnitReader};
+use tocmark_rewrite::Place;
 
 fn without_ranges(
     alloc: Global,
@@ -122,7 +124,7 @@ fn written<'a>(
         (places_left pairs.entry))) }
 {
     let mut output = String::new(alloc);
-    let reader = ExtendedReader { names: Names::All };
+    let reader = UnitReader { names: Names::All };
     match cmark_with_source_range_and_options(
         alloc,
         pairs,
@@ -140,24 +142,45 @@ fn written<'a>(
     }
 }
 
-/// The same, where a refusal for want of memory is one of memory.
+/// Why the writer refuses events, and where.
+fn refusal<'a>(
+    alloc: Global,
+    pairs: &'a [Placed<'a>],
+    source: &str,
+    has_source: bool,
+    flags: ParserOptions,
+    options: Options<'static>,
+) -> Result<Place, AllocError> {
+    let event = refused_at(alloc, pairs, source, has_source, flags, options)?;
+    let lines_in = if has_source { Some(source) } else { None };
+    Ok(place_at(pairs, event, lines_in))
+}
+
+/// The Markdown of events over the source of their ranges, which are dropped unless `has_source` is set.
+///
+/// The writer refuses a text only for want of memory, so `FormatFailed` is `OutOfMemory`.
 pub(crate) fn written_pairs<'a>(
     alloc: Global,
-    pairs: EventPairs<'a>,
+    pairs: &'a [Placed<'a>],
     source: &str,
+    has_source: bool,
     flags: ParserOptions,
     options: Options<'static>,
 ) -> Result<String, WriteError>
     ensures written { IfOk result (λ output. IsWritten (options_view options.entry) flags source.now
-        (places_left pairs.entry) (string_bytes output)) }
+        (in_source has_source (map (pair_view text_of) pairs.now)) (string_bytes output)) }
     ensures cause { IfErr result (IsPairsCause (options_view options.entry) flags source.now
-        (places_left pairs.entry)) }
+        (in_source has_source (map (pair_view text_of) pairs.now))) }
 {
-    match written(alloc, pairs, source, flags, options) {
+    let placed = EventPairs::new(pairs, has_source);
+    match written(alloc, placed, source, flags, options) {
         Ok(output) => Ok(output),
         Err(Error::OutOfMemory) => Err(WriteError::OutOfMemory),
         Err(Error::FormatFailed(_)) => Err(WriteError::OutOfMemory),
-        Err(error) => Err(WriteError::Refused(error)),
+        Err(error) => match refusal(alloc, pairs, source, has_source, flags, options) {
+            Ok(place) => Err(WriteError::Refused(place, error)),
+            Err(_) => Err(WriteError::OutOfMemory),
+        },
     }
 }
 
@@ -177,15 +200,15 @@ pub fn write_over(
         json.now) }
 {
     let pairs = pairs_in(alloc, json)?;
-    let placed = EventPairs::new(lent(&pairs), has_source);
-    written_pairs(alloc, placed, source, flags, options)
+    written_pairs(alloc, lent(&pairs), source, has_source, flags, options)
 }
 
 /// The Markdown of the events that a JSON text has: an array of events, or of pairs of an event and its range or `null`.
 /// The ranges are bytes of the source; without one they are dropped. Under these flags the text is to read back.
 ///
-/// An `Err` says that the text is no JSON (`NotJson`) or not that of events (`NotEvents`, with the first one that is none),
-/// that the writer refuses the events (`Refused`), or that memory ran out.
+/// It fails if the text is no JSON (`NotJson`), or not the JSON of events (`NotEvents`, with the number of the first element
+/// that is none), if the writer refuses the events (`Refused`, with the number of the first event of the refused block and,
+/// over a source, with its lines), or if memory runs out.
 pub fn write_json(
     alloc: Global,
     json: &str,

@@ -1,5 +1,5 @@
 -- How the tokens of values are put together.
-use Rattle.std.proofs.Common.{◌≡◌, ℕ, ◌+◌, ◌^◌, ◌<◌, ◌≤◌, List, [], ◌∷◌, ◌++◌, length, get_or, drop, map, Bool, Result, ap, ap₂, subst, sym, refl, ◌∙◌, append_assoc, decimal}
+use Rattle.std.proofs.Common.{◌≡◌, ℕ, suc, max, ◌+◌, ◌^◌, ◌<◌, ◌≤◌, List, [], ◌∷◌, ◌++◌, length, get_or, drop, map, Bool, Result, Option, Some, option_and_then, option_map, ap, ap₂, arith, subst, sym, refl, ◌∙◌, append_assoc, decimal}
 use Rattle.std.specs.Prelude.{OnOk}
 use Rattle.std.proofs.lemmas.List.{drop_more, drop_all, get_or_default}
 use Rattle.std.proofs.lemmas.Result.{on_ok_weaker}
@@ -8,13 +8,16 @@ use Rattle.json.specs.Token.{Token, begin_object, end_object, begin_array, end_a
 use Rattle.json.specs.Json as json
 use Rattle.json.specs.Lex.{tokens}
 use Rattle.json.specs.Print.{print}
+use Rattle.json.specs.Tree as tree
 use Rattle.json.specs.Tree.{json_tokens, items_tokens}
 use Rattle.json.specs.Written.{Written, Writes}
-use Rattle.serde_json.specs.Data.{Data, null, boolean, number, unsigned, string, array, object, member, no_members}
+use Rattle.serde_json.specs.Data.{Data, null, boolean, number, unsigned, string, array, object, Items, item, no_items, Members, member, no_members, put, depth, items_depth, members_depth}
+use Rattle.serde_json.specs.Read.{of_items, of_json, max_depth, read}
 use Rattle.serde_json.specs.View.{items_of}
-use Rattle.serde_json.specs.Written.{outline, items_outline, blank, blank_items, compact_text, unless_float, IsInOrder}
+use Rattle.serde_json.specs.Written.{outline, items_outline, members_outline, blank, blank_items, compact_text, unless_float, IsInOrder}
 use Rattle.serde_json.proofs.Numbers.{number_of-decimal}
 use Rattle.serde_json.proofs.Texts.{print-outline, unless_float-number_of}
+use Rattle.serde_json.proofs.Writing.{read_back}
 use Rattle.tocmark_event.specs.declared.event.Alignment.{Alignment}
 use Rattle.tocmark_json.specs.Json.{alignment_json, both, size_json, tagged}
 use Rattle.tocmark_json.specs.Printed.{Grows, Adds}
@@ -26,18 +29,18 @@ module _ {E : Type 0} (r : Result (Unit {0}) E) (a b : Written) where
   grown t h = on_ok_weaker r (λ fact. record { before = h.room.0; tokens = fact }) h.ok
 
   pub null_added : Writes r a b token.null → OnOk r (Adds null a b)
-  null_added h = on_ok_weaker r (λ fact. record { grows = fact; whole = refl }) (grown token.null h)
+  null_added h = on_ok_weaker r (λ fact. record { grows = fact; whole = refl; reads = refl }) (grown token.null h)
 
   pub boolean_added : (x : Bool) → Writes r a b (token.boolean x) → OnOk r (Adds (boolean x) a b)
-  boolean_added x h = on_ok_weaker r (λ fact. record { grows = fact; whole = refl }) (grown (token.boolean x) h)
+  boolean_added x h = on_ok_weaker r (λ fact. record { grows = fact; whole = refl; reads = refl }) (grown (token.boolean x) h)
 
   pub string_added : (s : List ℕ) → Writes r a b (token.string s) → OnOk r (Adds (string s) a b)
-  string_added s h = on_ok_weaker r (λ fact. record { grows = fact; whole = refl }) (grown (token.string s) h)
+  string_added s h = on_ok_weaker r (λ fact. record { grows = fact; whole = refl; reads = refl }) (grown (token.string s) h)
 
   pub size_added : (n : ℕ) → n < 2 ^ 64 → Writes r a b (token.number (decimal n)) → OnOk r (Adds (size_json n) a b)
   size_added n fits h =
       let same : unless_float (decimal n) ≡ decimal n = unless_float-number_of (decimal n) (unsigned n) (number_of-decimal n fits) in
-      on_ok_weaker r (λ fact. record { grows = fact; whole = ap json.number same }) (grown (token.number (decimal n)) h)
+      on_ok_weaker r (λ fact. record { grows = fact; whole = ap json.number same; reads = ap (option_map number) (number_of-decimal n fits) }) (grown (token.number (decimal n)) h)
 
 -- ---- one behind the other
 
@@ -48,7 +51,7 @@ module _ {E : Type 0} (r : Result (Unit {0}) E) (a b c w : Written) where
   -- the name of a variant, what it holds, and the end of its object
   pub tagged_added : (name : List ℕ) (d : Data) → Grows (begin_object ∷ key name ∷ []) a b → Adds d b c → OnOk r (Grows (end_object ∷ []) c w) → OnOk r (Adds (tagged name d) a w)
   tagged_added name d opens content closes =
-      on_ok_weaker r (λ end. record { grows = then _ _ a b w opens (then _ _ b c w content.grows end); whole = ap (λ j. json.object (json.member name j json.no_members)) content.whole }) closes
+      on_ok_weaker r (λ end. record { grows = then _ _ a b w opens (then _ _ b c w content.grows end); whole = ap (λ j. json.object (json.member name j json.no_members)) content.whole; reads = ap (λ (o : Option Data). option_map object (option_and_then (λ x. Some (put name x no_members)) o)) content.reads }) closes
 
 module _ {E : Type 0} (r : Result (Unit {0}) E) (a b c : Written) where
   pub opened : (name : List ℕ) → Grows (begin_object ∷ []) a b → OnOk r (Grows (key name ∷ []) b c) → OnOk r (Grows (begin_object ∷ key name ∷ []) a c)
@@ -60,32 +63,42 @@ module _ {E : Type 0} (r : Result (Unit {0}) E) (a b c d w : Written) where
       on_ok_weaker r (λ end. record {
         grows = then _ _ a b w begins (then _ _ b c w first.grows (then _ _ c d w second.grows end));
         whole = ap₂ (λ i j. json.array (json.item i (json.item j json.no_items))) first.whole second.whole;
+        reads = ap₂ (λ (o p : Option Data). option_map array (option_and_then (λ d. option_map (item d) (option_and_then (λ e. option_map (item e) (Some no_items)) p)) o)) first.reads second.reads;
       }) closes
 
 -- a key and its value stand behind what stood there
 pub record AddsMember (name : List ℕ) (d : Data) (old new : Written) : Type 0 where
   pub grows : Grows (key name ∷ json_tokens (outline d)) old new
   pub whole : blank (outline d) ≡ outline d
+  pub reads : of_json (outline d) ≡ Some d
 
 pub member_added : (name : List ℕ) (d : Data) (a b c : Written) → Grows (key name ∷ []) a b → Adds d b c → AddsMember name d a c
-member_added name d a b c named content = record { grows = then _ _ a b c named content.grows; whole = content.whole }
+member_added name d a b c named content = record { grows = then _ _ a b c named content.grows; whole = content.whole; reads = content.reads }
 
 module _ {E : Type 0} (r : Result (Unit {0}) E) (a b c d w : Written) where
-  pub two_added : (k l : List ℕ) (x y : Data) → Grows (begin_object ∷ []) a b → AddsMember k x b c → AddsMember l y c d → OnOk r (Grows (end_object ∷ []) d w)
+  -- two members, whose keys stand in their order
+  pub two_added : (k l : List ℕ) (x y : Data) → ((v w : Data) → put l w (member k v no_members) ≡ member k v (member l w no_members)) → Grows (begin_object ∷ []) a b → AddsMember k x b c → AddsMember l y c d → OnOk r (Grows (end_object ∷ []) d w)
       → OnOk r (Adds (object (member k x (member l y no_members))) a w)
-  two_added k l x y begins first second closes =
+  two_added k l x y ordered begins first second closes =
       on_ok_weaker r (λ end. record {
         grows = then _ _ a b w begins (then _ _ b c w first.grows (then _ _ c d w second.grows end));
         whole = ap₂ (λ i j. json.object (json.member k i (json.member l j json.no_members))) first.whole second.whole;
+        reads =
+            ap₂ (λ (o p : Option Data). option_map object (option_and_then (λ v. option_and_then (λ w. Some (put l w (member k v no_members))) p) o)) first.reads second.reads
+            ∙ ap (λ ms. Some (object ms)) (ordered x y);
       }) closes
 
 module _ {E : Type 0} (r : Result (Unit {0}) E) (a b c d e f w : Written) where
-  pub four_added : (k l m n : List ℕ) (x y z u : Data) → Grows (begin_object ∷ []) a b → AddsMember k x b c → AddsMember l y c d → AddsMember m z d e → AddsMember n u e f → OnOk r (Grows (end_object ∷ []) f w)
+  -- four members, whose keys stand in their order
+  pub four_added : (k l m n : List ℕ) (x y z u : Data) → ((o p q v : Data) → put n v (put m q (put l p (member k o no_members))) ≡ member k o (member l p (member m q (member n v no_members)))) → Grows (begin_object ∷ []) a b → AddsMember k x b c → AddsMember l y c d → AddsMember m z d e → AddsMember n u e f → OnOk r (Grows (end_object ∷ []) f w)
       → OnOk r (Adds (object (member k x (member l y (member m z (member n u no_members))))) a w)
-  four_added k l m n x y z u begins first second third fourth closes =
+  four_added k l m n x y z u ordered begins first second third fourth closes =
       on_ok_weaker r (λ end. record {
         grows = then _ _ a b w begins (then _ _ b c w first.grows (then _ _ c d w second.grows (then _ _ d e w third.grows (then _ _ e f w fourth.grows end))));
         whole = λ i. json.object (json.member k (first.whole i) (json.member l (second.whole i) (json.member m (third.whole i) (json.member n (fourth.whole i) json.no_members))));
+        reads =
+            (λ i. option_map object (option_and_then (λ o. option_and_then (λ p. option_and_then (λ q. option_and_then (λ v. Some (put n v (put m q (put l p (member k o no_members))))) (fourth.reads i)) (third.reads i)) (second.reads i)) (first.reads i)))
+            ∙ ap (λ ms. Some (object ms)) (ordered x y z u);
       }) closes
 
 -- ---- the items of an array
@@ -96,14 +109,18 @@ list_tokens ds = items_tokens (items_outline (items_of ds))
 abbrev AreWhole : List Data → Type 0
 AreWhole ds = blank_items (items_outline (items_of ds)) ≡ items_outline (items_of ds)
 
+abbrev AreRead : List Data → Type 0
+AreRead ds = of_items (items_outline (items_of ds)) ≡ Some (items_of ds)
+
 -- of the items ds some are in, and these are to come
 pub record Goes (ds rest : List Data) (start now : Written) : Type 0 where
   pub before : now.before ≡ start.before
   pub tokens : now.tokens ++ list_tokens rest ≡ start.tokens ++ list_tokens ds
   pub whole : AreWhole rest → AreWhole ds
+  pub reads : AreRead rest → AreRead ds
 
 pub begun : (ds : List Data) (start : Written) → Goes ds ds start start
-begun ds start = record { before = refl; tokens = refl; whole = λ h. h }
+begun ds start = record { before = refl; tokens = refl; whole = λ h. h; reads = λ h. h }
 
 goes_on : (ds rest : List Data) (d : Data) (start a b : Written) → Goes ds (d ∷ rest) start a → Adds d a b → Goes ds rest start b
 goes_on ds rest d start a b g h =
@@ -111,6 +128,7 @@ goes_on ds rest d start a b g h =
       before = h.grows.before ∙ g.before;
       tokens = ap (λ l. l ++ list_tokens rest) h.grows.tokens ∙ append_assoc a.tokens (json_tokens (outline d)) (list_tokens rest) ∙ g.tokens;
       whole = λ more. g.whole (ap₂ json.item h.whole more);
+      reads = λ more. g.reads (ap₂ (λ (o : Option Data) (p : Option Items). option_and_then (λ x. option_map (item x) p) o) h.reads more);
     }
 
 module _ {A : Type 0} (data_of : A → Data) (made : List A → List Data) (one : (x : A) (ys : List A) → made (x ∷ ys) ≡ data_of x ∷ made ys) (none : made [] ≡ []) (xs : List A) (i : ℕ) (start a b : Written) (g : Goes (made xs) (made (drop i xs)) start a) where
@@ -128,6 +146,7 @@ module _ {A : Type 0} (data_of : A → Data) (made : List A → List Data) (one 
       on_ok_weaker r (λ last. record {
         grows = then (begin_array ∷ []) (list_tokens (made xs)) before start b opens (record { before = last.before ∙ end.before; tokens = last.tokens ∙ end.tokens });
         whole = ap json.array (end.whole refl);
+        reads = ap (option_map array) (end.reads refl);
       }) closes
 
 -- one more item of a list that is read by copying
@@ -145,3 +164,30 @@ value_text d a b text none h is = is ∙ ap print (h.grows.tokens ∙ ap (λ l. 
 
 pub value_order : (d : Data) (a b : Written) (text : List ℕ) → a.tokens ≡ [] → Adds d a b → tokens (print b.tokens) ≡ b.tokens → text ≡ print b.tokens → IsInOrder text d
 value_order d a b text none h again is = (outline d, ap tokens is ∙ again ∙ h.grows.tokens ∙ ap (λ l. l ++ json_tokens (outline d)) none, h.whole)
+
+-- the outline of a value nests as deep as the value
+mutual
+  outline-depth : (d : Data) → tree.depth (outline d) ≡ depth d
+  outline-depth null = refl
+  outline-depth (boolean b) = refl
+  outline-depth (number n) = refl
+  outline-depth (string s) = refl
+  outline-depth (array ds) = ap suc (items-depth ds)
+  outline-depth (object ms) = ap suc (members-depth ms)
+
+  items-depth : (ds : Items) → tree.items_depth (items_outline ds) ≡ items_depth ds
+  items-depth no_items = refl
+  items-depth (item d ds) = ap₂ max (outline-depth d) (items-depth ds)
+
+  members-depth : (ms : Members) → tree.members_depth (members_outline ms) ≡ members_depth ms
+  members-depth no_members = refl
+  members-depth (member k d ms) = ap₂ max (outline-depth d) (members-depth ms)
+
+same_le : (m n : ℕ) → m ≡ n → m ≤ n
+same_le m n h = omega arith
+
+-- it reads as the value, if that is no deeper than is read
+pub value_read : (d : Data) (a b : Written) (text : List ℕ) → a.tokens ≡ [] → Adds d a b → tokens (print b.tokens) ≡ b.tokens → text ≡ print b.tokens → depth d ≤ max_depth → read text ≡ Some d
+value_read d a b text none h again is shallow =
+    let order = value_order d a b text none h again is in
+    read_back d (json_tokens (outline d)) text (outline d, refl, h.reads, same_le _ _ (outline-depth d), h.whole) order.1 shallow

@@ -3,3 +3,4 @@ pub mod Numbers
 pub mod Inverse
 pub mod Places
 pub mod Adding
+pub mod Shallow

@@ -1,12 +1,13 @@
 //! The JSON text of events, token by token: no value of it is made.
 
-ghost use Rattle.std.specs.Prelude.{◌≡◌, [], ◌∷◌, IfOk, OnOk, codes, map, string_bytes};
+ghost use Rattle.std.specs.Prelude.{◌≡◌, [], ◌∷◌, IfOk, OnOk, Some, codes, map, string_bytes};
 ghost use Rattle.std.specs.Option.{option_map};
 ghost use Rattle.json.specs.Lex.{tokens};
 ghost use Rattle.json.specs.Print.{IsPrintable, print};
 ghost use Rattle.json.specs.Reads.{token_of};
 ghost use Rattle.json.specs.Token.{begin_object, key};
 ghost use Rattle.serde_json.specs.Data.{boolean, null, string};
+ghost use Rattle.serde_json.specs.Read.{read};
 ghost use Rattle.serde_json.specs.Written.{IsInOrder, compact_text};
 ghost use Rattle.tocmark_event.specs.View.{attribute_view, code_view, event_view, tag_view};
 ghost use Rattle.tocmark_json.specs.Json.{alignment_json, attribute_json, code_json, end_json, event_json, events_json, heading_json, level_json, link_json, link_type_json, listed, metadata_json, optional, pair_json, pair_view, pairs_json, quote_json, range_json, ranged_view, size_json, tag_json, tagged};
@@ -530,6 +531,8 @@ pub fn events_to_text<T: Words>(alloc: Global, events: &[EventOf<T>]) -> Result<
         ≡ compact_text (events_json (map (event_view T.bytes) events.now))) }
     ensures order { IfOk result (λ text. IsInOrder (string_bytes text)
         (events_json (map (event_view T.bytes) events.now))) }
+    ensures reads_back { IfOk result (λ text. read (string_bytes text)
+        ≡ Some (events_json (map (event_view T.bytes) events.now))) }
 {
     let mut out = Writer::new(Vec::new(alloc));
     print_events(&mut out, events)?;
@@ -546,6 +549,8 @@ pub fn pairs_to_text<T: Words>(
         ≡ compact_text (pairs_json (map (pair_view T.bytes) pairs.now))) }
     ensures order { IfOk result (λ text. IsInOrder (string_bytes text)
         (pairs_json (map (pair_view T.bytes) pairs.now))) }
+    ensures reads_back { IfOk result (λ text. read (string_bytes text)
+        ≡ Some (pairs_json (map (pair_view T.bytes) pairs.now))) }
 {
     let mut out = Writer::new(Vec::new(alloc));
     print_pairs(&mut out, pairs)?;
@@ -562,6 +567,8 @@ pub fn ranged_to_text<T: Words>(
         ≡ compact_text (pairs_json (map (ranged_view T.bytes) pairs.now))) }
     ensures order { IfOk result (λ text. IsInOrder (string_bytes text)
         (pairs_json (map (ranged_view T.bytes) pairs.now))) }
+    ensures reads_back { IfOk result (λ text. read (string_bytes text)
+        ≡ Some (pairs_json (map (ranged_view T.bytes) pairs.now))) }
 {
     let mut out = Writer::new(Vec::new(alloc));
     print_ranged_events(&mut out, pairs)?;

@@ -1,11 +1,13 @@
-use Rattle.std.proofs.Common.{◌≡◌, map, string_bytes}
+use Rattle.std.proofs.Common.{◌≡◌, Some, map, string_bytes}
 use Rattle.std.proofs.lemmas.Result.{IfOk-weaker}
 use Rattle.json.specs.Print.{print}
 use Rattle.serde_json.specs.Data.{Data}
+use Rattle.serde_json.specs.Read.{read}
 use Rattle.serde_json.specs.Written.{IsInOrder, compact_text}
 use Rattle.tocmark_event.specs.View.{event_view}
 use Rattle.tocmark_json.specs.Json.{events_json}
-use Rattle.tocmark_json.proofs.Adding.{value_text, value_order}
+use Rattle.tocmark_json.proofs.Adding.{value_text, value_order, value_read}
+use Rattle.tocmark_json.proofs.Shallow.{events_shallow}
 use Rattle.tocmark_json.proofs.printing.events_to_text.Goals as goal
 
 pub returns-clause-text : goal.returns-clause-text
@@ -17,3 +19,8 @@ pub returns-clause-order : goal.returns-clause-order
 returns-clause-order g c =
     let d : Data = events_json (map (event_view g.T.Words.bytes) c.args.events.now) in
     IfOk-weaker c.text_of.result (λ text. string_bytes text ≡ print c.print_events.new.out.tokens) (λ text. IsInOrder (string_bytes text) d) (λ text is. value_order d c.new-out.result c.print_events.new.out (string_bytes text) c.new-out.ensures.tokens c.in_ok-print_events.ensures c.text_of.ensures.reads_back is) c.text_of.ensures.text
+
+pub returns-clause-reads_back : goal.returns-clause-reads_back
+returns-clause-reads_back g c =
+    let d : Data = events_json (map (event_view g.T.Words.bytes) c.args.events.now) in
+    IfOk-weaker c.text_of.result (λ text. string_bytes text ≡ print c.print_events.new.out.tokens) (λ text. read (string_bytes text) ≡ Some d) (λ text is. value_read d c.new-out.result c.print_events.new.out (string_bytes text) c.new-out.ensures.tokens c.in_ok-print_events.ensures c.text_of.ensures.reads_back is (events_shallow (map (event_view g.T.Words.bytes) c.args.events.now))) c.text_of.ensures.text

@@ -15,7 +15,7 @@ returns g c =
     let id = optional string (option_map bytes c.args.id.now) in
     let level = level_json c.args.level in
     four_added c.print_token-6.result c.args.out.now c.print_token.new.out c.print_attributes.new.out c.print_classes.new.out c.print_optional_text.new.out c.print_name.new.out c.print_token-6.new.out
-    (codes "attrs") (codes "classes") (codes "id") (codes "level") attrs classes id level
+    (codes "attrs") (codes "classes") (codes "id") (codes "level") attrs classes id level (λ o p q v. refl)
     c.in_ok-print_token.ensures
     (member_added (codes "attrs") attrs c.print_token.new.out c.print_token-2.new.out c.print_attributes.new.out c.in_ok-print_token-2.ensures c.in_ok-print_attributes.ensures)
     (member_added (codes "classes") classes c.print_attributes.new.out c.print_token-3.new.out c.print_classes.new.out c.in_ok-print_token-3.ensures c.in_ok-print_classes.ensures)

@@ -12,7 +12,7 @@ returns g c =
     let link_type = link_type_json c.args.link_type in
     let title = string (bytes c.args.title.now) in
     four_added c.print_token-6.result c.args.out.now c.print_token.new.out c.print_text.new.out c.print_text-2.new.out c.print_link_type.new.out c.print_text-3.new.out c.print_token-6.new.out
-    (codes "dest_url") (codes "id") (codes "link_type") (codes "title") dest_url id link_type title
+    (codes "dest_url") (codes "id") (codes "link_type") (codes "title") dest_url id link_type title (λ o p q v. refl)
     c.in_ok-print_token.ensures
     (member_added (codes "dest_url") dest_url c.print_token.new.out c.print_token-2.new.out c.print_text.new.out c.in_ok-print_token-2.ensures c.in_ok-print_text.ensures)
     (member_added (codes "id") id c.print_text.new.out c.print_token-3.new.out c.print_text-2.new.out c.in_ok-print_token-3.ensures c.in_ok-print_text-2.ensures)

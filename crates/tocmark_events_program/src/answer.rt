@@ -1,0 +1,133 @@
+//! What a call is answered.
+
+ghost use Rattle.std.specs.Prelude.{◌≡◌, IfErr, IfOk, string_bytes};
+ghost use Rattle.serde_json.specs.Written.{IsInOrder};
+ghost use Rattle.tocmark_event.specs.Options.{options_view};
+ghost use Rattle.tocmark_interchange.specs.Document.{IsWrittenTheSame};
+ghost use Rattle.tocmark_interchange.specs.Interchange.{IsWrittenAgain, IsWrittenFrom, reading_json};
+ghost use Rattle.tocmark_interchange.specs.Rewriting.{IsRewrittenText};
+ghost use Rattle.tocmark_events_program.specs.Events.{IsAnswer, IsWriteFault};
+
+use crate::arguments::Job;
+use crate::fault::Fault;
+use std::alloc::Global;
+use tocmark::Options;
+use tocmark::event::ParserOptions;
+use tocmark_interchange::{check_json, checked_over, read_json, rewrite_json, write_over};
+use tocmark_rewrite::RewrittenTree;
+
+/// What a call is answered.
+#[derive(Drop)]
+pub struct Answer {
+    /// What is written on standard output.
+    pub text: String,
+    /// The blocks of a document that was rewritten.
+    pub blocks: Vec<RewrittenTree>,
+}
+
+/// An answer that has only a text.
+fn only(alloc: Global, text: String) -> Answer
+    ensures { string_bytes result.text ≡ string_bytes text }
+{
+    Answer {
+        text,
+        blocks: Vec::new(alloc),
+    }
+}
+
+/// The JSON of the events of a text under these flags, with their ranges.
+fn read_events(alloc: Global, text: &str, flags: ParserOptions) -> Result<Answer, Fault>
+    ensures fault { IfErr result (λ fault. ¬ (IsWriteFault fault)) }
+    ensures read { IfOk result (λ answer.
+        IsInOrder (string_bytes answer.text) (reading_json flags text.now)) }
+{
+    let output = read_json(alloc, text, flags)?;
+    Ok(only(alloc, output))
+}
+
+/// The one form of a JSON text of events: without spaces, the keys in order.
+fn checked_events(alloc: Global, text: &str) -> Result<Answer, Fault>
+    ensures fault { IfErr result (λ fault. ¬ (IsWriteFault fault)) }
+    ensures again { IfOk result (λ answer. IsWrittenAgain text.now (string_bytes answer.text)) }
+{
+    let output = check_json(alloc, text)?;
+    Ok(only(alloc, output))
+}
+
+/// The Markdown of the events that a text has as JSON. Without a source their ranges are dropped.
+fn write_events(
+    alloc: Global,
+    text: &str,
+    source: &str,
+    has_source: bool,
+    flags: ParserOptions,
+    options: Options<'static>,
+) -> Result<Answer, Fault>
+    ensures fault { IfErr result (λ fault. ¬ (IsWriteFault fault)) }
+    ensures written { IfOk result (λ answer. IsWrittenFrom (options_view options.entry) flags
+        has_source source.now text.now (string_bytes answer.text)) }
+{
+    let output = write_over(alloc, text, source, has_source, flags, options)?;
+    Ok(only(alloc, output))
+}
+
+/// The Markdown of the events that a text has as JSON, if just these events are found in it.
+fn write_document(
+    alloc: Global,
+    text: &str,
+    source: &str,
+    has_source: bool,
+    flags: ParserOptions,
+    options: Options<'static>,
+) -> Result<Answer, Fault>
+    ensures fault { IfErr result (λ fault. ¬ (IsWriteFault fault)) }
+    ensures same { IfOk result (λ answer. IsWrittenTheSame (options_view options.entry) flags
+        has_source source.now text.now (string_bytes answer.text)) }
+{
+    let output = checked_over(alloc, text, source, has_source, flags, options)?;
+    Ok(only(alloc, output))
+}
+
+/// The source, rewritten to the events that a text has as JSON.
+fn rewrite_events(
+    alloc: Global,
+    text: &str,
+    source: &str,
+    flags: ParserOptions,
+    options: Options<'static>,
+) -> Result<Answer, Fault>
+    ensures fault { IfErr result (λ fault. ¬ (IsWriteFault fault)) }
+    ensures rewritten { IfOk result (λ answer.
+        IsRewrittenText flags source.now text.now (string_bytes answer.text)) }
+{
+    let rewritten = rewrite_json(alloc, text, source, flags, options)?;
+    Ok(Answer {
+        text: rewritten.text,
+        blocks: rewritten.trees,
+    })
+}
+
+/// What a job makes of its text.
+pub fn answered(alloc: Global, job: Job<'_>, source: &str, text: &str) -> Result<Answer, Fault>
+    ensures fault { IfErr result (λ fault. ¬ (IsWriteFault fault)) }
+    ensures answers { IfOk result (λ answer.
+        IsAnswer job.entry source.now text.now (string_bytes answer.text)) }
+{
+    match job {
+        Job::Read { flags } => read_events(alloc, text, flags),
+        Job::Check => checked_events(alloc, text),
+        Job::Write {
+            flags,
+            options,
+            source: file,
+            is_document: false,
+        } => write_events(alloc, text, source, file.is_some(), flags, options),
+        Job::Write {
+            flags,
+            options,
+            source: file,
+            is_document: true,
+        } => write_document(alloc, text, source, file.is_some(), flags, options),
+        Job::Rewrite { flags, options, .. } => rewrite_events(alloc, text, source, flags, options),
+    }
+}

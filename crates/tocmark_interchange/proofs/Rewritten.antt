@@ -1,0 +1,50 @@
+-- The events that are handed to rewriting are those of the JSON text.
+use Rattle.std.proofs.Common.{◌≡◌, ℕ, List, Option, Result, map, sym, ap, ◌∙◌}
+use mathlib.Core.List.{map-map}
+use Rattle.std.specs.Borrow.{Bor}
+use Rattle.std.specs.Iterator.{Drains, YieldsFirstBy}
+use Rattle.std.specs.Prelude.{IfErr, true}
+use Rattle.std.proofs.lemmas.Result.{IfErr-weaker}
+use Rattle.tocmark_event.specs.Reading.{lent_pair}
+use Rattle.tocmark_event.specs.Text.{ParserEvent, text_of}
+use Rattle.tocmark_compare.specs.Given.{given_events}
+use Rattle.tocmark_json.specs.Json.{pair_view}
+use Rattle.tocmark_laws.proofs.Handed.{drained}
+use Rattle.tocmark_rewrite.specs.Edited.{edited_events}
+use Rattle.tocmark_state.specs.Ranges.{Pair, Range}
+use Rattle.tocmark_interchange.specs.Document.{without_range}
+use Rattle.tocmark_interchange.specs.Interchange.{IsTextOf, in_source, kept, places_left}
+use Rattle.tocmark_interchange.specs.Rewriting.{IsOfBlock, IsRewriteCause}
+use Rattle.tocmark_interchange.specs.declared.fault.RewriteError.{RewriteError}
+use Rattle.tocmark_interchange.specs.declared.fault.RewriteError.TheVariants as rewrite_error
+use Rattle.tocmark_interchange.specs.declared.pairs.EventPairs.{EventPairs}
+use Rattle.tocmark_interchange.proofs.FoundAgain.{given_read}
+
+-- all that was lent was handed on
+edited_are : (xs : List (Bor ParserEvent × Option Range)) (it : EventPairs) → Drains (YieldsFirstBy lent_pair places_left) it xs → edited_events xs ≡ without_range (places_left it)
+edited_are xs it (u, t, gave, last) =
+    sym (map-map (λ (p : Pair). p.0) lent_pair xs) ∙ ap without_range (drained lent_pair places_left xs it (t, gave, λ _. (u, last)))
+
+-- ranges don't count
+without_kept : (ps : List Pair) → without_range (in_source true ps) ≡ without_range ps
+without_kept ps = map-map (λ (p : Pair). p.0) (λ (p : Pair). (p.0, kept true p.1)) ps
+
+-- the events that were taken from pairs are theirs
+pub events_handed : (xs : List (Bor ParserEvent × Option Range)) (it given : EventPairs) (ps : List (ParserEvent × Option (ℕ × ℕ))) → it ≡ given → places_left given ≡ in_source true (map (pair_view text_of) ps) → Drains (YieldsFirstBy lent_pair places_left) it xs → edited_events xs ≡ given_events ps
+events_handed xs it given ps same left all =
+    edited_are xs it all
+    ∙ ap (λ (s : EventPairs). without_range (places_left s)) same
+    ∙ ap without_range left
+    ∙ without_kept (map (pair_view text_of) ps)
+    ∙ sym (given_read ps)
+
+of_block : (input : List ℕ) (pairs : List Pair) → IsTextOf input pairs → (e : RewriteError) → IsOfBlock e → IsRewriteCause input e
+of_block input pairs is (rewrite_error.NotJson e) h = absurd h
+of_block input pairs is (rewrite_error.NotEvents e) h = absurd h
+of_block input pairs is (rewrite_error.Refused p e) h = (pairs, is)
+of_block input pairs is (rewrite_error.ReadOtherwise p) h = (pairs, is)
+of_block input pairs is rewrite_error.OutOfMemory h = tt
+
+-- an error that names a block comes from events
+pub blocks_of : {A : Type 0} (input : List ℕ) (pairs : List Pair) (r : Result A RewriteError) → IsTextOf input pairs → IfErr r IsOfBlock → IfErr r (IsRewriteCause input)
+blocks_of input pairs r is h = IfErr-weaker r IsOfBlock (IsRewriteCause input) (of_block input pairs is) h

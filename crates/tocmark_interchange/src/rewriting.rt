@@ -1,0 +1,91 @@
+//! Documents that are rewritten to the events of a JSON text.
+
+ghost use Rattle.std.specs.Prelude.{IfErr, IfOk, map};
+ghost use Rattle.tocmark_event.specs.Text.{text_of};
+ghost use Rattle.tocmark_compare.specs.Given.{given_events};
+ghost use Rattle.tocmark_json.specs.Json.{pair_view};
+ghost use Rattle.tocmark_rewrite.specs.Edited.{IsWrittenFor};
+ghost use Rattle.tocmark_interchange.specs.Document.{without_range};
+ghost use Rattle.tocmark_interchange.specs.Rewriting.{IsOfBlock, IsRewriteCause, IsRewrittenFrom, reading_under};
+
+use crate::aligning::aligned;
+use crate::fault::{RewriteError, WriteError};
+use crate::pairs::{EventPairs, Placed};
+use crate::refusal::{place_at, unbalanced};
+use crate::writing::{lent, pairs_in};
+use std::alloc::Global;
+use tocmark::event::ParserOptions;
+use tocmark::{Error, Options};
+use tocmark_reader::{ExtendedReader, Names};
+use tocmark_rewrite::{Rewritten, rewritten};
+
+/// The source, rewritten to these events.
+fn rewritten_pairs(
+    alloc: Global,
+    pairs: Vec<Placed<'static>>,
+    source: &str,
+    flags: ParserOptions,
+    options: Options<'_>,
+) -> Result<Rewritten, RewriteError>
+    ensures edited { IfOk result (IsWrittenFor (reading_under flags) source.now
+        (given_events pairs.entry.items)) }
+    ensures block { IfErr result IsOfBlock }
+{
+    if let Some(at) = unbalanced(alloc, &pairs)? {
+        let place = place_at(&pairs, at, Some(source));
+        return Err(RewriteError::Refused(place, Error::UnexpectedEvent));
+    }
+    let placed = aligned(alloc, pairs, source, flags)?;
+    let given = EventPairs::new(lent(&placed), true);
+    let reader = ExtendedReader { names: Names::All };
+    match rewritten(alloc, source, given, &reader, flags, options) {
+        Ok(answer) => Ok(answer),
+        Err(fault) => Err(RewriteError::from(fault)),
+    }
+}
+
+/// Why a text is not the JSON of events.
+fn not_events(error: WriteError) -> RewriteError {
+    match error {
+        WriteError::NotJson(error) => RewriteError::NotJson(error),
+        WriteError::NotEvents(error) => RewriteError::NotEvents(error),
+        WriteError::Refused(place, error) => RewriteError::Refused(place, error),
+        WriteError::OutOfMemory => RewriteError::OutOfMemory,
+    }
+}
+
+/// The source, rewritten to the events that a JSON text has: an array of events, or of pairs of an event and its range or
+/// `null`. All that wasn't edited stays byte for byte; the options say how edited blocks are written.
+///
+/// The events are those of `read_json` over the same source under the same flags, in which the caller has changed, added or
+/// taken away some. If no event has a range, blocks of the source are found by their events; else a new event has no range,
+/// or the range of what it replaces.
+///
+/// The answer's text parses to just these events, with neighbouring texts joined, and is the source if nothing was changed.
+///
+/// It fails if the text is no JSON (`NotJson`), or not the JSON of events (`NotEvents`, with the number of the first element
+/// that is none), if a block has no text (`Refused` and `ReadOtherwise`, with the number of the block's first event, and with
+/// its lines in the source if it stands for a block there), or if memory runs out.
+///
+/// ```
+/// let source = "# One\n\n* *a*\n* b\n";
+/// let flags = ParserOptions::empty();
+/// let json = read_json(alloc, source, flags)?.replace(alloc, "H1", "H2")?;
+/// let answer = rewrite_json(alloc, json.as_str(), source, flags, Options::default())?;
+/// assert_eq!(rt; answer.text.as_str(), "## One\n\n* *a*\n* b\n");
+/// ```
+pub fn rewrite_json(
+    alloc: Global,
+    json: &str,
+    source: &str,
+    flags: ParserOptions,
+    options: Options<'_>,
+) -> Result<Rewritten, RewriteError>
+    ensures edited { IfOk result (IsRewrittenFrom flags source.now json.now) }
+    ensures cause { IfErr result (IsRewriteCause json.now) }
+{
+    match pairs_in(alloc, json) {
+        Ok(pairs) => rewritten_pairs(alloc, pairs, source, flags, options),
+        Err(error) => Err(not_events(error)),
+    }
+}
