@@ -57,7 +57,7 @@ def read(text: str, *, syntax: str = "gfm", extensions: Iterable[str] = ()) -> L
     """
     data = encoded("text", text)
     flags = flags_of(syntax, extensions)
-    found = _text(*_library.answer(_library.read_json, data, len(data), flags, guess=64 * len(data) + 256))
+    found = _text(*_library.answer(_library.read_json, data, len(data), flags, guess=12 * len(data) + 4096))
     return [(event, range(place["start"], place["end"])) for event, place in json.loads(found)]
 
 

@@ -71,5 +71,5 @@ def answer(function: Any, *arguments: Any, guess: int) -> Tuple[int, bytes]:
         room = ctypes.create_string_buffer(max(guess, 1))
         size = function(*arguments, room, guess)
         if size <= guess:
-            return size, room.raw[:max(size, 0)]
+            return size, ctypes.string_at(room, max(size, 0))
         guess = size
