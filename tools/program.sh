@@ -11,8 +11,7 @@ declare -A crate_of=(
   [tocmark-events]=tocmark_events_program
 )
 # Each script that runs as it is, and is installed beside the programs.
-scripts=()
-[[ ! -f $top/tocmark-filter ]] || scripts=(tocmark-filter)
+scripts=(tocmark-filter)
 builder="tools/install proves and builds the programs, in some 60 processor minutes"
 
 # name_crate NAME: from now on it is this crate.

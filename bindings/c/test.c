@@ -42,7 +42,7 @@ static void *memory(size_t size) {
   return block;
 }
 
-/* --- one call, of one of three kinds --- */
+/* --- one call, of one of four kinds --- */
 
 struct call {
   const struct text *text;
@@ -50,6 +50,7 @@ struct call {
   const char *options;
   uint32_t flags;
   const struct tocmark_style *style; /* where there is one, the text is formatted */
+  int rewrites;                      /* the source is rewritten to the text's events */
 };
 
 static const struct tocmark_style hyphens = {.size = sizeof hyphens, .bullet = '-', .numbering = 1, .emphasis = '_'};
@@ -59,8 +60,12 @@ static ptrdiff_t made(const struct call *call, uint8_t *out, size_t out_len) {
     return tocmark_format(call->text->bytes, call->text->size, call->flags, call->style, out, out_len);
   if (call->source == NULL)
     return tocmark_read_json(call->text->bytes, call->text->size, call->flags, out, out_len);
+  const uint8_t *options = (const uint8_t *)call->options;
+  if (call->rewrites)
+    return tocmark_rewrite(call->text->bytes, call->text->size, call->source->bytes, call->source->size, call->flags,
+                           options, strlen(call->options), NULL, out, out_len);
   return tocmark_write_json(call->text->bytes, call->text->size, call->source->bytes, call->source->size, call->flags,
-                            (const uint8_t *)call->options, strlen(call->options), out, out_len);
+                            options, strlen(call->options), out, out_len);
 }
 
 /* What a call answers: its size is tried with no room, one byte too few, just enough and more. */
@@ -107,25 +112,30 @@ static uint64_t noted(uint64_t sum, ptrdiff_t code, const struct text *text) {
   return sum;
 }
 
-/* A text is read and written over itself and over nothing, and formatted. */
+/* A text is read and written over itself and over nothing, rewritten to its own events, which changes nothing, and formatted. */
 static uint64_t round_trip(uint64_t sum, const struct text *text, uint32_t flags, int is_mutated) {
   static const char *const options[] = {"", "{\"list_token\": \"-\", \"newlines_after_headline\": 1}"};
   static const struct text nothing = {(uint8_t *)"", 0};
   struct text json, markdown;
-  ptrdiff_t code = answer(&(struct call){text, NULL, "", flags, NULL}, &json);
+  ptrdiff_t code = answer(&(struct call){text, NULL, "", flags, NULL, 0}, &json);
   sum = noted(sum, code, &json);
   if (code < 0 && !(is_mutated && code == TOCMARK_NOT_UTF8))
     wrong("it isn't read", text);
   for (size_t i = 0; code >= 0 && i < 2; i++) {
-    struct call call = {&json, i ? text : &nothing, options[i], flags, NULL};
+    struct call call = {&json, i ? text : &nothing, options[i], flags, NULL, 0};
     ptrdiff_t ended = answer(&call, &markdown);
     sum = noted(sum, ended, &markdown);
     if (ended < 0 && !(is_mutated && ended == TOCMARK_UNREPRESENTABLE))
       wrong("it isn't written", text);
     free(markdown.bytes);
   }
+  if (code >= 0 && (answer(&(struct call){&json, text, "", flags, NULL, 1}, &markdown) != (ptrdiff_t)text->size ||
+                    memcmp(markdown.bytes, text->bytes, text->size) != 0))
+    wrong("it is rewritten to another text", text);
+  if (code >= 0)
+    free(markdown.bytes);
   free(json.bytes);
-  ptrdiff_t formatted = answer(&(struct call){text, NULL, "", flags, &hyphens}, &markdown);
+  ptrdiff_t formatted = answer(&(struct call){text, NULL, "", flags, &hyphens, 0}, &markdown);
   sum = noted(sum, formatted, &markdown);
   if (formatted < 0 && formatted != code)
     wrong("it isn't formatted", text);
@@ -158,15 +168,18 @@ static struct text mutated(const struct text *text, uint32_t *seed) {
 /* JSON of events with bytes changed: any error may come, and the answers stay the same. */
 static uint64_t broken_json(uint64_t sum, const struct text *text, uint32_t *seed) {
   struct text json, broken, markdown;
-  if (answer(&(struct call){text, NULL, "", TOCMARK_GFM, NULL}, &json) < 0)
+  if (answer(&(struct call){text, NULL, "", TOCMARK_GFM, NULL, 0}, &json) < 0)
     return sum;
   broken = mutated(&json, seed);
   for (size_t i = 0; i < 2; i++) {
-    struct call call = {&broken, i ? text : &(struct text){(uint8_t *)"", 0}, "", TOCMARK_GFM, NULL};
+    struct call call = {&broken, i ? text : &(struct text){(uint8_t *)"", 0}, "", TOCMARK_GFM, NULL, 0};
     ptrdiff_t code = answer(&call, &markdown);
     sum = noted(sum, code, &markdown);
     free(markdown.bytes);
   }
+  ptrdiff_t rewritten = answer(&(struct call){&broken, text, "", TOCMARK_GFM, NULL, 1}, &markdown);
+  sum = noted(sum, rewritten, &markdown);
+  free(markdown.bytes);
   free(broken.bytes);
   free(json.bytes);
   return sum;
@@ -207,6 +220,69 @@ static ptrdiff_t checks(const char *json) {
   uint8_t out[100];
   return tocmark_write_checked((const uint8_t *)json, strlen(json), (const uint8_t *)"", 0, TOCMARK_GFM,
                                (const uint8_t *)"", 0, out, sizeof out);
+}
+
+/* --- rewriting --- */
+
+static struct tocmark_place place;
+
+/* Rewrites a source, where what is wanted is a text, or an error's code, an event and lines. */
+static void rewrites(const char *json, const char *source, uint32_t flags, const char *wanted, ptrdiff_t code) {
+  uint8_t out[100];
+  place = (struct tocmark_place){sizeof place, 7, 8, 9};
+  ptrdiff_t size = tocmark_rewrite((const uint8_t *)json, strlen(json), (const uint8_t *)source, strlen(source), flags, NULL,
+                                   0, &place, out, sizeof out);
+  expect(size, code < 0 ? code : (ptrdiff_t)strlen(wanted), json);
+  if (size >= 0 && memcmp(out, wanted, (size_t)size) != 0)
+    wrong("a source is rewritten otherwise", &(struct text){out, (size_t)size});
+  if (size >= 0 && (place.event != 7 || place.first_line != 8 || place.last_line != 9))
+    wrong("the place of no error is filled", NULL);
+}
+
+static void is_at(size_t event, size_t first_line, size_t last_line) {
+  if (place.event != event || place.first_line != first_line || place.last_line != last_line) {
+    fprintf(stderr, "test: an error is at event %zu, lines %zu to %zu, and not at event %zu, lines %zu to %zu\n", place.event,
+            place.first_line, place.last_line, event, first_line, last_line);
+    exit(1);
+  }
+}
+
+static void rewriting(void) {
+  static const char struck[] = "[{\"Start\": \"Paragraph\"}, {\"Text\": \"a\"}, {\"End\": \"Paragraph\"},"
+                               " {\"Start\": \"Paragraph\"}, {\"Start\": \"Strikethrough\"}, {\"Text\": \"b\"},"
+                               " {\"End\": \"Strikethrough\"}, {\"End\": \"Paragraph\"}]";
+  rewrites("[\"Rule\"]", "*  *  *\n", 0, "*  *  *\n", 0);
+  rewrites("[]", "", 0, "", 0);
+  rewrites(struck, "a\n\n\nb\n", TOCMARK_GFM, "a\n\n\n~~b~~\n", 0);
+  rewrites(struck, "a\n\n\nb\n", 0, "", TOCMARK_UNREPRESENTABLE);
+  is_at(3, 4, 4);
+  rewrites("[\"Rule\", 1]", "---\n", 0, "", TOCMARK_NOT_EVENTS);
+  is_at(1, 0, 0);
+  rewrites("[\"Rule\", {\"Start\": \"Paragraph\"}]", "---\n", 0, "", TOCMARK_UNEXPECTED_EVENT);
+  is_at(1, 0, 0);
+  rewrites("[\"Rule\"", "---\n", 0, "", TOCMARK_NOT_JSON);
+  is_at(SIZE_MAX, 0, 0);
+  rewrites("[\"Rule\"]", "\xFF", 0, "", TOCMARK_SOURCE_NOT_UTF8);
+  is_at(SIZE_MAX, 0, 0);
+  rewrites("[\"Rule\"]", "---\n", 1, "", TOCMARK_INVALID_OPTIONS);
+  is_at(SIZE_MAX, 0, 0);
+  struct tocmark_place other = {sizeof other + 1, 7, 8, 9};
+  expect(tocmark_rewrite(NULL, 0, NULL, 0, 0, NULL, 0, &other, NULL, 0), TOCMARK_NOT_JSON, "no JSON");
+  if (other.size != sizeof other + 1 || other.event != 7 || other.first_line != 8 || other.last_line != 9)
+    wrong("a place of another size is filled", NULL);
+  expect(tocmark_rewrite(NULL, 0, NULL, 0, 0, (const uint8_t *)"\xFF", 1, NULL, NULL, 0), TOCMARK_OPTIONS_NOT_UTF8,
+         "options and no place");
+}
+
+/* NULL is an empty text, a buffer without room, and the default style. */
+static void nulls(void) {
+  expect(tocmark_error_text(TOCMARK_OUT_OF_MEMORY, NULL, 0), 13, "the text of an error for no room");
+  expect(tocmark_read_json(NULL, 0, TOCMARK_GFM, NULL, 0), 2, "no text");
+  expect(tocmark_write_json((const uint8_t *)"[\"Rule\"]", 8, NULL, 0, 0, NULL, 0, NULL, 0), 3, "no source and no options");
+  expect(tocmark_write_json(NULL, 0, NULL, 0, 0, NULL, 0, NULL, 0), TOCMARK_NOT_JSON, "no JSON");
+  expect(tocmark_write_checked((const uint8_t *)"[]", 2, NULL, 0, 0, NULL, 0, NULL, 0), 0, "no events");
+  expect(tocmark_format(NULL, 0, 0, NULL, NULL, 0), 0, "no text in no style");
+  expect(tocmark_format((const uint8_t *)"+  a", 4, 0, NULL, NULL, 0), 4, "a text in no style");
 }
 
 static ptrdiff_t formats(const char *text, struct tocmark_style style, const char *wanted) {
@@ -280,6 +356,13 @@ static void errors(void) {
   expect(writes("[[\"Rule\", {\"start\": 2, \"end\": 9}]]", "---", 0, ""), TOCMARK_INVALID_SOURCE_RANGE, "a range");
   expect(writes("[[\"Rule\", {\"start\": 2, \"end\": 9}]]", "", 0, ""), 3, "a range of no source");
   expect(writes("[]", "", 0, ""), 0, "no events");
+  /* A reference to a footnote, beside emphasis, with the definition behind it. */
+  static const char reference[] = "[{\"Start\": \"Paragraph\"}, {\"Start\": \"Emphasis\"}, {\"Text\": \"a\"},"
+                                  " {\"End\": \"Emphasis\"}, {\"FootnoteReference\": \"1\"}, {\"End\": \"Paragraph\"},"
+                                  " {\"Start\": {\"FootnoteDefinition\": \"1\"}}, {\"Start\": \"Paragraph\"},"
+                                  " {\"Text\": \"b\"}, {\"End\": \"Paragraph\"}, {\"End\": \"FootnoteDefinition\"}]";
+  expect(writes(reference, "", TOCMARK_GFM, ""), 16, "a reference to a footnote");
+  expect(checks(reference), 16, "a reference to a footnote that is read again");
   /* A list behind an empty definition of a footnote falls into it. */
   static const char note[] = "[{\"Start\": {\"FootnoteDefinition\": \"1\"}}, {\"End\": \"FootnoteDefinition\"},"
                              " {\"Start\": {\"List\": null}}, {\"Start\": \"Item\"}, {\"Text\": \"a\"},"
@@ -305,11 +388,16 @@ static void refusals(void) {
 #ifndef SHARED
   static const char markdown[] = "# A &copy; *b*\n\n* ~~c~~ [d](/e)\n  > f\n\n| g |\n|---|\n| h |\n";
   struct text text = {(uint8_t *)markdown, sizeof markdown - 1}, json;
-  answer(&(struct call){&text, NULL, "", TOCMARK_GFM, NULL}, &json);
-  struct call calls[] = {{&text, NULL, "", TOCMARK_GFM, NULL},
-                         {&json, &text, "{\"list_token\": \"-\"}", TOCMARK_GFM, NULL},
-                         {&text, NULL, "", TOCMARK_GFM, &hyphens}};
-  for (size_t i = 0; i < 3; i++) {
+  answer(&(struct call){&text, NULL, "", TOCMARK_GFM, NULL, 0}, &json);
+  struct call calls[] = {{&text, NULL, "", TOCMARK_GFM, NULL, 0},
+                         {&json, &text, "{\"list_token\": \"-\"}", TOCMARK_GFM, NULL, 0},
+                         {&text, NULL, "", TOCMARK_GFM, &hyphens, 0},
+                         {&json, &text, "", TOCMARK_GFM, NULL, 1}};
+  for (size_t i = 0; i < 4; i++) {
+    /* The last call finds another destination of the link. */
+    for (size_t j = 0; i == 3 && j + 3 < json.size; j++)
+      if (memcmp(&json.bytes[j], "\"/e\"", 4) == 0)
+        json.bytes[j + 2] = 'f';
     static uint8_t out[LONGEST];
     ptrdiff_t wanted = made(&calls[i], out, sizeof out), code = TOCMARK_OUT_OF_MEMORY;
     for (long at = 0; code == TOCMARK_OUT_OF_MEMORY; at++) {
@@ -367,6 +455,8 @@ int main(void) {
   if (count != 652)
     wrong("652 texts are wanted on standard input", NULL);
   errors();
+  rewriting();
+  nulls();
   styles();
   refusals();
   pthread_t threads[2];

@@ -1,20 +1,21 @@
-/* tocmark: Markdown to its events as JSON, such events to Markdown, and Markdown in one look.
+/* tocmark: parses Markdown to events as JSON, writes or rewrites Markdown from such events, and formats Markdown.
  *
- * Who owns what. The caller owns all memory: each function reads from pointers that it is given, writes only into the room
- * that it is lent (`out`, `out_len` bytes), and keeps neither. What a call takes from the heap it has given back when it
- * returns.
+ * Buffers. The caller owns all memory. A function reads the texts that it gets, writes into the buffer that it is lent (`out`,
+ * `out_len` bytes), and keeps neither. It frees all memory that it allocates before it returns.
  *
- * What is given. A text is a pointer and a length in bytes; it need not end with a NUL byte. No pointer may be NULL, not even
- * where its length is 0 (give ""), no length may be PTRDIFF_MAX or more, and `out` may overlap nothing that is read. A text
- * that is read may be shared by calls in several threads.
+ * Texts. A text is a pointer and a length in bytes. It needs no NUL byte at its end. A pointer may be NULL if its length is 0:
+ * then the text is empty, or the buffer has no room. A length is below PTRDIFF_MAX. `out` overlaps nothing that is read.
+ * Several threads may read one text at a time.
  *
- * What is answered. A number of 0 or more is how many bytes the text takes. If it is at most `out_len`, the text stands in
- * `out`, in UTF-8, with no NUL byte behind it, and the bytes behind it are as they were; if it is more, nothing was written:
- * call again with that much room. A negative number is an error below, and nothing was written. The same call with the same
- * texts answers the same again, but for TOCMARK_OUT_OF_MEMORY.
+ * Results. A number of 0 or more is the length of the result in bytes. If it is at most `out_len`, the result is in `out`, as
+ * UTF-8 without a NUL byte at its end, and the bytes after it are unchanged. If it is more, nothing is written: call again
+ * with a larger buffer. A negative number is an error below, and nothing is written. A call with the same texts has the same
+ * result each time, except for TOCMARK_OUT_OF_MEMORY.
  *
- * Calls may overlap in several threads; they share nothing but malloc, realloc and free. No call may be made from a signal
- * handler, nor in the forked child of a process with threads. None ends the process, waits, opens a file or prints.
+ * Threads. Several threads may call at a time: calls share malloc, realloc and free, and nothing else. Don't call from a signal
+ * handler, or in the forked child of a process with threads. No function ends the process, waits, opens a file or prints.
+ *
+ * The library needs Linux on x86-64, and a processor of the level x86-64-v2 (nearly all since 2009).
  */
 #ifndef TOCMARK_H
 #define TOCMARK_H
@@ -26,100 +27,174 @@
 extern "C" {
 #endif
 
-/* The version of this header, as tocmark_version() answers it. */
+/* The version of this header, in the form of tocmark_version(). */
 #define TOCMARK_VERSION 0x000100u
 
-/* Extensions of Markdown, as bits of `flags`; 0 is CommonMark 0.31.2. All but the last are read. Any other changes nothing of
- * what is read, and what is written under them is refused where the writer doesn't know them (TOCMARK_INVALID_OPTIONS). They
- * have the numbers that pulldown-cmark 0.13 gives its Options. */
+/* Extensions of Markdown, as bits of `flags`; 0 is CommonMark 0.31.2. They are the bits of pulldown-cmark 0.13. Other bits
+ * don't change what is parsed, and nothing is written under them (TOCMARK_INVALID_OPTIONS). */
 #define TOCMARK_TABLES (1u << 1)
 #define TOCMARK_FOOTNOTES (1u << 2)
 #define TOCMARK_STRIKETHROUGH (1u << 3)
 #define TOCMARK_TASKLISTS (1u << 4)
+#define TOCMARK_HEADING_ATTRIBUTES (1u << 6)
 #define TOCMARK_YAML_METADATA (1u << 7)
 #define TOCMARK_PLUSES_METADATA (1u << 8)
-#define TOCMARK_SUPERSCRIPT (1u << 13)
-#define TOCMARK_SUBSCRIPT (1u << 14)
-#define TOCMARK_HEADING_ATTRIBUTES (1u << 6)
 #define TOCMARK_MATH (1u << 10)
 #define TOCMARK_GFM_QUOTES (1u << 11)
 #define TOCMARK_DEFINITION_LIST (1u << 12)
-#define TOCMARK_WIKILINKS (1u << 15)
+#define TOCMARK_SUPERSCRIPT (1u << 13)
+#define TOCMARK_SUBSCRIPT (1u << 14)
 
-/* What GitHub reads beside CommonMark, of that which is read. */
+/* GitHub's Markdown with front matter, as `gfm` of the programs. Bare web addresses aren't read as links. */
 #define TOCMARK_GFM \
-  (TOCMARK_TABLES | TOCMARK_FOOTNOTES | TOCMARK_STRIKETHROUGH | TOCMARK_TASKLISTS | TOCMARK_GFM_QUOTES)
+  (TOCMARK_TABLES | TOCMARK_FOOTNOTES | TOCMARK_STRIKETHROUGH | TOCMARK_TASKLISTS | TOCMARK_YAML_METADATA | \
+   TOCMARK_PLUSES_METADATA | TOCMARK_GFM_QUOTES)
 
 enum tocmark_error {
-  TOCMARK_OUT_OF_MEMORY = -1,         /* malloc or realloc answered NULL; no other error is caused by that */
-  TOCMARK_NOT_UTF8 = -2,              /* the text that is read isn't UTF-8 */
+  TOCMARK_OUT_OF_MEMORY = -1,         /* malloc or realloc returned NULL; that causes no other error */
+  TOCMARK_NOT_UTF8 = -2,              /* the text or the JSON isn't UTF-8 */
   TOCMARK_SOURCE_NOT_UTF8 = -3,       /* the source isn't UTF-8 */
   TOCMARK_OPTIONS_NOT_UTF8 = -4,      /* the options aren't UTF-8 */
-  TOCMARK_NOT_JSON = -5,              /* the text is no JSON, or nested deeper than 127 */
+  TOCMARK_NOT_JSON = -5,              /* the text isn't JSON, or is nested deeper than 127 */
   TOCMARK_NOT_EVENTS = -6,            /* its value isn't that of events, with ranges or without */
-  TOCMARK_OPTIONS_NOT_JSON = -7,      /* the options are no JSON, or nested deeper than 127 */
+  TOCMARK_OPTIONS_NOT_JSON = -7,      /* the options aren't JSON, or are nested deeper than 127 */
   TOCMARK_NOT_OPTIONS = -8,           /* their value isn't that of options */
-  TOCMARK_INVALID_OPTIONS = -9,       /* the options or flags aren't such that can be written under */
-  TOCMARK_UNEXPECTED_EVENT = -10,     /* an End that isn't the innermost open container's, a container that is open at the
-                                         end, or events that can't stand where they do */
-  TOCMARK_UNREPRESENTABLE = -11,      /* no spelling of a block with delimiters is read back as that block */
-  TOCMARK_INVALID_SOURCE_RANGE = -12, /* a range that is reversed, past the end of the source, or not between characters */
-  TOCMARK_FINISHED = -13,             /* events after the end: nothing of these functions leads there */
-  TOCMARK_FAILED = -14,               /* a call after one that was refused: nothing of these functions leads there */
-  TOCMARK_INVALID_STYLE = -15,        /* a style of another size, or with a number that means nothing */
-  TOCMARK_CHANGED = -16               /* what would be written says something else than the events */
+  TOCMARK_INVALID_OPTIONS = -9,       /* nothing can be written under these options and flags */
+  TOCMARK_UNEXPECTED_EVENT = -10,     /* an End has no matching Start, a container is open at the end, or an event can't be
+                                         at its place */
+  TOCMARK_UNREPRESENTABLE = -11,      /* no spelling of a block parses back to its events */
+  TOCMARK_INVALID_SOURCE_RANGE = -12, /* a range is reversed, past the end of the source, or not between characters */
+  TOCMARK_FINISHED = -13,             /* events after the end; these functions never return it */
+  TOCMARK_FAILED = -14,               /* a call after an error; these functions never return it */
+  TOCMARK_INVALID_STYLE = -15,        /* a style has another size, or a number that means nothing */
+  TOCMARK_CHANGED = -16               /* the text would parse to other events */
 };
 
-/* The version: 65,536 times the first number, 256 times the second, and the third. */
+/* Returns the version: 65,536 times the first number, 256 times the second, and the third. */
 uint32_t tocmark_version(void);
 
-/* Writes the English text of an error's code, as "out of memory"; of any other number "no error of tocmark". */
+/* Writes the English text of an error's code, such as "out of memory". Any other number has "no error of tocmark". */
 ptrdiff_t tocmark_error_text(ptrdiff_t code, uint8_t *out, size_t out_len);
 
-/* Writes the events of a Markdown text as JSON: an array of [event, {"start": .., "end": ..}], where the range counts bytes of
- * the text. All 2,125 names of character references of HTML are known. Errors: TOCMARK_OUT_OF_MEMORY, TOCMARK_NOT_UTF8. */
+/* Parses Markdown, and writes its events as JSON: an array of [event, {"start": .., "end": ..}]. Ranges count bytes of the
+ * text. Errors: TOCMARK_OUT_OF_MEMORY, TOCMARK_NOT_UTF8. */
 ptrdiff_t tocmark_read_json(const uint8_t *text, size_t text_len, uint32_t flags, uint8_t *out, size_t out_len);
 
-/* Writes the Markdown of events that are given as JSON: an array of events, or of [event, range] or [event, null].
+/* Writes the Markdown of events as JSON: an array of events, or of [event, range] or [event, null]. All blocks get one layout;
+ * tocmark_rewrite keeps the layout of a source.
  *
- * source: the text of which the ranges are; texts are written as it spells them, where that reads back. Where it is empty
- * there is no source, and ranges are dropped.
- * flags: the extensions under which the text is to read back.
- * options: a JSON object, as {"list_token": "-"}; where the text is empty, the default ones.
+ * source: the text that the ranges refer to. Texts keep its spelling if that parses back. Without a source, ranges are dropped.
+ * flags: the extensions under which the result has to parse back.
+ * options: a JSON object, such as {"list_token": "-"}. Without options, the default ones are used.
  *
- * Errors: all but TOCMARK_FINISHED, TOCMARK_FAILED, TOCMARK_INVALID_STYLE and TOCMARK_CHANGED. Where several are there, the
- * answer is the first in the order TOCMARK_NOT_UTF8, TOCMARK_SOURCE_NOT_UTF8, TOCMARK_OPTIONS_NOT_UTF8, those of options,
- * those of JSON, those of the events. */
+ * Errors: all but TOCMARK_FINISHED, TOCMARK_FAILED, TOCMARK_INVALID_STYLE and TOCMARK_CHANGED. If there are several, the
+ * result is the first in this order: TOCMARK_NOT_UTF8, TOCMARK_SOURCE_NOT_UTF8, TOCMARK_OPTIONS_NOT_UTF8, those of the
+ * options, those of the JSON, those of the events. */
 ptrdiff_t tocmark_write_json(const uint8_t *json, size_t json_len, const uint8_t *source, size_t source_len, uint32_t flags,
                              const uint8_t *options, size_t options_len, uint8_t *out, size_t out_len);
 
-/* The same, if the text says just what the events say: read under these flags it has the same events, where texts side by
- * side count as one. Else the answer is TOCMARK_CHANGED, behind all other errors. */
+/* Does what tocmark_write_json does, parses the result as a whole, and refuses it (TOCMARK_CHANGED) unless it has just these
+ * events. Texts side by side count as one. */
 ptrdiff_t tocmark_write_checked(const uint8_t *json, size_t json_len, const uint8_t *source, size_t source_len,
                                 uint32_t flags, const uint8_t *options, size_t options_len, uint8_t *out, size_t out_len);
 
-/* How a formatted document is to look. A character stands for itself; 0 stands for what the source has, and for '*' round
- * emphasis: struct tocmark_style style = {.size = sizeof style, .bullet = '-'}; */
+/* Where an error is: struct tocmark_place place = {sizeof place, 0, 0, 0}; */
+struct tocmark_place {
+  uint32_t size;     /* sizeof(struct tocmark_place); a struct of another size is left alone */
+  size_t event;      /* the number of the event, counted from 0; SIZE_MAX if it isn't known */
+  size_t first_line; /* the first line of the source that is concerned, counted from 1; 0 if it isn't known */
+  size_t last_line;  /* the last one */
+};
+
+/* Replaces the events of a source by others: all lines whose events stay are kept byte for byte, and the result parses to just
+ * the new events. Texts side by side count as one. If the events are those of the source, the result is the source.
+ *
+ * json, flags, options: as of tocmark_write_json. The events need no ranges. The options concern new blocks alone.
+ * where: NULL, or what an error fills.
+ *
+ * Errors: those of tocmark_write_checked, in the same order. */
+ptrdiff_t tocmark_rewrite(const uint8_t *json, size_t json_len, const uint8_t *source, size_t source_len, uint32_t flags,
+                          const uint8_t *options, size_t options_len, struct tocmark_place *where, uint8_t *out,
+                          size_t out_len);
+
+/* The style of a formatted text. A character is its own number, and 0 is the default:
+ * struct tocmark_style style = {.size = sizeof style, .bullet = '-'}; */
 struct tocmark_style {
   uint32_t size;         /* sizeof(struct tocmark_style) */
-  uint32_t bullet;       /* '*', '-' or '+'; 0: each list as in the source */
-  uint32_t delimiter;    /* behind an item's number, '.' or ')'; 0: each list as in the source */
-  uint32_t numbering;    /* 0: each as in the source; 1: all numbers are the first; 2: they go up */
+  uint32_t bullet;       /* '*', '-' or '+'; 0: as in the source */
+  uint32_t delimiter;    /* after an item's number, '.' or ')'; 0: as in the source */
+  uint32_t numbering;    /* 0: as in the source; 1: all numbers are the first; 2: they count up */
   uint32_t emphasis;     /* '*' or '_'; 0: '*' */
   uint32_t strong;       /* '*' or '_', which is written twice; 0: '*' */
-  uint32_t fence;        /* '`' or '~'; 0: each as in the source */
-  uint32_t fence_length; /* the least length of a fence; less than 3 is taken for 3, more than 1,000 for 1,000 */
-  uint32_t hard_break;   /* a line break: 0: each as in the source; 1: a backslash; 2: two blanks */
-  uint32_t rule;         /* a thematic break: 0: ---; 1: each as in the source */
+  uint32_t fence;        /* '`' or '~'; 0: as in the source */
+  uint32_t fence_length; /* minimal length of a fence; below 3 means 3, above 1,000 means 1,000 */
+  uint32_t hard_break;   /* a line break: 0: as in the source; 1: a backslash; 2: two spaces */
+  uint32_t rule;         /* a thematic break: 0: ---; 1: as in the source */
   uint32_t table_width;  /* tables are padded up to this many columns; 0: up to 120 */
 };
 
-/* Writes a Markdown text in one look. It says just what it said: under these flags the same events are read in both texts,
- * where texts side by side count as one. A block that would be read otherwise keeps its lines.
+/* Formats Markdown. The result parses to the same events under these flags; texts side by side count as one. A block that would
+ * parse otherwise keeps its lines. If `style` is NULL, all parts of it are the default.
  *
- * Errors: TOCMARK_NOT_UTF8, TOCMARK_INVALID_STYLE, which is looked at behind that, and TOCMARK_OUT_OF_MEMORY. */
+ * Errors: TOCMARK_NOT_UTF8, TOCMARK_INVALID_STYLE, and TOCMARK_OUT_OF_MEMORY. */
 ptrdiff_t tocmark_format(const uint8_t *text, size_t text_len, uint32_t flags, const struct tocmark_style *style, uint8_t *out,
                          size_t out_len);
+
+/* The functions in the library take no NULL. So each name above stands for one of the following, which replaces NULL. A program
+ * that calls the library without this header passes other pointers. */
+static inline const uint8_t *tocmark_text_(const uint8_t *text) {
+  static const uint8_t none = 0;
+  return text ? text : &none;
+}
+
+static inline uint8_t *tocmark_room_(uint8_t *out) {
+  static uint8_t none = 0; /* never written, since its length is 0 */
+  return out ? out : &none;
+}
+
+static inline ptrdiff_t tocmark_error_text_(ptrdiff_t code, uint8_t *out, size_t out_len) {
+  return tocmark_error_text(code, tocmark_room_(out), out_len);
+}
+
+static inline ptrdiff_t tocmark_read_json_(const uint8_t *text, size_t text_len, uint32_t flags, uint8_t *out,
+                                           size_t out_len) {
+  return tocmark_read_json(tocmark_text_(text), text_len, flags, tocmark_room_(out), out_len);
+}
+
+static inline ptrdiff_t tocmark_write_json_(const uint8_t *json, size_t json_len, const uint8_t *source, size_t source_len,
+                                            uint32_t flags, const uint8_t *options, size_t options_len, uint8_t *out,
+                                            size_t out_len) {
+  return tocmark_write_json(tocmark_text_(json), json_len, tocmark_text_(source), source_len, flags, tocmark_text_(options),
+                            options_len, tocmark_room_(out), out_len);
+}
+
+static inline ptrdiff_t tocmark_write_checked_(const uint8_t *json, size_t json_len, const uint8_t *source,
+                                               size_t source_len, uint32_t flags, const uint8_t *options, size_t options_len,
+                                               uint8_t *out, size_t out_len) {
+  return tocmark_write_checked(tocmark_text_(json), json_len, tocmark_text_(source), source_len, flags,
+                               tocmark_text_(options), options_len, tocmark_room_(out), out_len);
+}
+
+static inline ptrdiff_t tocmark_rewrite_(const uint8_t *json, size_t json_len, const uint8_t *source, size_t source_len,
+                                         uint32_t flags, const uint8_t *options, size_t options_len,
+                                         struct tocmark_place *where, uint8_t *out, size_t out_len) {
+  struct tocmark_place unread = {sizeof unread, 0, 0, 0};
+  return tocmark_rewrite(tocmark_text_(json), json_len, tocmark_text_(source), source_len, flags, tocmark_text_(options),
+                         options_len, where ? where : &unread, tocmark_room_(out), out_len);
+}
+
+static inline ptrdiff_t tocmark_format_(const uint8_t *text, size_t text_len, uint32_t flags,
+                                        const struct tocmark_style *style, uint8_t *out, size_t out_len) {
+  static const struct tocmark_style plain = {sizeof plain, 0, 0, 0, 0, 0, 0, 0, 0, 0, 0};
+  return tocmark_format(tocmark_text_(text), text_len, flags, style ? style : &plain, tocmark_room_(out), out_len);
+}
+
+#define tocmark_error_text tocmark_error_text_
+#define tocmark_read_json tocmark_read_json_
+#define tocmark_write_json tocmark_write_json_
+#define tocmark_write_checked tocmark_write_checked_
+#define tocmark_rewrite tocmark_rewrite_
+#define tocmark_format tocmark_format_
 
 #ifdef __cplusplus
 }

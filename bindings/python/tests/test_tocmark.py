@@ -1,19 +1,32 @@
 """Tests of the package: its docstrings' examples, each error, and texts that come back."""
 import doctest
+import importlib
+import io
 import json
 import os
+import pickle
+import stat
+import subprocess
+import sys
+import tempfile
 import threading
 import unittest
+from unittest import mock
 
 import tocmark
+from tocmark import _mdbook
 
 HERE = os.path.dirname(os.path.realpath(__file__))
 EXAMPLES = os.path.join(HERE, "../../../crates/test_workbench/stdin")
 PARAGRAPH = [{"Start": "Paragraph"}, {"Text": "a"}, {"End": "Paragraph"}]
+FRONT = "---\ntitle:   x\n---\n\n"
+# What no writer would write so.
+ODD = FRONT + "*  a [b](/old) &eacute;\n\n\n|c|\n|-|\n|~~d~~|\n\n> [!NOTE]\n>  e[^1]\n\n[^1]:  f\n\n\nNotes\n=====\n"
 
 
 def load_tests(loader, tests, pattern):
-    tests.addTests(doctest.DocTestSuite(tocmark))
+    for name in ("", "._calls", "._tree"):
+        tests.addTests(doctest.DocTestSuite(importlib.import_module(f"tocmark{name}")))
     return tests
 
 
@@ -33,6 +46,18 @@ def merged(pairs):
     return events
 
 
+def relink(event):
+    match event:
+        case {"Start": {"Link": link}}:
+            link["dest_url"] = "/new"
+
+
+def lower(event):
+    match event:
+        case {"Start": {"Heading": heading}}:
+            heading["level"] = f"H{min(int(heading['level'][1]) + 1, 6)}"
+
+
 class Reading(unittest.TestCase):
     def test_ranges_count_bytes(self):
         self.assertEqual(tocmark.read("é *a*")[1:3], [({"Text": "é "}, range(0, 3)), ({"Start": "Emphasis"}, range(3, 6))])
@@ -44,23 +69,40 @@ class Reading(unittest.TestCase):
         self.assertEqual(tocmark.read("a\0b")[1][0], {"Text": "a\ufffdb"})
 
     def test_a_long_answer_takes_a_second_call(self):
-        self.assertEqual(len(tocmark.read("*" * 3 + "a " * 3 + "\n\n* " * 5000)), len(tocmark.read("*" * 3 + "a " * 3 + "\n\n* " * 5000)))
+        data = b"a\n\n" * 5000
+        size, text = tocmark._library.answer(tocmark._library.read_json, data, len(data), 0, guess=3)
+        self.assertEqual((size, len(json.loads(text))), (len(text), 15000))
+
+    def test_the_default_is_gfm_with_front_matter(self):
+        self.assertEqual(tocmark.read(FRONT)[0][0], {"Start": {"MetadataBlock": "YamlStyle"}})
+        self.assertEqual(tocmark.read("+++\na\n+++\n")[0][0], {"Start": {"MetadataBlock": "PlusesStyle"}})
+        self.assertEqual(tocmark.read("~~a~~")[1][0], {"Start": "Strikethrough"})
+        self.assertEqual(tocmark.read("~~a~~", syntax="commonmark")[1][0], {"Text": "~~a~~"})
 
     def test_names(self):
         with self.assertRaisesRegex(ValueError, "'x' is none of commonmark, gfm, all"):
             tocmark.read("a", syntax="x")
         with self.assertRaisesRegex(ValueError, "'x' is none of tables, "):
             tocmark.read("a", extensions=["x"])
+        with self.assertRaisesRegex(ValueError, "'no-x' is none of tables, "):
+            tocmark.read("a", extensions=["no-x"])
+        with self.assertRaisesRegex(TypeError, "'tables'"):
+            tocmark.read("a", extensions="tables")
 
-    def test_half_a_pair_is_no_text(self):
+    def test_what_is_no_text(self):
         with self.assertRaises(UnicodeEncodeError):
             tocmark.read("\ud800")
+        for call in (tocmark.read, tocmark.format, lambda text: tocmark.rewrite(text, []), lambda text: tocmark.write([], text),
+                     lambda text: tocmark.edit(text, relink), lambda text: tocmark.text_of(text, range(0))):
+            for text in (b"a", None, 1, bytearray(b"a")):
+                with self.assertRaisesRegex(TypeError, f"must be a str, and not {type(text).__name__}|unhashable"):
+                    call(text)
 
 
 class Extensions(unittest.TestCase):
     def test_mathematics_kinds_of_quotes_and_attributes(self):
         self.assertEqual(tocmark.read("$a$", extensions=["math"])[1], ({"InlineMath": "a"}, range(0, 3)))
-        self.assertEqual(tocmark.read("> [!NOTE]\n> a", syntax="gfm")[0][0], {"Start": {"BlockQuote": "Note"}})
+        self.assertEqual(tocmark.read("> [!NOTE]\n> a")[0][0], {"Start": {"BlockQuote": "Note"}})
         heading = tocmark.read("# a {#b}", syntax="all")[0][0]["Start"]["Heading"]
         self.assertEqual(heading["id"], "b")
 
@@ -70,36 +112,50 @@ class Writing(unittest.TestCase):
         with self.assertRaises(error) as caught:
             tocmark.write(events, source, **options)
         self.assertEqual(caught.exception.code, code)
+        return caught.exception
 
     def test_events_alone_and_with_none(self):
         self.assertEqual(tocmark.write(PARAGRAPH), "a")
         self.assertEqual(tocmark.write([(event, None) for event in PARAGRAPH]), "a")
+        self.assertEqual(tocmark.write([[event, None] for event in PARAGRAPH]), "a")
         self.assertEqual(tocmark.write([]), "")
 
     def test_a_new_event_stands_beside_read_ones(self):
         events = tocmark.read("a")
         self.assertEqual(tocmark.write([*events, "Rule"], "a"), "a\n\n---")
 
+    def test_a_reference_to_a_footnote_stands_beside_emphasis(self):
+        self.assertEqual(tocmark.write(tocmark.read("*a*[^1]\n\n[^1]: b\n")), "*a*[^1]\n\n[^1]: b")
+
     def test_errors(self):
         self.refused(tocmark.NotEvents, -6, ["Rul"])
-        self.refused(tocmark.InvalidOptions, -8, PARAGRAPH, list_token="x")
-        self.refused(tocmark.InvalidOptions, -8, PARAGRAPH, bullet="-")
         self.refused(tocmark.InvalidOptions, -9, PARAGRAPH, extensions=["superscript"], use_html_for_super_sub_script=True)
         self.refused(tocmark.UnexpectedEvent, -10, PARAGRAPH[:2])
         struck = [PARAGRAPH[0], {"Start": "Strikethrough"}, {"Text": "a"}, {"End": "Strikethrough"}, PARAGRAPH[2]]
-        self.refused(tocmark.Unrepresentable, -11, struck)
+        self.refused(tocmark.Unrepresentable, -11, struck, syntax="commonmark")
         self.refused(tocmark.InvalidSourceRange, -12, [("Rule", range(2, 9))], "---")
+
+    def test_an_option_that_is_wrong_is_named(self):
+        for options, wanted in (({"list_token": "x"}, "list_token: expected one of * - +, and not 'x'"),
+                                ({"bullet": "-"}, "there is no option bullet"),
+                                ({"newlines_after_rest": -1}, "newlines_after_rest: expected a whole number from 0, below 2**63 - 1, and not -1"),
+                                ({"check_plain_blocks": 1}, "check_plain_blocks: expected True or False, and not 1")):
+            error = self.refused(tocmark.InvalidOptions, -8, PARAGRAPH, **options)
+            self.assertEqual(str(error), wanted)
+        self.assertEqual(tocmark.write([*PARAGRAPH, "Rule"], newlines_after_paragraph=1, check_plain_blocks=True), "a\n\n---")
 
     def test_a_document_is_checked(self):
         note = [{"Start": {"FootnoteDefinition": "1"}}, {"End": "FootnoteDefinition"}]
         items = [{"Start": {"List": None}}, {"Start": "Item"}, {"Text": "a"}, {"End": "Item"}, {"End": {"List": False}}]
-        tocmark.write(note + items, syntax="gfm")
-        self.refused(tocmark.Changed, -16, note + items, syntax="gfm", check_document=True)
+        tocmark.write(note + items)
+        self.refused(tocmark.Changed, -16, note + items, check_document=True)
         self.assertEqual(tocmark.write(PARAGRAPH, check_document=True), "a")
 
     def test_what_is_no_json(self):
         with self.assertRaises(TypeError):
             tocmark.write([{"Text": b"a"}])
+        with self.assertRaisesRegex(TypeError, "events must be a list of events, and not str"):
+            tocmark.write("Rule")
 
     def test_texts_come_back(self):
         for text in examples():
@@ -107,6 +163,107 @@ class Writing(unittest.TestCase):
             written = tocmark.write(events, text)
             self.assertEqual([event for event, _ in tocmark.read(tocmark.write(tocmark.read(written), written))],
                              [event for event, _ in tocmark.read(written)], text)
+
+
+class Rewriting(unittest.TestCase):
+    def refused(self, error, source, events, event, lines, **options):
+        with self.assertRaises(error) as caught:
+            tocmark.rewrite(source, events, **options)
+        self.assertEqual((caught.exception.event, caught.exception.lines), (event, lines))
+        return str(caught.exception)
+
+    def test_all_that_is_not_changed_stays(self):
+        self.assertEqual(tocmark.rewrite(ODD, tocmark.read(ODD)), ODD)
+        self.assertEqual(tocmark.rewrite(ODD, [event for event, _ in tocmark.read(ODD)]), ODD)
+        self.assertEqual(tocmark.edit(ODD, relink), ODD.replace("/old", "/new"))
+        self.assertEqual(tocmark.edit(ODD, lower), ODD.replace("=====", "-----"))
+        for text in ("", "\n", "a", "\r\n\r\na\r\n", "\ufeff*  a\n"):
+            self.assertEqual(tocmark.edit(text, lambda event: None), text)
+
+    def test_another_event_is_taken(self):
+        found = tocmark.edit(ODD, lambda event: {"Text": "g"} if event == {"Text": "f"} else event)
+        self.assertEqual(found, ODD.replace("[^1]:  f", "[^1]:  g"))
+
+    def test_an_end_follows_its_start(self):
+        def stronger(event):
+            return {"Start": "Strong"} if event == {"Start": "Emphasis"} else None
+
+        self.assertEqual(tocmark.edit("*a* b\n", stronger), "**a** b\n")
+        self.assertEqual(tocmark.edit("1. a\n", lambda it: {"Start": {"List": None}} if "Start" in it and "List" in it["Start"] else it),
+                         "* a\n")
+
+    def test_options_are_those_of_the_writer(self):
+        events = [{"Start": {"List": None}}, {"Start": "Item"}, {"Text": "a"}, {"End": "Item"}, {"End": {"List": False}}]
+        self.assertEqual(tocmark.rewrite("", events, list_token="+").rstrip("\n"), "+ a")
+
+    def test_errors_have_a_place(self):
+        struck = [PARAGRAPH[0], {"Start": "Strikethrough"}, {"Text": "b"}, {"End": "Strikethrough"}, PARAGRAPH[2]]
+        said = self.refused(tocmark.Unrepresentable, "a\n\n\nb\n", PARAGRAPH + struck, 3, (4, 4), syntax="commonmark")
+        self.assertEqual(said, "event 3, line 4: no spelling of a block of events reads back")
+        self.refused(tocmark.NotEvents, "a\n", [*PARAGRAPH, "Rul"], 3, None)
+        self.refused(tocmark.UnexpectedEvent, "a\n", [*PARAGRAPH, {"Start": "Paragraph"}], 3, None)
+        self.refused(tocmark.InvalidOptions, "a\n", PARAGRAPH, None, None, list_token="x")
+        self.refused(tocmark.InvalidOptions, "a\n", PARAGRAPH, None, None, syntax="all", use_html_for_super_sub_script=True)
+
+    def test_errors_are_pickled(self):
+        for error in (tocmark.Error(-5), tocmark.NotEvents(-6, 3), tocmark.Unrepresentable(-11, 3, (4, 5)),
+                      tocmark.InvalidOptions(-8, cause="there is no option a")):
+            copy = pickle.loads(pickle.dumps(error))
+            self.assertIs(type(copy), type(error))
+            self.assertEqual((str(copy), copy.code, copy.event, copy.lines), (str(error), error.code, error.event, error.lines))
+        self.assertEqual(str(tocmark.Unrepresentable(-11, 3, (4, 5))),
+                         "event 3, lines 4 to 5: no spelling of a block of events reads back")
+
+    def test_texts_stay(self):
+        for text in examples():
+            self.assertEqual(tocmark.edit(text, lambda event: None, syntax="all"), text)
+
+
+class Trees(unittest.TestCase):
+    def test_a_tree_has_all_events(self):
+        for text in [ODD, *examples()]:
+            events = tocmark.read(text)
+            nodes = tocmark.tree(events, text)
+            self.assertEqual([pair for node in nodes for pair in node.events()], events, text)
+
+    def test_nodes(self):
+        text = "é\n\n> *a*\\\n> `b`\n"
+        nodes = list(tocmark.walk(tocmark.read(text), text))
+        self.assertEqual([(node.name, node.line, node.column) for node in nodes],
+                         [("Paragraph", 1, 1), ("Text", 1, 1), ("BlockQuote", 3, 1), ("Paragraph", 3, 3), ("Emphasis", 3, 3),
+                          ("Text", 3, 4), ("HardBreak", 3, 6), ("Code", 4, 3)])
+        self.assertEqual(nodes[2].text, "a\nb")
+        self.assertEqual([tocmark.text_of(text, node.range) for node in nodes[4:]], ["*a*", "a", "\\\n", "`b`"])
+        self.assertIsNone(next(tocmark.walk(tocmark.read(text))).line)
+        self.assertIsNone(next(tocmark.walk(["Rule"], text)).column)
+
+    def test_a_tree_is_changed(self):
+        text = "1. a\n2. b\n\n***\n"
+        items, rule = tocmark.tree(tocmark.read(text))
+        del items.children[0]
+        items.event = {"Start": {"List": None}}
+        self.assertEqual(tocmark.rewrite(text, [*items.events(), *rule.events()]), "* b\n\n***\n")
+
+    def test_a_deep_tree_takes_no_recursion(self):
+        events = [{"Start": "Emphasis"}] * 5000 + [{"End": "Emphasis"}] * 5000
+        self.assertEqual(sum(1 for _ in tocmark.walk(events)), 5000)
+        self.assertEqual(len(tocmark.tree(events)[0].events()), 10000)
+
+    def test_what_stands_alone(self):
+        for events, number in (([{"End": "Paragraph"}], 0), ([*PARAGRAPH, {"Start": "Paragraph"}], 3)):
+            with self.assertRaises(tocmark.UnexpectedEvent) as caught:
+                tocmark.tree(events)
+            self.assertEqual(caught.exception.event, number)
+
+    def test_positions(self):
+        self.assertEqual([tocmark.position_of("a\r\nb\rc\n", at) for at in (0, 3, 5, 7)], [(1, 1), (2, 1), (3, 1), (4, 1)])
+        for at in (-1, 2):
+            with self.assertRaises(ValueError):
+                tocmark.position_of("a", at)
+        with self.assertRaises(ValueError):
+            tocmark.position_of("é", 1)
+        with self.assertRaises(ValueError):
+            tocmark.text_of("a", range(0, 2))
 
 
 class Formatting(unittest.TestCase):
@@ -123,6 +280,9 @@ class Formatting(unittest.TestCase):
         self.assertEqual(tocmark.format("*a* **b**", emphasis="_", strong="_"), "_a_ __b__\n")
         self.assertEqual(tocmark.format("~~~\na\n~~~", fence="`", fence_length=4), "````\na\n````\n")
 
+    def test_front_matter_stays(self):
+        self.assertEqual(tocmark.format(FRONT + "a\n=\n"), FRONT + "# a\n")
+
     def test_errors(self):
         for part in ("bullet", "delimiter", "emphasis", "strong", "fence"):
             self.refused("a", **{part: "x"})
@@ -137,6 +297,8 @@ class Formatting(unittest.TestCase):
             tocmark.format("a", table_width=0)
         with self.assertRaisesRegex(ValueError, "and not 2"):
             tocmark.format("a", fence_length=2)
+        with self.assertRaises(TypeError):
+            tocmark.format("a", bulet="-")
 
     def test_the_same_is_read(self):
         styles = ({}, {"bullet": "-", "delimiter": ")", "numbering": "first", "emphasis": "_", "fence": "~", "hard_break": "backslash", "rule": "source", "table_width": 1})
@@ -144,6 +306,155 @@ class Formatting(unittest.TestCase):
             for style in styles:
                 found = tocmark.format(text, syntax="all", **style)
                 self.assertEqual(merged(tocmark.read(found, syntax="all")), merged(tocmark.read(text, syntax="all")), text)
+
+
+class Files(unittest.TestCase):
+    def setUp(self):
+        folder = tempfile.TemporaryDirectory()
+        self.addCleanup(folder.cleanup)
+        self.folder = folder.name
+        self.path = self.put("a.md", "*  a\r\n")
+
+    def put(self, name, text):
+        path = os.path.join(self.folder, name)
+        with open(path, "w", encoding="utf-8", newline="") as file:
+            file.write(text)
+        return path
+
+    def has(self, path, text):
+        with open(path, encoding="utf-8", newline="") as file:
+            self.assertEqual(file.read(), text)
+        self.assertEqual([name for name in os.listdir(self.folder) if name.startswith(".")], [])
+
+    def test_a_file_is_replaced(self):
+        os.chmod(self.path, 0o640)
+        self.assertTrue(tocmark.format_file(self.path, check=True))
+        self.has(self.path, "*  a\r\n")
+        self.assertTrue(tocmark.format_file(self.path))
+        self.has(self.path, "* a\r\n")
+        self.assertEqual(stat.S_IMODE(os.stat(self.path).st_mode), 0o640)
+        number = os.stat(self.path).st_ino
+        self.assertFalse(tocmark.format_file(self.path))
+        self.assertEqual(os.stat(self.path).st_ino, number)
+
+    def test_a_link_is_followed(self):
+        link = os.path.join(self.folder, "link.md")
+        os.symlink("a.md", link)
+        self.assertTrue(tocmark.format_file(link, bullet="-"))
+        self.assertTrue(os.path.islink(link))
+        self.has(self.path, "- a\r\n")
+
+    def test_a_file_stays_after_an_error(self):
+        with mock.patch("os.rename", side_effect=OSError("no")), self.assertRaises(OSError):
+            tocmark.format_file(self.path)
+        self.has(self.path, "*  a\r\n")
+        with mock.patch("os.fsync", side_effect=lambda _: self.put("a.md", "b\n")), self.assertRaisesRegex(OSError, "meanwhile"):
+            tocmark.format_file(self.path)
+        self.has(self.path, "b\n")
+        with self.assertRaises(OSError):
+            tocmark.format_file("/dev/null/a.md")
+        with open(self.path, "wb") as file:
+            file.write(b"caf\xe9\n")
+        with self.assertRaises(UnicodeDecodeError):
+            tocmark.format_file(self.path)
+
+
+class Commands(unittest.TestCase):
+    def setUp(self):
+        folder = tempfile.TemporaryDirectory()
+        self.addCleanup(folder.cleanup)
+        self.path = os.path.join(folder.name, "a.md")
+        with open(self.path, "w", encoding="utf-8") as file:
+            file.write(ODD)
+
+    def run_module(self, *words, given="", status=0):
+        done = subprocess.run([sys.executable, "-m", "tocmark", *words], input=given.encode(), capture_output=True, check=False)
+        self.assertEqual(done.returncode, status, done.stderr.decode())
+        self.said = done.stderr.decode()
+        return done.stdout.decode()
+
+    def test_events(self):
+        events = self.run_module("read", self.path)
+        self.assertEqual(self.run_module("read", given=ODD), events)
+        changed = events.replace("/old", "/new")
+        self.assertEqual(self.run_module("rewrite", "--source", self.path, given=changed), ODD.replace("/old", "/new"))
+        self.assertEqual(self.run_module("rewrite", "--source", self.path, "--in-place", given=changed), "")
+        with open(self.path, encoding="utf-8") as file:
+            self.assertEqual(file.read(), ODD.replace("/old", "/new"))
+        self.assertEqual(self.run_module("write", "--check-document", given='["Rule"]'), "---\n")
+        self.run_module("rewrite", "--source", self.path, given='["Rule", 1]', status=1)
+        self.assertEqual(self.said, "tocmark: event 1: the JSON is not that of events\n")
+        self.run_module("write", given="[", status=1)
+        self.assertTrue(self.said.startswith("tocmark: "), self.said)
+
+    def test_formatting(self):
+        self.assertEqual(self.run_module("format", "--bullet", "-", given="*  a"), "- a\n")
+        self.assertEqual(self.run_module("format", "--check", self.path, status=1), self.path + "\n")
+        self.assertEqual(self.run_module("format", self.path), "")
+        self.assertEqual(self.run_module("format", "--check", self.path), "")
+        self.run_module("format", self.path + "x", status=1)
+        self.assertIn("a.mdx: ", self.said)
+
+    def test_arguments(self):
+        for words in ([], ["nothing"], ["read", "--syntax", "x"], ["rewrite"], ["mdbook"], ["mdbook", "--"], ["mdbook", "x", "--", "cat"]):
+            self.run_module(*words, status=2)
+        self.assertEqual(self.run_module("--version"), "tocmark 0.1.0\n")
+        self.assertIn("mdbook", self.run_module("--help"))
+
+
+def chapter(name, content, *inner):
+    return {"Chapter": {"name": name, "content": content, "number": [1], "sub_items": list(inner), "path": f"{name}.md", "parent_names": []}}
+
+
+class Books(unittest.TestCase):
+    def setUp(self):
+        self.book = {"sections": [chapter("a", "# é\n\n\n*  a\n", chapter("b", "b\n=\n")), "Separator", {"PartTitle": "c"},
+                                  chapter("d", "## d {#e}\n\n\n***\n")], "__non_exhaustive": None}
+        self.given = json.dumps([{"root": "/x", "renderer": "html"}, self.book])
+
+    def lowered(self, text):
+        return text.replace("# é", "## é").replace("b\\n=\\n", "b\\n-\\n").replace("## d", "### d")
+
+    def run_main(self, words, given, change=lower):
+        output = mock.Mock(buffer=io.BytesIO())
+        said = io.StringIO()
+        with mock.patch.multiple(sys, argv=["x", *words], stdin=mock.Mock(buffer=io.BytesIO(given.encode())), stdout=output,
+                                 stderr=said), self.assertRaises(SystemExit) as caught:
+            tocmark.mdbook(change)
+        return caught.exception.code, output.buffer.getvalue().decode(), said.getvalue()
+
+    def test_each_chapter_is_changed_and_nothing_else(self):
+        status, written, said = self.run_main([], self.given)
+        self.assertEqual((status, said), (0, ""))
+        self.assertEqual(written, self.lowered(json.dumps(self.book, ensure_ascii=False)))
+        newer = json.dumps([{}, {"items": self.book["sections"]}])
+        self.assertEqual(json.loads(self.run_main([], newer)[1])["items"], json.loads(written)["sections"])
+
+    def test_renderers(self):
+        self.assertEqual(self.run_main(["supports", "html"], ""), (0, "", ""))
+
+    def test_errors_name_the_chapter(self):
+        status, written, said = self.run_main([], self.given, lambda event: {"Text": 1} if event == {"Text": "b"} else None)
+        self.assertEqual((status, written), (1, ""))
+        self.assertTrue(said.startswith("tocmark: b.md: event 1: "), said)
+        for given in ("", "[]", "{}", "[1, 2]", "[1, 2, 3]"):
+            self.assertEqual(self.run_main([], given)[0], 1, given)
+
+    def test_a_command_is_a_preprocessor(self):
+        command = [sys.executable, "-m", "tocmark", "mdbook", "--", "sed", 's/"H2"/"H3"/g; s/"H1"/"H2"/g']
+        done = subprocess.run(command, input=self.given.encode(), capture_output=True, check=True)
+        self.assertEqual(done.stdout.decode(), self.lowered(json.dumps(self.book, ensure_ascii=False)))
+        self.assertEqual(subprocess.run([*command, "supports", "html"], stdin=subprocess.DEVNULL, check=False).returncode, 0)
+        for words in (["false"], ["/nothing"], ["echo"]):
+            done = subprocess.run([*command[:5], *words], input=self.given.encode(), capture_output=True, check=False)
+            self.assertEqual((done.returncode, done.stdout), (1, b""))
+            self.assertTrue(done.stderr.startswith(b"tocmark: a.md: "), done.stderr)
+
+    def test_chapters_are_found_without_recursion(self):
+        inner = chapter("z", "z\n")
+        for _ in range(300):
+            inner = chapter("y", "y\n", inner)
+        self.assertEqual(sum(1 for _ in _mdbook.chapters({"items": [inner]})), 301)
 
 
 class Threads(unittest.TestCase):

@@ -1,21 +1,32 @@
 """The shared library: where it is, and its functions with their types."""
 import ctypes
 import os
+from typing import Any, Tuple
 
 _HERE = os.path.dirname(os.path.realpath(__file__))
-_PLACES = [os.path.join(_HERE, "libtocmark.so"), os.path.join(_HERE, "..", "..", "c", "build", "libtocmark.so"), "libtocmark.so.0"]
+_CHECKOUT = os.path.join(_HERE, "..", "..", "c")
+_PLACES = [os.path.join(_HERE, "libtocmark.so"), os.path.join(_CHECKOUT, "build", "libtocmark.so"), "libtocmark.so.0"]
 _VERSION = 0x000100
+
+
+def _open(place: str) -> ctypes.CDLL:
+    try:
+        return ctypes.CDLL(place)
+    except OSError as error:
+        if os.path.exists(os.path.join(_CHECKOUT, "Makefile")) and "TOCMARK_LIBRARY" not in os.environ:
+            raise ImportError("libtocmark.so isn't built in this checkout: docs/BINDINGS.md says how to build it") from error
+        raise ImportError(f"{place} can't be loaded ({error}): install libtocmark.so, or name it in TOCMARK_LIBRARY") from error
 
 
 def _load() -> ctypes.CDLL:
     """Returns the library that TOCMARK_LIBRARY names, or that of the package, of the checkout or of the system."""
     named = os.environ.get("TOCMARK_LIBRARY")
     places = [named] if named else [place for place in _PLACES if os.sep not in place or os.path.exists(place)]
-    library = ctypes.CDLL(places[0])
+    library = _open(places[0])
     library.tocmark_version.restype = ctypes.c_uint32
     library.tocmark_version.argtypes = []
     if library.tocmark_version() != _VERSION:
-        raise ImportError(f"{places[0]} is of another version: {library.tocmark_version():#x}, and not {_VERSION:#x}")
+        raise ImportError(f"{places[0]} has the version {library.tocmark_version():#x}, and this package needs {_VERSION:#x}")
     return library
 
 
@@ -24,7 +35,7 @@ _room = [ctypes.c_void_p, ctypes.c_size_t]
 _library = _load()
 
 
-def _function(name: str, *types):
+def _function(name: str, *types: Any) -> Any:
     function = getattr(_library, name)
     function.restype = ctypes.c_ssize_t
     function.argtypes = list(types)
@@ -39,18 +50,26 @@ class Style(ctypes.Structure):
         "table_width")]
 
 
+class Place(ctypes.Structure):
+    """`struct tocmark_place` of `tocmark.h`."""
+
+    _fields_ = [("size", ctypes.c_uint32), ("event", ctypes.c_size_t), ("first_line", ctypes.c_size_t),
+                ("last_line", ctypes.c_size_t)]
+
+
 error_text = _function("tocmark_error_text", ctypes.c_ssize_t, *_room)
 format_text = _function("tocmark_format", *_text, ctypes.c_uint32, ctypes.POINTER(Style), *_room)
 read_json = _function("tocmark_read_json", *_text, ctypes.c_uint32, *_room)
+rewrite = _function("tocmark_rewrite", *_text, *_text, ctypes.c_uint32, *_text, ctypes.POINTER(Place), *_room)
 write_checked = _function("tocmark_write_checked", *_text, *_text, ctypes.c_uint32, *_text, *_room)
 write_json = _function("tocmark_write_json", *_text, *_text, ctypes.c_uint32, *_text, *_room)
 
 
-def answer(function, *arguments, guess: int) -> "tuple[int, bytes]":
-    """Calls a function with room for this many bytes, and again where that is too little: its answer, and the text."""
+def answer(function: Any, *arguments: Any, guess: int) -> Tuple[int, bytes]:
+    """Calls a function with a buffer of this many bytes, and again if that is too small. Returns its number and the text."""
     while True:
         room = ctypes.create_string_buffer(max(guess, 1))
         size = function(*arguments, room, guess)
         if size <= guess:
-            return size, room.raw[:max(size, 0)]
+            return size, ctypes.string_at(room, max(size, 0))
         guess = size

@@ -1,5 +1,6 @@
 //! Why events aren't written.
 
+use crate::options::OptionsError;
 use std::fmt;
 
 /// Why events aren't written.
@@ -7,18 +8,21 @@ use std::fmt;
 pub enum Error {
     /// The writer refused the text.
     FormatFailed(fmt::Error),
-    /// An End that isn't the innermost open container's, a container that is open at the end, or events that can't stand
-    /// where they do.
+    /// An End has no matching Start, a container is open at the end, or an event can't stand where it does.
     UnexpectedEvent,
-    /// No spelling of a block is read back as that block.
+    /// No spelling of a block parses back to its events.
     Unrepresentable,
-    /// A range that is reversed, past the end of the source or not between characters.
+    /// A range is reversed, past the end of the source or not between characters.
     InvalidSourceRange,
-    /// An option has no such value, or not together with these flags; or a flag is none that can be written under.
-    InvalidOptions,
+    /// Events were passed after the end.
+    Finished,
+    /// An earlier call failed.
+    Failed,
+    /// Nothing can be written under these options.
+    InvalidOptions(OptionsError),
     /// Memory ran out.
     OutOfMemory,
-    /// The library answers another error: its code, as `tocmark.h` has it.
+    /// Another error of the library: its code in `tocmark.h`.
     Other(isize),
 }
 
@@ -27,10 +31,11 @@ impl Error {
     pub(crate) fn from_code(code: isize) -> Error {
         match code {
             -1 => Error::OutOfMemory,
-            -8 | -9 => Error::InvalidOptions,
             -10 => Error::UnexpectedEvent,
             -11 => Error::Unrepresentable,
             -12 => Error::InvalidSourceRange,
+            -13 => Error::Finished,
+            -14 => Error::Failed,
             _ => Error::Other(code),
         }
     }
@@ -40,12 +45,16 @@ impl fmt::Display for Error {
     fn fmt(&self, f: &mut fmt::Formatter<'_>) -> fmt::Result {
         match self {
             Error::FormatFailed(fault) => write!(f, "{fault}"),
-            Error::UnexpectedEvent => f.write_str("an event stands where it cannot"),
-            Error::Unrepresentable => f.write_str("no spelling of a block of events reads back"),
-            Error::InvalidSourceRange => f.write_str("a range is none of the source"),
-            Error::InvalidOptions => f.write_str("these options and flags cannot be written under"),
+            Error::UnexpectedEvent => f.write_str("Unexpected event while reconstructing Markdown"),
+            Error::Unrepresentable => {
+                f.write_str("Cannot preserve this event block with the supplied parser options")
+            }
+            Error::InvalidSourceRange => f.write_str("Invalid Markdown source range"),
+            Error::Finished => f.write_str("Markdown serializer has already finished"),
+            Error::Failed => f.write_str("Markdown serializer cannot be used after an error"),
+            Error::InvalidOptions(error) => write!(f, "{error}"),
             Error::OutOfMemory => f.write_str("out of memory"),
-            Error::Other(code) => write!(f, "the library answers {code}"),
+            Error::Other(code) => write!(f, "the library returned the error {code}"),
         }
     }
 }
@@ -55,5 +64,76 @@ impl std::error::Error for Error {}
 impl From<fmt::Error> for Error {
     fn from(fault: fmt::Error) -> Error {
         Error::FormatFailed(fault)
+    }
+}
+
+impl From<OptionsError> for Error {
+    fn from(error: OptionsError) -> Error {
+        Error::InvalidOptions(error)
+    }
+}
+
+/// Where a block of the edited events is.
+#[derive(Clone, Copy, Debug, PartialEq, Eq)]
+pub struct Place {
+    /// The number of its first event, counted from 0.
+    pub event: usize,
+    /// The first and the last line of the source that it replaces, counted from 1, if it replaces any.
+    pub lines: Option<(usize, usize)>,
+}
+
+impl fmt::Display for Place {
+    fn fmt(&self, f: &mut fmt::Formatter<'_>) -> fmt::Result {
+        write!(f, "event {}", self.event)?;
+        match self.lines {
+            None => Ok(()),
+            Some((first, last)) if first == last => write!(f, ", line {first}"),
+            Some((first, last)) => write!(f, ", lines {first} to {last}"),
+        }
+    }
+}
+
+/// Why a source isn't rewritten.
+#[derive(Debug)]
+pub enum Fault {
+    /// This block isn't written.
+    Refused(Place, Error),
+    /// Every text that was tried parses to other events, from this block on.
+    ReadOtherwise(Place),
+    /// Nothing can be written under these options.
+    InvalidOptions(OptionsError),
+    /// Memory ran out.
+    OutOfMemory,
+}
+
+impl Fault {
+    /// The fault of a code of `tocmark.h`.
+    pub(crate) fn from_code(code: isize, place: Place) -> Fault {
+        match code {
+            -1 => Fault::OutOfMemory,
+            -16 => Fault::ReadOtherwise(place),
+            _ => Fault::Refused(place, Error::from_code(code)),
+        }
+    }
+}
+
+impl fmt::Display for Fault {
+    fn fmt(&self, f: &mut fmt::Formatter<'_>) -> fmt::Result {
+        match self {
+            Fault::Refused(place, error) => write!(f, "{place}: {error}"),
+            Fault::ReadOtherwise(place) => {
+                write!(f, "{place}: no text was found that parses to these events")
+            }
+            Fault::InvalidOptions(error) => write!(f, "{error}"),
+            Fault::OutOfMemory => f.write_str("out of memory"),
+        }
+    }
+}
+
+impl std::error::Error for Fault {}
+
+impl From<OptionsError> for Fault {
+    fn from(error: OptionsError) -> Fault {
+        Fault::InvalidOptions(error)
     }
 }

@@ -1,13 +1,11 @@
-//! Events as JSON.
+//! Events as JSON, appended to one text.
 
-use pulldown_cmark::{
-    Alignment, BlockQuoteKind, CodeBlockKind, CowStr, Event, HeadingLevel, LinkType,
-    MetadataBlockKind, Tag, TagEnd,
-};
+use pulldown_cmark::{CodeBlockKind, CowStr, Event, HeadingLevel, LinkType, Tag, TagEnd};
 use std::fmt::Write;
 use std::ops::Range;
 
 /// A list of events with their ranges, as it grows.
+#[derive(Clone, Debug)]
 pub struct Pairs {
     text: String,
 }
@@ -20,15 +18,22 @@ impl Pairs {
     }
 
     pub fn push(&mut self, event: &Event<'_>, range: Option<Range<usize>>) {
-        if self.text.len() > 1 {
-            self.text.push(',');
+        let text = &mut self.text;
+        if text.len() > 1 {
+            text.push(',');
         }
-        let range = match range {
-            Some(Range { start, end }) => format!("{{\"start\":{start},\"end\":{end}}}"),
-            None => String::from("null"),
-        };
-        // A `String` refuses nothing.
-        let _ = write!(self.text, "[{},{range}]", event_json(event));
+        text.push('[');
+        put_event(text, event);
+        match range {
+            Some(Range { start, end }) => {
+                text.push_str(",{\"start\":");
+                put_number(text, start);
+                text.push_str(",\"end\":");
+                put_number(text, end);
+                text.push_str("}]");
+            }
+            None => text.push_str(",null]"),
+        }
     }
 
     pub fn finish(mut self) -> String {
@@ -37,181 +42,232 @@ impl Pairs {
     }
 }
 
+/// Appends a number. This takes fewer instructions than `write!`.
+fn put_number(out: &mut String, number: usize) {
+    if number >= 10 {
+        let mut power = 1;
+        while number / power >= 10 {
+            power *= 10;
+        }
+        while power > 1 {
+            out.push(char::from(b'0' + (number / power % 10) as u8));
+            power /= 10;
+        }
+    }
+    out.push(char::from(b'0' + (number % 10) as u8));
+}
+
 /// A text as a JSON string.
 pub fn string(text: &str) -> String {
     let mut json = String::with_capacity(text.len() + 2);
-    json.push('"');
-    for character in text.chars() {
-        match character {
-            '"' => json.push_str("\\\""),
-            '\\' => json.push_str("\\\\"),
-            '\0'..='\u{1f}' => {
-                let _ = write!(json, "\\u{:04x}", u32::from(character));
-            }
-            _ => json.push(character),
-        }
-    }
-    json.push('"');
+    put_string(&mut json, text);
     json
 }
 
-fn tagged(name: &str, content: String) -> String {
-    format!("{{\"{name}\":{content}}}")
-}
-
-fn named(name: &str) -> String {
-    format!("\"{name}\"")
-}
-
-fn optional(text: &Option<CowStr<'_>>) -> String {
-    text.as_ref()
-        .map_or_else(|| String::from("null"), |text| string(text))
-}
-
-fn list(items: impl Iterator<Item = String>) -> String {
-    format!("[{}]", items.collect::<Vec<_>>().join(","))
-}
-
-fn event_json(event: &Event<'_>) -> String {
-    match event {
-        Event::Start(tag) => tagged("Start", tag_json(tag)),
-        Event::End(end) => tagged("End", end_json(*end)),
-        Event::Text(text) => tagged("Text", string(text)),
-        Event::Code(text) => tagged("Code", string(text)),
-        Event::InlineMath(text) => tagged("InlineMath", string(text)),
-        Event::DisplayMath(text) => tagged("DisplayMath", string(text)),
-        Event::Html(text) => tagged("Html", string(text)),
-        Event::InlineHtml(text) => tagged("InlineHtml", string(text)),
-        Event::FootnoteReference(name) => tagged("FootnoteReference", string(name)),
-        Event::SoftBreak => named("SoftBreak"),
-        Event::HardBreak => named("HardBreak"),
-        Event::Rule => named("Rule"),
-        Event::TaskListMarker(is_done) => tagged("TaskListMarker", is_done.to_string()),
-    }
-}
-
-fn level_json(level: HeadingLevel) -> String {
-    format!("\"H{}\"", level as usize)
-}
-
-fn kind_json(kind: Option<BlockQuoteKind>) -> String {
-    match kind {
-        None => String::from("null"),
-        Some(BlockQuoteKind::Note) => named("Note"),
-        Some(BlockQuoteKind::Tip) => named("Tip"),
-        Some(BlockQuoteKind::Important) => named("Important"),
-        Some(BlockQuoteKind::Warning) => named("Warning"),
-        Some(BlockQuoteKind::Caution) => named("Caution"),
-    }
-}
-
-fn alignment_json(alignment: Alignment) -> String {
-    named(match alignment {
-        Alignment::None => "None",
-        Alignment::Left => "Left",
-        Alignment::Center => "Center",
-        Alignment::Right => "Right",
-    })
-}
-
-fn metadata_json(kind: MetadataBlockKind) -> String {
-    named(match kind {
-        MetadataBlockKind::YamlStyle => "YamlStyle",
-        MetadataBlockKind::PlusesStyle => "PlusesStyle",
-    })
-}
-
-fn link_type_json(link_type: LinkType) -> String {
-    named(match link_type {
-        LinkType::Inline => "Inline",
-        LinkType::Reference => "Reference",
-        LinkType::ReferenceUnknown => "ReferenceUnknown",
-        LinkType::Collapsed => "Collapsed",
-        LinkType::CollapsedUnknown => "CollapsedUnknown",
-        LinkType::Shortcut => "Shortcut",
-        LinkType::ShortcutUnknown => "ShortcutUnknown",
-        LinkType::Autolink => "Autolink",
-        LinkType::Email => "Email",
-        LinkType::WikiLink { has_pothole } => {
-            return tagged("WikiLink", tagged("has_pothole", has_pothole.to_string()));
+fn put_string(out: &mut String, text: &str) {
+    out.push('"');
+    let mut begin = 0;
+    for (at, byte) in text.bytes().enumerate() {
+        if byte >= b' ' && byte != b'"' && byte != b'\\' {
+            continue;
         }
-    })
+        out.push_str(&text[begin..at]);
+        begin = at + 1;
+        match byte {
+            b'"' => out.push_str("\\\""),
+            b'\\' => out.push_str("\\\\"),
+            b'\n' => out.push_str("\\n"),
+            // A `String` refuses nothing.
+            _ => {
+                let _ = write!(out, "\\u{byte:04x}");
+            }
+        }
+    }
+    out.push_str(&text[begin..]);
+    out.push('"');
 }
 
-fn link_json(link_type: LinkType, dest_url: &str, title: &str, id: &str) -> String {
-    format!(
-        "{{\"link_type\":{},\"dest_url\":{},\"title\":{},\"id\":{}}}",
-        link_type_json(link_type),
-        string(dest_url),
-        string(title),
-        string(id)
-    )
+fn put_tagged(out: &mut String, before: &str, text: &str, after: &str) {
+    out.push_str(before);
+    put_string(out, text);
+    out.push_str(after);
 }
 
-fn tag_json(tag: &Tag<'_>) -> String {
+fn put_optional(out: &mut String, text: &Option<CowStr<'_>>) {
+    match text {
+        Some(text) => put_string(out, text),
+        None => out.push_str("null"),
+    }
+}
+
+fn put_event(out: &mut String, event: &Event<'_>) {
+    match event {
+        Event::Start(tag) => {
+            out.push_str("{\"Start\":");
+            put_tag(out, tag);
+            out.push('}');
+        }
+        Event::End(end) => {
+            out.push_str("{\"End\":");
+            put_end(out, *end);
+            out.push('}');
+        }
+        Event::Text(text) => put_tagged(out, "{\"Text\":", text, "}"),
+        Event::Code(text) => put_tagged(out, "{\"Code\":", text, "}"),
+        Event::InlineMath(text) => put_tagged(out, "{\"InlineMath\":", text, "}"),
+        Event::DisplayMath(text) => put_tagged(out, "{\"DisplayMath\":", text, "}"),
+        Event::Html(text) => put_tagged(out, "{\"Html\":", text, "}"),
+        Event::InlineHtml(text) => put_tagged(out, "{\"InlineHtml\":", text, "}"),
+        Event::FootnoteReference(name) => put_tagged(out, "{\"FootnoteReference\":", name, "}"),
+        Event::SoftBreak => out.push_str("\"SoftBreak\""),
+        Event::HardBreak => out.push_str("\"HardBreak\""),
+        Event::Rule => out.push_str("\"Rule\""),
+        Event::TaskListMarker(true) => out.push_str("{\"TaskListMarker\":true}"),
+        Event::TaskListMarker(false) => out.push_str("{\"TaskListMarker\":false}"),
+    }
+}
+
+fn level(level: HeadingLevel) -> &'static str {
+    [
+        "", "\"H1\"", "\"H2\"", "\"H3\"", "\"H4\"", "\"H5\"", "\"H6\"",
+    ][level as usize]
+}
+
+fn put_link(
+    out: &mut String,
+    name: &str,
+    link_type: LinkType,
+    dest_url: &str,
+    title: &str,
+    id: &str,
+) {
+    out.push_str(name);
+    match link_type {
+        LinkType::WikiLink { has_pothole } => {
+            let _ = write!(out, "{{\"WikiLink\":{{\"has_pothole\":{has_pothole}}}}}");
+        }
+        LinkType::Inline => out.push_str("\"Inline\""),
+        LinkType::Reference => out.push_str("\"Reference\""),
+        LinkType::Shortcut => out.push_str("\"Shortcut\""),
+        LinkType::Autolink => out.push_str("\"Autolink\""),
+        _ => {
+            let _ = write!(out, "\"{link_type:?}\"");
+        }
+    }
+    put_tagged(out, ",\"dest_url\":", dest_url, "");
+    put_tagged(out, ",\"title\":", title, "");
+    put_tagged(out, ",\"id\":", id, "}}");
+}
+
+fn put_tag(out: &mut String, tag: &Tag<'_>) {
     match tag {
         Tag::Heading {
-            level,
+            level: depth,
             id,
             classes,
             attrs,
         } => {
-            let classes = list(classes.iter().map(|class| string(class)));
-            let attrs = list(
-                attrs
-                    .iter()
-                    .map(|(key, value)| format!("[{},{}]", string(key), optional(value))),
-            );
-            let (level, id) = (level_json(*level), optional(id));
-            tagged(
-                "Heading",
-                format!(
-                    "{{\"level\":{level},\"id\":{id},\"classes\":{classes},\"attrs\":{attrs}}}"
-                ),
-            )
+            out.push_str("{\"Heading\":{\"level\":");
+            out.push_str(level(*depth));
+            out.push_str(",\"id\":");
+            put_optional(out, id);
+            out.push_str(",\"classes\":[");
+            for (at, class) in classes.iter().enumerate() {
+                if at > 0 {
+                    out.push(',');
+                }
+                put_string(out, class);
+            }
+            out.push_str("],\"attrs\":[");
+            for (at, (key, value)) in attrs.iter().enumerate() {
+                out.push_str(if at > 0 { ",[" } else { "[" });
+                put_string(out, key);
+                out.push(',');
+                put_optional(out, value);
+                out.push(']');
+            }
+            out.push_str("]}}");
         }
-        Tag::BlockQuote(kind) => tagged("BlockQuote", kind_json(*kind)),
-        Tag::CodeBlock(CodeBlockKind::Indented) => tagged("CodeBlock", named("Indented")),
+        Tag::BlockQuote(None) => out.push_str("{\"BlockQuote\":null}"),
+        Tag::BlockQuote(Some(kind)) => {
+            let _ = write!(out, "{{\"BlockQuote\":\"{kind:?}\"}}");
+        }
+        Tag::CodeBlock(CodeBlockKind::Indented) => out.push_str("{\"CodeBlock\":\"Indented\"}"),
         Tag::CodeBlock(CodeBlockKind::Fenced(info)) => {
-            tagged("CodeBlock", tagged("Fenced", string(info)))
+            put_tagged(out, "{\"CodeBlock\":{\"Fenced\":", info, "}}")
         }
-        Tag::List(start) => tagged(
-            "List",
-            start.map_or_else(|| String::from("null"), |start| start.to_string()),
-        ),
-        Tag::FootnoteDefinition(name) => tagged("FootnoteDefinition", string(name)),
-        Tag::Table(alignments) => tagged(
-            "Table",
-            list(
-                alignments
-                    .iter()
-                    .map(|alignment| alignment_json(*alignment)),
-            ),
-        ),
+        Tag::List(None) => out.push_str("{\"List\":null}"),
+        Tag::List(Some(start)) => {
+            let _ = write!(out, "{{\"List\":{start}}}");
+        }
+        Tag::FootnoteDefinition(name) => put_tagged(out, "{\"FootnoteDefinition\":", name, "}"),
+        Tag::Table(alignments) => {
+            out.push_str("{\"Table\":[");
+            for (at, alignment) in alignments.iter().enumerate() {
+                let _ = write!(out, "{}\"{alignment:?}\"", if at > 0 { "," } else { "" });
+            }
+            out.push_str("]}");
+        }
         Tag::Link {
             link_type,
             dest_url,
             title,
             id,
-        } => tagged("Link", link_json(*link_type, dest_url, title, id)),
+        } => {
+            put_link(
+                out,
+                "{\"Link\":{\"link_type\":",
+                *link_type,
+                dest_url,
+                title,
+                id,
+            );
+        }
         Tag::Image {
             link_type,
             dest_url,
             title,
             id,
-        } => tagged("Image", link_json(*link_type, dest_url, title, id)),
-        Tag::MetadataBlock(kind) => tagged("MetadataBlock", metadata_json(*kind)),
-        _ => end_json(tag.to_end()),
+        } => {
+            put_link(
+                out,
+                "{\"Image\":{\"link_type\":",
+                *link_type,
+                dest_url,
+                title,
+                id,
+            );
+        }
+        Tag::MetadataBlock(kind) => {
+            let _ = write!(out, "{{\"MetadataBlock\":\"{kind:?}\"}}");
+        }
+        _ => put_end(out, tag.to_end()),
     }
 }
 
-fn end_json(end: TagEnd) -> String {
+fn put_end(out: &mut String, end: TagEnd) {
     match end {
-        TagEnd::Heading(level) => tagged("Heading", level_json(level)),
-        TagEnd::BlockQuote(kind) => tagged("BlockQuote", kind_json(kind)),
-        TagEnd::List(is_ordered) => tagged("List", is_ordered.to_string()),
-        TagEnd::MetadataBlock(kind) => tagged("MetadataBlock", metadata_json(kind)),
-        // The other containers are named alike by their kind alone.
-        _ => format!("\"{end:?}\""),
+        TagEnd::Heading(depth) => {
+            out.push_str("{\"Heading\":");
+            out.push_str(level(depth));
+            out.push('}');
+        }
+        TagEnd::BlockQuote(None) => out.push_str("{\"BlockQuote\":null}"),
+        TagEnd::BlockQuote(Some(kind)) => {
+            let _ = write!(out, "{{\"BlockQuote\":\"{kind:?}\"}}");
+        }
+        TagEnd::List(true) => out.push_str("{\"List\":true}"),
+        TagEnd::List(false) => out.push_str("{\"List\":false}"),
+        TagEnd::MetadataBlock(kind) => {
+            let _ = write!(out, "{{\"MetadataBlock\":\"{kind:?}\"}}");
+        }
+        TagEnd::Paragraph => out.push_str("\"Paragraph\""),
+        TagEnd::Item => out.push_str("\"Item\""),
+        TagEnd::Link => out.push_str("\"Link\""),
+        TagEnd::CodeBlock => out.push_str("\"CodeBlock\""),
+        TagEnd::TableCell => out.push_str("\"TableCell\""),
+        _ => {
+            let _ = write!(out, "\"{end:?}\"");
+        }
     }
 }

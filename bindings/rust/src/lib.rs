@@ -1,8 +1,25 @@
 //! Writes the events of pulldown-cmark as Markdown, over the proved library `libtocmark.a`.
 //!
-//! The functions have the signatures of the crate pulldown-cmark-to-cmark, so that a program may try this one in its place.
-//! What differs: the options and flags are looked at in each call ([`Error::InvalidOptions`]), a writer is handed all of the
-//! text at once, and nothing where there is an error, and nothing can be written on with the [`State`] that is answered.
+//! [`rewrite`] edits a document, and keeps all lines whose events stay:
+//!
+//! ```
+//! use pulldown_cmark::{Event, Options, Parser, Tag};
+//!
+//! let source = "*  a [link](/old)\n\n\n***\n";
+//! let events = Parser::new(source).map(|event| match event {
+//!     Event::Start(Tag::Link { link_type, title, id, .. }) => {
+//!         Event::Start(Tag::Link { link_type, dest_url: "/new".into(), title, id })
+//!     }
+//!     event => event,
+//! });
+//! let text = tocmark::rewrite(source, events, Options::empty(), Default::default())?;
+//! assert_eq!(text, "*  a [link](/new)\n\n\n***\n");
+//! # Ok::<(), tocmark::Fault>(())
+//! ```
+//!
+//! The other functions and [`State`] have the signatures of the crate pulldown-cmark-to-cmark, so a program can use this crate in
+//! its place. Three things differ: invalid options are an error ([`Error::InvalidOptions`]), the writer receives the whole text at
+//! once, and it receives nothing if there is an error.
 //!
 //! ```
 //! let events = pulldown_cmark::Parser::new("* a\n* b");
@@ -18,22 +35,51 @@ mod error;
 mod json;
 mod library;
 mod options;
+mod state;
 
 pub use count::{calculate_code_block_token_count, DEFAULT_CODE_BLOCK_TOKEN_COUNT};
-pub use error::Error;
-pub use options::Options;
+pub use error::{Error, Fault, Place};
+pub use options::{Options, OptionsError, SUPPORTED_PARSER_OPTIONS};
+pub use state::{Progress, State};
 
 use pulldown_cmark::{Event, Options as ParserOptions};
 use std::borrow::Borrow;
 use std::fmt;
 use std::ops::Range;
 
-/// What a call leaves: nothing that could be gone on with.
-#[derive(Clone, Debug, Default, PartialEq, Eq)]
-#[non_exhaustive]
-pub struct State {}
+/// Returns the source with its events replaced by these. All lines whose events are the same stay as they are, byte for byte.
+///
+/// The events are those that pulldown-cmark parses in the source, changed. The result parses to just these events, with
+/// neighbouring texts joined; the parser for that is the library's own. The options concern new blocks alone. Flags that aren't
+/// among [`SUPPORTED_PARSER_OPTIONS`] are ignored.
+///
+/// A [`Fault`] names the block by the number of its first event and by its lines in the source.
+pub fn rewrite<'a, I, E>(
+    source: &str,
+    events: I,
+    flags: ParserOptions,
+    options: Options<'_>,
+) -> Result<String, Fault>
+where
+    I: IntoIterator<Item = E>,
+    E: Borrow<Event<'a>>,
+{
+    let flags = options::written_flags(flags);
+    options.validate(flags)?;
+    let mut pairs = json::Pairs::new();
+    for event in events {
+        pairs.push(event.borrow(), None);
+    }
+    let given = library::Given {
+        json: &pairs.finish(),
+        source,
+        flags: flags.bits(),
+        options: &options.to_json(),
+    };
+    given.rewrite()
+}
 
-/// Writes events under the default options. The text is to read back under these flags.
+/// Writes events under the default options. The text has to parse back under these flags.
 pub fn cmark<'a, I, E, F>(
     events: I,
     formatter: F,
@@ -49,8 +95,8 @@ where
 
 /// Writes events under options.
 ///
-/// An error says that an option or flag isn't one that can be written under, that an event stands where it can't, that no
-/// spelling of a block reads back, that memory ran out, or that the writer refused the text.
+/// It fails if an option is invalid, if an event can't stand where it does, if no spelling of a block parses back, if memory runs
+/// out, or if the writer refuses the text.
 pub fn cmark_with_options<'a, I, E, F>(
     events: I,
     formatter: F,
@@ -66,7 +112,7 @@ where
     cmark_with_source_range_and_options(pairs, "", formatter, parser_options, options)
 }
 
-/// Writes events with their ranges in a source under the default options: texts are spelled as there, where that reads back.
+/// Writes events with their ranges in a source under the default options. Texts keep the source's spelling if that parses back.
 pub fn cmark_with_source_range<'a, I, E, F>(
     event_and_ranges: I,
     source: &str,
@@ -87,9 +133,9 @@ where
     )
 }
 
-/// Writes events with their ranges in a source under options. Where the source is empty, the ranges are dropped.
+/// Writes events with their ranges in a source under options. If the source is empty, the ranges are dropped.
 ///
-/// Beside the errors of [`cmark_with_options`] there is one for a range that is none of the source.
+/// It fails as [`cmark_with_options`], and if a range isn't one of the source.
 pub fn cmark_with_source_range_and_options<'a, I, E, F>(
     event_and_ranges: I,
     source: &str,
@@ -102,16 +148,8 @@ where
     E: Borrow<Event<'a>>,
     F: fmt::Write,
 {
-    let mut pairs = json::Pairs::new();
-    for (event, range) in event_and_ranges {
-        pairs.push(event.borrow(), range);
-    }
-    let text = library::write_json(
-        &pairs.finish(),
-        source,
-        parser_options.bits(),
-        &options.to_json(),
-    )?;
-    formatter.write_str(&text)?;
-    Ok(State::default())
+    let mut state = State::new(parser_options, options);
+    state.process_with_source_range(event_and_ranges, source, &mut formatter)?;
+    state.finish(formatter)?;
+    Ok(state)
 }

@@ -1,6 +1,16 @@
 //! The functions of `tocmark.h`.
 
-use crate::error::Error;
+use crate::error::{Error, Fault, Place};
+use std::mem::size_of;
+
+/// `struct tocmark_place`.
+#[repr(C)]
+struct PlaceInC {
+    size: u32,
+    event: usize,
+    first_line: usize,
+    last_line: usize,
+}
 
 extern "C" {
     fn tocmark_write_json(
@@ -14,33 +24,94 @@ extern "C" {
         out: *mut u8,
         out_len: usize,
     ) -> isize;
+
+    fn tocmark_rewrite(
+        json: *const u8,
+        json_len: usize,
+        source: *const u8,
+        source_len: usize,
+        flags: u32,
+        options: *const u8,
+        options_len: usize,
+        place: *mut PlaceInC,
+        out: *mut u8,
+        out_len: usize,
+    ) -> isize;
 }
 
-/// The Markdown of events that are given as JSON.
-pub fn write_json(json: &str, source: &str, flags: u32, options: &str) -> Result<String, Error> {
-    let mut out = vec![0; json.len()];
+/// The text of a call, which returns how many bytes it takes or a negative code. It is called again if the buffer is too small.
+fn text_of(room: usize, mut call: impl FnMut(&mut [u8]) -> isize) -> Result<String, isize> {
+    let mut out = vec![0; room];
     loop {
-        // A slice's pointer is never null, and `out` is this function's own.
-        let size = unsafe {
-            tocmark_write_json(
-                json.as_ptr(),
-                json.len(),
-                source.as_ptr(),
-                source.len(),
-                flags,
-                options.as_ptr(),
-                options.len(),
-                out.as_mut_ptr(),
-                out.len(),
-            )
-        };
-        let Ok(length) = usize::try_from(size) else {
-            return Err(Error::from_code(size));
-        };
+        let size = call(&mut out);
+        let length = usize::try_from(size).map_err(|_| size)?;
         if length <= out.len() {
             out.truncate(length);
             return Ok(String::from_utf8(out).expect("the library writes UTF-8"));
         }
         out.resize(length, 0);
+    }
+}
+
+/// What both functions get.
+pub struct Given<'g> {
+    pub json: &'g str,
+    pub source: &'g str,
+    pub flags: u32,
+    pub options: &'g str,
+}
+
+impl Given<'_> {
+    /// The Markdown of the events.
+    pub fn write(&self) -> Result<String, Error> {
+        text_of(self.json.len(), |out| {
+            // A slice's pointer is never null, and `out` overlaps nothing that is read.
+            unsafe {
+                tocmark_write_json(
+                    self.json.as_ptr(),
+                    self.json.len(),
+                    self.source.as_ptr(),
+                    self.source.len(),
+                    self.flags,
+                    self.options.as_ptr(),
+                    self.options.len(),
+                    out.as_mut_ptr(),
+                    out.len(),
+                )
+            }
+        })
+        .map_err(Error::from_code)
+    }
+
+    /// The source, rewritten to the events.
+    pub fn rewrite(&self) -> Result<String, Fault> {
+        let mut place = PlaceInC {
+            size: size_of::<PlaceInC>() as u32,
+            event: 0,
+            first_line: 0,
+            last_line: 0,
+        };
+        text_of(self.source.len() + 4096, |out| {
+            // As above; `place` is this function's own.
+            unsafe {
+                tocmark_rewrite(
+                    self.json.as_ptr(),
+                    self.json.len(),
+                    self.source.as_ptr(),
+                    self.source.len(),
+                    self.flags,
+                    self.options.as_ptr(),
+                    self.options.len(),
+                    &mut place,
+                    out.as_mut_ptr(),
+                    out.len(),
+                )
+            }
+        })
+        .map_err(|code| {
+            let lines = (place.first_line > 0).then_some((place.first_line, place.last_line));
+            let event = place.event;
+            Fault::from_code(code, Place { event, lines })
+        })
     }
 }

@@ -1,6 +1,55 @@
 //! How events are written.
 
 use crate::json::string;
+use pulldown_cmark::Options as ParserOptions;
+use std::borrow::Cow;
+use std::fmt;
+
+/// The flags under which events can be written: all but smart punctuation, old footnotes and wikilinks.
+pub const SUPPORTED_PARSER_OPTIONS: ParserOptions = ParserOptions::from_bits_retain(0x7dde);
+
+/// Of these flags, those that have a meaning here.
+pub(crate) fn written_flags(parser_options: ParserOptions) -> ParserOptions {
+    parser_options.intersection(SUPPORTED_PARSER_OPTIONS)
+}
+
+/// Why nothing can be written under options and flags.
+#[derive(Clone, Debug, PartialEq, Eq)]
+pub enum OptionsError {
+    /// These flags aren't among [`SUPPORTED_PARSER_OPTIONS`].
+    UnsupportedParserOptions(ParserOptions),
+    /// This field is no delimiter of standard Markdown.
+    InvalidToken(&'static str),
+    /// Superscripts or subscripts are parsed, and would be written as HTML.
+    HtmlSuperSubscript,
+    /// This field is `isize::MAX` or more.
+    SizeOverflow(&'static str),
+}
+
+impl fmt::Display for OptionsError {
+    fn fmt(&self, f: &mut fmt::Formatter<'_>) -> fmt::Result {
+        match self {
+            OptionsError::UnsupportedParserOptions(flags) => {
+                write!(
+                    f,
+                    "unsupported parser flags: 0x{:x}; use a subset of SUPPORTED_PARSER_OPTIONS",
+                    flags.bits()
+                )
+            }
+            OptionsError::InvalidToken(field) => {
+                write!(f, "{field} must use a standard Markdown delimiter")
+            }
+            OptionsError::HtmlSuperSubscript => f.write_str(
+                "set use_html_for_super_sub_script to false when parsing symbolic superscripts or subscripts",
+            ),
+            OptionsError::SizeOverflow(field) => {
+                write!(f, "{field} is too large for a Markdown output string")
+            }
+        }
+    }
+}
+
+impl std::error::Error for OptionsError {}
 
 /// How events are written. `Options { list_token: '-', ..Default::default() }` changes one field.
 #[derive(Clone, Copy, Debug, PartialEq, Eq, PartialOrd, Ord, Hash)]
@@ -69,9 +118,68 @@ impl Default for Options<'_> {
 }
 
 impl Options<'_> {
-    /// The options as JSON, a member for each field.
-    pub(crate) fn to_json(self) -> String {
-        let sizes = [
+    /// Checks that events can be written under these options and flags. The first problem is the error: flags, then tokens, then
+    /// HTML for superscripts, then sizes in the order of the fields.
+    pub fn validate(&self, parser_options: ParserOptions) -> Result<(), OptionsError> {
+        let others = parser_options.difference(SUPPORTED_PARSER_OPTIONS);
+        if !others.is_empty() {
+            return Err(OptionsError::UnsupportedParserOptions(others));
+        }
+        for (field, is_valid) in [
+            (
+                "code_block_token",
+                matches!(self.code_block_token, '`' | '~'),
+            ),
+            ("list_token", matches!(self.list_token, '*' | '-' | '+')),
+            (
+                "ordered_list_token",
+                matches!(self.ordered_list_token, '.' | ')'),
+            ),
+            ("emphasis_token", matches!(self.emphasis_token, '*' | '_')),
+            ("strong_token", matches!(self.strong_token, "**" | "__")),
+        ] {
+            if !is_valid {
+                return Err(OptionsError::InvalidToken(field));
+            }
+        }
+        if self.use_html_for_super_sub_script
+            && parser_options
+                .intersects(ParserOptions::ENABLE_SUPERSCRIPT | ParserOptions::ENABLE_SUBSCRIPT)
+        {
+            return Err(OptionsError::HtmlSuperSubscript);
+        }
+        match self
+            .sizes()
+            .iter()
+            .find(|(_, size)| *size >= isize::MAX as usize)
+        {
+            Some((field, _)) => Err(OptionsError::SizeOverflow(field)),
+            None => Ok(()),
+        }
+    }
+
+    /// The punctuation that may get a backslash.
+    pub fn special_characters(&self) -> Cow<'static, str> {
+        let (base, own) = ("#\\_*<>`|[]", Options::default());
+        if (
+            self.code_block_token,
+            self.list_token,
+            self.emphasis_token,
+            self.strong_token,
+        ) == (
+            own.code_block_token,
+            own.list_token,
+            own.emphasis_token,
+            own.strong_token,
+        ) {
+            return base.into();
+        }
+        let (code, list, emphasis) = (self.code_block_token, self.list_token, self.emphasis_token);
+        format!("{base}{code}{list}{emphasis}{}", self.strong_token).into()
+    }
+
+    fn sizes(&self) -> [(&'static str, usize); 11] {
+        [
             ("newlines_after_headline", self.newlines_after_headline),
             ("newlines_after_paragraph", self.newlines_after_paragraph),
             ("newlines_after_codeblock", self.newlines_after_codeblock),
@@ -83,7 +191,12 @@ impl Options<'_> {
             ("newlines_after_rest", self.newlines_after_rest),
             ("newlines_after_metadata", self.newlines_after_metadata),
             ("code_block_token_count", self.code_block_token_count),
-        ];
+        ]
+    }
+
+    /// The options as JSON, a member for each field.
+    pub(crate) fn to_json(self) -> String {
+        let sizes = self.sizes();
         let truths = [
             (
                 "increment_ordered_list_bullets",

@@ -7,7 +7,8 @@ use pulldown_cmark::{
 use std::fmt;
 use tocmark::{
     calculate_code_block_token_count, cmark, cmark_with_options, cmark_with_source_range,
-    cmark_with_source_range_and_options, Error, Options, State, DEFAULT_CODE_BLOCK_TOKEN_COUNT,
+    cmark_with_source_range_and_options, rewrite, Error, Fault, Options, OptionsError, Place,
+    Progress, State, DEFAULT_CODE_BLOCK_TOKEN_COUNT, SUPPORTED_PARSER_OPTIONS,
 };
 
 type Events = Vec<Event<'static>>;
@@ -395,7 +396,9 @@ fn texts_stand_as_in_the_source() {
     let mut output = String::new();
     let state = cmark_with_source_range(pairs(), source, &mut output, NONE).unwrap();
     assert_eq!(output, source);
-    assert_eq!(state, State::default());
+    let mut state: State = state;
+    let more = state.process([Event::Rule], String::new());
+    assert!(matches!(more, Err(Error::Finished)));
     let mut output = String::new();
     cmark_with_source_range_and_options(pairs(), "", &mut output, NONE, Options::default())
         .unwrap();
@@ -421,7 +424,7 @@ fn errors_are_told_apart() {
     };
     assert!(matches!(
         cmark_with_options(alone.iter(), &mut output, NONE, options),
-        Err(Error::InvalidOptions)
+        Err(Error::InvalidOptions(_))
     ));
     let raised = paragraph([around(Tag::Superscript, [text("a")])]);
     let options = Options {
@@ -431,7 +434,7 @@ fn errors_are_told_apart() {
     let superscript = ParserOptions::ENABLE_SUPERSCRIPT;
     assert!(matches!(
         cmark_with_options(raised.iter(), &mut output, superscript, options),
-        Err(Error::InvalidOptions)
+        Err(Error::InvalidOptions(_))
     ));
     assert!(matches!(
         cmark_with_options(raised.iter(), &mut output, NONE, options),
@@ -485,4 +488,178 @@ fn fences_are_counted() {
     );
     assert_eq!(calculate_code_block_token_count(text("````")), None);
     assert_eq!(DEFAULT_CODE_BLOCK_TOKEN_COUNT, 3);
+}
+
+#[test]
+fn flags_that_mean_nothing_here_are_ignored() {
+    let events = paragraph([around(Tag::Strikethrough, [text("a")])]);
+    assert_eq!(written(&events, ParserOptions::all()), "~~a~~");
+    let all = ParserOptions::all();
+    assert_eq!(
+        rewrite("b\n", events.iter(), all, Options::default()).unwrap(),
+        "~~a~~\n"
+    );
+}
+
+#[test]
+fn options_are_checked_in_their_order() {
+    let valid = Options::default();
+    assert_eq!(valid.validate(SUPPORTED_PARSER_OPTIONS), Ok(()));
+    let others = ParserOptions::all().difference(SUPPORTED_PARSER_OPTIONS);
+    assert_eq!(
+        valid.validate(ParserOptions::all()),
+        Err(OptionsError::UnsupportedParserOptions(others))
+    );
+    let options = Options {
+        newlines_after_rule: usize::MAX,
+        use_html_for_super_sub_script: true,
+        emphasis_token: '-',
+        ..valid
+    };
+    let superscript = ParserOptions::ENABLE_SUPERSCRIPT;
+    assert_eq!(
+        options.validate(superscript),
+        Err(OptionsError::InvalidToken("emphasis_token"))
+    );
+    let options = Options {
+        emphasis_token: '_',
+        ..options
+    };
+    assert_eq!(
+        options.validate(superscript),
+        Err(OptionsError::HtmlSuperSubscript)
+    );
+    let error = options.validate(NONE).unwrap_err();
+    assert_eq!(error, OptionsError::SizeOverflow("newlines_after_rule"));
+    assert!(error.to_string().starts_with("newlines_after_rule "));
+}
+
+#[test]
+fn special_characters_are_those_of_the_options() {
+    let options = Options::default();
+    assert_eq!(options.special_characters(), "#\\_*<>`|[]");
+    let options = Options {
+        list_token: '+',
+        ..options
+    };
+    assert_eq!(options.special_characters(), "#\\_*<>`|[]`+***");
+}
+
+#[test]
+fn a_state_takes_events_in_parts() {
+    let events = paragraph([text("a "), around(Tag::Emphasis, [text("b")])]);
+    let mut output = String::new();
+    let mut state = State::new(NONE, Options::default());
+    let first = state.process(&events[..2], &mut output).unwrap();
+    assert_eq!(first.events_consumed, 2);
+    state.process(&events[2..], &mut output).unwrap();
+    let last = state.finish(&mut output).unwrap();
+    assert_eq!(output, "a *b*");
+    assert_eq!(
+        last,
+        Progress {
+            events_consumed: 0,
+            bytes_written: 5
+        }
+    );
+    assert_eq!(state.finish(&mut output).unwrap(), Progress::default());
+    assert_eq!(output, "a *b*");
+}
+
+#[test]
+fn each_part_has_a_source_of_its_own() {
+    let source = "a &eacute; b";
+    let pairs = [
+        (Event::Start(Tag::Paragraph), Some(0..12)),
+        (Event::Text("a ".into()), Some(0..2)),
+        (Event::Text("\u{e9}".into()), Some(2..10)),
+        (Event::Text(" b".into()), Some(10..12)),
+        (Event::End(TagEnd::Paragraph), Some(0..12)),
+    ];
+    let mut output = String::new();
+    let mut state = State::new(NONE, Options::default());
+    for _ in 0..2 {
+        state
+            .process_with_source_range(pairs.clone(), source, &mut output)
+            .unwrap();
+    }
+    state.process([Event::Rule], &mut output).unwrap();
+    state.finish(&mut output).unwrap();
+    assert_eq!(output, format!("{source}\n\n{source}\n\n---"));
+}
+
+#[test]
+fn a_state_tells_what_became_of_it() {
+    let mut output = String::new();
+    let mut state = State::new(NONE, Options::default());
+    state.finish(&mut output).unwrap();
+    let none: [Event<'_>; 0] = [];
+    assert!(matches!(
+        state.process(&none, &mut output),
+        Err(Error::Finished)
+    ));
+    assert!(matches!(state.finish(&mut output), Err(Error::Failed)));
+    let mut state = State::new(NONE, Options::default());
+    let alone = [Event::End(TagEnd::Paragraph)];
+    assert!(matches!(
+        state.process(&alone, &mut output),
+        Err(Error::UnexpectedEvent)
+    ));
+    assert!(matches!(
+        state.process(&none, &mut output),
+        Err(Error::Failed)
+    ));
+    let mut state = State::new(NONE, Options::default());
+    state
+        .process([Event::Start(Tag::Paragraph)], &mut output)
+        .unwrap();
+    assert!(matches!(
+        state.finish(&mut output),
+        Err(Error::UnexpectedEvent)
+    ));
+    assert!(matches!(state.finish(&mut output), Err(Error::Failed)));
+    let mut state = State::new(NONE, Options::default());
+    let ranged = [(Event::Rule, Some(1..4))];
+    assert!(matches!(
+        state.process_with_source_range(ranged, "---", &mut output),
+        Err(Error::InvalidSourceRange)
+    ));
+    assert_eq!(output, "");
+}
+
+#[test]
+fn a_source_is_rewritten() {
+    let source = "*  a\n\n\n***\n";
+    let list = |inner| around(Tag::List(None), [around(Tag::Item, [text(inner)])]);
+    let same = [list("a"), one(Event::Rule)].concat();
+    let options = Options::default();
+    assert_eq!(rewrite(source, same.iter(), NONE, options).unwrap(), source);
+    let other = [list("b"), one(Event::Rule)].concat();
+    let output = rewrite(source, other, NONE, options).unwrap();
+    assert_eq!(output, "*  b\n\n\n***\n");
+}
+
+#[test]
+fn a_fault_has_a_place() {
+    let struck = paragraph([around(Tag::Strikethrough, [text("b")])]);
+    let events = [paragraph([text("a")]), struck].concat();
+    let fault = rewrite("a\n\n\nb\n", events, NONE, Options::default()).unwrap_err();
+    assert_eq!(
+        fault.to_string(),
+        "event 3, line 4: Cannot preserve this event block with the supplied parser options"
+    );
+    let place = Place {
+        event: 3,
+        lines: Some((4, 4)),
+    };
+    assert!(matches!(fault, Fault::Refused(at, Error::Unrepresentable) if at == place));
+    let options = Options {
+        list_token: 'x',
+        ..Options::default()
+    };
+    let fault = rewrite("a\n", paragraph([text("a")]), NONE, options).unwrap_err();
+    assert_eq!(
+        fault.to_string(),
+        "list_token must use a standard Markdown delimiter"
+    );
 }

@@ -4,8 +4,8 @@
 
 use pulldown_cmark::{CodeBlockKind, Event, Options as ParserOptions, Parser, Tag, TagEnd};
 use tocmark::{
-    calculate_code_block_token_count, cmark, cmark_with_options, cmark_with_source_range, Error,
-    Options,
+    calculate_code_block_token_count, cmark, cmark_with_options, cmark_with_source_range, rewrite,
+    Error, Options,
 };
 
 fn written(text: &str, flags: ParserOptions) -> String {
@@ -75,7 +75,7 @@ fn errors_are_told_apart() {
     };
     assert!(matches!(
         cmark_with_options(alone.iter(), &mut output, none, options),
-        Err(Error::InvalidOptions)
+        Err(Error::InvalidOptions(_))
     ));
     let ranged = [(Event::Rule, Some(2..9))];
     assert!(matches!(
@@ -113,4 +113,28 @@ fn fences_are_counted() {
         calculate_code_block_token_count([Event::Text("````".into())]),
         None
     );
+}
+
+#[test]
+fn a_destination_is_changed_and_nothing_else() {
+    let source = "---\ntitle:  x\n---\n\n*  a [b](/old)\n\n\n|c|\n|-|\n|~~d~~|\n";
+    let flags = ParserOptions::ENABLE_TABLES
+        | ParserOptions::ENABLE_STRIKETHROUGH
+        | ParserOptions::ENABLE_YAML_STYLE_METADATA_BLOCKS;
+    let events = Parser::new_ext(source, flags).map(|event| match event {
+        Event::Start(Tag::Link {
+            link_type,
+            title,
+            id,
+            ..
+        }) => Event::Start(Tag::Link {
+            link_type,
+            dest_url: "/new".into(),
+            title,
+            id,
+        }),
+        event => event,
+    });
+    let output = rewrite(source, events, flags, Options::default()).unwrap();
+    assert_eq!(output, source.replace("/old", "/new"));
 }

@@ -4,7 +4,9 @@ use Rattle.std.specs.Global.{Global}
 use Rattle.std.specs.Prelude.{IfOk, IfErr, MatchResult}
 use Rattle.tocmark_c.specs.Answer.{IsAnswer, laid}
 use Rattle.tocmark_c.specs.Codes.{code_of}
+use Rattle.tocmark_c.specs.Place.{IsFilled, IsTold}
 use Rattle.tocmark_c.specs.declared.cause.Cause.{Cause}
+use Rattle.tocmark_c.specs.declared.place.TocmarkPlace.{TocmarkPlace}
 
 -- a text that is laid is answered
 pub text_answered : (IsText : List ℕ → Type 0) (IsCause : Cause → Type 0) (text : List ℕ) (result : ℤ) (old new : List ℕ) → IsText text → result ≡ pos (length text) → new ≡ laid text old → IsAnswer IsText IsCause result old new
@@ -22,3 +24,13 @@ answered IsText IsCause (Ok s) result old new is cause h =
     text_answered IsText IsCause (string_bytes s) result old new is h.0 h.1
 answered IsText IsCause (Err c) result old new is cause h =
     cause_answered IsText IsCause c result old new cause h.0 h.1
+
+-- a text leaves a place as it was
+pub place_kept : (n : ℕ) (result : ℤ) (old new : TocmarkPlace) → result ≡ pos n → new ≡ old → IsTold result old new
+place_kept n result old new is same =
+    subst (λ (r : ℤ). IsTold r old new) (sym is) same
+
+-- a cause's code fills it
+pub place_filled : (cause : Cause) (result : ℤ) (old new : TocmarkPlace) → result ≡ code_of cause → IsFilled old new → IsTold result old new
+place_filled cause result old new is filled =
+    subst (λ (r : ℤ). IsTold r old new) (sym is) filled

@@ -20,13 +20,13 @@ use Rattle.tocmark_c.specs.Codes.{document_cause, options_cause, write_cause}
 write_by_error : (bits : ℕ) (source options json : List ℕ) (o : OptionsView) → AreOptions options o → (e : WriteError) → IsCause o (flags_of bits) (has_source source) source json e → IsWriteCause bits source options json (write_cause e)
 write_by_error bits source options json o are (write_error.NotJson x) h = h
 write_by_error bits source options json o are (write_error.NotEvents x) h = (h.0, h.1, x, h.2)
-write_by_error bits source options json o are (write_error.Refused (error.FormatFailed f)) h = tt
-write_by_error bits source options json o are (write_error.Refused error.UnexpectedEvent) h = (o, are, h.0, h.1, h.2)
-write_by_error bits source options json o are (write_error.Refused error.Unrepresentable) h = (o, are, h.0, h.1, h.2)
-write_by_error bits source options json o are (write_error.Refused error.InvalidSourceRange) h = (o, are, h.0, h.1, h.2)
-write_by_error bits source options json o are (write_error.Refused error.Finished) h = (o, are, h.0, h.1, h.2)
-write_by_error bits source options json o are (write_error.Refused error.Failed) h = (o, are, h.0, h.1, h.2)
-write_by_error bits source options json o are (write_error.Refused error.OutOfMemory) h = tt
+write_by_error bits source options json o are (write_error.Refused p (error.FormatFailed f)) h = tt
+write_by_error bits source options json o are (write_error.Refused p error.UnexpectedEvent) h = (o, are, h.0, h.1, h.2)
+write_by_error bits source options json o are (write_error.Refused p error.Unrepresentable) h = (o, are, h.0, h.1, h.2)
+write_by_error bits source options json o are (write_error.Refused p error.InvalidSourceRange) h = (o, are, h.0, h.1, h.2)
+write_by_error bits source options json o are (write_error.Refused p error.Finished) h = (o, are, h.0, h.1, h.2)
+write_by_error bits source options json o are (write_error.Refused p error.Failed) h = (o, are, h.0, h.1, h.2)
+write_by_error bits source options json o are (write_error.Refused p error.OutOfMemory) h = tt
 write_by_error bits source options json o are write_error.OutOfMemory h = tt
 
 -- why a text has no options

@@ -6,6 +6,8 @@ use Rattle.tocmark_interchange.specs.declared.fault.DocumentError.{DocumentError
 use Rattle.tocmark_interchange.specs.declared.fault.DocumentError.TheVariants as document_error
 use Rattle.tocmark_interchange.specs.declared.fault.OptionsTextError.{OptionsTextError}
 use Rattle.tocmark_interchange.specs.declared.fault.OptionsTextError.TheVariants as options_error
+use Rattle.tocmark_interchange.specs.declared.fault.RewriteError.{RewriteError}
+use Rattle.tocmark_interchange.specs.declared.fault.RewriteError.TheVariants as rewrite_error
 use Rattle.tocmark_interchange.specs.declared.fault.WriteError.{WriteError}
 use Rattle.tocmark_interchange.specs.declared.fault.WriteError.TheVariants as write_error
 use Rattle.tocmark_c.specs.declared.cause.Cause.{Cause}
@@ -48,13 +50,21 @@ refusal_cause error.OutOfMemory = cause.OutOfMemory
 abbrev pub write_cause : WriteError → Cause
 write_cause (write_error.NotJson e) = cause.NotJson
 write_cause (write_error.NotEvents e) = cause.NotEvents
-write_cause (write_error.Refused e) = refusal_cause e
+write_cause (write_error.Refused p e) = refusal_cause e
 write_cause write_error.OutOfMemory = cause.OutOfMemory
 
 -- the cause that events are not written as a document that says the same
 abbrev pub document_cause : DocumentError → Cause
 document_cause (document_error.Write e) = write_cause e
 document_cause (document_error.Changed n) = cause.Changed
+
+-- the cause that a source is not rewritten
+abbrev pub rewriting_cause : RewriteError → Cause
+rewriting_cause (rewrite_error.NotJson e) = cause.NotJson
+rewriting_cause (rewrite_error.NotEvents e) = cause.NotEvents
+rewriting_cause (rewrite_error.Refused p e) = refusal_cause e
+rewriting_cause (rewrite_error.ReadOtherwise p) = cause.Changed
+rewriting_cause rewrite_error.OutOfMemory = cause.OutOfMemory
 
 -- the cause that a text has no options
 abbrev pub options_cause : OptionsTextError → Cause

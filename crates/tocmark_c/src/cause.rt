@@ -1,10 +1,10 @@
 //! What went wrong, and the codes of that.
 
 ghost use Rattle.std.specs.Prelude.{◌≡◌};
-ghost use Rattle.tocmark_c.specs.Codes.{code_of, document_cause, error_text, number_of, options_cause, refusal_cause, write_cause};
+ghost use Rattle.tocmark_c.specs.Codes.{code_of, document_cause, error_text, number_of, options_cause, refusal_cause, rewriting_cause, write_cause};
 
 use tocmark::Error;
-use tocmark_interchange::{DocumentError, OptionsTextError, WriteError};
+use tocmark_interchange::{DocumentError, OptionsTextError, RewriteError, WriteError};
 
 /// Why a call is refused.
 #[derive(Clone, Copy, Debug, PartialEq, Eq)]
@@ -75,7 +75,7 @@ impl Cause {
         match error {
             WriteError::NotJson(_) => Cause::NotJson,
             WriteError::NotEvents(_) => Cause::NotEvents,
-            WriteError::Refused(error) => Cause::of_refusal(error),
+            WriteError::Refused(_, error) => Cause::of_refusal(error),
             WriteError::OutOfMemory => Cause::OutOfMemory,
         }
     }
@@ -87,6 +87,19 @@ impl Cause {
         match error {
             DocumentError::Write(error) => Cause::of_write(error),
             DocumentError::Changed(_) => Cause::Changed,
+        }
+    }
+
+    /// Why a source isn't rewritten.
+    pub fn of_rewriting(error: &RewriteError) -> Cause
+        ensures { result ≡ rewriting_cause error.now }
+    {
+        match error {
+            RewriteError::NotJson(_) => Cause::NotJson,
+            RewriteError::NotEvents(_) => Cause::NotEvents,
+            RewriteError::Refused(_, error) => Cause::of_refusal(error),
+            RewriteError::ReadOtherwise(_) => Cause::Changed,
+            RewriteError::OutOfMemory => Cause::OutOfMemory,
         }
     }
 

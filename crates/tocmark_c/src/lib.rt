@@ -1,22 +1,28 @@
 //! The library for C. `bindings/c/tocmark.h` says the same for those who call it, `docs/BINDINGS.md` how it is built.
 //!
 //! Each function answers a text into room that the caller lends (`room`): how many bytes it takes, or a negative number, the
-//! code of what went wrong (`cause`). Nothing is kept from call to call. `style` is how C says how a text is to look. Below
-//! stand `tocmark_interchange` and `tocmark_format`.
+//! code of what went wrong (`cause`). Nothing is kept from call to call. `style` is how C says how a text is to look, `place`
+//! how C is told where an error is, and `rewriting` rewrites a source. Below stand `tocmark_interchange` and `tocmark_format`.
 #![tactic(auto)]
 
 mod cause;
+mod place;
+mod rewriting;
 mod room;
 mod style;
 
 ghost use Rattle.std.specs.Prelude.{◌≡◌, IfErr, IfOk, is_some, string_bytes};
 ghost use Rattle.tocmark_c.specs.Answer.{IsAnswer, IsErrorText, IsNever};
 ghost use Rattle.tocmark_c.specs.Calls.{IsAsked, IsAskedCause, IsDocumentCauseOf, IsFormatCause, IsMarkdownOf, IsReadCause, IsReadFrom, IsSameDocument, IsSameMarkdownOf, IsWriteCause, has_source};
+ghost use Rattle.tocmark_c.specs.Place.{IsTold};
+ghost use Rattle.tocmark_c.specs.Rewriting.{IsRewriteCauseOf, IsRewrittenOf};
 ghost use Rattle.tocmark_event.specs.Options.{options_view};
 ghost use Rattle.tocmark_interchange.specs.Document.{IsDocumentCause, IsWrittenTheSame};
 ghost use Rattle.tocmark_interchange.specs.Interchange.{IsCause, IsWrittenFrom, source_text};
 
 use cause::{Cause, error_text};
+use place::TocmarkPlace;
+use rewriting::rewrite;
 use room::{answer, lay};
 use std::alloc::Global;
 use style::{TocmarkStyle, style_of};
@@ -87,6 +93,32 @@ pub extern "C" fn tocmark_write_checked(
         (IsDocumentCauseOf flags source.now options.now json.now) result out.old out.new }
 {
     answer(write(alloc, json, source, flags, options, true), out)
+}
+
+/// The source, rewritten to the events of a JSON text under these options, where there is room. All lines whose events stay
+/// stay as they are. An error fills `place`.
+#[unsafe(no_mangle)]
+#[tactic(auto, using(crate::proofs::Answers::text_answered, crate::proofs::Answers::cause_answered, crate::proofs::Answers::place_kept, crate::proofs::Answers::place_filled))]
+pub extern "C" fn tocmark_rewrite(
+    alloc: Global,
+    json: &[u8],
+    source: &[u8],
+    flags: u32,
+    options: &[u8],
+    place: &mut TocmarkPlace,
+    out: &mut [u8],
+) -> isize
+    ensures answer { IsAnswer (IsRewrittenOf flags source.now options.now json.now)
+        (IsRewriteCauseOf flags source.now options.now json.now) result out.old out.new }
+    ensures told { IsTold result place.old place.new }
+{
+    match rewrite(alloc, json, source, flags, options) {
+        Ok(text) => lay(text.as_str(), out),
+        Err(refusal) => {
+            place.fill(refusal.place);
+            refusal.cause.code()
+        }
+    }
 }
 
 /// A Markdown text in one look, where there is room. The reader finds the same in it as in the text that is given.

@@ -92,7 +92,7 @@ pub enum Tag<'a> {
 }
 
 /// A container, at its end.
-#[derive(Clone, Copy, Debug)]
+#[derive(Clone, Copy, Debug, PartialEq, Eq)]
 pub enum TagEnd {
     Paragraph,
     Heading(HeadingLevel),
@@ -151,7 +151,7 @@ impl Tag<'_> {
 }
 
 /// A heading's level; as a number, 1 to 6.
-#[derive(Clone, Copy, Debug)]
+#[derive(Clone, Copy, Debug, PartialEq, Eq)]
 pub enum HeadingLevel {
     H1 = 1,
     H2,
@@ -162,7 +162,7 @@ pub enum HeadingLevel {
 }
 
 /// What a block quote is marked as.
-#[derive(Clone, Copy, Debug)]
+#[derive(Clone, Copy, Debug, PartialEq, Eq)]
 pub enum BlockQuoteKind {
     Note,
     Tip,
@@ -203,14 +203,14 @@ pub enum LinkType {
 }
 
 /// What a metadata block is between.
-#[derive(Clone, Copy, Debug)]
+#[derive(Clone, Copy, Debug, PartialEq, Eq)]
 pub enum MetadataBlockKind {
     YamlStyle,
     PlusesStyle,
 }
 
 /// Extensions of Markdown, as the bits that `tocmark.h` has.
-#[derive(Clone, Copy, Debug)]
+#[derive(Clone, Copy, Debug, PartialEq, Eq)]
 pub struct Options(u32);
 
 impl Options {
@@ -228,7 +228,39 @@ impl Options {
         Options(0)
     }
 
+    pub const fn all() -> Self {
+        Options(0xffde)
+    }
+
+    pub const fn from_bits_retain(bits: u32) -> Self {
+        Options(bits)
+    }
+
+    pub const fn is_empty(&self) -> bool {
+        self.0 == 0
+    }
+
+    pub const fn intersection(self, other: Self) -> Self {
+        Options(self.0 & other.0)
+    }
+
+    pub const fn difference(self, other: Self) -> Self {
+        Options(self.0 & !other.0)
+    }
+
+    pub const fn intersects(&self, other: Self) -> bool {
+        self.0 & other.0 != 0
+    }
+
     pub const fn bits(&self) -> u32 {
         self.0
+    }
+}
+
+impl std::ops::BitOr for Options {
+    type Output = Self;
+
+    fn bitor(self, other: Self) -> Self {
+        Options(self.0 | other.0)
     }
 }

@@ -1,0 +1,199 @@
+"""Reading, writing, rewriting and formatting texts."""
+import json
+from typing import TYPE_CHECKING, Any, Iterable, List, Sequence, Tuple, Union
+
+from . import _library
+from ._errors import error_of
+from ._options import flags_of, options_of, style_of
+from .events import Change, Event, Options, Placed, Style
+
+if TYPE_CHECKING:
+    from typing_extensions import Unpack
+
+#: An event alone, or with its range in bytes or `None`.
+Given = Union[Event, Tuple[Event, Union[range, None]], Sequence[Any]]
+
+
+def encoded(name: str, text: str) -> bytes:
+    """Returns the UTF-8 of a text."""
+    if not isinstance(text, str):
+        raise TypeError(f"{name} must be a str, and not {type(text).__name__}")
+    return text.encode()
+
+
+def _text(code: int, text: bytes) -> str:
+    """Returns the text, or raises the exception of the code."""
+    if code < 0:
+        raise error_of(code)
+    return text.decode()
+
+
+def _is_pair(item: Any) -> bool:
+    return isinstance(item, (tuple, list))
+
+
+def _json_of(events: Iterable[Given]) -> bytes:
+    """Returns the JSON of events. If one has a range, each has one or `None`."""
+    if isinstance(events, (str, bytes, dict)):
+        raise TypeError(f"events must be a list of events, and not {type(events).__name__}")
+    items: List[Any] = list(events)
+    if any(_is_pair(item) for item in items):
+        pairs = [item if _is_pair(item) else (item, None) for item in items]
+        items = [[event, {"start": place.start, "end": place.stop} if isinstance(place, range) else place]
+                 for event, place in pairs]
+    return json.dumps(items, ensure_ascii=False).encode()
+
+
+def read(text: str, *, syntax: str = "gfm", extensions: Iterable[str] = ()) -> List[Placed]:
+    """Returns the events of a Markdown text, each with its range in bytes of the text's UTF-8.
+
+    `syntax` is "gfm", "commonmark" or "all". `extensions` are names of `EXTENSIONS` to add, or to remove with `no-` in front.
+
+    >>> import tocmark
+    >>> [event for event, _ in tocmark.read("~~a~~ ~b~", extensions=["no-strikethrough", "subscript"])][1:5]
+    [{'Text': '~~a~~ '}, {'Start': 'Subscript'}, {'Text': 'b'}, {'End': 'Subscript'}]
+
+    Raises `UnicodeEncodeError` if the text has half a surrogate pair, and `MemoryError`.
+    """
+    data = encoded("text", text)
+    flags = flags_of(syntax, extensions)
+    found = _text(*_library.answer(_library.read_json, data, len(data), flags, guess=12 * len(data) + 4096))
+    return [(event, range(place["start"], place["end"])) for event, place in json.loads(found)]
+
+
+def write(events: Iterable[Given], source: str = "", *, syntax: str = "gfm", extensions: Iterable[str] = (),
+          check_document: bool = False, **options: "Unpack[Options]") -> str:
+    """Returns the Markdown of events, with or without ranges. The text has no line feed at its end.
+
+    To change a text, call `rewrite`, which keeps all other lines. `write` gives all blocks one layout.
+
+    `source` is the text that the ranges refer to; without it, they are dropped. The text has to parse back under `syntax` and
+    `extensions`. `options` are those of the writer, such as `list_token="-"`. With `check_document`, the whole text is parsed
+    and refused unless it has just these events. Texts side by side count as one.
+
+    >>> import tocmark
+    >>> tocmark.write(["Rule"])
+    '---'
+    >>> tocmark.write(tocmark.read("* a\\n* b"), list_token="-")
+    '- a\\n- b'
+    >>> tocmark.write([{"End": "Paragraph"}])
+    Traceback (most recent call last):
+    tocmark.UnexpectedEvent: an event stands where it cannot
+
+    Raises `NotEvents`, `InvalidOptions`, `UnexpectedEvent`, `Unrepresentable`, `InvalidSourceRange`, `Changed`, and `Error`
+    for any other error of the library; `TypeError` if JSON has no such value; `MemoryError`.
+    """
+    data, over = _json_of(events), encoded("source", source)
+    chosen, flags = options_of(options), flags_of(syntax, extensions)
+    function = _library.write_checked if check_document else _library.write_json
+    return _text(*_library.answer(function, data, len(data), over, len(over), flags, chosen, len(chosen),
+                                  guess=len(data) + 256))
+
+
+def rewrite(source: str, events: Iterable[Given], *, syntax: str = "gfm", extensions: Iterable[str] = (),
+            **options: "Unpack[Options]") -> str:
+    """Returns the source with its events replaced by these. All lines whose events are the same stay as they are.
+
+    The result parses to just these events. Texts side by side count as one. The events need no ranges. `options` are those of
+    the writer, and concern new blocks alone.
+
+    >>> import tocmark
+    >>> source = "*  a &eacute; [link](/old)\\n\\n|a|\\n|-|\\n"
+    >>> events = tocmark.read(source)
+    >>> for event, _ in events:
+    ...     match event:
+    ...         case {"Start": {"Link": link}}:
+    ...             link["dest_url"] = "/new"
+    >>> print(tocmark.rewrite(source, events), end="")
+    *  a &eacute; [link](/new)
+    <BLANKLINE>
+    |a|
+    |-|
+
+    Raises what `write` does, with the number of the event and the lines of the source (`Error.event`, `Error.lines`).
+    """
+    over, data = encoded("source", source), _json_of(events)
+    chosen, flags = options_of(options), flags_of(syntax, extensions)
+    place = _library.Place(size=_library.ctypes.sizeof(_library.Place))
+    code, text = _library.answer(_library.rewrite, data, len(data), over, len(over), flags, chosen, len(chosen), place,
+                                 guess=len(over) + 4096)
+    if code >= 0:
+        return text.decode()
+    lines = (place.first_line, place.last_line) if place.first_line else None
+    raise error_of(code, place.event if place.event < len(data) else None, lines)
+
+
+def end_of(tag: Any) -> Any:
+    """Returns the content of the End event that closes a tag."""
+    if not isinstance(tag, dict) or len(tag) != 1:
+        return tag
+    (name, content), = tag.items()
+    if name == "Heading" and isinstance(content, dict):
+        return {name: content.get("level")}
+    if name in ("BlockQuote", "MetadataBlock"):
+        return {name: content}
+    return {name: content is not None} if name == "List" else name
+
+
+def _is(event: Any, name: str) -> bool:
+    return isinstance(event, dict) and name in event
+
+
+def changed(events: Iterable[Placed], change: Change) -> List[Event]:
+    """Returns the events with each one changed. An End that `change` leaves alone closes what its Start has become."""
+    found: List[Event] = []
+    ends: List[Any] = []
+    for event, _ in events:
+        before = json.dumps(event) if _is(event, "End") else ""
+        answer = change(event)
+        event = event if answer is None else answer
+        if _is(event, "Start"):
+            ends.append(end_of(event["Start"]))  # type: ignore[index,typeddict-item]
+        elif _is(event, "End") and ends:
+            end = ends.pop()
+            event = {"End": end} if json.dumps(event) == before else event
+        found.append(event)
+    return found
+
+
+def edit(source: str, change: Change, *, syntax: str = "gfm", extensions: Iterable[str] = (),
+         **options: "Unpack[Options]") -> str:
+    """Returns the source with each event changed, as `rewrite` does. `change` edits an event in place and returns `None`, or
+    returns another event. An End follows its Start, so you needn't change it.
+
+    >>> import tocmark
+    >>> def lower(event):
+    ...     match event:
+    ...         case {"Start": {"Heading": heading}}:
+    ...             heading["level"] = f"H{min(int(heading['level'][1]) + 1, 6)}"
+    >>> tocmark.edit("a\\n=\\n\\n*  b\\n", lower)
+    'a\\n-\\n\\n*  b\\n'
+
+    Raises what `rewrite` does.
+    """
+    events = changed(read(source, syntax=syntax, extensions=extensions), change)
+    return rewrite(source, events, syntax=syntax, extensions=extensions, **options)
+
+
+def format(text: str, *, syntax: str = "gfm", extensions: Iterable[str] = (), **style: "Unpack[Style]") -> str:
+    """Returns a Markdown text in one style. It parses to the same events; texts side by side count as one. A block that would
+    parse otherwise keeps its lines.
+
+    `bullet` is "*", "-" or "+", `delimiter` "." or ")", and `fence` "`" or "~"; "", the default, keeps what the source has.
+    `emphasis` and `strong` are "*" (the default) or "_", `numbering` "source" (the default), "first" or "increment",
+    `hard_break` "source" (the default), "backslash" or "spaces", and `rule` "---" (the default) or "source". A fence has at
+    least `fence_length` characters, from 3 (the default) to 1,000. Tables are padded up to `table_width` columns, from 1 to
+    1,000; the default is 120.
+
+    >>> import tocmark
+    >>> tocmark.format("Title\\n=====\\n*  a\\n*  b", bullet="-")
+    '# Title\\n\\n- a\\n- b\\n'
+    >>> tocmark.format("a", bullet="x")
+    Traceback (most recent call last):
+    tocmark.InvalidStyle: the style has another size, or a number that means nothing
+
+    Raises `InvalidStyle`; `ValueError` for another name or number; `UnicodeEncodeError` as `read`; `MemoryError`.
+    """
+    data = encoded("text", text)
+    return _text(*_library.answer(_library.format_text, data, len(data), flags_of(syntax, extensions), style_of(**style),
+                                  guess=2 * len(data) + 256))

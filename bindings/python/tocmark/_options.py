@@ -1,0 +1,88 @@
+"""Syntaxes, extensions, options of the writer and styles, as the library takes them."""
+import json
+from typing import Any, Iterable, Mapping
+
+from . import _library
+from ._errors import InvalidOptions
+
+#: The extensions, by their names, with the flag of each.
+EXTENSIONS: Mapping[str, int] = {
+    "tables": 1 << 1, "footnotes": 1 << 2, "strikethrough": 1 << 3, "tasklists": 1 << 4, "yaml-metadata": 1 << 7,
+    "pluses-metadata": 1 << 8, "superscript": 1 << 13, "subscript": 1 << 14, "heading-attributes": 1 << 6,
+    "math": 1 << 10, "quote-kinds": 1 << 11, "definition-lists": 1 << 12,
+}
+
+_GFM = ("tables", "footnotes", "strikethrough", "tasklists", "yaml-metadata", "pluses-metadata", "quote-kinds")
+
+#: The syntaxes, by their names, with the flags of each.
+SYNTAXES: Mapping[str, int] = {
+    "commonmark": 0,
+    "gfm": sum(EXTENSIONS[name] for name in _GFM),
+    "all": sum(EXTENSIONS.values()),
+}
+
+_NUMBERINGS = {"source": 0, "first": 1, "increment": 2}
+_HARD_BREAKS = {"source": 0, "backslash": 1, "spaces": 2}
+_RULES = {"---": 0, "source": 1}
+
+_TOKENS = {"code_block_token": ("`", "~"), "list_token": ("*", "-", "+"), "ordered_list_token": (".", ")"),
+           "emphasis_token": ("*", "_"), "strong_token": ("**", "__")}
+_TRUTHS = ("increment_ordered_list_bullets", "use_html_for_super_sub_script", "check_plain_blocks")
+_SIZES = ("code_block_token_count", *(f"newlines_after_{name}" for name in (
+    "headline", "paragraph", "codeblock", "htmlblock", "table", "rule", "list", "blockquote", "metadata", "rest")))
+
+
+def flags_of(syntax: str, extensions: Iterable[str]) -> int:
+    """Returns the flags of a syntax with extensions added, and those removed that are named with `no-` in front."""
+    if isinstance(extensions, str):
+        raise TypeError(f"extensions must be a list of names, and not the str {extensions!r}")
+    if syntax not in SYNTAXES:
+        raise ValueError(f"{syntax!r} is none of {', '.join(SYNTAXES)}")
+    flags = SYNTAXES[syntax]
+    for name in extensions:
+        is_removed = name.startswith("no-")
+        flag = EXTENSIONS.get(name[3:] if is_removed else name)
+        if flag is None:
+            raise ValueError(f"{name!r} is none of {', '.join(EXTENSIONS)}, alone or with no- in front")
+        flags = flags & ~flag if is_removed else flags | flag
+    return flags
+
+
+def _wanted(name: str, value: Any) -> str:
+    """Returns what an option must be, or "" if the value is such."""
+    if name in _TOKENS:
+        return "" if value in _TOKENS[name] else f"one of {' '.join(_TOKENS[name])}"
+    if name in _TRUTHS:
+        return "" if isinstance(value, bool) else "True or False"
+    is_size = isinstance(value, int) and not isinstance(value, bool) and 0 <= value < 2**63 - 1
+    return "" if is_size else "a whole number from 0, below 2**63 - 1"
+
+
+def options_of(options: Mapping[str, Any]) -> bytes:
+    """Returns the JSON of the writer's options, or raises `InvalidOptions` that names the one that is wrong."""
+    for name, value in options.items():
+        if name not in _TOKENS and name not in _TRUTHS and name not in _SIZES:
+            raise InvalidOptions(-8, cause=f"there is no option {name}")
+        wanted = _wanted(name, value)
+        if wanted:
+            raise InvalidOptions(-8, cause=f"{name}: expected {wanted}, and not {value!r}")
+    return json.dumps(options).encode() if options else b""
+
+
+def style_of(*, bullet: str = "", delimiter: str = "", numbering: str = "source", emphasis: str = "*", strong: str = "*",
+             fence: str = "", fence_length: int = 3, hard_break: str = "source", rule: str = "---",
+             table_width: int = 120) -> _library.Style:
+    """Returns a style, or raises `ValueError` if a name or a number can't be. The library looks at the characters."""
+    for name, known in ((numbering, _NUMBERINGS), (hard_break, _HARD_BREAKS), (rule, _RULES)):
+        if name not in known:
+            raise ValueError(f"{name!r} is none of {', '.join(known)}")
+    if not 3 <= fence_length <= 1000:
+        raise ValueError(f"fence_length must be from 3 to 1000, and not {fence_length}")
+    if not 1 <= table_width <= 1000:
+        raise ValueError(f"table_width must be from 1 to 1000, and not {table_width}")
+    style = _library.Style(numbering=_NUMBERINGS[numbering], hard_break=_HARD_BREAKS[hard_break], rule=_RULES[rule],
+                           fence_length=fence_length, table_width=table_width)
+    for part, mark in (("bullet", bullet), ("delimiter", delimiter), ("emphasis", emphasis), ("strong", strong), ("fence", fence)):
+        setattr(style, part, ord(mark) if len(mark) == 1 else min(len(mark), 1))
+    style.size = _library.ctypes.sizeof(style)
+    return style
