@@ -1,6 +1,6 @@
 -- Examples: texts with a construct of an extension, and the events that the laws give them.
 use Rattle.std.proofs.Common.{◌≡◌, true, false, [], ◌∷◌, codes, refl, arith, None, Some}
-use Rattle.tocmark_event.specs.View.{Start, End, Leaf, Heading, Item, ListOf, MetadataBlock, Paragraph, Strikethrough, Text, InlineMath, SoftBreak, TaskListMarker}
+use Rattle.tocmark_event.specs.View.{Start, End, Leaf, Heading, Item, ListOf, MetadataBlock, Paragraph, Strikethrough, Text, InlineMath, SoftBreak, Subscript, Superscript, TaskListMarker}
 use Rattle.tocmark_event.specs.declared.event.HeadingLevel.TheVariants.{H1}
 use Rattle.tocmark_event.specs.declared.event.MetadataBlockKind.TheVariants.{YamlStyle, PlusesStyle}
 use Rattle.tocmark_event.specs.declared.event.TagEnd.TheVariants as end
@@ -10,6 +10,7 @@ use Rattle.tocmark_reader.specs.Reading.{reading_of}
 use Rattle.tocmark_laws.proofs.AttributedHeadings.{attributes_read}
 use Rattle.tocmark_laws.proofs.FormulaReading.{formula_read}
 use Rattle.tocmark_laws.proofs.FrontMatterReading.{front_matter_read}
+use Rattle.tocmark_laws.proofs.ScriptReading.{script_read}
 use Rattle.tocmark_laws.proofs.StrikethroughReading.{struck_read}
 use Rattle.tocmark_laws.proofs.TaskItems.{task_read}
 use Rattle.tocmark_laws.proofs.WordsReading.{words_read}
@@ -28,6 +29,12 @@ formula syntax math = formula_read syntax (codes "a_1 * [b] < `c`") math refl (o
 
 struck : (syntax : Syntax) → syntax.strikethrough ≡ true → IsReadAs (reading_of syntax (codes "~~two words~~")) (Start Paragraph ∷ Start Strikethrough ∷ Leaf (Text (codes "two words")) ∷ End end.Strikethrough ∷ End end.Paragraph ∷ [])
 struck syntax strike = struck_read syntax (codes "two words") strike refl (omega arith)
+
+below : (syntax : Syntax) → syntax.subscript ≡ true → IsReadAs (reading_of syntax (codes "~two~")) (Start Paragraph ∷ Start Subscript ∷ Leaf (Text (codes "two")) ∷ End end.Subscript ∷ End end.Paragraph ∷ [])
+below syntax has = script_read syntax true (codes "two") has refl (omega arith)
+
+above : (syntax : Syntax) → syntax.superscript ≡ true → IsReadAs (reading_of syntax (codes "^two^")) (Start Paragraph ∷ Start Superscript ∷ Leaf (Text (codes "two")) ∷ End end.Superscript ∷ End end.Paragraph ∷ [])
+above syntax has = script_read syntax false (codes "two") has refl (omega arith)
 
 attributed : (syntax : Syntax) → syntax.heading_attributes ≡ true → IsReadAs (reading_of syntax (codes "# two words {#name}")) (Start (Heading H1 (Some (codes "name")) [] []) ∷ Leaf (Text (codes "two words")) ∷ End (end.Heading H1) ∷ [])
 attributed syntax has = attributes_read syntax (codes "two words") (codes "name") has refl refl (omega arith)

@@ -45,6 +45,7 @@ pub mod FrontMatterReading
 pub mod WordsReading
 pub mod FormulaReading
 pub mod StrikethroughReading
+pub mod ScriptReading
 pub mod AttributedHeadings
 pub mod TaskItems
 mod ExtensionExamples

@@ -68,7 +68,7 @@ phrase_from b bs h =
 pub small_letter : (b : ℕ) → is_ascii_alphanumeric b ≡ true → b < 123
 small_letter b h = grind (arith, h, nat_tests)
 
-no_tilde : (b : ℕ) → is_ascii_alphanumeric b ≡ true → (b == 126) ≡ false
+pub no_tilde : (b : ℕ) → is_ascii_alphanumeric b ≡ true → (b == 126) ≡ false
 no_tilde b h = let small : b < 123 = small_letter b h in grind (arith, nat_tests)
 
 -- ---- the line begins nothing
@@ -119,11 +119,11 @@ opens_here syntax b rest h strike =
     ap (λ end. tildes_between syntax (126 ∷ 126 ∷ b ∷ rest) 0 end) (first_end b rest (no_tilde b h))
     ∙ rw (strike, after, never syntax.subscript) refl
 
-space_past : (bytes : List ℕ) (p : ℕ) → byte_at bytes p ≡ 10 → side_at bytes p ≡ Space
+pub space_past : (bytes : List ℕ) (p : ℕ) → byte_at bytes p ≡ 10 → side_at bytes p ≡ Space
 unfolding side_at code_at character_of side_of sides.is_space
 space_past bytes p e = rw e refl
 
-byte_past : (xs : List ℕ) (n : ℕ) → n ≡ length xs → byte_at xs n ≡ 10
+pub byte_past : (xs : List ℕ) (n : ℕ) → n ≡ length xs → byte_at xs n ≡ 10
 byte_past xs n e = ap (byte_at xs) e ∙ none xs
   where
     none : (ys : List ℕ) → byte_at ys (length ys) ≡ 10
@@ -183,7 +183,7 @@ no_mark_in syntax b h =
     let one = both_false (s.is_mark b) (b == 126) (two.0) in
     rw (one.1, two.1, three.1, never (syntax.strikethrough || syntax.subscript), never syntax.superscript, never syntax.math) (one.0)
 
-pass_words : (syntax : Syntax) (all : List ℕ) (ahead : s.Known) (find : List ℕ → Option Entry) (xs : List ℕ) (t : s.State) → AllByRecursion IsWordByte xs → t.place + length xs < 2 ^ 64 → fold (s.scan_step_in syntax all ahead find) t xs ≡ record t { place = t.place + length xs }
+pub pass_words : (syntax : Syntax) (all : List ℕ) (ahead : s.Known) (find : List ℕ → Option Entry) (xs : List ℕ) (t : s.State) → AllByRecursion IsWordByte xs → t.place + length xs < 2 ^ 64 → fold (s.scan_step_in syntax all ahead find) t xs ≡ record t { place = t.place + length xs }
 unfolding s.scan_step_in
 pass_words syntax all ahead find [] t h fits = ap (λ p. record t { place = p }) (let q : t.place ≡ t.place + 0 = omega arith in q)
 pass_words syntax all ahead find (x ∷ xs) t h fits =

@@ -2,7 +2,7 @@
 use Rattle.std.specs.Prelude.{◌≡◌, ℕ, ◌^◌, ◌<◌, Bool, true, false, not, ◌==◌, ◌&&◌, List, [], ◌∷◌, ◌++◌, codes, length, None, Some}
 use Rattle.std.specs.Char.{char_set_contains, is_ascii_alphabetic, is_ascii_alphanumeric}
 use Rattle.std.specs.List.{list_all}
-use Rattle.tocmark_event.specs.View.{EventView, Start, End, Leaf, Heading, Item, ListOf, MetadataBlock, Paragraph, Strikethrough, TaskListMarker, Text, InlineMath}
+use Rattle.tocmark_event.specs.View.{EventView, Start, End, Leaf, Heading, Item, ListOf, MetadataBlock, Paragraph, Strikethrough, Subscript, Superscript, TaskListMarker, Text, InlineMath}
 use Rattle.tocmark_event.specs.declared.event.HeadingLevel.TheVariants.{H1}
 use Rattle.tocmark_event.specs.declared.event.MetadataBlockKind.{MetadataBlockKind}
 use Rattle.tocmark_event.specs.declared.event.MetadataBlockKind.TheVariants.{YamlStyle, PlusesStyle}
@@ -111,6 +111,33 @@ abbrev pub StruckPhrasesAreRead : Type 0
 StruckPhrasesAreRead =
     (syntax : Syntax) (phrase : List ℕ) → syntax.strikethrough ≡ true → is_phrase phrase ≡ true → length (in_tildes phrase) < 2 ^ 64 →
     IsReadAs (reading_of syntax (in_tildes phrase)) (struck_paragraph phrase)
+
+-- ---- subscripts and superscripts
+
+-- the mark of a subscript, or of a superscript
+abbrev pub script_byte : Bool → ℕ
+script_byte true = 126
+script_byte false = 94
+
+-- a syntax has subscripts, or superscripts
+abbrev pub has_script : Bool → Syntax → Bool
+has_script true syntax = syntax.subscript
+has_script false syntax = syntax.superscript
+
+-- a phrase between two such marks
+abbrev pub in_marks : Bool → List ℕ → List ℕ
+in_marks low phrase = script_byte low ∷ (phrase ++ script_byte low ∷ [])
+
+-- a paragraph of a phrase below the line, or above it
+abbrev pub script_paragraph : Bool → List ℕ → List EventView
+script_paragraph true phrase = Start Paragraph ∷ Start Subscript ∷ Leaf (Text phrase) ∷ End end.Subscript ∷ End end.Paragraph ∷ []
+script_paragraph false phrase = Start Paragraph ∷ Start Superscript ∷ Leaf (Text phrase) ∷ End end.Superscript ∷ End end.Paragraph ∷ []
+
+-- where a syntax has subscripts, a phrase between tildes is one; likewise for superscripts and carets
+abbrev pub ScriptsAreRead : Type 0
+ScriptsAreRead =
+    (syntax : Syntax) (low : Bool) (phrase : List ℕ) → has_script low syntax ≡ true → is_phrase phrase ≡ true → length (in_marks low phrase) < 2 ^ 64 →
+    IsReadAs (reading_of syntax (in_marks low phrase)) (script_paragraph low phrase)
 
 -- ---- attributes of headings
 

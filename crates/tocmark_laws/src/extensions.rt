@@ -4,7 +4,7 @@
 //! own extension; all others may be on or off. They don't say how the events are found, so they tie an extension to its
 //! rule, and not to the reader's code. A phrase has no marks, and a letter or a digit at either end.
 
-ghost use Rattle.tocmark_laws.specs.Extensions.{AttributesAreRead, FormulasAreRead, FrontMatterIsRead, StruckPhrasesAreRead, TasksAreRead, WordsAreRead};
+ghost use Rattle.tocmark_laws.specs.Extensions.{AttributesAreRead, FormulasAreRead, FrontMatterIsRead, ScriptsAreRead, StruckPhrasesAreRead, TasksAreRead, WordsAreRead};
 
 /// Under every syntax, lines of words are a paragraph with a text for each line, with the ranges that `CoreReader`
 /// gives. Each line begins with a letter, and none of its characters, from U+0020 to U+007E, is a mark.
@@ -27,6 +27,12 @@ pub fn formulas_are_read()
 /// Under each syntax with strikethrough, a phrase between two tildes on either side is struck through.
 pub fn struck_phrases_are_read()
     ensures { StruckPhrasesAreRead }
+{}
+
+/// Under each syntax with subscripts, a phrase between tildes, as `~two~`, is a subscript; under each syntax with
+/// superscripts, a phrase between carets, as `^two^`, is a superscript.
+pub fn scripts_are_read()
+    ensures { ScriptsAreRead }
 {}
 
 /// Under each syntax with attributes of headings, a name behind a heading's phrase, as in `# two words {#name}`, is the
