@@ -18,8 +18,10 @@ use Rattle.tocmark_read_inlines.specs.Inlines as inlines
 use Rattle.tocmark_read_inlines.proofs.PlainLeaf.{known}
 use Rattle.tocmark_read_inlines.proofs.PlainNeighbours.{plain_parts_are_read}
 use Rattle.tocmark_read_inlines.proofs.PlainNodes.{nodes_of}
-use Rattle.tocmark_reader.specs.Emitted.{NodeView, Container}
-use Rattle.tocmark_reader.specs.Pages.{State, start_state, pieces_of, is_unwrapped, block_taken_in, block_step_in, paragraph_taken_in, wrapped, wrapped_in, task_nodes, with_block, leaf_inlines_in, with_inlines, content_line, block_tag}
+use Rattle.tocmark_event.specs.View.{Rule}
+use Rattle.tocmark_read_page.specs.declared.page.BlockKind.TheVariants as kind
+use Rattle.tocmark_reader.specs.Emitted.{NodeView, Container, Given}
+use Rattle.tocmark_reader.specs.Pages.{State, start_state, pieces_of, is_unwrapped, block_taken_in, block_step_in, paragraph_taken_in, wrapped, wrapped_in, task_nodes, with_block, leaf_inlines_in, with_inlines, with_rule, content_line, block_tag}
 use Rattle.tocmark_reader.specs.Reading.{found_in, found_under, FoundView, collected, collected_from, first_entry}
 use Rattle.tocmark_reader.proofs.PlacedParts.{parts_inlines_at}
 use Rattle.tocmark_reader.proofs.PlainEvents.{viewed}
@@ -29,8 +31,8 @@ use Rattle.tocmark_reader.proofs.PlainSources.{all_behind, all_implied}
 use Rattle.tocmark_read_scan.specs.declared.syntax.TheConstants.{CORE}
 use Rattle.tocmark_read_blocks.proofs.PlainFronts.{BeginsPlainly}
 use Rattle.tocmark_laws.specs.TextBlocks.{Kind, ParagraphKind, HeadingKind, mark_of, tag_of}
-use Rattle.tocmark_laws.proofs.DocumentBlocks.{block}
-use Rattle.tocmark_laws.proofs.DocumentRows.{Row, Blank, Filled, row_bytes, rows_text, IsFilled, IsRow, AreRows, all_rows, block_kind, content_start, row_end, behind, filled_pieces, row_blocks, row_pieces, rows_blocks, counted}
+use Rattle.tocmark_laws.proofs.DocumentBlocks.{block, hyphens}
+use Rattle.tocmark_laws.proofs.DocumentRows.{Row, Blank, Break, Filled, row_bytes, rows_text, IsFilled, IsRow, AreRows, all_rows, block_kind, content_start, row_end, behind, filled_pieces, row_blocks, row_pieces, rows_blocks, counted}
 use Rattle.tocmark_laws.proofs.DocumentParagraphs.{content_of_lines, behind_line, line_length}
 
 -- the content of one line that stands in a text
@@ -47,7 +49,7 @@ content_of_line text xs start next body y e split white zeros fits =
 
 -- how a line ends
 
-split_last : (b : ℕ) (bs : List ℕ) → (body : List ℕ) × (b ∷ bs ≡ body ++ last_byte b bs ∷ [])
+pub split_last : (b : ℕ) (bs : List ℕ) → (body : List ℕ) × (b ∷ bs ≡ body ++ last_byte b bs ∷ [])
 split_last b [] = ([], refl)
 split_last b (c ∷ cs) = let more = split_last c cs in (b ∷ more.0, ap (λ (l : List ℕ). b ∷ l) (more.1))
 
@@ -83,9 +85,13 @@ no_zeros (m ∷ ms) h = (all_implied IsPrintable (λ b. (b == 0) ≡ false) (spe
 abbrev pub row_node : ℕ → Kind → List Part → List (List Part) → NodeView
 row_node start k l ms = record { depth = 0; item = Container (tag_of k); start = start; end = row_end start k l ms }
 
+abbrev pub break_node : ℕ → NodeView
+break_node start = record { depth = 0; item = Given Rule; start = start; end = start + 3 }
+
 abbrev pub row_nodes : ℕ → List Row → List NodeView
 row_nodes start [] = []
 row_nodes start (Blank ∷ rs) = row_nodes (start + 0 + 1) rs
+row_nodes start (Break ∷ rs) = break_node start ∷ row_nodes (start + 3 + 1) rs
 row_nodes start (Filled k l ms ∷ rs) = row_node start k l ms ∷ (viewed (nodes_of 1 (content_start k start) None (text_parts l ms)) ++ row_nodes (row_end start k l ms + 1) rs)
 
 abbrev none : inlines.State
@@ -174,10 +180,20 @@ row_taken text pre rest start k l ms rs blocks all ps n ns e front fits h pieces
     ∙ ap (λ (ms : List NodeView). at (ms ++ viewed (nodes_of 1 (content_start k start) None parts))) (append-nil (ns ++ row_node start k l ms ∷ []))
     ∙ ap at (append_assoc ns (row_node start k l ms ∷ []) (viewed (nodes_of 1 (content_start k start) None parts)))
 
+break_taken : (text : List ℕ) (start : ℕ) (blocks : List Block) (all : List Piece) (n : ℕ) (ns : List NodeView) → block_step_in CORE text find blocks all (at ns) (block kind.Rule start (start + 3) n n) ≡ at (ns ++ break_node start ∷ [])
+unfolding block_taken_in with_rule
+break_taken text start blocks all n ns = refl
+
 pub rows_nodes : (text pre : List ℕ) (start : ℕ) (r : Row) (rs : List Row) (blocks : List Block) (all ps : List Piece) (n : ℕ) (ns : List NodeView) → text ≡ pre ++ rows_text r rs → start ≡ length pre → length text < 2 ^ 64 → AllByRecursion IsRow (r ∷ rs) → all ≡ ps ++ row_pieces start (r ∷ rs) → n ≡ length ps → fold (block_step_in CORE text find blocks all) (at ns) (row_blocks n start (r ∷ rs)) ≡ at (ns ++ row_nodes start (r ∷ rs))
 rows_nodes text pre start Blank [] blocks all ps n ns e front fits h pieces count = ap at (sym (append-nil ns))
 rows_nodes text pre start Blank (r ∷ rs) blocks all ps n ns e front fits h pieces count =
     rows_nodes text (pre ++ ([] ++ 10 ∷ [])) (start + 0 + 1) r rs blocks all ps n ns (behind_line text pre [] (rows_text r rs) e) (line_length pre [] start front) fits (h.1) pieces count
+rows_nodes text pre start Break [] blocks all ps n ns e front fits h pieces count = break_taken text start blocks all n ns
+rows_nodes text pre start Break (r ∷ rs) blocks all ps n ns e front fits h pieces count =
+    let next : ℕ = start + 3 + 1 in
+    ap (λ s. fold (block_step_in CORE text find blocks all) s (row_blocks n next (r ∷ rs))) (break_taken text start blocks all n ns)
+    ∙ rows_nodes text (pre ++ (hyphens ++ 10 ∷ [])) next r rs blocks all ps n (ns ++ break_node start ∷ []) (behind_line text pre hyphens (rows_text r rs) e) (line_length pre hyphens start front) fits (h.1) pieces count
+    ∙ ap at (append_assoc ns (break_node start ∷ []) (row_nodes next (r ∷ rs)))
 rows_nodes text pre start (Filled k l ms) [] blocks all ps n ns e front fits h pieces count =
     row_taken text pre [] start k l ms [] blocks all ps n ns (e ∙ ap (λ (ys : List ℕ). pre ++ ys) (sym (append-nil (mark_of k ++ spelled (text_parts l ms))))) front fits (h.0) pieces count
     ∙ ap (λ (zs : List NodeView). at (ns ++ row_node start k l ms ∷ zs)) (sym (append-nil (viewed (nodes_of 1 (content_start k start) None (text_parts l ms)))))

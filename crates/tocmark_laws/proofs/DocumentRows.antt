@@ -1,4 +1,4 @@
--- The blocks of a text of rows: paragraphs and headings of one line each, and blank lines.
+-- The blocks of a text of rows: paragraphs, headings of one line, thematic breaks, and blank lines.
 use Rattle.std.proofs.Common.{◌≡◌, ℕ, zero, suc, ◌+◌, ◌-◌, ◌^◌, ◌<◌, ◌≤◌, Bool, true, false, ◌==◌, ◌&&◌, if◌then◌else◌, nat_lt, List, [], ◌∷◌, ◌++◌, length, map, refl, ap, sym, subst, ◌∙◌, arith, append_assoc, append-nil, length-append, None, inl, inr, true≢false}
 use Rattle.std.proofs.lemmas.Bool.Decides.{nat_tests}
 use Rattle.std.specs.Char.{is_ascii_digit}
@@ -29,17 +29,19 @@ use Rattle.tocmark_reader.specs.PlainTexts.{text_parts}
 use Rattle.tocmark_reader.proofs.PlainReading.{IsPrintable, IsPlainLine, clean_lines, spelled_text}
 use Rattle.tocmark_reader.proofs.PlainSources.{IsClean, AreClean, all_implied}
 use Rattle.tocmark_laws.specs.TextBlocks.{Kind, ParagraphKind, HeadingKind, mark_of}
-use Rattle.tocmark_laws.proofs.DocumentBlocks.{block, closed, line_begins, nothing_ends, blank_passes, line_heads}
+use Rattle.tocmark_laws.proofs.DocumentBlocks.{block, closed, line_begins, nothing_ends, blank_passes, line_heads, hyphens, line_rules}
 use Rattle.tocmark_laws.proofs.DocumentParagraphs.{open_lines, line_pieces, lines_behind, count_behind, last_number, ArePlainAt, joined_length, lines_go_on, lines_end, blank_ends, first_of, behind_line, line_length}
 use Rattle.tocmark_laws.proofs.DocumentHeadings.{EndsHeading, heading_line}
 
--- a blank line, or a paragraph or heading whose lines are spelled by parts
+-- a blank line, a thematic break, or a paragraph or heading whose lines are spelled by parts
 pub data Row : Type 0 where
   Blank : Row
+  Break : Row
   Filled : Kind → List Part → List (List Part) → Row
 
 abbrev pub row_bytes : Row → List ℕ
 row_bytes Blank = []
+row_bytes Break = hyphens
 row_bytes (Filled k l ms) = mark_of k ++ spelled (text_parts l ms)
 
 -- a text that is rows
@@ -62,21 +64,26 @@ abbrev pub AreRows : List Row → Type 0
 AreRows [] = Unit {0}
 AreRows (Blank ∷ []) = ⊥
 AreRows (Blank ∷ r ∷ rs) = AreRows (r ∷ rs)
+AreRows (Break ∷ rs) = AreRows rs
 AreRows (Filled ParagraphKind l ms ∷ []) = IsFilled ParagraphKind l ms
 AreRows (Filled ParagraphKind l ms ∷ Blank ∷ rs) = IsFilled ParagraphKind l ms × AreRows (Blank ∷ rs)
+AreRows (Filled ParagraphKind l ms ∷ Break ∷ rs) = ⊥
 AreRows (Filled ParagraphKind l ms ∷ Filled k m ns ∷ rs) = ⊥
 AreRows (Filled (HeadingKind level) l ms ∷ rs) = IsFilled (HeadingKind level) l ms × AreRows rs
 
 abbrev pub IsRow : Row → Type 0
 IsRow Blank = Unit {0}
+IsRow Break = Unit {0}
 IsRow (Filled k l ms) = IsFilled k l ms
 
 pub all_rows : (rs : List Row) → AreRows rs → AllByRecursion IsRow rs
 all_rows [] h = tt
 all_rows (Blank ∷ []) h = absurd h
 all_rows (Blank ∷ r ∷ rs) h = (tt, all_rows (r ∷ rs) h)
+all_rows (Break ∷ rs) h = (tt, all_rows rs h)
 all_rows (Filled ParagraphKind l ms ∷ []) h = (h, tt)
 all_rows (Filled ParagraphKind l ms ∷ Blank ∷ rs) h = (h.0, all_rows (Blank ∷ rs) (h.1))
+all_rows (Filled ParagraphKind l ms ∷ Break ∷ rs) h = absurd h
 all_rows (Filled ParagraphKind l ms ∷ Filled k m ns ∷ rs) h = absurd h
 all_rows (Filled (HeadingKind level) l ms ∷ rs) h = (h.0, all_rows rs (h.1))
 
@@ -94,10 +101,12 @@ row_end start k l ms = start + length (mark_of k ++ spelled (text_parts l ms))
 -- the lines of rows
 abbrev row_first : Row → List ℕ
 row_first Blank = []
+row_first Break = hyphens
 row_first (Filled k l ms) = mark_of k ++ spelled l
 
 abbrev row_more : Row → List (List ℕ)
 row_more Blank = []
+row_more Break = []
 row_more (Filled k l ms) = map spelled ms
 
 abbrev pub behind : List Row → List (List ℕ)
@@ -112,11 +121,13 @@ filled_pieces start (HeadingKind level) l ms rs = piece_of 0 (content_start (Hea
 abbrev pub row_blocks : ℕ → ℕ → List Row → List Block
 row_blocks n start [] = []
 row_blocks n start (Blank ∷ rs) = row_blocks n (start + 0 + 1) rs
+row_blocks n start (Break ∷ rs) = block kind.Rule start (start + 3) n n ∷ row_blocks n (start + 3 + 1) rs
 row_blocks n start (Filled k l ms ∷ rs) = block (block_kind k) start (row_end start k l ms) n (n + suc (length ms)) ∷ row_blocks (n + suc (length ms)) (row_end start k l ms + 1) rs
 
 abbrev pub row_pieces : ℕ → List Row → List Piece
 row_pieces start [] = []
 row_pieces start (Blank ∷ rs) = row_pieces (start + 0 + 1) rs
+row_pieces start (Break ∷ rs) = row_pieces (start + 3 + 1) rs
 row_pieces start (Filled k l ms ∷ rs) = filled_pieces start k l ms rs ++ row_pieces (row_end start k l ms + 1) rs
 
 -- lines
@@ -167,6 +178,12 @@ all_append : (P : ℕ → Type 0) (xs ys : List ℕ) → AllByRecursion P xs →
 all_append P [] ys h k = k
 all_append P (x ∷ xs) ys h k = (h.0, all_append P xs ys (h.1) k)
 
+hyphen : IsPrintable 45
+hyphen = record { low = omega arith; high = omega arith }
+
+pub hyphens_printable : AllByRecursion IsPrintable hyphens
+hyphens_printable = (hyphen, (hyphen, (hyphen, tt)))
+
 hash : IsPrintable 35
 hash = record { low = omega arith; high = omega arith }
 
@@ -198,6 +215,7 @@ first_within k l ms h = all_implied IsPrintable IsWithin (mark_of k ++ spelled l
 
 row_within : (r : Row) → IsRow r → AllWithin (row_first r ∷ row_more r)
 row_within Blank h = (tt, tt)
+row_within Break h = (all_implied IsPrintable IsWithin hyphens within_printable hyphens_printable, tt)
 row_within (Filled k l ms) h = (first_within k l ms h, lines_within ms (h.lines.1))
 
 rows_within : (rs : List Row) → AllByRecursion IsRow rs → AllWithin (behind rs)
@@ -209,6 +227,7 @@ clean_feed = record { ascii = omega arith; some = refl; return = refl }
 
 row_clean : (r : Row) → IsRow r → AreClean (row_bytes r)
 row_clean Blank h = tt
+row_clean Break h = all_implied IsPrintable IsClean hyphens clean_printable hyphens_printable
 row_clean (Filled k l ms) h =
     all_append IsClean (mark_of k) (spelled (text_parts l ms)) (all_implied IsPrintable IsClean (mark_of k) clean_printable (mark_printable k)) (subst AreClean (sym (spelled_text l ms)) (clean_lines l ms h.lines))
 
@@ -231,8 +250,11 @@ lines_full mark l (m ∷ ms) h = lines_full [] m ms (h.1)
 rows_full : (r : Row) (rs : List Row) → AreRows (r ∷ rs) → EndsFull (row_first r) (row_more r ++ behind rs)
 rows_full Blank [] h = absurd h
 rows_full Blank (r ∷ rs) h = rows_full r rs h
+rows_full Break [] h = (let q : 0 < 3 = omega arith in q)
+rows_full Break (r ∷ rs) h = full_append hyphens (row_first r) [] (row_more r ++ behind rs) (rows_full r rs h)
 rows_full (Filled ParagraphKind l ms) [] h = lines_full [] l ms h.lines
 rows_full (Filled ParagraphKind l ms) (Blank ∷ rs) h = full_append (spelled l) [] (map spelled ms) (behind rs) (rows_full Blank rs (h.1))
+rows_full (Filled ParagraphKind l ms) (Break ∷ rs) h = absurd h
 rows_full (Filled ParagraphKind l ms) (Filled k m ns ∷ rs) h = absurd h
 rows_full (Filled (HeadingKind level) l ms) [] h = lines_full (mark_of (HeadingKind level)) l ms ((h.0).lines)
 rows_full (Filled (HeadingKind level) l ms) (r ∷ rs) h = full_append (mark_of (HeadingKind level) ++ spelled l) (row_first r) (map spelled ms) (row_more r ++ behind rs) (rows_full r rs (h.1))
@@ -249,6 +271,7 @@ marked_joined mark l (m ∷ ms) = sym (append_assoc mark l (10 ∷ feed_joined m
 
 row_joined : (r : Row) → row_bytes r ≡ feed_joined (row_first r) (row_more r)
 row_joined Blank = refl
+row_joined Break = refl
 row_joined (Filled k l ms) = ap (λ (xs : List ℕ). mark_of k ++ xs) (spelled_text l ms) ∙ marked_joined (mark_of k) (spelled l) (map spelled ms)
 
 flat_text : (r : Row) (rs : List Row) → rows_text r rs ≡ feed_joined (row_first r) (row_more r ++ behind rs)
@@ -436,6 +459,22 @@ rows_taken text pre before start Blank (r ∷ rs) bs ps end number e at few fits
     let blank : bytes_between text start (start + 0) ≡ [] = piece_between text pre [] (10 ∷ more) start (start + 0) e at (ap (λ n. n + 0) at) in
     ap (λ s. ended text (fold (line_taken text) s (line_list (before + 1) (start + 0 + 1) (row_first r) (row_more r ++ behind rs)))) (blank_passes text l bs ps end number blank)
     ∙ rows_taken text (pre ++ ([] ++ 10 ∷ [])) (before + 1) (start + 0 + 1) r rs bs ps end number (behind_line text pre [] more e) (line_length pre [] start at) (omega (arith, few)) fits h
+rows_taken text pre before start Break [] bs ps end number e at few fits h =
+    let stop : ℕ = start + 3 in
+    let here : text ≡ pre ++ (hyphens ++ []) = e in
+    let width : stop < 2 ^ 64 = inside text pre hyphens [] start here at fits in
+    let b : Block = block kind.Rule start stop (length ps) (length ps) in
+    ap (λ s. ended text s) (line_rules text start stop (plus before 1) bs ps end number (piece_between text pre hyphens [] start stop here at (ap (λ n. n + 3) at)) width)
+    ∙ ap (let g : State → BlocksView = λ t. record { blocks = t.blocks; pieces = t.pieces; definitions = t.definitions } in g) (nothing_ends text (bs ++ b ∷ []) ps stop (plus before 1))
+    ∙ ap (λ xs. result (bs ++ b ∷ []) xs) (sym (append-nil ps))
+rows_taken text pre before start Break (r ∷ rs) bs ps end number e at few fits h =
+    let stop : ℕ = start + 3 in
+    let more : List ℕ = rows_text r rs in
+    let width : stop < 2 ^ 64 = inside text pre hyphens (10 ∷ more) start e at fits in
+    let b : Block = block kind.Rule start stop (length ps) (length ps) in
+    ap (λ s. ended text (fold (line_taken text) s (line_list (before + 1) (stop + 1) (row_first r) (row_more r ++ behind rs)))) (line_rules text start (stop + 1) (plus before 1) bs ps end number (piece_between text pre hyphens (10 ∷ more) start stop e at (ap (λ n. n + 3) at)) width)
+    ∙ rows_taken text (pre ++ (hyphens ++ 10 ∷ [])) (before + 1) (stop + 1) r rs (bs ++ b ∷ []) ps stop (plus before 1) (behind_line text pre hyphens more e) (line_length pre hyphens start at) (omega (arith, few)) fits h
+    ∙ ap (λ xs. result xs (ps ++ row_pieces (stop + 1) (r ∷ rs))) (append_assoc bs (b ∷ []) (row_blocks (length ps) (stop + 1) (r ∷ rs)))
 rows_taken text pre before start (Filled ParagraphKind l ms) [] bs ps end number e at few fits h =
     let xs : List ℕ = spelled (text_parts l ms) in
     let stop : ℕ = start + length xs in
@@ -472,6 +511,7 @@ rows_taken text pre before start (Filled ParagraphKind l ms) (Blank ∷ r ∷ rs
     ∙ ap (λ s. ended text (fold (line_taken text) s rest)) (open_ends_blank text b bs ps new start (spelled l) stop last (pieces_of start (spelled l) ys tail) blank bracket (omega (arith, few, width)))
     ∙ rows_taken text (pre2 ++ ([] ++ 10 ∷ [])) (count + 1) (stop + 1 + 0 + 1) r rs (bs ++ block kind.Paragraph start stop (length ps) (length (ps ++ new)) ∷ []) (ps ++ new) stop last (behind_line text pre2 [] later e2) (line_length pre2 [] (stop + 1) at2) (few_pieces ps new start l ms few (counted start l ms tail)) fits (h.1)
     ∙ grown bs ps new kind.Paragraph start stop (length ms) (stop + 1 + 0 + 1) (r ∷ rs) (counted start l ms tail)
+rows_taken text pre before start (Filled ParagraphKind l ms) (Break ∷ rs) bs ps end number e at few fits h = absurd h
 rows_taken text pre before start (Filled ParagraphKind l ms) (Filled k m ns ∷ rs) bs ps end number e at few fits h = absurd h
 rows_taken text pre before start (Filled (HeadingKind level) l (m ∷ ms)) rs bs ps end number e at few fits h = absurd ((h.0).ends)
 rows_taken text pre before start (Filled (HeadingKind level) parts []) [] bs ps end number e at few fits h =

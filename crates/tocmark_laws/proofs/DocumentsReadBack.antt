@@ -1,11 +1,11 @@
--- What is handed for a document of paragraphs of lines and headings is read as this document.
+-- What is handed for a document of paragraphs of lines, headings and thematic breaks is read as this document.
 use Rattle.std.proofs.Common.{◌≡◌, ℕ, suc, max, ◌-◌, ◌^◌, ◌<◌, true, false, List, [], ◌∷◌, ◌++◌, length, map, replicate, codes, flat_map, refl, ap, sym, subst, ◌∙◌, arith, append_assoc, append-nil, None, Ok, Result}
 use Rattle.std.specs.Char.{char_set_contains}
 use Rattle.std.specs.List.{AllByRecursion, concat, list_all}
 use Rattle.tocmark_event.specs.Options.{OptionsView, default_options}
 use Rattle.tocmark_event.specs.Merged.{merged, after_text}
 use Rattle.tocmark_event.specs.Reading.{ReadingView}
-use Rattle.tocmark_event.specs.View.{EventView, Start, End, Leaf, Text, SoftBreak, Paragraph, end_of}
+use Rattle.tocmark_event.specs.View.{EventView, Start, End, Leaf, Text, SoftBreak, Rule, Paragraph, end_of}
 use Rattle.tocmark_event.specs.declared.event.TagEnd.TheVariants as end
 use Rattle.tocmark_event.specs.declared.event.flags.ParserOptions.{ParserOptions}
 use Rattle.tocmark_event.specs.declared.options.Error.{Error}
@@ -17,7 +17,7 @@ use Rattle.tocmark_spelling.specs.Plan.{Setting, Manner}
 use Rattle.tocmark_spelling.specs.PlanOf.{setting_of}
 use Rattle.tocmark_render.specs.Candidates.{preferred_manner}
 use Rattle.tocmark_laws.specs.PlainLines.{is_line, PlacedLine, texts}
-use Rattle.tocmark_laws.specs.TextBlocks.{Kind, ParagraphKind, HeadingKind, feeds_behind, place_in, tag_of}
+use Rattle.tocmark_laws.specs.TextBlocks.{ParagraphKind, HeadingKind, place_in, tag_of}
 use Rattle.tocmark_laws.proofs.PlainCharacters.{parts_of}
 use Rattle.tocmark_laws.proofs.PlainEscapedBytes.{escaped_text_is}
 use Rattle.tocmark_laws.proofs.PlainEscapedLines.{line_means}
@@ -28,11 +28,11 @@ use Rattle.tocmark_state.specs.Walk.{Walk, Done, done, nothing_yet, script}
 use Rattle.tocmark_state.specs.Ranges.{Pair}
 use Rattle.tocmark_state.specs.WorkView.{rendering}
 use Rattle.tocmark_state.specs.Writes.{Makes}
-use Rattle.tocmark_laws.specs.Documents.{AreReadBack, PlainBlock, PlainParagraph, PlainHeading, heading_block, plain_events, plain_document, IsPlainBlock, MakesDocument}
-use Rattle.tocmark_laws.proofs.DocumentRows.{Row, Blank, Filled, row_bytes, rows_text, AreRows}
+use Rattle.tocmark_laws.specs.Documents.{AreReadBack, PlainBlock, PlainParagraph, PlainHeading, PlainRule, heading_block, plain_events, plain_document, IsPlainBlock, MakesDocument}
+use Rattle.tocmark_laws.proofs.DocumentRows.{Row, Blank, Break, Filled, row_bytes, rows_text, AreRows}
 use Rattle.tocmark_laws.proofs.DocumentEvents.{row_said, rows_are_read, merged_before}
 use Rattle.tocmark_laws.proofs.DocumentRowsWritten as written
-use Rattle.tocmark_laws.proofs.DocumentWalks.{kind_of, text_in, texts_in, StandsIn, blocks_are_handed}
+use Rattle.tocmark_laws.proofs.DocumentWalks.{owed_behind, text_in, texts_in, StandsIn, blocks_are_handed}
 
 -- merged events
 
@@ -43,6 +43,7 @@ merged_line_events l (m ∷ ms) = ap (λ es. after_text l (Leaf SoftBreak ∷ es
 -- the events of a block, merged
 abbrev plain_said : PlainBlock → List EventView
 plain_said (PlainParagraph l ms) = Start Paragraph ∷ (line_events l ms ++ End end.Paragraph ∷ [])
+plain_said PlainRule = Leaf Rule ∷ []
 plain_said (PlainHeading level ts) = Start (tag_of (HeadingKind level)) ∷ Leaf (Text (concat ts)) ∷ End (end_of (tag_of (HeadingKind level))) ∷ []
 
 plain_merged : (bs : List PlainBlock) → AllByRecursion IsPlainBlock bs → merged (flat_map plain_events bs) ≡ flat_map plain_said bs
@@ -56,6 +57,7 @@ plain_merged (PlainParagraph l ms ∷ bs) h =
     ∙ ap (λ es. Start Paragraph ∷ (es ++ last ∷ merged rest)) (merged_line_events l ms)
     ∙ ap (λ es. Start Paragraph ∷ (lines ++ last ∷ es)) (plain_merged bs (h.1))
     ∙ ap (λ es. Start Paragraph ∷ es) (sym (append_assoc lines (last ∷ []) (flat_map plain_said bs)))
+plain_merged (PlainRule ∷ bs) h = ap (λ es. Leaf Rule ∷ es) (plain_merged bs (h.1))
 plain_merged (PlainHeading level ts ∷ bs) h =
     let tag = tag_of (HeadingKind level) in
     let leaves : List EventView = map (λ u. Leaf (Text u)) ts in
@@ -84,6 +86,7 @@ module _ (o : OptionsView) (reading : List ℕ → ParserOptions → ReadingView
 
   abbrev row : PlainBlock → Row
   row (PlainParagraph l ms) = Filled ParagraphKind (line_parts (first l ms)) (map line_parts (more ms))
+  row PlainRule = Break
   row (PlainHeading level ts) = Filled (HeadingKind level) (parts_of (place_in o flags (HeadingKind level)) (concat ts)) []
 
   lines_in : (l : List ℕ) (ms : List (List ℕ)) → list_all is_line (l ∷ ms) ≡ true → AreLinesIn setting manner (l ∷ ms)
@@ -102,72 +105,82 @@ module _ (o : OptionsView) (reading : List ℕ → ParserOptions → ReadingView
 
   pub may_stand : (b : PlainBlock) → IsPlainBlock b → StandsIn o reading flags b
   may_stand (PlainParagraph l ms) h = lines_in l ms h
+  may_stand PlainRule h = tt
   may_stand (PlainHeading level ts) h = written.has_text (heading_block level ts) h
 
   row_good : (b : PlainBlock) → IsPlainBlock b → AreRows (row b ∷ [])
   row_good (PlainParagraph l ms) h =
       let lines = all_lines l ms h in
       record { lines = plain_lines (first l ms ∷ more ms) lines; plain = plain_parts (first l ms) (more ms) lines; ends = tt }
+  row_good PlainRule h = tt
   row_good (PlainHeading level ts) h = (written.filled o flags token (heading_block level ts) h, tt)
 
   row_is : (b : PlainBlock) → IsPlainBlock b → text_in o reading flags b ≡ row_bytes (row b)
   row_is (PlainParagraph l ms) h =
       let lines = all_lines l ms h in
       escaped_text_is (first l ms) (more ms) lines ∙ escapes_are_parts (first l ms) (more ms) lines ∙ sym (spelled_text (line_parts (first l ms)) (map line_parts (more ms)))
+  row_is PlainRule h = refl
   row_is (PlainHeading level ts) h = written.block_is o flags token (heading_block level ts) h
 
-  abbrev rows_behind : Kind → List PlainBlock → List Row
-  rows_behind k [] = []
-  rows_behind k (b ∷ bs) = replicate (feeds_behind o k - 1) Blank ++ row b ∷ rows_behind (kind_of b) bs
+  some_feeds : (b : PlainBlock) → owed_behind o b ≡ suc (owed_behind o b - 1)
+  some_feeds (PlainParagraph l ms) = omega arith
+  some_feeds (PlainHeading level ts) = omega arith
+  some_feeds PlainRule = omega arith
 
-  texts_joined : (feeds : ℕ) (b : PlainBlock) (bs : List PlainBlock) → AllByRecursion IsPlainBlock (b ∷ bs) → concat (texts_in o reading flags feeds (b ∷ bs)) ≡ replicate feeds 10 ++ rows_text (row b) (rows_behind (kind_of b) bs)
+  abbrev rows_behind : PlainBlock → List PlainBlock → List Row
+  rows_behind b [] = []
+  rows_behind b (c ∷ cs) = replicate (owed_behind o b - 1) Blank ++ row c ∷ rows_behind c cs
+
+  texts_joined : (feeds : ℕ) (b : PlainBlock) (bs : List PlainBlock) → AllByRecursion IsPlainBlock (b ∷ bs) → concat (texts_in o reading flags feeds (b ∷ bs)) ≡ replicate feeds 10 ++ rows_text (row b) (rows_behind b bs)
   texts_joined feeds b [] h = append-nil (replicate feeds 10 ++ text_in o reading flags b) ∙ ap (λ (t : List ℕ). replicate feeds 10 ++ t) (row_is b (h.0))
   texts_joined feeds b (c ∷ cs) h =
-      let f : ℕ = feeds_behind o (kind_of b) in
+      let f : ℕ = owed_behind o b in
       let front : List ℕ = replicate feeds 10 in
       let later : List ℕ = concat (texts_in o reading flags f (c ∷ cs)) in
-      let rest : List ℕ = rows_text (row c) (rows_behind (kind_of c) cs) in
+      let rest : List ℕ = rows_text (row c) (rows_behind c cs) in
       append_assoc front (text_in o reading flags b) later
       ∙ ap (λ (t : List ℕ). front ++ (t ++ later)) (row_is b (h.0))
       ∙ ap (λ (t : List ℕ). front ++ (row_bytes (row b) ++ t)) (texts_joined f c cs (h.1))
-      ∙ ap (λ n. front ++ (row_bytes (row b) ++ (replicate n 10 ++ rest))) (written.some_feeds o flags token (kind_of b))
-      ∙ ap (λ (t : List ℕ). front ++ t) (sym (written.joined_behind o flags token (row_bytes (row b)) (f - 1) (row c) (rows_behind (kind_of c) cs)))
+      ∙ ap (λ n. front ++ (row_bytes (row b) ++ (replicate n 10 ++ rest))) (some_feeds b)
+      ∙ ap (λ (t : List ℕ). front ++ t) (sym (written.joined_behind o flags token (row_bytes (row b)) (f - 1) (row c) (rows_behind c cs)))
 
-  rows_good : (b : PlainBlock) (bs : List PlainBlock) → AllByRecursion IsPlainBlock (b ∷ bs) → AreRows (row b ∷ rows_behind (kind_of b) bs)
+  rows_good : (b : PlainBlock) (bs : List PlainBlock) → AllByRecursion IsPlainBlock (b ∷ bs) → AreRows (row b ∷ rows_behind b bs)
   rows_good b [] h = row_good b (h.0)
   rows_good (PlainParagraph l ms) (c ∷ cs) h =
       let n : ℕ = max o.newlines_after_paragraph 2 in
       let some : n - 1 ≡ suc (n - 2) = omega arith in
-      let later : List Row = row c ∷ rows_behind (kind_of c) cs in
+      let later : List Row = row c ∷ rows_behind c cs in
       subst (λ m. AreRows (row (PlainParagraph l ms) ∷ (replicate m Blank ++ later))) (sym some)
-      (row_good (PlainParagraph l ms) (h.0), written.behind_blank o flags token (n - 2) (row c) (rows_behind (kind_of c) cs) (rows_good c cs (h.1)))
+      (row_good (PlainParagraph l ms) (h.0), written.behind_blank o flags token (n - 2) (row c) (rows_behind c cs) (rows_good c cs (h.1)))
+  rows_good PlainRule (c ∷ cs) h = written.behind_blanks o flags token (owed_behind o PlainRule - 1) (row c) (rows_behind c cs) (rows_good c cs (h.1))
   rows_good (PlainHeading level ts) (c ∷ cs) h =
-      ((row_good (PlainHeading level ts) (h.0)).0, written.behind_blanks o flags token (feeds_behind o (HeadingKind level) - 1) (row c) (rows_behind (kind_of c) cs) (rows_good c cs (h.1)))
+      ((row_good (PlainHeading level ts) (h.0)).0, written.behind_blanks o flags token (owed_behind o (PlainHeading level ts) - 1) (row c) (rows_behind c cs) (rows_good c cs (h.1)))
 
   row_means : (b : PlainBlock) (rs : List Row) → row_said (row b ∷ rs) ≡ plain_said b ++ row_said rs
   row_means (PlainParagraph l ms) rs =
       ap (λ es. Start Paragraph ∷ (es ++ End end.Paragraph ∷ row_said rs)) (parts_mean_lines (first l ms) (more ms) ∙ ap (line_events l) (placed_texts ms))
       ∙ ap (λ es. Start Paragraph ∷ es) (sym (append_assoc (line_events l ms) (End end.Paragraph ∷ []) (row_said rs)))
+  row_means PlainRule rs = refl
   row_means (PlainHeading level ts) rs =
       ap (λ t. Start (tag_of (HeadingKind level)) ∷ Leaf (Text t) ∷ End (end_of (tag_of (HeadingKind level))) ∷ row_said rs) (line_means (place_in o flags (HeadingKind level)) (concat ts))
 
-  rows_mean : (k : Kind) (bs : List PlainBlock) → row_said (rows_behind k bs) ≡ flat_map plain_said bs
-  rows_mean k [] = refl
-  rows_mean k (b ∷ bs) =
-      written.said_behind o flags token (feeds_behind o k - 1) (row b ∷ rows_behind (kind_of b) bs)
-      ∙ row_means b (rows_behind (kind_of b) bs)
-      ∙ ap (λ (es : List EventView). plain_said b ++ es) (rows_mean (kind_of b) bs)
+  rows_mean : (b : PlainBlock) (bs : List PlainBlock) → row_said (rows_behind b bs) ≡ flat_map plain_said bs
+  rows_mean b [] = refl
+  rows_mean b (c ∷ cs) =
+      written.said_behind o flags token (owed_behind o b - 1) (row c ∷ rows_behind c cs)
+      ∙ row_means c (rows_behind c cs)
+      ∙ ap (λ (es : List EventView). plain_said c ++ es) (rows_mean c cs)
 
   texts_are_read : (b : PlainBlock) (bs : List PlainBlock) → AllByRecursion IsPlainBlock (b ∷ bs) → length (concat (texts_in o reading flags 0 (b ∷ bs))) < 2 ^ 64 → IsReadAs (core_reading (concat (texts_in o reading flags 0 (b ∷ bs)))) (merged (flat_map plain_events (b ∷ bs)))
   texts_are_read b bs h fits =
-      let text : List ℕ = rows_text (row b) (rows_behind (kind_of b) bs) in
+      let text : List ℕ = rows_text (row b) (rows_behind b bs) in
       let joined : concat (texts_in o reading flags 0 (b ∷ bs)) ≡ text = texts_joined 0 b bs h in
-      let said : row_said (row b ∷ rows_behind (kind_of b) bs) ≡ merged (flat_map plain_events (b ∷ bs)) =
-      row_means b (rows_behind (kind_of b) bs) ∙ ap (λ (es : List EventView). plain_said b ++ es) (rows_mean (kind_of b) bs) ∙ sym (plain_merged (b ∷ bs) h)
+      let said : row_said (row b ∷ rows_behind b bs) ≡ merged (flat_map plain_events (b ∷ bs)) =
+      row_means b (rows_behind b bs) ∙ ap (λ (es : List EventView). plain_said b ++ es) (rows_mean b bs) ∙ sym (plain_merged (b ∷ bs) h)
       in
       subst (λ (xs : List ℕ). IsReadAs (core_reading xs) (merged (flat_map plain_events (b ∷ bs)))) (sym joined)
       (subst (λ (es : List EventView). IsReadAs (core_reading text) es) said
-      (rows_are_read (row b) (rows_behind (kind_of b) bs) (rows_good b bs h) (subst (λ (xs : List ℕ). length xs < 2 ^ 64) joined fits)))
+      (rows_are_read (row b) (rows_behind b bs) (rows_good b bs h) (subst (λ (xs : List ℕ). length xs < 2 ^ 64) joined fits)))
 
   all_stand : (bs : List PlainBlock) → AllByRecursion IsPlainBlock bs → AllByRecursion (StandsIn o reading flags) bs
   all_stand [] h = tt

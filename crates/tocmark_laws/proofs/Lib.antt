@@ -38,3 +38,4 @@ pub mod DocumentRowsWritten
 pub mod DocumentSpelling
 pub mod DocumentWalks
 pub mod DocumentsReadBack
+mod DocumentExample

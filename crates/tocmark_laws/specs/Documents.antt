@@ -1,5 +1,5 @@
--- Documents of headings and paragraphs of plain lines, and that what is handed for them is read back.
-use Rattle.std.specs.Prelude.{◌≡◌, ℕ, ◌^◌, ◌<◌, true, false, List, ◌∷◌, Result, Ok, codes, flat_map, length, map}
+-- Documents of headings, paragraphs of plain lines and thematic breaks, and that what is handed for them is read back.
+use Rattle.std.specs.Prelude.{◌≡◌, ℕ, ◌^◌, ◌<◌, true, false, List, [], ◌∷◌, Result, Ok, codes, flat_map, length, map}
 use Rattle.std.specs.Char.{char_set_contains}
 use Rattle.std.specs.List.{AllByRecursion, concat, list_all}
 use Rattle.tocmark_event.specs.declared.event.HeadingLevel.{HeadingLevel}
@@ -7,7 +7,7 @@ use Rattle.tocmark_state.specs.Ranges.{Pair, unranged}
 use Rattle.tocmark_event.specs.Merged.{merged}
 use Rattle.tocmark_event.specs.Options.{OptionsView}
 use Rattle.tocmark_event.specs.Reading.{ReadingView}
-use Rattle.tocmark_event.specs.View.{EventView}
+use Rattle.tocmark_event.specs.View.{EventView, Leaf, Rule}
 use Rattle.tocmark_event.specs.declared.event.flags.ParserOptions.{ParserOptions}
 use Rattle.tocmark_event.specs.declared.options.Error.{Error}
 use Rattle.tocmark_reader.specs.PlainTexts.{IsReadAs, lines_paragraph}
@@ -34,10 +34,11 @@ DocumentsAreReadBack =
     options.check_plain_blocks ≡ false → char_set_contains (codes "*_") options.emphasis_token ≡ true → AllByRecursion IsLineBlock (b ∷ bs) →
     AreReadBack (script (rendering options reading) source (nothing_yet flags) (document_of (b ∷ bs))) (merged (flat_map block_events (b ∷ bs)))
 
--- a paragraph of lines, a text for each with a soft break between two, or a heading whose texts join to one line
+-- a paragraph of lines, a text for each with a soft break between two; a heading whose texts join to one line; or a thematic break
 pub data PlainBlock : Type 0 where
   PlainParagraph : List ℕ → List (List ℕ) → PlainBlock
   PlainHeading : HeadingLevel → List (List ℕ) → PlainBlock
+  PlainRule : PlainBlock
 
 -- the heading as a block of texts
 abbrev pub heading_block : HeadingLevel → List (List ℕ) → Block
@@ -47,6 +48,7 @@ heading_block level ts = record { kind = HeadingKind level; texts = ts }
 abbrev pub plain_events : PlainBlock → List EventView
 plain_events (PlainParagraph l ms) = lines_paragraph l ms
 plain_events (PlainHeading level ts) = block_events (heading_block level ts)
+plain_events PlainRule = Leaf Rule ∷ []
 
 -- the events of all blocks in order, without ranges
 abbrev pub plain_document : List PlainBlock → List Pair
@@ -56,6 +58,7 @@ plain_document bs = flat_map (λ b. map unranged (plain_events b)) bs
 abbrev pub IsPlainBlock : PlainBlock → Type 0
 IsPlainBlock (PlainParagraph l ms) = list_all is_line (l ∷ ms) ≡ true
 IsPlainBlock (PlainHeading level ts) = is_line (concat ts) ≡ true
+IsPlainBlock PlainRule = Unit {0}
 
 -- what is handed for such a document is read as its events, merged
 abbrev pub PlainDocumentsAreReadBack : Type 0
