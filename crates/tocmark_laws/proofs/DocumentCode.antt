@@ -1,0 +1,412 @@
+-- Fenced code on a page: its opening line, the lines of its text, and its closing line.
+use Rattle.std.proofs.Common.{◌≡◌, ℕ, zero, suc, ◌+◌, ◌-◌, ◌^◌, ◌<◌, ◌≤◌, min, Bool, true, false, not, ◌==◌, ◌&&◌, cond, if◌then◌else◌, nat_lt, nat_le, List, [], ◌∷◌, ◌++◌, length, drop, replicate, refl, ap, sym, subst, ◌∙◌, arith, append-nil, length-append, eq-eqb, Some, None, Option, ◌⊎◌, inl, inr}
+use Rattle.std.proofs.Math.Seq.{take-length}
+use Rattle.std.proofs.lemmas.List.{length-replicate}
+use Rattle.std.proofs.lemmas.List.Sums.{take_while-cons}
+use Rattle.std.proofs.lemmas.Bool.Decides.{nat_tests}
+use Rattle.std.specs.List.{AllByRecursion}
+use Rattle.std.specs.Prelude.{take_while, filter}
+use Rattle.tocmark_read_scan.specs.Basic.{plus, bytes_between}
+use Rattle.tocmark_read_scan.proofs.PlainPieces.{drop_behind}
+use Rattle.tocmark_read_scan.proofs.PlainTests.{eq_of}
+use Rattle.tocmark_read_scan.proofs.Repeats.{repeated_stop}
+use Rattle.tocmark_read_scan.specs.PlainParts.{last_byte}
+use Rattle.tocmark_read_lines.specs.Cells.{cell, cells_of, cell_byte, cell_place, first_cursor, ink_from, indent_of, run_of, count_of, trailing, trimmed}
+use Rattle.tocmark_read_lines.specs.Containers.{container_at, container_in, item_at, raised_at}
+use Rattle.tocmark_read_lines.specs.DefinitionLists.{definition_start}
+use Rattle.tocmark_read_lines.specs.Marks.{is_rule, is_rule_byte, is_behind, marker_at, bullet_at, ordered_at, heading_at, fence_at, is_fence_byte, closes_fence, tail_of}
+use Rattle.tocmark_read_lines.specs.Notes.{note_start}
+use Rattle.tocmark_read_lines.specs.declared.beginnings.Fence.{Fence}
+use Rattle.tocmark_read_lines.specs.declared.cell.Cell.{Cell}
+use Rattle.tocmark_read_lines.specs.declared.cell.Cursor.{Cursor}
+use Rattle.tocmark_read_lines.specs.declared.line.Line.{Line}
+use Rattle.tocmark_read_page.specs.Leaves.{is_paragraph}
+use Rattle.tocmark_read_page.specs.Pages.{State, leaf_opened, leaf_closed, closed_to, times, list_left, begun, loosened, had_marked, list_of, is_apart, leaf_finished, finished, piece_taken}
+use Rattle.tocmark_read_page.specs.Pieces.{piece_of, code_piece, is_split, keeps_line}
+use Rattle.tocmark_read_page.specs.declared.leaf.Leaf.TheVariants as leaf
+use Rattle.tocmark_read_page.specs.declared.page.Block.{Block}
+use Rattle.tocmark_read_page.specs.declared.page.BlockKind.{BlockKind}
+use Rattle.tocmark_read_page.specs.declared.page.BlockKind.TheVariants as kind
+use Rattle.tocmark_read_page.specs.declared.page.HeaderLine.TheVariants.{Never}
+use Rattle.tocmark_read_page.specs.declared.piece.Piece.{Piece}
+use Rattle.tocmark_read_constructs.specs.Metadata.{metadata_in}
+use Rattle.tocmark_read_constructs.specs.Quotes.{quote_kind_in, tag_in}
+use Rattle.tocmark_read_constructs.specs.Tasks.{task_in}
+use Rattle.tocmark_read_blocks.specs.Blocks.{core_known, turn_taken_in, leaf_ended, leaf_started_in, started_in, cells_taken_in, line_taken_in, leaf_started, started_at, passed_in, turn_in, turn_of, touched, cells_taken, line_taken, started}
+use Rattle.tocmark_read_blocks.specs.Codes.{code_taken, fence_started, html_ended, info_of}
+use Rattle.tocmark_read_blocks.specs.Containers.{container_once_in, container_once, containers_opened, goes_directly, begun_at}
+use Rattle.tocmark_read_blocks.specs.Leaves.{leaf_at, mark_at, leaf_turn, metadata_or, task_or, quote_kind_or, tag_or}
+use Rattle.tocmark_read_blocks.specs.declared.leaf.LeafStart.TheVariants as start
+use Rattle.tocmark_read_blocks.specs.declared.leaf.Turn.TheVariants as turn
+use Rattle.tocmark_read_blocks.proofs.PlainLines.{IsWithin, numbered, cells_within}
+use Rattle.tocmark_read_blocks.proofs.PlainSteps.{front}
+use Rattle.tocmark_laws.specs.CodeBlocks.{HasRun}
+use Rattle.tocmark_laws.proofs.DocumentBlocks.{block, closed, here, get_last, set_last, piece_taken_whole}
+use Rattle.tocmark_laws.proofs.DocumentHeadings.{numbered_append, numbered_length, part_whole, trimmed_none, past_last, place_behind, some_cells}
+
+-- a fence is of backticks or tildes
+abbrev pub IsToken : ℕ → Type 0
+IsToken token = (token ≡ 96) ⊎ (token ≡ 126)
+
+-- a byte of an info string that means itself
+pub record IsInfo (token b : ℕ) : Type 0 where
+  pub within : IsWithin b
+  pub space : (b == 32) ≡ false
+  pub tick : (b == 96) ≡ false
+  pub other : (b == token) ≡ false
+  pub back : (b == 92) ≡ false
+  pub amp : (b == 38) ≡ false
+
+-- the opening and the closing line
+abbrev pub opener : ℕ → ℕ → List ℕ → List ℕ
+opener token m info = replicate (suc m) token ++ info
+
+abbrev pub closer : ℕ → ℕ → List ℕ
+closer token m = replicate (suc m) token
+
+abbrev pub fence_of : ℕ → ℕ → Fence
+fence_of token m = record { byte = token; count = suc m; indent = 0 }
+
+-- the front of a line that a fence is
+
+record IsFront (cells : List Cell) : Type 0 where
+  some : nat_le (length cells) 0 ≡ false
+  ink : first_cursor cells ≡ front
+  quote : (cell_byte cells 0 == 62) ≡ false
+  rule : is_rule cells (tail_of cells) 0 ≡ false
+  marker : marker_at cells 0 ≡ None
+  heading : heading_at cells 0 ≡ None
+
+ticks_front : (at : ℕ) (bs : List ℕ) → IsFront (numbered at (96 ∷ bs))
+unfolding first_cursor is_rule is_rule_byte marker_at bullet_at ordered_at heading_at is_behind
+ticks_front at bs = record {
+  some = some_cells (length (numbered (at + 1) bs));
+  ink = refl;
+  quote = refl;
+  rule = refl;
+  marker = refl;
+  heading = rw (some_cells (length (numbered (at + 1) bs))) refl;
+}
+
+tildes_front : (at : ℕ) (bs : List ℕ) → IsFront (numbered at (126 ∷ bs))
+unfolding first_cursor is_rule is_rule_byte marker_at bullet_at ordered_at heading_at is_behind
+tildes_front at bs = record {
+  some = some_cells (length (numbered (at + 1) bs));
+  ink = refl;
+  quote = refl;
+  rule = refl;
+  marker = refl;
+  heading = rw (some_cells (length (numbered (at + 1) bs))) refl;
+}
+
+token_front : (token at : ℕ) (bs : List ℕ) → IsToken token → IsFront (numbered at (token ∷ bs))
+token_front token at bs (inl e) = subst (λ t. IsFront (numbered at (t ∷ bs))) (sym e) (ticks_front at bs)
+token_front token at bs (inr e) = subst (λ t. IsFront (numbered at (t ∷ bs))) (sym e) (tildes_front at bs)
+
+token_no_space : (token : ℕ) → IsToken token → (token == 32) ≡ false
+token_no_space token (inl e) = ap (λ t. t == 32) e
+token_no_space token (inr e) = ap (λ t. t == 32) e
+
+-- runs
+
+abbrev StopsRun : ℕ → List ℕ → Type 0
+StopsRun token [] = Unit {0}
+StopsRun token (b ∷ bs) = (b == token) ≡ false
+
+one_more : (token : ℕ) (c : Cell) (cs : List Cell) → (c.byte == token) ≡ true → take_while (λ (c : Cell). c.byte == token) (c ∷ cs) ≡ c ∷ take_while (λ (c : Cell). c.byte == token) cs
+one_more token c cs h = take_while-cons (λ (c : Cell). c.byte == token) c cs ∙ ap (λ x. cond x (c ∷ take_while (λ (c : Cell). c.byte == token) cs) []) h
+
+run_front : (n token at : ℕ) (bs : List ℕ) → StopsRun token bs → length (take_while (λ (c : Cell). c.byte == token) (numbered at (replicate n token ++ bs))) ≡ n
+run_front zero token at [] h = refl
+run_front zero token at (b ∷ bs) h = rw h refl
+run_front (suc n) token at bs h = ap length (one_more token (cell token at) (numbered (at + 1) (replicate n token ++ bs)) (eq-eqb token token refl)) ∙ ap suc (run_front n token (at + 1) bs h)
+
+none_filtered : (token at : ℕ) (info : List ℕ) → AllByRecursion (IsInfo token) info → length (filter (λ (c : Cell). c.byte == 96) (numbered at info)) ≡ 0
+none_filtered token at [] h = refl
+none_filtered token at (b ∷ bs) h = rw (h.0).tick (none_filtered token (at + 1) bs (h.1))
+
+-- the run at any column of a line stands in its bytes
+run_first : (l : List ℕ) (at token : ℕ) → (after : List ℕ) × (l ≡ replicate (length (take_while (λ (c : Cell). c.byte == token) (numbered at l))) token ++ after)
+run_first [] at token = ([], refl)
+run_first (b ∷ bs) at token = by_byte (b == token) refl (run_first bs (at + 1) token)
+  where
+    by_byte : (x : Bool) → (b == token) ≡ x → ((after : List ℕ) × (bs ≡ replicate (length (take_while (λ (c : Cell). c.byte == token) (numbered (at + 1) bs))) token ++ after)) → (after : List ℕ) × (b ∷ bs ≡ replicate (length (take_while (λ (c : Cell). c.byte == token) (numbered at (b ∷ bs)))) token ++ after)
+    by_byte true e more =
+        let run : ℕ = length (take_while (λ (c : Cell). c.byte == token) (numbered (at + 1) bs)) in (
+          more.0,
+          ap (λ (xs : List ℕ). b ∷ xs) (more.1)
+              ∙ ap (λ c. c ∷ (replicate run token ++ more.0)) (eq_of b token e)
+              ∙ ap (λ n. replicate n token ++ more.0) (sym (ap length (one_more token (cell b at) (numbered (at + 1) bs) e))),
+        )
+    by_byte false e more = (b ∷ bs, rw e refl)
+
+run_within : (l : List ℕ) (at k token : ℕ) → HasRun (run_of (numbered at l) k token) token l
+run_within [] at zero token = record { before = []; after = []; is = refl }
+run_within [] at (suc k) token = record { before = []; after = []; is = refl }
+run_within (b ∷ bs) at zero token = let first = run_first (b ∷ bs) at token in record { before = []; after = first.0; is = first.1 }
+run_within (b ∷ bs) at (suc k) token =
+    let more = run_within bs (at + 1) k token in
+    record { before = b ∷ more.before; after = more.after; is = ap (λ (xs : List ℕ). b ∷ xs) more.is }
+
+-- no run of a line is as long as the fence
+abbrev pub IsShort : ℕ → ℕ → List ℕ → Type 0
+IsShort token m l = (n : ℕ) → HasRun n token l → n < suc m
+
+abbrev cursor_of : List Cell → Cursor
+cursor_of cells = record { column = 0; ink = ink_from cells 0 }
+
+and_false : (a b : Bool) → (a && false && b) ≡ false
+and_false true b = refl
+and_false false b = refl
+
+goes_on : (token m at : ℕ) (l : List ℕ) → IsShort token m l → closes_fence (numbered at l) (cursor_of (numbered at l)) (fence_of token m) ≡ false
+unfolding closes_fence
+goes_on token m at l h =
+    let cells : List Cell = numbered at l in
+    let ink : ℕ = ink_from cells 0 in
+    let count : ℕ = run_of cells ink token in
+    let short : count < suc m = h count (run_within l at ink token) in
+    let less : nat_le (suc m) count ≡ false = grind (arith, short, nat_tests) in
+    ap (λ b. nat_le (indent_of (cursor_of cells)) 3 && b && nat_le (length cells) (ink_from cells (plus ink count))) less
+    ∙ and_false (nat_le (indent_of (cursor_of cells)) 3) (nat_le (length cells) (ink_from cells (plus ink count)))
+
+-- the closing line
+closes : (token m at : ℕ) → IsToken token → suc m < 2 ^ 64 → closes_fence (numbered at (closer token m)) (cursor_of (numbered at (closer token m))) (fence_of token m) ≡ true
+unfolding closes_fence
+closes token m at is fits =
+    let cells : List Cell = numbered at (closer token m) in
+    let tests : ℕ → ℕ → Bool = λ ink count. nat_le (ink - 0) 3 && nat_le (suc m) count && nat_le (length cells) (ink_from cells (plus ink count)) in
+    let space : (token == 32) ≡ false = token_no_space token is in
+    let ink : ink_from cells 0 ≡ 0 = rw space refl in
+    let run : run_of cells 0 token ≡ suc m = ap (λ (bs : List ℕ). length (take_while (λ (c : Cell). c.byte == token) (numbered at bs))) (sym (append-nil (closer token m))) ∙ run_front (suc m) token at [] tt in
+    let long : length cells ≡ suc m = numbered_length at (closer token m) ∙ length-replicate (suc m) token in
+    let past : drop (suc m) cells ≡ [] = ap (λ n. drop n cells) (sym long) ∙ ap (drop (length cells)) (sym (append-nil cells)) ∙ drop_behind cells [] in
+    let behind : plus 0 (suc m) ≡ suc m = omega (arith, fits) in
+    let end : ink_from cells (plus 0 (suc m)) ≡ suc m =
+    ap (ink_from cells) behind ∙ ap (λ (ds : List Cell). plus (suc m) (length (take_while (λ (c : Cell). c.byte == 32) ds))) past ∙ (let q : plus (suc m) 0 ≡ suc m = omega (arith, fits) in q)
+    in
+    let same : nat_le (suc m) (suc m) ≡ true = grind (arith, nat_tests) in
+    let all : nat_le (length cells) (suc m) ≡ true = grind (arith, long, nat_tests) in
+    ap (λ i. tests i (run_of cells i token)) ink
+    ∙ ap (tests 0) run
+    ∙ ap (λ n. nat_le (suc m) (suc m) && nat_le (length cells) n) end
+    ∙ rw (same, all) refl
+
+-- the opening line
+
+abbrev fence_as : ℕ → ℕ → ℕ → Option Fence
+fence_as b count more = if is_fence_byte b && nat_le 3 count && not ((b == 96) && nat_lt 0 more) then Some (record { byte = b; count = count; indent = 0 }) else None
+
+fence_is : (token m : ℕ) → IsToken token → 2 ≤ m → fence_as token (suc m) 0 ≡ Some (fence_of token m)
+unfolding is_fence_byte
+fence_is token m (inl e) h =
+    let least : nat_le 3 (suc m) ≡ true = grind (arith, h, nat_tests) in
+    subst (λ t. fence_as t (suc m) 0 ≡ Some (fence_of t m)) (sym e) (rw least refl)
+fence_is token m (inr e) h =
+    let least : nat_le 3 (suc m) ≡ true = grind (arith, h, nat_tests) in
+    subst (λ t. fence_as t (suc m) 0 ≡ Some (fence_of t m)) (sym e) (rw least refl)
+
+stops : (token : ℕ) (info : List ℕ) → AllByRecursion (IsInfo token) info → StopsRun token info
+stops token [] h = tt
+stops token (b ∷ bs) h = (h.0).other
+
+no_spaces : (token at : ℕ) (info : List ℕ) → AllByRecursion (IsInfo token) info → length (take_while (λ (c : Cell). c.byte == 32) (numbered at info)) ≡ 0
+no_spaces token at [] h = refl
+no_spaces token at (b ∷ bs) h = rw (h.0).space refl
+
+split_last : (b : ℕ) (bs : List ℕ) → (body : List ℕ) × (b ∷ bs ≡ body ++ last_byte b bs ∷ [])
+split_last b [] = ([], refl)
+split_last b (c ∷ cs) = let more = split_last c cs in (b ∷ more.0, ap (λ (l : List ℕ). b ∷ l) (more.1))
+
+last_of : (P : ℕ → Type 0) (b : ℕ) (bs : List ℕ) → AllByRecursion P (b ∷ bs) → P (last_byte b bs)
+last_of P b [] h = h.0
+last_of P b (c ∷ cs) h = last_of P c cs (h.1)
+
+trimmed_info : (token : ℕ) (fs : List Cell) (at : ℕ) (info : List ℕ) → AllByRecursion (IsInfo token) info → trimmed (fs ++ numbered at info) (length fs) (length (fs ++ numbered at info)) 32 ≡ length (fs ++ numbered at info)
+unfolding trimmed
+trimmed_info token fs at [] h =
+    let n : ℕ = length (fs ++ []) in
+    ap (λ cs. n - trailing cs 32) (part_whole fs []) ∙ (let q : n - 0 ≡ n = omega arith in q)
+trimmed_info token fs at (b ∷ bs) h =
+    let split = split_last b bs in
+    let last : ℕ = last_byte b bs in
+    let cells : numbered at (b ∷ bs) ≡ numbered at (split.0) ++ cell last (at + length (split.0)) ∷ [] = ap (numbered at) (split.1) ∙ numbered_append at (split.0) (last ∷ []) in
+    subst (λ (cs : List Cell). trimmed (fs ++ cs) (length fs) (length (fs ++ cs)) 32 ≡ length (fs ++ cs)) (sym cells)
+    (trimmed_none fs (numbered at (split.0)) (cell last (at + length (split.0))) 32 ((last_of (IsInfo token) b bs h).space))
+
+info_place : (fs : List Cell) (from : ℕ) (info : List ℕ) (end : ℕ) → end ≡ from + length info → cell_place (fs ++ numbered from info) (length fs) end ≡ from
+info_place fs from [] end e = ap (λ (cs : List Cell). cell_place cs (length fs) end) (append-nil fs) ∙ past_last fs end ∙ e ∙ (let q : from + 0 ≡ from = omega arith in q)
+info_place fs from (b ∷ bs) end e = place_behind fs (cell b from) (numbered (from + 1) bs) end
+
+abbrev pub code_kind : ℕ → ℕ → ℕ → List ℕ → BlockKind
+code_kind at token m info = kind.Fenced (at + suc m) (at + length (opener token m info))
+
+-- the columns of the opening line
+record IsOpened (text : List ℕ) (cells : List Cell) (l : Line) (f : Fence) (k : BlockKind) : Type 0 where
+  columns : cells_of [] l.start (bytes_between text l.start l.end) ≡ cells
+  place : cell_place cells 0 l.end ≡ l.start
+  begins : IsFront cells
+  fence : fence_at cells front ≡ Some f
+  info : info_of cells front f l ≡ k
+
+open_line : (text : List ℕ) (token m : ℕ) (info : List ℕ) (at next number : ℕ) → let bytes = opener token m info in
+    bytes_between text at (at + length bytes) ≡ bytes → AllByRecursion IsWithin bytes → IsToken token → 2 ≤ m → AllByRecursion (IsInfo token) info → at + length bytes < 2 ^ 64 →
+    IsOpened text (numbered at bytes) (record { number = number; start = at; end = at + length bytes; next = next }) (fence_of token m) (code_kind at token m info)
+unfolding fence_at info_of
+open_line text token m info at next number e within is least h fits =
+    let bytes : List ℕ = opener token m info in
+    let end : ℕ = at + length bytes in
+    let cells : List Cell = numbered at bytes in
+    let fs : List Cell = numbered at (closer token m) in
+    let from : ℕ = at + length (closer token m) in
+    let count : length (closer token m) ≡ suc m = length-replicate (suc m) token in
+    let long : length fs ≡ suc m = numbered_length at (closer token m) ∙ count in
+    let parts : cells ≡ fs ++ numbered from info = numbered_append at (closer token m) info in
+    let width : length bytes ≡ length (closer token m) + length info = length-append (closer token m) info in
+    let small : suc m < 2 ^ 64 = omega (arith, width, count, fits) in
+    let behind : plus 0 (suc m) ≡ suc m = omega (arith, small) in
+    let rest : drop (suc m) cells ≡ numbered from info = ap (λ n. drop n cells) (sym long) ∙ ap (drop (length fs)) parts ∙ drop_behind fs (numbered from info) in
+    let run : run_of cells 0 token ≡ suc m = run_front (suc m) token at info (stops token info h) in
+    let ticks : count_of cells (plus 0 (suc m)) 96 ≡ 0 =
+    ap (λ n. count_of cells n 96) behind ∙ ap (λ (cs : List Cell). length (filter (λ (c : Cell). c.byte == 96) cs)) rest ∙ none_filtered token from info h
+    in
+    let ink : ink_from cells (plus 0 (suc m)) ≡ length fs =
+    ap (ink_from cells) behind
+    ∙ ap (λ (cs : List Cell). plus (suc m) (length (take_while (λ (c : Cell). c.byte == 32) cs))) rest
+    ∙ ap (plus (suc m)) (no_spaces token from info h)
+    ∙ (let q : plus (suc m) 0 ≡ length fs = omega (arith, small, long) in q)
+    in
+    let to : trimmed cells (length fs) (length cells) 32 ≡ length cells = subst (λ (cs : List Cell). trimmed cs (length fs) (length cs) 32 ≡ length cs) (sym parts) (trimmed_info token fs from info h) in
+    let made : ℕ → BlockKind = λ n. kind.Fenced (cell_place cells n end) (cell_place cells (trimmed cells n (length cells) 32) end) in
+    record {
+      columns = ap (cells_of [] at) e ∙ cells_within at bytes within fits;
+      place = refl;
+      begins = token_front token at (replicate m token ++ info) is;
+      fence = ap (λ n. fence_as token n (count_of cells (plus 0 n) 96)) run ∙ ap (fence_as token (suc m)) ticks ∙ fence_is token m is least;
+      info =
+          ap made ink
+          ∙ ap (λ n. kind.Fenced (cell_place cells (length fs) end) (cell_place cells n end)) to
+          ∙ ap (λ n. kind.Fenced (cell_place cells (length fs) end) n) (past_last cells end)
+          ∙ ap (λ (cs : List Cell). kind.Fenced (cell_place cs (length fs) end) end) parts
+          ∙ ap (λ n. kind.Fenced n end) (info_place fs from info end (let q : at + length bytes ≡ from + length info = omega (arith, width) in q))
+          ∙ ap (λ n. kind.Fenced (at + n) end) count;
+    }
+
+no_container : (cells : List Cell) (within : Bool) → IsFront cells → container_at cells (tail_of cells) front within ≡ None
+unfolding container_at item_at
+no_container cells within k = rw (k.some, k.quote, k.rule, k.marker) refl
+
+opens_none : (text : List ℕ) (cells : List Cell) (l : Line) (s : State) → IsFront cells → containers_opened text cells l (tail_of cells) here s ≡ (s, here)
+unfolding container_once_in container_in definition_start note_start
+opens_none text cells l s k =
+    let some : 0 < length cells = grind (arith, k.some) in
+    repeated_stop (container_once text cells l (tail_of cells)) (length cells) here s s some
+    (sym (ap (begun_at text cells l here s) (no_container cells (goes_directly 0 s) k)))
+
+a_fence : (cells : List Cell) (bytes : List ℕ) (f : Fence) (within directly : Bool) → IsFront cells → fence_at cells front ≡ Some f → leaf_at cells bytes (tail_of cells) front within directly ≡ start.Fence f
+unfolding leaf_at mark_at
+a_fence cells bytes f within directly k e = rw (k.some, k.heading, e) refl
+
+starts_fence : (text : List ℕ) (cells : List Cell) (l : Line) (f : Fence) (s : State) → IsFront cells → fence_at cells front ≡ Some f → leaf_started text cells l here s ≡ fence_started text cells l here f s
+unfolding leaf_started_in started_in metadata_in metadata_or task_in task_or quote_kind_in quote_kind_or tag_in tag_or
+starts_fence text cells l f s k e =
+    ap (started_at text cells l (tail_of cells)) (opens_none text cells l s k)
+    ∙ ap (λ x. started x text cells l (tail_of cells) here s) (a_fence cells (bytes_between text (cell_place cells 0 l.end) l.end) f (is_paragraph s.leaf) (goes_directly 0 s) k e)
+
+-- a page with open code, which began behind so many pieces
+abbrev pub coding : List Block → ℕ → List Piece → Fence → BlockKind → ℕ → ℕ → ℕ → State
+coding bs n qs f k at end number = record {
+  blocks = bs ++ block k at at n n ∷ [];
+  pieces = qs;
+  definitions = [];
+  opened = [];
+  quotes = [];
+  leaf = leaf.Fenced f;
+  end = end;
+  line = number;
+  kept = length qs;
+  header = Never;
+  tried = 0;
+  left = None;
+}
+
+fence_comes : (text : List ℕ) (cells : List Cell) (l : Line) (f : Fence) (k : BlockKind) (bs : List Block) (ps : List Piece) (end number : ℕ) → info_of cells front f l ≡ k → cell_place cells 0 l.end ≡ l.start → fence_started text cells l here f (closed bs ps end number) ≡ coding bs (length ps) ps f k l.start l.end l.number
+unfolding fence_started leaf_opened closed_to leaf_closed times list_left begun loosened had_marked list_of is_apart
+fence_comes text cells l f k bs ps end number e p =
+    ap (λ x. coding bs (length ps) ps f x (cell_place cells 0 l.end) l.end l.number) e
+    ∙ ap (λ at. coding bs (length ps) ps f k at l.end l.number) p
+
+opened_line : (text : List ℕ) (cells : List Cell) (l : Line) (f : Fence) (k : BlockKind) (bs : List Block) (ps : List Piece) (end number : ℕ) → IsOpened text cells l f k → line_taken text (closed bs ps end number) l ≡ coding bs (length ps) ps f k l.start l.end l.number
+unfolding line_taken_in cells_taken_in passed_in touched turn_in turn_of leaf_turn
+opened_line text cells l f k bs ps end number h =
+    let s : State = closed bs ps end number in
+    ap (λ c. cells_taken text c l s) h.columns
+    ∙ ap (λ c. leaf_started text cells l (record { cursor = c; depth = 0 }) s) (h.begins).ink
+    ∙ starts_fence text cells l f s h.begins h.fence
+    ∙ fence_comes text cells l f k bs ps end number h.info h.place
+
+-- a line of the text
+
+first_place : (l : List ℕ) (at : ℕ) → cell_place (numbered at l) 0 (at + length l) ≡ at
+first_place [] at = omega arith
+first_place (b ∷ bs) at = refl
+
+whole_piece : (l : List ℕ) (at next number : ℕ) → code_piece (numbered at l) 0 (record { number = number; start = at; end = at + length l; next = next }) ≡ piece_of 0 at (at + length l) next
+unfolding code_piece is_split
+whole_piece l at next number = ap (λ p. piece_of 0 p (at + length l) next) (first_place l at)
+
+code_comes : (text : List ℕ) (l : List ℕ) (at next number : ℕ) (bs : List Block) (n : ℕ) (qs : List Piece) (f : Fence) (k : BlockKind) (from end0 number0 : ℕ) → nat_lt at next ≡ true → code_taken text (numbered at l) 0 (record { number = number; start = at; end = at + length l; next = next }) (coding bs n qs f k from end0 number0) ≡ coding bs n (qs ++ piece_of 0 at (at + length l) next ∷ []) f k from (at + length l) number
+unfolding code_taken html_ended keeps_line
+code_comes text l at next number bs n qs f k from end0 number0 order =
+    let s : State = coding bs n qs f k from end0 number0 in
+    let here : Line = record { number = number; start = at; end = at + length l; next = next } in
+    let p : Piece = piece_of 0 at (at + length l) next in
+    ap (λ (x : Piece). html_ended (bytes_between text x.start x.end) (piece_taken x here true s)) (whole_piece l at next number)
+    ∙ ap (html_ended (bytes_between text at (at + length l))) (piece_taken_whole p here s order refl)
+
+pub line_coded : (text : List ℕ) (token m : ℕ) (l : List ℕ) (at next number : ℕ) (bs : List Block) (n : ℕ) (qs : List Piece) (k : BlockKind) (from end0 number0 : ℕ) →
+    bytes_between text at (at + length l) ≡ l → AllByRecursion IsWithin l → at + length l < 2 ^ 64 → nat_lt at next ≡ true → IsShort token m l →
+    line_taken text (coding bs n qs (fence_of token m) k from end0 number0) (record { number = number; start = at; end = at + length l; next = next }) ≡ coding bs n (qs ++ piece_of 0 at (at + length l) next ∷ []) (fence_of token m) k from (at + length l) number
+unfolding line_taken_in cells_taken_in touched turn_in turn_of leaf_turn first_cursor
+line_coded text token m l at next number bs n qs k from end0 number0 e within fits order short =
+    let f : Fence = fence_of token m in
+    let s : State = coding bs n qs f k from end0 number0 in
+    let here : Line = record { number = number; start = at; end = at + length l; next = next } in
+    let cells : List Cell = numbered at l in
+    let c : Cursor = cursor_of cells in
+    let column : plus 0 (min 0 (indent_of c)) ≡ 0 = omega arith in
+    ap (λ cs. cells_taken text cs here s) (ap (cells_of [] at) e ∙ cells_within at l within fits)
+    ∙ ap (λ b. turn_taken_in core_known (if b then turn.Closes else turn.Takes (plus 0 (min 0 (indent_of c)))) text cells here (record { cursor = c; depth = 0 }) s) (goes_on token m at l short)
+    ∙ ap (λ x. code_taken text cells x here s) column
+    ∙ code_comes text l at next number bs n qs f k from end0 number0 order
+
+-- the closing line
+
+code_finished : (bs : List Block) (n : ℕ) (qs : List Piece) (f : Fence) (k : BlockKind) (from end number : ℕ) → leaf_finished (coding bs n qs f k from end number) ≡ closed (bs ++ block k from end n (length qs) ∷ []) qs end number
+unfolding leaf_finished finished raised_at
+code_finished bs n qs f k from end number =
+    let b : Block = block k from from n n in
+    rw (take-length qs, get_last bs b, set_last bs b (block k from end n (length qs))) refl
+
+pub line_closes : (text : List ℕ) (token m at next number : ℕ) (bs : List Block) (n : ℕ) (qs : List Piece) (k : BlockKind) (from end0 number0 : ℕ) → let l = closer token m in
+    bytes_between text at (at + length l) ≡ l → AllByRecursion IsWithin l → at + length l < 2 ^ 64 → IsToken token →
+    line_taken text (coding bs n qs (fence_of token m) k from end0 number0) (record { number = number; start = at; end = at + length l; next = next }) ≡ closed (bs ++ block k from (at + length l) n (length qs) ∷ []) qs (at + length l) number
+unfolding line_taken_in cells_taken_in touched turn_in turn_of leaf_turn first_cursor leaf_ended
+line_closes text token m at next number bs n qs k from end0 number0 e within fits is =
+    let f : Fence = fence_of token m in
+    let l : List ℕ = closer token m in
+    let s : State = coding bs n qs f k from end0 number0 in
+    let here : Line = record { number = number; start = at; end = at + length l; next = next } in
+    let cells : List Cell = numbered at l in
+    let c : Cursor = cursor_of cells in
+    let small : suc m < 2 ^ 64 = omega (arith, fits, length-replicate (suc m) token) in
+    ap (λ cs. cells_taken text cs here s) (ap (cells_of [] at) e ∙ cells_within at l within fits)
+    ∙ ap (λ b. turn_taken_in core_known (if b then turn.Closes else turn.Takes (plus 0 (min 0 (indent_of c)))) text cells here (record { cursor = c; depth = 0 }) s) (closes token m at is small)
+    ∙ code_finished bs n qs f k from (at + length l) number
+
+pub line_opens : (text : List ℕ) (token m : ℕ) (info : List ℕ) (at next number : ℕ) (bs : List Block) (ps : List Piece) (end0 number0 : ℕ) → let l = opener token m info in
+    bytes_between text at (at + length l) ≡ l → AllByRecursion IsWithin l → IsToken token → 2 ≤ m → AllByRecursion (IsInfo token) info → at + length l < 2 ^ 64 →
+    line_taken text (closed bs ps end0 number0) (record { number = number; start = at; end = at + length l; next = next }) ≡ coding bs (length ps) ps (fence_of token m) (code_kind at token m info) at (at + length l) number
+line_opens text token m info at next number bs ps end0 number0 e within is least h fits =
+    opened_line text (numbered at (opener token m info)) (record { number = number; start = at; end = at + length (opener token m info); next = next }) (fence_of token m) (code_kind at token m info) bs ps end0 number0
+    (open_line text token m info at next number e within is least h fits)
