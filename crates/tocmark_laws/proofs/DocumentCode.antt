@@ -1,5 +1,6 @@
 -- Fenced code on a page: its opening line, the lines of its text, and its closing line.
-use Rattle.std.proofs.Common.{◌≡◌, ℕ, zero, suc, ◌+◌, ◌-◌, ◌^◌, ◌<◌, ◌≤◌, min, Bool, true, false, not, ◌==◌, ◌&&◌, cond, if◌then◌else◌, nat_lt, nat_le, List, [], ◌∷◌, ◌++◌, length, drop, replicate, refl, ap, sym, subst, ◌∙◌, arith, append-nil, length-append, eq-eqb, Some, None, Option, ◌⊎◌, inl, inr}
+use Rattle.std.proofs.Common.{◌≡◌, ℕ, zero, suc, ◌+◌, ◌-◌, ◌%◌, ◌^◌, ◌<◌, ◌≤◌, min, Bool, true, false, not, ◌==◌, ◌&&◌, cond, if◌then◌else◌, nat_lt, nat_le, List, [], ◌∷◌, ◌++◌, length, drop, replicate, refl, ap, sym, subst, ◌∙◌, arith, append_assoc, append-nil, length-append, eq-eqb, Some, None, Option, ◌⊎◌, inl, inr}
+use Rattle.std.proofs.Math.Nat.{mod-lt}
 use Rattle.std.proofs.Math.Seq.{take-length}
 use Rattle.std.proofs.lemmas.List.{length-replicate}
 use Rattle.std.proofs.lemmas.List.Sums.{take_while-cons}
@@ -11,7 +12,7 @@ use Rattle.tocmark_read_scan.proofs.PlainPieces.{drop_behind}
 use Rattle.tocmark_read_scan.proofs.PlainTests.{eq_of}
 use Rattle.tocmark_read_scan.proofs.Repeats.{repeated_stop}
 use Rattle.tocmark_read_scan.specs.PlainParts.{last_byte}
-use Rattle.tocmark_read_lines.specs.Cells.{cell, cells_of, cell_byte, cell_place, first_cursor, ink_from, indent_of, run_of, count_of, trailing, trimmed}
+use Rattle.tocmark_read_lines.specs.Cells.{cell, filled, cells_of, cell_byte, cell_place, first_cursor, ink_from, indent_of, run_of, count_of, trailing, trimmed}
 use Rattle.tocmark_read_lines.specs.Containers.{container_at, container_in, item_at, raised_at}
 use Rattle.tocmark_read_lines.specs.DefinitionLists.{definition_start}
 use Rattle.tocmark_read_lines.specs.Marks.{is_rule, is_rule_byte, is_behind, marker_at, bullet_at, ordered_at, heading_at, fence_at, is_fence_byte, closes_fence, tail_of}
@@ -107,6 +108,10 @@ token_no_space : (token : ℕ) → IsToken token → (token == 32) ≡ false
 token_no_space token (inl e) = ap (λ t. t == 32) e
 token_no_space token (inr e) = ap (λ t. t == 32) e
 
+space_apart : (token : ℕ) → IsToken token → (32 == token) ≡ false
+space_apart token (inl e) = ap (λ t. 32 == t) e
+space_apart token (inr e) = ap (λ t. 32 == t) e
+
 -- runs
 
 abbrev StopsRun : ℕ → List ℕ → Type 0
@@ -125,28 +130,104 @@ none_filtered : (token at : ℕ) (info : List ℕ) → AllByRecursion (IsInfo to
 none_filtered token at [] h = refl
 none_filtered token at (b ∷ bs) h = rw (h.0).tick (none_filtered token (at + 1) bs (h.1))
 
--- the run at any column of a line stands in its bytes
-run_first : (l : List ℕ) (at token : ℕ) → (after : List ℕ) × (l ≡ replicate (length (take_while (λ (c : Cell). c.byte == token) (numbered at l))) token ++ after)
-run_first [] at token = ([], refl)
-run_first (b ∷ bs) at token = by_byte (b == token) refl (run_first bs (at + 1) token)
-  where
-    by_byte : (x : Bool) → (b == token) ≡ x → ((after : List ℕ) × (bs ≡ replicate (length (take_while (λ (c : Cell). c.byte == token) (numbered (at + 1) bs))) token ++ after)) → (after : List ℕ) × (b ∷ bs ≡ replicate (length (take_while (λ (c : Cell). c.byte == token) (numbered at (b ∷ bs)))) token ++ after)
-    by_byte true e more =
-        let run : ℕ = length (take_while (λ (c : Cell). c.byte == token) (numbered (at + 1) bs)) in (
-          more.0,
-          ap (λ (xs : List ℕ). b ∷ xs) (more.1)
-              ∙ ap (λ c. c ∷ (replicate run token ++ more.0)) (eq_of b token e)
-              ∙ ap (λ n. replicate n token ++ more.0) (sym (ap length (one_more token (cell b at) (numbered (at + 1) bs) e))),
-        )
-    by_byte false e more = (b ∷ bs, rw e refl)
+-- columns of bytes: for a tab some spaces, and for each other byte one column
+abbrev Spreads : List Cell → List ℕ → Type 0
+Spreads cells [] = cells ≡ []
+Spreads cells (b ∷ bs) =
+    ((n : ℕ) × (at : ℕ) × (cs : List Cell) × (cells ≡ replicate (suc n) (cell 32 at) ++ cs) × Spreads cs bs)
+    ⊎ ((at : ℕ) × (cs : List Cell) × (cells ≡ cell b at ∷ cs) × Spreads cs bs)
 
-run_within : (l : List ℕ) (at k token : ℕ) → HasRun (run_of (numbered at l) k token) token l
-run_within [] at zero token = record { before = []; after = []; is = refl }
-run_within [] at (suc k) token = record { before = []; after = []; is = refl }
-run_within (b ∷ bs) at zero token = let first = run_first (b ∷ bs) at token in record { before = []; after = first.0; is = first.1 }
-run_within (b ∷ bs) at (suc k) token =
-    let more = run_within bs (at + 1) k token in
-    record { before = b ∷ more.before; after = more.after; is = ap (λ (xs : List ℕ). b ∷ xs) more.is }
+spread_of : (pre : List Cell) (at : ℕ) (bs : List ℕ) → (tail : List Cell) × (cells_of pre at bs ≡ pre ++ tail) × Spreads tail bs
+unfolding filled
+spread_of pre at [] = ([], sym (append-nil pre), refl)
+spread_of pre at (b ∷ bs) = by_tab (b == 9) refl (λ x. spread_of (pre ++ x) (plus at 1) bs)
+  where
+    Found : Type 0
+    Found = (tail : List Cell) × (cells_of pre at (b ∷ bs) ≡ pre ++ tail) × Spreads tail (b ∷ bs)
+
+    by_tab : (k : Bool) → (b == 9) ≡ k → ((x : List Cell) → (tail : List Cell) × (cells_of (pre ++ x) (plus at 1) bs ≡ (pre ++ x) ++ tail) × Spreads tail bs) → Found
+    by_tab true e more =
+        let n : ℕ = 4 - length pre % 4 - 1 in
+        let low : length pre % 4 < 4 = mod-lt (length pre) (omega arith) in
+        let some : 4 - length pre % 4 ≡ suc n = omega (arith, low) in
+        let spaces : List Cell = replicate (suc n) (cell 32 at) in
+        let rest = more spaces in (
+          spaces ++ rest.0,
+          ap (λ t. cells_of (if t then pre ++ replicate (4 - length pre % 4) (cell 32 at) else pre ++ cell b at ∷ []) (plus at 1) bs) e
+              ∙ ap (λ k. cells_of (pre ++ replicate k (cell 32 at)) (plus at 1) bs) some
+              ∙ rest.1
+              ∙ append_assoc pre spaces (rest.0),
+          inl (n, at, rest.0, refl, rest.2),
+        )
+    by_tab false e more =
+        let rest = more (cell b at ∷ []) in (
+          cell b at ∷ rest.0,
+          ap (λ t. cells_of (if t then pre ++ replicate (4 - length pre % 4) (cell 32 at) else pre ++ cell b at ∷ []) (plus at 1) bs) e
+              ∙ rest.1
+              ∙ append_assoc pre (cell b at ∷ []) (rest.0),
+          inr (at, rest.0, refl, rest.2),
+        )
+
+abbrev run_at : ℕ → List Cell → ℕ
+run_at token cells = length (take_while (λ (c : Cell). c.byte == token) cells)
+
+front_kept : (cells : List Cell) → drop 0 cells ≡ cells
+front_kept [] = refl
+front_kept (c ∷ cells) = refl
+
+-- the run at the front of columns stands at the front of their bytes
+run_first : (token : ℕ) → (32 == token) ≡ false → (bs : List ℕ) (cells : List Cell) → Spreads cells bs → (after : List ℕ) × (bs ≡ replicate (run_at token cells) token ++ after)
+run_first token apart [] cells e = ([], ap (λ (cs : List Cell). replicate (run_at token cs) token ++ []) (sym e))
+run_first token apart (b ∷ bs) cells (inl h) =
+    let n : ℕ = h.0 in
+    let at : ℕ = h.1 in
+    let cs : List Cell = h.2 in
+    let none : run_at token (replicate (suc n) (cell 32 at) ++ cs) ≡ 0 = rw apart refl in
+    (b ∷ bs, ap (λ k. replicate k token ++ b ∷ bs) (sym (ap (run_at token) (h.3) ∙ none)))
+run_first token apart (b ∷ bs) cells (inr h) =
+    let at : ℕ = h.0 in
+    let cs : List Cell = h.1 in
+    by_byte b bs at cs (b == token) refl (run_first token apart bs cs (h.3)) cells (h.2)
+  where
+    by_byte : (b : ℕ) (bs : List ℕ) (at : ℕ) (cs : List Cell) (k : Bool) → (b == token) ≡ k → ((after : List ℕ) × (bs ≡ replicate (run_at token cs) token ++ after)) → (cells : List Cell) → cells ≡ cell b at ∷ cs → (after : List ℕ) × (b ∷ bs ≡ replicate (run_at token cells) token ++ after)
+    by_byte b bs at cs true e more cells is = (
+      more.0,
+      ap (λ (xs : List ℕ). b ∷ xs) (more.1)
+          ∙ ap (λ c. c ∷ (replicate (run_at token cs) token ++ more.0)) (eq_of b token e)
+          ∙ ap (λ n. replicate n token ++ more.0) (sym (ap (run_at token) is ∙ ap length (one_more token (cell b at) cs e))),
+    )
+    by_byte b bs at cs false e more cells is =
+        let none : run_at token (cell b at ∷ cs) ≡ 0 = rw e refl in
+        (b ∷ bs, ap (λ n. replicate n token ++ b ∷ bs) (sym (ap (run_at token) is ∙ none)))
+
+later_run : (n token b : ℕ) (bs : List ℕ) → HasRun n token bs → HasRun n token (b ∷ bs)
+later_run n token b bs h = record { before = b ∷ h.before; after = h.after; is = ap (λ (xs : List ℕ). b ∷ xs) h.is }
+
+no_run : (token : ℕ) (bs : List ℕ) → HasRun 0 token bs
+no_run token bs = record { before = []; after = bs; is = refl }
+
+-- the run at any column stands in the bytes
+run_spread : (token : ℕ) → (32 == token) ≡ false → (bs : List ℕ) (cells : List Cell) → Spreads cells bs → (k : ℕ) → HasRun (run_at token (drop k cells)) token bs
+run_spread token apart [] cells e k = subst (λ (cs : List Cell). HasRun (run_at token (drop k cs)) token []) (sym e) (none k)
+  where
+    none : (k : ℕ) → HasRun (run_at token (drop k [])) token []
+    none zero = no_run token []
+    none (suc k) = no_run token []
+run_spread token apart (b ∷ bs) cells (inl h) k =
+    subst (λ (cs : List Cell). HasRun (run_at token (drop k cs)) token (b ∷ bs)) (sym (h.3)) (among (λ j. run_spread token apart bs (h.2) (h.4) j) (suc (h.0)) k)
+  where
+    among : ((j : ℕ) → HasRun (run_at token (drop j (h.2))) token bs) → (n k : ℕ) → HasRun (run_at token (drop k (replicate n (cell 32 (h.1)) ++ h.2))) token (b ∷ bs)
+    among more zero k = later_run (run_at token (drop k (h.2))) token b bs (more k)
+    among more (suc n) zero =
+        let none : run_at token (cell 32 (h.1) ∷ (replicate n (cell 32 (h.1)) ++ h.2)) ≡ 0 = rw apart refl in
+        subst (λ r. HasRun r token (b ∷ bs)) (sym none) (no_run token (b ∷ bs))
+    among more (suc n) (suc k) = among more n k
+run_spread token apart (b ∷ bs) cells (inr h) zero =
+    let first = run_first token apart (b ∷ bs) cells (inr h) in
+    let whole : drop 0 cells ≡ cells = front_kept cells in
+    subst (λ (cs : List Cell). HasRun (run_at token cs) token (b ∷ bs)) (sym whole) (record { before = []; after = first.0; is = first.1 })
+run_spread token apart (b ∷ bs) cells (inr h) (suc k) =
+    subst (λ (cs : List Cell). HasRun (run_at token (drop (suc k) cs)) token (b ∷ bs)) (sym (h.2)) (later_run (run_at token (drop k (h.1))) token b bs (run_spread token apart bs (h.1) (h.3) k))
 
 -- no run of a line is as long as the fence
 abbrev pub IsShort : ℕ → ℕ → List ℕ → Type 0
@@ -159,13 +240,15 @@ and_false : (a b : Bool) → (a && false && b) ≡ false
 and_false true b = refl
 and_false false b = refl
 
-goes_on : (token m at : ℕ) (l : List ℕ) → IsShort token m l → closes_fence (numbered at l) (cursor_of (numbered at l)) (fence_of token m) ≡ false
+goes_on : (token m at : ℕ) (l : List ℕ) → IsToken token → IsShort token m l → closes_fence (cells_of [] at l) (cursor_of (cells_of [] at l)) (fence_of token m) ≡ false
 unfolding closes_fence
-goes_on token m at l h =
-    let cells : List Cell = numbered at l in
+goes_on token m at l is h =
+    let cells : List Cell = cells_of [] at l in
     let ink : ℕ = ink_from cells 0 in
     let count : ℕ = run_of cells ink token in
-    let short : count < suc m = h count (run_within l at ink token) in
+    let spread = spread_of [] at l in
+    let spreads : Spreads cells l = subst (λ (cs : List Cell). Spreads cs l) (sym (spread.1)) (spread.2) in
+    let short : count < suc m = h count (run_spread token (space_apart token is) l cells spreads ink) in
     let less : nat_le (suc m) count ≡ false = grind (arith, short, nat_tests) in
     ap (λ b. nat_le (indent_of (cursor_of cells)) 3 && b && nat_le (length cells) (ink_from cells (plus ink count))) less
     ∙ and_false (nat_le (indent_of (cursor_of cells)) 3) (nat_le (length cells) (ink_from cells (plus ink count)))
@@ -347,15 +430,30 @@ opened_line text cells l f k bs ps end number h =
 
 -- a line of the text
 
-first_place : (l : List ℕ) (at : ℕ) → cell_place (numbered at l) 0 (at + length l) ≡ at
-first_place [] at = omega arith
-first_place (b ∷ bs) at = refl
+-- the first column stands at the first byte
+place_kept : (c : Cell) (cs : List Cell) (at : ℕ) (bs : List ℕ) (end : ℕ) → cell_place (cells_of (c ∷ cs) at bs) 0 end ≡ c.at
+unfolding filled
+place_kept c cs at [] end = refl
+place_kept c cs at (b ∷ bs) end = by_tab (λ more. place_kept c more (plus at 1) bs end) (b == 9)
+  where
+    by_tab : ((more : List Cell) → cell_place (cells_of (c ∷ more) (plus at 1) bs) 0 end ≡ c.at) → (k : Bool) → cell_place (cells_of (if k then (c ∷ cs) ++ replicate (4 - length (c ∷ cs) % 4) (cell 32 at) else (c ∷ cs) ++ cell b at ∷ []) (plus at 1) bs) 0 end ≡ c.at
+    by_tab more true = more (cs ++ replicate (4 - length (c ∷ cs) % 4) (cell 32 at))
+    by_tab more false = more (cs ++ cell b at ∷ [])
 
-whole_piece : (l : List ℕ) (at next number : ℕ) → code_piece (numbered at l) 0 (record { number = number; start = at; end = at + length l; next = next }) ≡ piece_of 0 at (at + length l) next
+first_place : (l : List ℕ) (at : ℕ) → cell_place (cells_of [] at l) 0 (at + length l) ≡ at
+unfolding filled
+first_place [] at = omega arith
+first_place (b ∷ bs) at = by_tab (b == 9)
+  where
+    by_tab : (k : Bool) → cell_place (cells_of (if k then [] ++ replicate (4 - length {A = Cell} [] % 4) (cell 32 at) else [] ++ cell b at ∷ []) (plus at 1) bs) 0 (at + length (b ∷ bs)) ≡ at
+    by_tab true = place_kept (cell 32 at) (replicate 3 (cell 32 at)) (plus at 1) bs (at + length (b ∷ bs))
+    by_tab false = place_kept (cell b at) [] (plus at 1) bs (at + length (b ∷ bs))
+
+whole_piece : (l : List ℕ) (at next number : ℕ) → code_piece (cells_of [] at l) 0 (record { number = number; start = at; end = at + length l; next = next }) ≡ piece_of 0 at (at + length l) next
 unfolding code_piece is_split
 whole_piece l at next number = ap (λ p. piece_of 0 p (at + length l) next) (first_place l at)
 
-code_comes : (text : List ℕ) (l : List ℕ) (at next number : ℕ) (bs : List Block) (n : ℕ) (qs : List Piece) (f : Fence) (k : BlockKind) (from end0 number0 : ℕ) → nat_lt at next ≡ true → code_taken text (numbered at l) 0 (record { number = number; start = at; end = at + length l; next = next }) (coding bs n qs f k from end0 number0) ≡ coding bs n (qs ++ piece_of 0 at (at + length l) next ∷ []) f k from (at + length l) number
+code_comes : (text : List ℕ) (l : List ℕ) (at next number : ℕ) (bs : List Block) (n : ℕ) (qs : List Piece) (f : Fence) (k : BlockKind) (from end0 number0 : ℕ) → nat_lt at next ≡ true → code_taken text (cells_of [] at l) 0 (record { number = number; start = at; end = at + length l; next = next }) (coding bs n qs f k from end0 number0) ≡ coding bs n (qs ++ piece_of 0 at (at + length l) next ∷ []) f k from (at + length l) number
 unfolding code_taken html_ended keeps_line
 code_comes text l at next number bs n qs f k from end0 number0 order =
     let s : State = coding bs n qs f k from end0 number0 in
@@ -365,18 +463,18 @@ code_comes text l at next number bs n qs f k from end0 number0 order =
     ∙ ap (html_ended (bytes_between text at (at + length l))) (piece_taken_whole p here s order refl)
 
 pub line_coded : (text : List ℕ) (token m : ℕ) (l : List ℕ) (at next number : ℕ) (bs : List Block) (n : ℕ) (qs : List Piece) (k : BlockKind) (from end0 number0 : ℕ) →
-    bytes_between text at (at + length l) ≡ l → AllByRecursion IsWithin l → at + length l < 2 ^ 64 → nat_lt at next ≡ true → IsShort token m l →
+    bytes_between text at (at + length l) ≡ l → nat_lt at next ≡ true → IsToken token → IsShort token m l →
     line_taken text (coding bs n qs (fence_of token m) k from end0 number0) (record { number = number; start = at; end = at + length l; next = next }) ≡ coding bs n (qs ++ piece_of 0 at (at + length l) next ∷ []) (fence_of token m) k from (at + length l) number
 unfolding line_taken_in cells_taken_in touched turn_in turn_of leaf_turn first_cursor
-line_coded text token m l at next number bs n qs k from end0 number0 e within fits order short =
+line_coded text token m l at next number bs n qs k from end0 number0 e order is short =
     let f : Fence = fence_of token m in
     let s : State = coding bs n qs f k from end0 number0 in
     let here : Line = record { number = number; start = at; end = at + length l; next = next } in
-    let cells : List Cell = numbered at l in
+    let cells : List Cell = cells_of [] at l in
     let c : Cursor = cursor_of cells in
     let column : plus 0 (min 0 (indent_of c)) ≡ 0 = omega arith in
-    ap (λ cs. cells_taken text cs here s) (ap (cells_of [] at) e ∙ cells_within at l within fits)
-    ∙ ap (λ b. turn_taken_in core_known (if b then turn.Closes else turn.Takes (plus 0 (min 0 (indent_of c)))) text cells here (record { cursor = c; depth = 0 }) s) (goes_on token m at l short)
+    ap (λ cs. cells_taken text cs here s) (ap (cells_of [] at) e)
+    ∙ ap (λ b. turn_taken_in core_known (if b then turn.Closes else turn.Takes (plus 0 (min 0 (indent_of c)))) text cells here (record { cursor = c; depth = 0 }) s) (goes_on token m at l is short)
     ∙ ap (λ x. code_taken text cells x here s) column
     ∙ code_comes text l at next number bs n qs f k from end0 number0 order
 

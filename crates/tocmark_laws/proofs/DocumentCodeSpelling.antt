@@ -6,7 +6,6 @@ use Rattle.std.specs.Char.{encode_utf8}
 use Rattle.std.specs.List.{AllByRecursion, concat, list_any}
 use Rattle.tocmark_event.specs.Options.{OptionsView}
 use Rattle.tocmark_event.specs.View.{EventView, Start, CodeBlock, Fenced}
-use Rattle.tocmark_reader.proofs.PlainReading.{IsPrintable}
 use Rattle.tocmark_reader.proofs.PlainSources.{IsClean, all_implied, clean_ascii}
 use Rattle.tocmark_write_texts.specs.Leaves.{longest_run}
 use Rattle.tocmark_spelling.specs.Body.{Trees, joined_by, text_of_leaf}
@@ -30,7 +29,7 @@ use Rattle.tocmark_laws.specs.TextBlocks.{ParagraphKind, HeadingKind}
 use Rattle.tocmark_laws.proofs.BlockSpelling.{LastEnd, NoEnd, TextEnd, CodeEnd, text_trees, last_of, page_of, blank, IsCalm}
 use Rattle.tocmark_laws.proofs.CodeBlocks as code
 use Rattle.tocmark_laws.proofs.DocumentCode.{IsToken, IsInfo, IsShort, opener, closer}
-use Rattle.tocmark_laws.proofs.DocumentRows.{Code, IsCode, ArePrintable, clean_printable, closer_printable, code_joined, code_rest, row_bytes}
+use Rattle.tocmark_laws.proofs.DocumentRows.{Code, IsCode, IsCodeByte, AreCode, ArePrintable, closer_printable, code_joined, code_rest, row_bytes}
 use Rattle.tocmark_laws.proofs.DocumentSpelling.{laid_some, page_is, IsHanded}
 use Rattle.tocmark_laws.proofs.Fences.{any-run}
 use Rattle.tocmark_laws.proofs.Paragraphs.{laid-plain}
@@ -129,10 +128,10 @@ module _ (o : OptionsView) (info : List ℕ) (ls : List (List ℕ)) where
       ∙ ap (λ n. replicate n o.code_block_token) count
 
   -- what the block has to be
-  texts_clean : (ls : List (List ℕ)) → AllByRecursion ArePrintable ls → AllByRecursion IsClean (concat (line_texts ls))
+  texts_clean : (ls : List (List ℕ)) → AllByRecursion AreCode ls → AllByRecursion IsClean (concat (line_texts ls))
   texts_clean [] h = tt
   texts_clean (l ∷ ls) h =
-      all_joined IsClean (l ++ 10 ∷ []) (concat (line_texts ls)) (all_joined IsClean l (10 ∷ []) (all_implied IsPrintable IsClean l clean_printable (h.0)) (feed_clean, tt)) (texts_clean ls (h.1))
+      all_joined IsClean (l ++ 10 ∷ []) (concat (line_texts ls)) (all_joined IsClean l (10 ∷ []) (all_implied IsCodeByte IsClean l (λ b h. h.clean) (h.0)) (feed_clean, tt)) (texts_clean ls (h.1))
 
   -- a run of a line is one of all lines
   shorts : (token m : ℕ) (pre : List ℕ) (ls : List (List ℕ)) → ((n : ℕ) → HasRun n token (pre ++ concat (line_texts ls)) → n < suc m) → AllByRecursion (IsShort token m) ls
@@ -143,15 +142,15 @@ module _ (o : OptionsView) (info : List ℕ) (ls : List (List ℕ)) where
         shorts token m (pre ++ (l ++ 10 ∷ [])) ls (λ n h. f n (subst (HasRun n token) (append_assoc pre (l ++ 10 ∷ []) rest) h)),
       )
 
-  pub is_code : IsToken o.code_block_token → AllByRecursion (IsInfo o.code_block_token) info → ArePrintable info → AllByRecursion ArePrintable ls → IsCode o.code_block_token fence_rest info ls
-  is_code is info_is info_printable printable =
-      let same : chars text ≡ text = chars-IsAscii text (clean_ascii text (texts_clean ls printable)) in
+  pub is_code : IsToken o.code_block_token → AllByRecursion (IsInfo o.code_block_token) info → ArePrintable info → AllByRecursion AreCode ls → IsCode o.code_block_token fence_rest info ls
+  is_code is info_is info_printable lines =
+      let same : chars text ≡ text = chars-IsAscii text (clean_ascii text (texts_clean ls lines)) in
       record {
         token_is = is;
         least = omega arith;
         info_is = info_is;
         info_printable = info_printable;
-        printable = printable;
+        lines = lines;
         short = shorts o.code_block_token fence_rest [] ls (λ n h. shorter n (any-run n o.code_block_token (chars text) (subst (HasRun n o.code_block_token) (sym same) h)));
       }
     where

@@ -38,13 +38,13 @@ use Rattle.tocmark_reader.proofs.PlacedParts.{parts_inlines_at}
 use Rattle.tocmark_reader.proofs.PlainEvents.{viewed}
 use Rattle.tocmark_reader.proofs.PlainReading.{IsPrintable, IsPlainLine, spelled_text}
 use Rattle.tocmark_reader.specs.PlainTexts.{text_parts}
-use Rattle.tocmark_reader.proofs.PlainSources.{IsClean, all_behind, all_implied, clean_ascii}
+use Rattle.tocmark_reader.proofs.PlainSources.{IsClean, AreClean, all_behind, all_implied, clean_ascii}
 use Rattle.tocmark_read_scan.specs.declared.syntax.TheConstants.{CORE}
 use Rattle.tocmark_read_blocks.proofs.PlainFronts.{BeginsPlainly}
 use Rattle.tocmark_laws.specs.TextBlocks.{Kind, ParagraphKind, HeadingKind, mark_of, tag_of}
 use Rattle.tocmark_laws.proofs.DocumentBlocks.{block, hyphens}
 use Rattle.tocmark_laws.proofs.DocumentCode.{IsInfo, opener, closer, code_kind}
-use Rattle.tocmark_laws.proofs.DocumentRows.{Code, IsCode, ArePrintable, clean_printable, code_body, code_count, code_end, code_joined, code_pieces, code_rest, Row, Blank, Break, Filled, row_bytes, rows_text, IsFilled, IsRow, AreRows, all_rows, block_kind, content_start, row_end, behind, filled_pieces, row_blocks, row_pieces, rows_blocks, counted}
+use Rattle.tocmark_laws.proofs.DocumentRows.{Code, IsCode, IsCodeByte, AreCode, ArePrintable, clean_printable, code_body, code_count, code_end, code_joined, code_pieces, code_rest, Row, Blank, Break, Filled, row_bytes, rows_text, IsFilled, IsRow, AreRows, all_rows, block_kind, content_start, row_end, behind, filled_pieces, row_blocks, row_pieces, rows_blocks, counted}
 use Rattle.tocmark_laws.proofs.DocumentParagraphs.{content_of_lines, behind_line, line_length}
 
 -- the content of one line that stands in a text
@@ -213,6 +213,13 @@ none_any : (token : ℕ) (info : List ℕ) → AllByRecursion (IsInfo token) inf
 none_any token [] h = (refl, refl)
 none_any token (b ∷ bs) h = let more = none_any token bs (h.1) in (rw (h.0).back (more.0), rw (h.0).amp (more.1))
 
+clean_zeros : (xs : List ℕ) → AreClean xs → list_any (λ b. b == 0) xs ≡ false
+clean_zeros [] h = refl
+clean_zeros (x ∷ xs) h = rw (h.0).some (clean_zeros xs (h.1))
+
+clean_code : (xs : List ℕ) → AreCode xs → AreClean xs
+clean_code xs h = all_implied IsCodeByte IsClean xs (λ b h. h.clean) h
+
 zeros_none : (xs : List ℕ) → ArePrintable xs → list_any (λ b. b == 0) xs ≡ false
 zeros_none [] h = refl
 zeros_none (x ∷ xs) h = rw (no_zero x (h.0)) (zeros_none xs (h.1))
@@ -228,7 +235,7 @@ info_kept token info h i fits =
     ∙ ap utf8_lossy (left_alone Four info (none.0) (none.1) fits)
     ∙ utf8_lossy-IsUtf8 info (printable_utf8 info h)
 
-line_noded : (text l : List ℕ) (start : ℕ) → bytes_between text start (start + length l) ≡ l → ArePrintable l → line_nodes text false 1 (piece_of 0 start (start + length l) (start + length l + 1)) ≡ text_node start l ∷ []
+line_noded : (text l : List ℕ) (start : ℕ) → bytes_between text start (start + length l) ≡ l → AreCode l → line_nodes text false 1 (piece_of 0 start (start + length l) (start + length l + 1)) ≡ text_node start l ∷ []
 unfolding line_nodes space_nodes line_item
 line_noded text l start e h =
     let end : ℕ = start + length l in
@@ -239,9 +246,9 @@ line_noded text l start e h =
     ap (λ o. made o (nat_lt end (end + 1)) (bytes_between text start end)) order
     ∙ ap (λ f. made true f (bytes_between text start end)) feeds
     ∙ ap (made true true) e
-    ∙ ap node (line_kept l (printable_utf8 l h) (zeros_none l h))
+    ∙ ap node (line_kept l (IsUtf8-from_ascii l (clean_ascii l (clean_code l h))) (clean_zeros l (clean_code l h)))
 
-lines_noded : (text pre rest : List ℕ) (start token m : ℕ) (ls : List (List ℕ)) → text ≡ pre ++ (code_rest token m ls ++ rest) → start ≡ length pre → AllByRecursion ArePrintable ls → lines_nodes text false 1 (code_pieces start ls) ≡ text_nodes start ls
+lines_noded : (text pre rest : List ℕ) (start token m : ℕ) (ls : List (List ℕ)) → text ≡ pre ++ (code_rest token m ls ++ rest) → start ≡ length pre → AllByRecursion AreCode ls → lines_nodes text false 1 (code_pieces start ls) ≡ text_nodes start ls
 lines_noded text pre rest start token m [] e front h = refl
 lines_noded text pre rest start token m (l ∷ ls) e front h =
     let next : ℕ = start + length l + 1 in
@@ -273,7 +280,7 @@ code_noded text pre rest start token m info ls rs blocks all ps n ns e front fit
     ap (made (info_text_in Four (bytes_between text (start + suc m) (start + length first)))) (some_pieces all ps new (row_pieces (stop + 1) rs) n (length ls) pieces count (code_count body ls))
     ∙ ap (λ (i : List ℕ). made (info_text_in Four i) new) (piece_between text (pre ++ last) info (10 ∷ (more ++ rest)) (start + suc m) (start + length first) there from to)
     ∙ ap (λ (i : List ℕ). made i new) (info_kept token info h.info_printable h.info_is small)
-    ∙ ap (λ (xs : List NodeView). at ((ns ++ node ∷ []) ++ xs)) (lines_noded text (pre ++ (first ++ 10 ∷ [])) rest body token m ls (behind_line text pre first (more ++ rest) here) (line_length pre first start front) h.printable)
+    ∙ ap (λ (xs : List NodeView). at ((ns ++ node ∷ []) ++ xs)) (lines_noded text (pre ++ (first ++ 10 ∷ [])) rest body token m ls (behind_line text pre first (more ++ rest) here) (line_length pre first start front) h.lines)
     ∙ ap at (append_assoc ns (node ∷ []) (text_nodes body ls))
 
 pub rows_nodes : (text pre : List ℕ) (start : ℕ) (r : Row) (rs : List Row) (blocks : List Block) (all ps : List Piece) (n : ℕ) (ns : List NodeView) → text ≡ pre ++ rows_text r rs → start ≡ length pre → length text < 2 ^ 64 → AllByRecursion IsRow (r ∷ rs) → all ≡ ps ++ row_pieces start (r ∷ rs) → n ≡ length ps → fold (block_step_in CORE text find blocks all) (at ns) (row_blocks n start (r ∷ rs)) ≡ at (ns ++ row_nodes start (r ∷ rs))

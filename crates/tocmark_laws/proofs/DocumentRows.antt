@@ -21,7 +21,7 @@ use Rattle.tocmark_read_page.specs.declared.page.BlockKind.{BlockKind}
 use Rattle.tocmark_read_page.specs.declared.page.BlockKind.TheVariants as kind
 use Rattle.tocmark_read_blocks.specs.Blocks.{BlocksView, line_taken, page_in, blocks_in, blocks_of}
 use Rattle.tocmark_read_blocks.proofs.PlainFronts.{BeginsPlainly, plainly_begins_nothing}
-use Rattle.tocmark_read_blocks.proofs.PlainLines.{IsWithin, lines_within as line_within, cells_within, numbered}
+use Rattle.tocmark_read_blocks.proofs.PlainLines.{IsWithin, cells_within, numbered}
 use Rattle.tocmark_read_blocks.proofs.PlainSteps.{IsPlainLine as IsPlainBlockLine, BeginsNothing}
 use Rattle.tocmark_read_blocks.proofs.PlainTexts.{line_list, AreNoReturns}
 use Rattle.tocmark_read_inlines.proofs.PlainNeighbours.{ArePlainParts}
@@ -66,12 +66,20 @@ pub record IsFilled (k : Kind) (l : List Part) (ms : List (List Part)) : Type 0 
 abbrev pub ArePrintable : List ℕ → Type 0
 ArePrintable xs = AllByRecursion IsPrintable xs
 
+-- a byte of ASCII that ends no line and isn't U+0000
+pub record IsCodeByte (b : ℕ) : Type 0 where
+  pub clean : IsClean b
+  pub feed : (b == 10) ≡ false
+
+abbrev pub AreCode : List ℕ → Type 0
+AreCode xs = AllByRecursion IsCodeByte xs
+
 pub record IsCode (token m : ℕ) (info : List ℕ) (ls : List (List ℕ)) : Type 0 where
   pub token_is : IsToken token
   pub least : 2 ≤ m
   pub info_is : AllByRecursion (IsInfo token) info
   pub info_printable : ArePrintable info
-  pub printable : AllByRecursion ArePrintable ls
+  pub lines : AllByRecursion AreCode ls
   pub short : AllByRecursion (IsShort token m) ls
 
 -- behind each paragraph stands a blank line, and the last row is none
@@ -189,7 +197,23 @@ abbrev EndsFull : List ℕ → List (List ℕ) → Type 0
 EndsFull l [] = 0 < length l
 EndsFull l (m ∷ ms) = EndsFull m ms
 
-lines_are : (text : List ℕ) → AreNoReturns text → (before start : ℕ) (l : List ℕ) (ms : List (List ℕ)) → AllByRecursion (λ x. AllByRecursion IsWithin x) (l ∷ ms) → EndsFull l ms → lines_from text before start start (feed_joined l ms) ≡ line_list before start l ms
+-- a byte that ends no line
+record IsUnbroken (b : ℕ) : Type 0 where
+  feed : (b == 10) ≡ false
+  return : (b == 13) ≡ false
+
+unbroken_ends_not : (text : List ℕ) (b at : ℕ) → IsUnbroken b → ends_here text b at ≡ false
+unfolding ends_here
+unbroken_ends_not text b at h = rw (h.feed, h.return) refl
+
+-- such bytes lengthen the line that is open
+line_within : (text : List ℕ) (before start at : ℕ) (xs rest : List ℕ) → AllByRecursion IsUnbroken xs → lines_from text before start at (xs ++ rest) ≡ lines_from text before start (at + length xs) rest
+line_within text before start at [] rest h = ap (λ p. lines_from text before start p rest) (let q : at ≡ at + 0 = omega arith in q)
+line_within text before start at (x ∷ xs) rest h =
+    let same : at + 1 + length xs ≡ at + suc (length xs) = omega arith in
+    rw (unbroken_ends_not text x at (h.0)) (line_within text before start (at + 1) xs rest (h.1) ∙ ap (λ p. lines_from text before start p rest) same)
+
+lines_are : (text : List ℕ) → AreNoReturns text → (before start : ℕ) (l : List ℕ) (ms : List (List ℕ)) → AllByRecursion (λ x. AllByRecursion IsUnbroken x) (l ∷ ms) → EndsFull l ms → lines_from text before start start (feed_joined l ms) ≡ line_list before start l ms
 lines_are text none before start l [] h full =
     let some : nat_lt start (start + length l) ≡ true = let long : 0 < length l = full in grind (arith, nat_tests) in
     ap (λ (xs : List ℕ). lines_from text before start start xs) (sym (append-nil l))
@@ -245,8 +269,17 @@ mark_printable (HeadingKind level.H4) = (hash, (hash, (hash, (hash, gap))))
 mark_printable (HeadingKind level.H5) = (hash, (hash, (hash, (hash, (hash, gap)))))
 mark_printable (HeadingKind level.H6) = (hash, (hash, (hash, (hash, (hash, (hash, gap))))))
 
+unbroken : (b : ℕ) → IsWithin b → IsUnbroken b
+unbroken b h = record { feed = h.feed; return = h.return }
+
+unbroken_printable : (b : ℕ) → IsPrintable b → IsUnbroken b
+unbroken_printable b h = unbroken b (within_printable b h)
+
+unbroken_code : (b : ℕ) → IsCodeByte b → IsUnbroken b
+unbroken_code b h = record { feed = h.feed; return = (h.clean).return }
+
 abbrev AllWithin : List (List ℕ) → Type 0
-AllWithin xs = AllByRecursion (λ x. AllByRecursion IsWithin x) xs
+AllWithin xs = AllByRecursion (λ x. AllByRecursion IsUnbroken x) xs
 
 within_append : (xs ys : List (List ℕ)) → AllWithin xs → AllWithin ys → AllWithin (xs ++ ys)
 within_append [] ys h k = k
@@ -254,7 +287,7 @@ within_append (x ∷ xs) ys h k = (h.0, within_append xs ys (h.1) k)
 
 lines_within : (ms : List (List Part)) → AllByRecursion IsPlainLine ms → AllWithin (map spelled ms)
 lines_within [] h = tt
-lines_within (m ∷ ms) h = (all_implied IsPrintable IsWithin (spelled m) within_printable ((h.0).printable), lines_within ms (h.1))
+lines_within (m ∷ ms) h = (all_implied IsPrintable IsUnbroken (spelled m) unbroken_printable ((h.0).printable), lines_within ms (h.1))
 
 first_within : (k : Kind) (l : List Part) (ms : List (List Part)) → IsFilled k l ms → AllByRecursion IsWithin (mark_of k ++ spelled l)
 first_within k l ms h = all_implied IsPrintable IsWithin (mark_of k ++ spelled l) within_printable (all_append IsPrintable (mark_of k) (spelled l) (mark_printable k) ((h.lines.0).printable))
@@ -265,18 +298,18 @@ opener_printable token m info ls h = all_append IsPrintable (closer token m) inf
 printable_within : (xs : List ℕ) → ArePrintable xs → AllByRecursion IsWithin xs
 printable_within xs h = all_implied IsPrintable IsWithin xs within_printable h
 
-texts_within : (ls : List (List ℕ)) → AllByRecursion ArePrintable ls → AllWithin ls
+texts_within : (ls : List (List ℕ)) → AllByRecursion AreCode ls → AllWithin ls
 texts_within [] h = tt
-texts_within (l ∷ ls) h = (printable_within l (h.0), texts_within ls (h.1))
+texts_within (l ∷ ls) h = (all_implied IsCodeByte IsUnbroken l unbroken_code (h.0), texts_within ls (h.1))
 
 row_within : (r : Row) → IsRow r → AllWithin (row_first r ∷ row_more r)
 row_within Blank h = (tt, tt)
 row_within (Code token m info ls) h =
     within_append (opener token m info ∷ ls) (closer token m ∷ [])
-    (printable_within (opener token m info) (opener_printable token m info ls h), texts_within ls h.printable)
-    (printable_within (closer token m) (closer_printable token m h.token_is), tt)
-row_within Break h = (all_implied IsPrintable IsWithin hyphens within_printable hyphens_printable, tt)
-row_within (Filled k l ms) h = (first_within k l ms h, lines_within ms (h.lines.1))
+    (all_implied IsPrintable IsUnbroken (opener token m info) unbroken_printable (opener_printable token m info ls h), texts_within ls h.lines)
+    (all_implied IsPrintable IsUnbroken (closer token m) unbroken_printable (closer_printable token m h.token_is), tt)
+row_within Break h = (all_implied IsPrintable IsUnbroken hyphens unbroken_printable hyphens_printable, tt)
+row_within (Filled k l ms) h = (all_implied IsWithin IsUnbroken (mark_of k ++ spelled l) unbroken (first_within k l ms h), lines_within ms (h.lines.1))
 
 rows_within : (rs : List Row) → AllByRecursion IsRow rs → AllWithin (behind rs)
 rows_within [] h = tt
@@ -285,18 +318,21 @@ rows_within (r ∷ rs) h = within_append (row_first r ∷ row_more r) (behind rs
 clean_feed : IsClean 10
 clean_feed = record { ascii = omega arith; some = refl; return = refl }
 
-joined_clean : (l : List ℕ) (ms : List (List ℕ)) → AllByRecursion ArePrintable (l ∷ ms) → AreClean (feed_joined l ms)
-joined_clean l [] h = all_implied IsPrintable IsClean l clean_printable (h.0)
-joined_clean l (m ∷ ms) h = all_append IsClean l (10 ∷ feed_joined m ms) (all_implied IsPrintable IsClean l clean_printable (h.0)) (clean_feed, joined_clean m ms (h.1))
+joined_clean : (l : List ℕ) (ms : List (List ℕ)) → AllByRecursion AreClean (l ∷ ms) → AreClean (feed_joined l ms)
+joined_clean l [] h = h.0
+joined_clean l (m ∷ ms) h = all_append IsClean l (10 ∷ feed_joined m ms) (h.0) (clean_feed, joined_clean m ms (h.1))
 
-texts_append : (xs ys : List (List ℕ)) → AllByRecursion ArePrintable xs → AllByRecursion ArePrintable ys → AllByRecursion ArePrintable (xs ++ ys)
-texts_append [] ys h k = k
-texts_append (x ∷ xs) ys h k = (h.0, texts_append xs ys (h.1) k)
+texts_clean : (ls : List (List ℕ)) (c : List ℕ) → AllByRecursion AreCode ls → AreClean c → AllByRecursion AreClean (ls ++ c ∷ [])
+texts_clean [] c h k = (k, tt)
+texts_clean (l ∷ ls) c h k = (all_implied IsCodeByte IsClean l (λ b h. h.clean) (h.0), texts_clean ls c (h.1) k)
 
 row_clean : (r : Row) → IsRow r → AreClean (row_bytes r)
 row_clean Blank h = tt
 row_clean (Code token m info ls) h =
-    joined_clean (opener token m info) (ls ++ closer token m ∷ []) (texts_append (opener token m info ∷ ls) (closer token m ∷ []) (opener_printable token m info ls h, h.printable) (closer_printable token m h.token_is, tt))
+    joined_clean (opener token m info) (ls ++ closer token m ∷ []) (
+      all_implied IsPrintable IsClean (opener token m info) clean_printable (opener_printable token m info ls h),
+      texts_clean ls (closer token m) h.lines (all_implied IsPrintable IsClean (closer token m) clean_printable (closer_printable token m h.token_is)),
+    )
 row_clean Break h = all_implied IsPrintable IsClean hyphens clean_printable hyphens_printable
 row_clean (Filled k l ms) h =
     all_append IsClean (mark_of k) (spelled (text_parts l ms)) (all_implied IsPrintable IsClean (mark_of k) clean_printable (mark_printable k)) (subst AreClean (sym (spelled_text l ms)) (clean_lines l ms h.lines))
@@ -563,12 +599,12 @@ module _ (text : List ℕ) (fits : length text < 2 ^ 64) (token m : ℕ) (is : I
       line_closes text token m at next (plus before 1) bs n qs k from end number (piece_between text pre l rest at (at + length l) e front (ap (λ i. i + length l) front)) (printable_within l (closer_printable token m is)) (inside text pre l rest at e front fits) is
       ∙ ap (λ (xs : List Piece). ended_code xs (at + length l) (plus before 1)) (sym (append-nil qs))
 
-  code_lines : (pre rest : List ℕ) (before at : ℕ) (ls tail : List (List ℕ)) (qs : List Piece) (end number : ℕ) → text ≡ pre ++ (code_rest token m ls ++ rest) → at ≡ length pre → AllByRecursion ArePrintable ls → AllByRecursion (IsShort token m) ls →
+  code_lines : (pre rest : List ℕ) (before at : ℕ) (ls tail : List (List ℕ)) (qs : List Piece) (end number : ℕ) → text ≡ pre ++ (code_rest token m ls ++ rest) → at ≡ length pre → AllByRecursion (IsShort token m) ls →
       fold (line_taken text) (coded qs end number) (lines_behind before at (ls ++ closer token m ∷ tail)) ≡ fold (line_taken text) (ended_code (qs ++ code_pieces at ls) (at + length (code_rest token m ls)) (last_number before ls)) (lines_behind (count_behind before ls) (at + length (code_rest token m ls) + 1) tail)
-  code_lines pre rest before at [] [] qs end number e front h short = closer_taken pre rest before at (at + length (closer token m)) qs end number e front
-  code_lines pre rest before at [] (t ∷ ts) qs end number e front h short =
+  code_lines pre rest before at [] [] qs end number e front short = closer_taken pre rest before at (at + length (closer token m)) qs end number e front
+  code_lines pre rest before at [] (t ∷ ts) qs end number e front short =
       ap (λ s. fold (line_taken text) s (line_list (before + 1) (at + length (closer token m) + 1) t ts)) (closer_taken pre rest before at (at + length (closer token m) + 1) qs end number e front)
-  code_lines pre rest before at (l ∷ ls) tail qs end number e front h short =
+  code_lines pre rest before at (l ∷ ls) tail qs end number e front short =
       let next : ℕ = at + length l + 1 in
       let more : List ℕ = code_rest token m ls in
       let p : Piece = piece_of 0 at (at + length l) next in
@@ -578,8 +614,8 @@ module _ (text : List ℕ) (fits : length text < 2 ^ 64) (token m : ℕ) (is : I
       let stop : next + length more ≡ at + length (l ++ 10 ∷ more) = omega (arith, width) in
       ap (fold (line_taken text) (coded qs end number)) (line_front before at l (closer token m) ls tail)
       ∙ ap (λ s. fold (line_taken text) s (lines_behind (before + 1) next (ls ++ closer token m ∷ tail)))
-      (line_coded text token m l at next (plus before 1) bs n qs k from end number (piece_between text pre l (10 ∷ (more ++ rest)) at (at + length l) here front (ap (λ i. i + length l) front)) (printable_within l (h.0)) (inside text pre l (10 ∷ (more ++ rest)) at here front fits) order (short.0))
-      ∙ code_lines (pre ++ (l ++ 10 ∷ [])) rest (before + 1) next ls tail (qs ++ p ∷ []) (at + length l) (plus before 1) (behind_line text pre l (more ++ rest) here) (line_length pre l at front) (h.1) (short.1)
+      (line_coded text token m l at next (plus before 1) bs n qs k from end number (piece_between text pre l (10 ∷ (more ++ rest)) at (at + length l) here front (ap (λ i. i + length l) front)) order is (short.0))
+      ∙ code_lines (pre ++ (l ++ 10 ∷ [])) rest (before + 1) next ls tail (qs ++ p ∷ []) (at + length l) (plus before 1) (behind_line text pre l (more ++ rest) here) (line_length pre l at front) (short.1)
       ∙ ap (λ (xs : List Piece). fold (line_taken text) (ended_code xs (next + length more) (last_number (before + 1) ls)) (lines_behind (count_behind (before + 1) ls) (next + length more + 1) tail)) (append_assoc qs (p ∷ []) (code_pieces next ls))
       ∙ ap (λ i. fold (line_taken text) (ended_code (qs ++ p ∷ code_pieces next ls) i (last_number (before + 1) ls)) (lines_behind (count_behind (before + 1) ls) (i + 1) tail)) stop
 
@@ -603,7 +639,7 @@ code_taken text pre rest before start token m info ls tail bs ps end number e fr
     ∙ ap (fold (line_taken text) (closed bs ps end number)) (line_front before start first last ls tail)
     ∙ ap (λ s. fold (line_taken text) s (lines_behind (before + 1) body (ls ++ last ∷ tail)))
     (line_opens text token m info start body (plus before 1) bs ps end number (piece_between text pre first (10 ∷ (more ++ rest)) start (start + length first) here front (ap (λ i. i + length first) front)) (printable_within first (opener_printable token m info ls h)) h.token_is h.least h.info_is (inside text pre first (10 ∷ (more ++ rest)) start here front fits))
-    ∙ code_lines text fits token m h.token_is bs (length ps) k start (pre ++ (first ++ 10 ∷ [])) rest (before + 1) body ls tail ps (start + length first) (plus before 1) (behind_line text pre first (more ++ rest) here) (line_length pre first start front) h.printable h.short
+    ∙ code_lines text fits token m h.token_is bs (length ps) k start (pre ++ (first ++ 10 ∷ [])) rest (before + 1) body ls tail ps (start + length first) (plus before 1) (behind_line text pre first (more ++ rest) here) (line_length pre first start front) h.short
     ∙ ap (λ i. after i (length (ps ++ new))) stop
     ∙ ap (after (code_end start token m info ls)) count
 

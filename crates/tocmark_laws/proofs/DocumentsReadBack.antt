@@ -1,5 +1,5 @@
 -- What is handed for a document of paragraphs of lines, headings, thematic breaks and fenced code is read as this document.
-use Rattle.std.proofs.Common.{◌≡◌, ℕ, suc, max, ◌-◌, ◌^◌, ◌<◌, Bool, true, false, not, ◌==◌, ◌||◌, ◌⊎◌, inl, inr, true≢false, List, [], ◌∷◌, ◌++◌, length, map, replicate, codes, flat_map, refl, ap, sym, subst, ◌∙◌, arith, append_assoc, append-nil, None, Ok, Result}
+use Rattle.std.proofs.Common.{◌≡◌, ℕ, suc, max, ◌-◌, ◌^◌, ◌<◌, Bool, true, false, nat_lt, not, ◌==◌, ◌||◌, ◌⊎◌, inl, inr, true≢false, List, [], ◌∷◌, ◌++◌, length, map, replicate, codes, flat_map, refl, ap, sym, subst, ◌∙◌, arith, append_assoc, append-nil, None, Ok, Result}
 use Rattle.std.specs.Char.{char_set_contains}
 use Rattle.std.specs.List.{AllByRecursion, concat, list_all}
 use Rattle.tocmark_event.specs.Options.{OptionsView, default_options}
@@ -9,6 +9,7 @@ use Rattle.tocmark_event.specs.View.{EventView, Start, End, Leaf, Text, SoftBrea
 use Rattle.tocmark_event.specs.declared.event.TagEnd.TheVariants as end
 use Rattle.tocmark_event.specs.declared.event.flags.ParserOptions.{ParserOptions}
 use Rattle.tocmark_event.specs.declared.options.Error.{Error}
+use Rattle.std.proofs.lemmas.Bool.Decides.{nat_tests}
 use Rattle.tocmark_read_scan.proofs.PlainTests.{all_from, both_false, both_true, eq_of, is_not, none_of}
 use Rattle.tocmark_reader.specs.PlainTexts.{IsReadAs, is_printable, line_events}
 use Rattle.tocmark_reader.proofs.PlainTests.{printable_from}
@@ -29,10 +30,10 @@ use Rattle.tocmark_state.specs.Walk.{Walk, Done, done, nothing_yet, script}
 use Rattle.tocmark_state.specs.Ranges.{Pair}
 use Rattle.tocmark_state.specs.WorkView.{rendering}
 use Rattle.tocmark_state.specs.Writes.{Makes}
-use Rattle.tocmark_laws.specs.Documents.{AreReadBack, ArePlainTokens, PlainBlock, PlainParagraph, PlainHeading, PlainRule, PlainCode, is_info_character, heading_block, plain_events, plain_document, IsPlainBlock, MakesDocument}
+use Rattle.tocmark_laws.specs.Documents.{AreReadBack, ArePlainTokens, PlainBlock, PlainParagraph, PlainHeading, PlainRule, PlainCode, is_info_character, is_code_character, heading_block, plain_events, plain_document, IsPlainBlock, MakesDocument}
 use Rattle.tocmark_laws.proofs.DocumentCode.{IsToken, IsInfo}
 use Rattle.tocmark_laws.proofs.DocumentCodeSpelling.{fence_rest, is_code}
-use Rattle.tocmark_laws.proofs.DocumentRows.{Code, IsCode, ArePrintable, within_printable, Row, Blank, Break, Filled, row_bytes, rows_text, AreRows}
+use Rattle.tocmark_laws.proofs.DocumentRows.{Code, IsCode, IsCodeByte, AreCode, within_printable, Row, Blank, Break, Filled, row_bytes, rows_text, AreRows}
 use Rattle.tocmark_laws.proofs.DocumentEvents.{code_leaves, row_said, rows_are_read, merged_before}
 use Rattle.tocmark_laws.proofs.DocumentRowsWritten as written
 use Rattle.tocmark_laws.proofs.DocumentWalks.{feeds_before, owed_behind, text_in, texts_in, StandsIn, blocks_are_handed}
@@ -111,6 +112,14 @@ info_from token b is h =
     by_token token (inl e) tick tilde = ap (λ t. b == t) e ∙ tick
     by_token token (inr e) tick tilde = ap (λ t. b == t) e ∙ tilde
 
+code_from : (b : ℕ) → is_code_character b ≡ true → IsCodeByte b
+code_from b h =
+    let both = both_true (nat_lt b 128) (not ((b == 0) || (b == 10) || (b == 13))) h in
+    let return = both_false ((b == 0) || (b == 10)) (b == 13) (is_not ((b == 0) || (b == 10) || (b == 13)) (both.1)) in
+    let feed = both_false (b == 0) (b == 10) (return.0) in
+    let low : nat_lt b 128 ≡ true = both.0 in
+    record { clean = record { ascii = grind (arith, low, nat_tests); some = feed.0; return = return.1 }; feed = feed.1 }
+
 info_printable : (b : ℕ) → is_info_character b ≡ true → IsPrintable b
 info_printable b h = printable_from b ((both_true (is_printable b) (not ((b == 32) || (b == 38) || (b == 92) || (b == 96) || (b == 126))) h).0)
 
@@ -153,11 +162,11 @@ module _ (o : OptionsView) (reading : List ℕ → ParserOptions → ReadingView
   code_good : (info : List ℕ) (ls : List (List ℕ)) → IsPlainBlock (PlainCode info ls) → IsCode o.code_block_token (fence_rest o info ls) info ls
   code_good info ls h =
       let is : IsToken o.code_block_token = token_from o.code_block_token code_token in
-      let both = both_true (list_all is_info_character info) (list_all (λ l. list_all is_printable l) ls) h in
+      let both = both_true (list_all is_info_character info) (list_all (λ l. list_all is_code_character l) ls) h in
       is_code o info ls is
       (all_from is_info_character (IsInfo o.code_block_token) info (λ b k. info_from o.code_block_token b is k) (both.0))
       (all_from is_info_character IsPrintable info info_printable (both.0))
-      (all_from (λ l. list_all is_printable l) ArePrintable ls (λ l k. all_from is_printable IsPrintable l printable_from k) (both.1))
+      (all_from (λ l. list_all is_code_character l) AreCode ls (λ l k. all_from is_code_character IsCodeByte l code_from k) (both.1))
 
   pub may_stand : (b : PlainBlock) → IsPlainBlock b → StandsIn o reading flags b
   may_stand (PlainParagraph l ms) h = lines_in l ms h

@@ -1,5 +1,5 @@
 -- Documents of headings, paragraphs of plain lines, thematic breaks and fenced code, and that what is handed for them is read back.
-use Rattle.std.specs.Prelude.{◌≡◌, ℕ, ◌^◌, ◌<◌, Bool, true, false, not, ◌==◌, ◌&&◌, ◌||◌, List, [], ◌∷◌, ◌++◌, Result, Ok, codes, flat_map, length, map}
+use Rattle.std.specs.Prelude.{◌≡◌, ℕ, ◌^◌, ◌<◌, Bool, true, false, nat_lt, not, ◌==◌, ◌&&◌, ◌||◌, List, [], ◌∷◌, ◌++◌, Result, Ok, codes, flat_map, length, map}
 use Rattle.std.specs.Char.{char_set_contains}
 use Rattle.std.specs.List.{AllByRecursion, concat, list_all}
 use Rattle.tocmark_event.specs.declared.event.HeadingLevel.{HeadingLevel}
@@ -66,13 +66,17 @@ plain_document bs = flat_map (λ b. map unranged (plain_events b)) bs
 abbrev pub is_info_character : ℕ → Bool
 is_info_character c = is_printable c && not ((c == 32) || (c == 38) || (c == 92) || (c == 96) || (c == 126))
 
--- a line of a paragraph or heading has at least one character, each from U+0020 to U+007E, the last no space; a line of code has
--- any number of these, and its info string is one word or none
+-- a character of a line of code: any of ASCII but U+0000 and those that end a line
+abbrev pub is_code_character : ℕ → Bool
+is_code_character c = nat_lt c 128 && not ((c == 0) || (c == 10) || (c == 13))
+
+-- a line of a paragraph or heading has at least one character, each from U+0020 to U+007E, the last no space; code has an info
+-- string of one word or none, and any lines of ASCII but U+0000
 abbrev pub IsPlainBlock : PlainBlock → Type 0
 IsPlainBlock (PlainParagraph l ms) = list_all is_line (l ∷ ms) ≡ true
 IsPlainBlock (PlainHeading level ts) = is_line (concat ts) ≡ true
 IsPlainBlock PlainRule = Unit {0}
-IsPlainBlock (PlainCode info lines) = (list_all is_info_character info && list_all (λ l. list_all is_printable l) lines) ≡ true
+IsPlainBlock (PlainCode info lines) = (list_all is_info_character info && list_all (λ l. list_all is_code_character l) lines) ≡ true
 
 -- the options name a delimiter of emphasis and a fence that Markdown reads
 pub record ArePlainTokens (options : OptionsView) : Type 0 where

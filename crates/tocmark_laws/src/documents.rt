@@ -9,9 +9,10 @@ pub fn documents_are_read_back()
 {}
 
 /// For a list of paragraphs of plain lines, a text for each with a soft break between two, of headings of one
-/// plain line, of thematic breaks, and of fenced code of lines, the texts that are handed join to one that the core
-/// reader reads as exactly these blocks, merged, with no labels: under all flags, whatever reader is given, with `*`
-/// or `_` for emphasis and backticks or tildes for fences, if the options don't ask that plain blocks be checked.
+/// plain line, of thematic breaks, and of fenced code of ASCII lines, the texts that are handed join to one that
+/// the core reader reads as exactly these blocks, merged, with no labels: under all flags, whatever reader is
+/// given, with `*` or `_` for emphasis and backticks or tildes for fences, if the options don't ask that plain
+/// blocks be checked.
 pub fn plain_documents_are_read_back()
     ensures { PlainDocumentsAreReadBack }
 {}
