@@ -52,11 +52,15 @@ IsToken token = (token ≡ 96) ⊎ (token ≡ 126)
 -- a byte of an info string that means itself
 pub record IsInfo (token b : ℕ) : Type 0 where
   pub within : IsWithin b
-  pub space : (b == 32) ≡ false
   pub tick : (b == 96) ≡ false
   pub other : (b == token) ≡ false
   pub back : (b == 92) ≡ false
   pub amp : (b == 38) ≡ false
+
+-- an info string has no space at its ends
+abbrev pub IsFlush : List ℕ → Type 0
+IsFlush [] = Unit {0}
+IsFlush (b ∷ bs) = ((b == 32) ≡ false) × ((last_byte b bs == 32) ≡ false)
 
 -- the opening and the closing line
 abbrev pub opener : ℕ → ℕ → List ℕ → List ℕ
@@ -293,29 +297,25 @@ stops : (token : ℕ) (info : List ℕ) → AllByRecursion (IsInfo token) info �
 stops token [] h = tt
 stops token (b ∷ bs) h = (h.0).other
 
-no_spaces : (token at : ℕ) (info : List ℕ) → AllByRecursion (IsInfo token) info → length (take_while (λ (c : Cell). c.byte == 32) (numbered at info)) ≡ 0
-no_spaces token at [] h = refl
-no_spaces token at (b ∷ bs) h = rw (h.0).space refl
+no_spaces : (at : ℕ) (info : List ℕ) → IsFlush info → length (take_while (λ (c : Cell). c.byte == 32) (numbered at info)) ≡ 0
+no_spaces at [] h = refl
+no_spaces at (b ∷ bs) h = rw (h.0) refl
 
 split_last : (b : ℕ) (bs : List ℕ) → (body : List ℕ) × (b ∷ bs ≡ body ++ last_byte b bs ∷ [])
 split_last b [] = ([], refl)
 split_last b (c ∷ cs) = let more = split_last c cs in (b ∷ more.0, ap (λ (l : List ℕ). b ∷ l) (more.1))
 
-last_of : (P : ℕ → Type 0) (b : ℕ) (bs : List ℕ) → AllByRecursion P (b ∷ bs) → P (last_byte b bs)
-last_of P b [] h = h.0
-last_of P b (c ∷ cs) h = last_of P c cs (h.1)
-
-trimmed_info : (token : ℕ) (fs : List Cell) (at : ℕ) (info : List ℕ) → AllByRecursion (IsInfo token) info → trimmed (fs ++ numbered at info) (length fs) (length (fs ++ numbered at info)) 32 ≡ length (fs ++ numbered at info)
+trimmed_info : (fs : List Cell) (at : ℕ) (info : List ℕ) → IsFlush info → trimmed (fs ++ numbered at info) (length fs) (length (fs ++ numbered at info)) 32 ≡ length (fs ++ numbered at info)
 unfolding trimmed
-trimmed_info token fs at [] h =
+trimmed_info fs at [] h =
     let n : ℕ = length (fs ++ []) in
     ap (λ cs. n - trailing cs 32) (part_whole fs []) ∙ (let q : n - 0 ≡ n = omega arith in q)
-trimmed_info token fs at (b ∷ bs) h =
+trimmed_info fs at (b ∷ bs) h =
     let split = split_last b bs in
     let last : ℕ = last_byte b bs in
     let cells : numbered at (b ∷ bs) ≡ numbered at (split.0) ++ cell last (at + length (split.0)) ∷ [] = ap (numbered at) (split.1) ∙ numbered_append at (split.0) (last ∷ []) in
     subst (λ (cs : List Cell). trimmed (fs ++ cs) (length fs) (length (fs ++ cs)) 32 ≡ length (fs ++ cs)) (sym cells)
-    (trimmed_none fs (numbered at (split.0)) (cell last (at + length (split.0))) 32 ((last_of (IsInfo token) b bs h).space))
+    (trimmed_none fs (numbered at (split.0)) (cell last (at + length (split.0))) 32 (h.1))
 
 info_place : (fs : List Cell) (from : ℕ) (info : List ℕ) (end : ℕ) → end ≡ from + length info → cell_place (fs ++ numbered from info) (length fs) end ≡ from
 info_place fs from [] end e = ap (λ (cs : List Cell). cell_place cs (length fs) end) (append-nil fs) ∙ past_last fs end ∙ e ∙ (let q : from + 0 ≡ from = omega arith in q)
@@ -333,10 +333,10 @@ record IsOpened (text : List ℕ) (cells : List Cell) (l : Line) (f : Fence) (k 
   info : info_of cells front f l ≡ k
 
 open_line : (text : List ℕ) (token m : ℕ) (info : List ℕ) (at next number : ℕ) → let bytes = opener token m info in
-    bytes_between text at (at + length bytes) ≡ bytes → AllByRecursion IsWithin bytes → IsToken token → 2 ≤ m → AllByRecursion (IsInfo token) info → at + length bytes < 2 ^ 64 →
+    bytes_between text at (at + length bytes) ≡ bytes → AllByRecursion IsWithin bytes → IsToken token → 2 ≤ m → AllByRecursion (IsInfo token) info → IsFlush info → at + length bytes < 2 ^ 64 →
     IsOpened text (numbered at bytes) (record { number = number; start = at; end = at + length bytes; next = next }) (fence_of token m) (code_kind at token m info)
 unfolding fence_at info_of
-open_line text token m info at next number e within is least h fits =
+open_line text token m info at next number e within is least h flush fits =
     let bytes : List ℕ = opener token m info in
     let end : ℕ = at + length bytes in
     let cells : List Cell = numbered at bytes in
@@ -356,10 +356,10 @@ open_line text token m info at next number e within is least h fits =
     let ink : ink_from cells (plus 0 (suc m)) ≡ length fs =
     ap (ink_from cells) behind
     ∙ ap (λ (cs : List Cell). plus (suc m) (length (take_while (λ (c : Cell). c.byte == 32) cs))) rest
-    ∙ ap (plus (suc m)) (no_spaces token from info h)
+    ∙ ap (plus (suc m)) (no_spaces from info flush)
     ∙ (let q : plus (suc m) 0 ≡ length fs = omega (arith, small, long) in q)
     in
-    let to : trimmed cells (length fs) (length cells) 32 ≡ length cells = subst (λ (cs : List Cell). trimmed cs (length fs) (length cs) 32 ≡ length cs) (sym parts) (trimmed_info token fs from info h) in
+    let to : trimmed cells (length fs) (length cells) 32 ≡ length cells = subst (λ (cs : List Cell). trimmed cs (length fs) (length cs) 32 ≡ length cs) (sym parts) (trimmed_info fs from info flush) in
     let made : ℕ → BlockKind = λ n. kind.Fenced (cell_place cells n end) (cell_place cells (trimmed cells n (length cells) 32) end) in
     record {
       columns = ap (cells_of [] at) e ∙ cells_within at bytes within fits;
@@ -503,8 +503,8 @@ line_closes text token m at next number bs n qs k from end0 number0 e within fit
     ∙ code_finished bs n qs f k from (at + length l) number
 
 pub line_opens : (text : List ℕ) (token m : ℕ) (info : List ℕ) (at next number : ℕ) (bs : List Block) (ps : List Piece) (end0 number0 : ℕ) → let l = opener token m info in
-    bytes_between text at (at + length l) ≡ l → AllByRecursion IsWithin l → IsToken token → 2 ≤ m → AllByRecursion (IsInfo token) info → at + length l < 2 ^ 64 →
+    bytes_between text at (at + length l) ≡ l → AllByRecursion IsWithin l → IsToken token → 2 ≤ m → AllByRecursion (IsInfo token) info → IsFlush info → at + length l < 2 ^ 64 →
     line_taken text (closed bs ps end0 number0) (record { number = number; start = at; end = at + length l; next = next }) ≡ coding bs (length ps) ps (fence_of token m) (code_kind at token m info) at (at + length l) number
-line_opens text token m info at next number bs ps end0 number0 e within is least h fits =
+line_opens text token m info at next number bs ps end0 number0 e within is least h flush fits =
     opened_line text (numbered at (opener token m info)) (record { number = number; start = at; end = at + length (opener token m info); next = next }) (fence_of token m) (code_kind at token m info) bs ps end0 number0
-    (open_line text token m info at next number e within is least h fits)
+    (open_line text token m info at next number e within is least h flush fits)

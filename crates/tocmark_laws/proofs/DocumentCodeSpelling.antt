@@ -28,7 +28,7 @@ use Rattle.tocmark_laws.specs.CodeBlocks.{HasRun}
 use Rattle.tocmark_laws.specs.TextBlocks.{ParagraphKind, HeadingKind}
 use Rattle.tocmark_laws.proofs.BlockSpelling.{LastEnd, NoEnd, TextEnd, CodeEnd, text_trees, last_of, page_of, blank, IsCalm}
 use Rattle.tocmark_laws.proofs.CodeBlocks as code
-use Rattle.tocmark_laws.proofs.DocumentCode.{IsToken, IsInfo, IsShort, opener, closer}
+use Rattle.tocmark_laws.proofs.DocumentCode.{IsToken, IsInfo, IsFlush, IsShort, opener, closer}
 use Rattle.tocmark_laws.proofs.DocumentRows.{Code, IsCode, IsCodeByte, AreCode, ArePrintable, closer_printable, code_joined, code_rest, row_bytes}
 use Rattle.tocmark_laws.proofs.DocumentSpelling.{laid_some, page_is, IsHanded}
 use Rattle.tocmark_laws.proofs.Fences.{any-run}
@@ -142,13 +142,14 @@ module _ (o : OptionsView) (info : List ℕ) (ls : List (List ℕ)) where
         shorts token m (pre ++ (l ++ 10 ∷ [])) ls (λ n h. f n (subst (HasRun n token) (append_assoc pre (l ++ 10 ∷ []) rest) h)),
       )
 
-  pub is_code : IsToken o.code_block_token → AllByRecursion (IsInfo o.code_block_token) info → ArePrintable info → AllByRecursion AreCode ls → IsCode o.code_block_token fence_rest info ls
-  is_code is info_is info_printable lines =
+  pub is_code : IsToken o.code_block_token → AllByRecursion (IsInfo o.code_block_token) info → IsFlush info → ArePrintable info → AllByRecursion AreCode ls → IsCode o.code_block_token fence_rest info ls
+  is_code is info_is flush info_printable lines =
       let same : chars text ≡ text = chars-IsAscii text (clean_ascii text (texts_clean ls lines)) in
       record {
         token_is = is;
         least = omega arith;
         info_is = info_is;
+        flush = flush;
         info_printable = info_printable;
         lines = lines;
         short = shorts o.code_block_token fence_rest [] ls (λ n h. shorter n (any-run n o.code_block_token (chars text) (subst (HasRun n o.code_block_token) (sym same) h)));

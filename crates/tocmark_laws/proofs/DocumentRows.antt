@@ -30,7 +30,7 @@ use Rattle.tocmark_reader.proofs.PlainReading.{IsPrintable, IsPlainLine, clean_l
 use Rattle.tocmark_reader.proofs.PlainSources.{IsClean, AreClean, all_implied}
 use Rattle.tocmark_laws.specs.TextBlocks.{Kind, ParagraphKind, HeadingKind, mark_of}
 use Rattle.tocmark_laws.proofs.DocumentBlocks.{block, closed, line_begins, nothing_ends, blank_passes, line_heads, hyphens, line_rules}
-use Rattle.tocmark_laws.proofs.DocumentCode.{IsToken, IsInfo, IsShort, opener, closer, fence_of, code_kind, coding, line_opens, line_coded, line_closes}
+use Rattle.tocmark_laws.proofs.DocumentCode.{IsToken, IsInfo, IsFlush, IsShort, opener, closer, fence_of, code_kind, coding, line_opens, line_coded, line_closes}
 use Rattle.tocmark_laws.proofs.DocumentParagraphs.{open_lines, line_pieces, lines_behind, count_behind, last_number, ArePlainAt, joined_length, lines_go_on, lines_end, blank_ends, first_of, behind_line, line_length}
 use Rattle.tocmark_laws.proofs.DocumentHeadings.{EndsHeading, heading_line}
 
@@ -78,6 +78,7 @@ pub record IsCode (token m : ℕ) (info : List ℕ) (ls : List (List ℕ)) : Typ
   pub token_is : IsToken token
   pub least : 2 ≤ m
   pub info_is : AllByRecursion (IsInfo token) info
+  pub flush : IsFlush info
   pub info_printable : ArePrintable info
   pub lines : AllByRecursion AreCode ls
   pub short : AllByRecursion (IsShort token m) ls
@@ -638,7 +639,7 @@ code_taken text pre rest before start token m info ls tail bs ps end number e fr
     ap (λ xs. fold (line_taken text) (closed bs ps end number) (line_list before start first xs)) (append_assoc ls (last ∷ []) tail)
     ∙ ap (fold (line_taken text) (closed bs ps end number)) (line_front before start first last ls tail)
     ∙ ap (λ s. fold (line_taken text) s (lines_behind (before + 1) body (ls ++ last ∷ tail)))
-    (line_opens text token m info start body (plus before 1) bs ps end number (piece_between text pre first (10 ∷ (more ++ rest)) start (start + length first) here front (ap (λ i. i + length first) front)) (printable_within first (opener_printable token m info ls h)) h.token_is h.least h.info_is (inside text pre first (10 ∷ (more ++ rest)) start here front fits))
+    (line_opens text token m info start body (plus before 1) bs ps end number (piece_between text pre first (10 ∷ (more ++ rest)) start (start + length first) here front (ap (λ i. i + length first) front)) (printable_within first (opener_printable token m info ls h)) h.token_is h.least h.info_is h.flush (inside text pre first (10 ∷ (more ++ rest)) start here front fits))
     ∙ code_lines text fits token m h.token_is bs (length ps) k start (pre ++ (first ++ 10 ∷ [])) rest (before + 1) body ls tail ps (start + length first) (plus before 1) (behind_line text pre first (more ++ rest) here) (line_length pre first start front) h.short
     ∙ ap (λ i. after i (length (ps ++ new))) stop
     ∙ ap (after (code_end start token m info ls)) count

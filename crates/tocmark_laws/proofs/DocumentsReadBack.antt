@@ -1,5 +1,5 @@
 -- What is handed for a document of paragraphs of lines, headings, thematic breaks and fenced code is read as this document.
-use Rattle.std.proofs.Common.{◌≡◌, ℕ, suc, max, ◌-◌, ◌^◌, ◌<◌, Bool, true, false, nat_lt, not, ◌==◌, ◌||◌, ◌⊎◌, inl, inr, true≢false, List, [], ◌∷◌, ◌++◌, length, map, replicate, codes, flat_map, refl, ap, sym, subst, ◌∙◌, arith, append_assoc, append-nil, None, Ok, Result}
+use Rattle.std.proofs.Common.{◌≡◌, ℕ, suc, max, ◌-◌, ◌^◌, ◌<◌, Bool, true, false, nat_lt, not, ◌==◌, ◌&&◌, ◌||◌, ◌⊎◌, inl, inr, true≢false, List, [], ◌∷◌, ◌++◌, length, map, replicate, codes, flat_map, refl, ap, sym, subst, ◌∙◌, arith, append_assoc, append-nil, None, Ok, Result}
 use Rattle.std.specs.Char.{char_set_contains}
 use Rattle.std.specs.List.{AllByRecursion, concat, list_all}
 use Rattle.tocmark_event.specs.Options.{OptionsView, default_options}
@@ -11,8 +11,7 @@ use Rattle.tocmark_event.specs.declared.event.flags.ParserOptions.{ParserOptions
 use Rattle.tocmark_event.specs.declared.options.Error.{Error}
 use Rattle.std.proofs.lemmas.Bool.Decides.{nat_tests}
 use Rattle.tocmark_read_scan.proofs.PlainTests.{all_from, both_false, both_true, eq_of, is_not, none_of}
-use Rattle.tocmark_reader.specs.PlainTexts.{IsReadAs, is_printable, line_events}
-use Rattle.tocmark_reader.proofs.PlainTests.{printable_from}
+use Rattle.tocmark_reader.specs.PlainTexts.{IsReadAs, line_events}
 use Rattle.tocmark_reader.specs.Reading.{core_reading}
 use Rattle.tocmark_reader.proofs.PlainReading.{IsPrintable, spelled_text}
 use Rattle.tocmark_spelling.specs.Plan.{Setting, Manner}
@@ -30,8 +29,8 @@ use Rattle.tocmark_state.specs.Walk.{Walk, Done, done, nothing_yet, script}
 use Rattle.tocmark_state.specs.Ranges.{Pair}
 use Rattle.tocmark_state.specs.WorkView.{rendering}
 use Rattle.tocmark_state.specs.Writes.{Makes}
-use Rattle.tocmark_laws.specs.Documents.{AreReadBack, ArePlainTokens, PlainBlock, PlainParagraph, PlainHeading, PlainRule, PlainCode, is_info_character, is_code_character, heading_block, plain_events, plain_document, IsPlainBlock, MakesDocument}
-use Rattle.tocmark_laws.proofs.DocumentCode.{IsToken, IsInfo}
+use Rattle.tocmark_laws.specs.Documents.{AreReadBack, ArePlainTokens, PlainBlock, PlainParagraph, PlainHeading, PlainRule, PlainCode, is_info, is_info_character, is_code_character, heading_block, plain_events, plain_document, IsPlainBlock, MakesDocument}
+use Rattle.tocmark_laws.proofs.DocumentCode.{IsToken, IsInfo, IsFlush}
 use Rattle.tocmark_laws.proofs.DocumentCodeSpelling.{fence_rest, is_code}
 use Rattle.tocmark_laws.proofs.DocumentRows.{Code, IsCode, IsCodeByte, AreCode, within_printable, Row, Blank, Break, Filled, row_bytes, rows_text, AreRows}
 use Rattle.tocmark_laws.proofs.DocumentEvents.{code_leaves, row_said, rows_are_read, merged_before}
@@ -91,26 +90,45 @@ token_from c h = by_test (c == 96) (c == 126) refl refl h
     by_test false true e k h = inr (eq_of c 126 k)
     by_test false false e k h = absurd (true≢false (sym h ∙ none_of (codes "`~") c (e, (k, tt))))
 
-info_from : (token b : ℕ) → IsToken token → is_info_character b ≡ true → IsInfo token b
-info_from token b is h =
-    let both = both_true (is_printable b) (not ((b == 32) || (b == 38) || (b == 92) || (b == 96) || (b == 126))) h in
-    let none = is_not ((b == 32) || (b == 38) || (b == 92) || (b == 96) || (b == 126)) (both.1) in
-    let tilde = both_false ((b == 32) || (b == 38) || (b == 92) || (b == 96)) (b == 126) none in
-    let tick = both_false ((b == 32) || (b == 38) || (b == 92)) (b == 96) (tilde.0) in
-    let back = both_false ((b == 32) || (b == 38)) (b == 92) (tick.0) in
-    let amp = both_false (b == 32) (b == 38) (back.0) in
+info_from : (token b : ℕ) → IsToken token → IsPrintable b → is_info_character b ≡ true → IsInfo token b
+info_from token b is p h =
+    let none = is_not ((b == 38) || (b == 92) || (b == 96) || (b == 126)) h in
+    let tilde = both_false ((b == 38) || (b == 92) || (b == 96)) (b == 126) none in
+    let tick = both_false ((b == 38) || (b == 92)) (b == 96) (tilde.0) in
+    let back = both_false (b == 38) (b == 92) (tick.0) in
     record {
-      within = within_printable b (printable_from b (both.0));
-      space = amp.0;
+      within = within_printable b p;
       tick = tick.1;
       other = by_token token is (tick.1) (tilde.1);
       back = back.1;
-      amp = amp.1;
+      amp = back.0;
     }
   where
     by_token : (token : ℕ) → IsToken token → (b == 96) ≡ false → (b == 126) ≡ false → (b == token) ≡ false
     by_token token (inl e) tick tilde = ap (λ t. b == t) e ∙ tick
     by_token token (inr e) tick tilde = ap (λ t. b == t) e ∙ tilde
+
+all_info : (token : ℕ) (info : List ℕ) → IsToken token → AllByRecursion IsPrintable info → list_all is_info_character info ≡ true → AllByRecursion (IsInfo token) info
+all_info token [] is p h = tt
+all_info token (b ∷ bs) is p h = let both = both_true (is_info_character b) (list_all is_info_character bs) h in (info_from token b is (p.0) (both.0), all_info token bs is (p.1) (both.1))
+
+-- what the test of info strings says
+record IsGoodInfo (token : ℕ) (info : List ℕ) : Type 0 where
+  bytes : AllByRecursion (IsInfo token) info
+  flush : IsFlush info
+  printable : AllByRecursion IsPrintable info
+
+good_info : (token : ℕ) (info : List ℕ) → IsToken token → is_info info ≡ true → IsGoodInfo token info
+good_info token [] is h = record { bytes = tt; flush = tt; printable = tt }
+good_info token (c ∷ cs) is h =
+    let all = both_true (is_line (c ∷ cs) && not (c == 32)) (list_all is_info_character (c ∷ cs)) h in
+    let both = both_true (is_line (c ∷ cs)) (not (c == 32)) (all.0) in
+    let line = line_from (c ∷ cs) (both.0) in
+    record {
+      bytes = all_info token (c ∷ cs) is line.printable (all.1);
+      flush = (is_not (c == 32) (both.1), line.last);
+      printable = line.printable;
+    }
 
 code_from : (b : ℕ) → is_code_character b ≡ true → IsCodeByte b
 code_from b h =
@@ -119,9 +137,6 @@ code_from b h =
     let feed = both_false (b == 0) (b == 10) (return.0) in
     let low : nat_lt b 128 ≡ true = both.0 in
     record { clean = record { ascii = grind (arith, low, nat_tests); some = feed.0; return = return.1 }; feed = feed.1 }
-
-info_printable : (b : ℕ) → is_info_character b ≡ true → IsPrintable b
-info_printable b h = printable_from b ((both_true (is_printable b) (not ((b == 32) || (b == 38) || (b == 92) || (b == 96) || (b == 126))) h).0)
 
 module _ (o : OptionsView) (reading : List ℕ → ParserOptions → ReadingView) (flags : ParserOptions) (token : char_set_contains (codes "*_") o.emphasis_token ≡ true) (code_token : char_set_contains (codes "`~") o.code_block_token ≡ true) where
   abbrev setting : Setting
@@ -162,10 +177,9 @@ module _ (o : OptionsView) (reading : List ℕ → ParserOptions → ReadingView
   code_good : (info : List ℕ) (ls : List (List ℕ)) → IsPlainBlock (PlainCode info ls) → IsCode o.code_block_token (fence_rest o info ls) info ls
   code_good info ls h =
       let is : IsToken o.code_block_token = token_from o.code_block_token code_token in
-      let both = both_true (list_all is_info_character info) (list_all (λ l. list_all is_code_character l) ls) h in
-      is_code o info ls is
-      (all_from is_info_character (IsInfo o.code_block_token) info (λ b k. info_from o.code_block_token b is k) (both.0))
-      (all_from is_info_character IsPrintable info info_printable (both.0))
+      let both = both_true (is_info info) (list_all (λ l. list_all is_code_character l) ls) h in
+      let good : IsGoodInfo o.code_block_token info = good_info o.code_block_token info is (both.0) in
+      is_code o info ls is good.bytes good.flush good.printable
       (all_from (λ l. list_all is_code_character l) AreCode ls (λ l k. all_from is_code_character IsCodeByte l code_from k) (both.1))
 
   pub may_stand : (b : PlainBlock) → IsPlainBlock b → StandsIn o reading flags b

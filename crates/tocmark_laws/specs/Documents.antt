@@ -11,7 +11,7 @@ use Rattle.tocmark_event.specs.View.{EventView, Start, End, Leaf, Text, Rule, Co
 use Rattle.tocmark_event.specs.declared.event.TagEnd.TheVariants as end
 use Rattle.tocmark_event.specs.declared.event.flags.ParserOptions.{ParserOptions}
 use Rattle.tocmark_event.specs.declared.options.Error.{Error}
-use Rattle.tocmark_reader.specs.PlainTexts.{IsReadAs, is_printable, lines_paragraph}
+use Rattle.tocmark_reader.specs.PlainTexts.{IsReadAs, lines_paragraph}
 use Rattle.tocmark_reader.specs.Reading.{core_reading}
 use Rattle.tocmark_laws.specs.PlainLines.{is_line}
 use Rattle.tocmark_laws.specs.TextBlocks.{Block, HeadingKind, block_events, document_of}
@@ -62,21 +62,26 @@ plain_events (PlainCode info lines) = code_block info lines
 abbrev pub plain_document : List PlainBlock → List Pair
 plain_document bs = flat_map (λ b. map unranged (plain_events b)) bs
 
--- a character of an info string of one word: from U+0021 to U+007E, but no `&`, backslash, backtick or `~`
+-- a character that means itself in an info string: no `&`, backslash, backtick or `~`
 abbrev pub is_info_character : ℕ → Bool
-is_info_character c = is_printable c && not ((c == 32) || (c == 38) || (c == 92) || (c == 96) || (c == 126))
+is_info_character c = not ((c == 38) || (c == 92) || (c == 96) || (c == 126))
+
+-- an info string: none, or a plain line of such characters that doesn't begin with a space
+abbrev pub is_info : List ℕ → Bool
+is_info [] = true
+is_info (c ∷ cs) = is_line (c ∷ cs) && not (c == 32) && list_all is_info_character (c ∷ cs)
 
 -- a character of a line of code: any of ASCII but U+0000 and those that end a line
 abbrev pub is_code_character : ℕ → Bool
 is_code_character c = nat_lt c 128 && not ((c == 0) || (c == 10) || (c == 13))
 
--- a line of a paragraph or heading has at least one character, each from U+0020 to U+007E, the last no space; code has an info
--- string of one word or none, and any lines of ASCII but U+0000
+-- a line of a paragraph or heading has at least one character, each from U+0020 to U+007E, the last no space; code has such an
+-- info string, and any lines of ASCII but U+0000
 abbrev pub IsPlainBlock : PlainBlock → Type 0
 IsPlainBlock (PlainParagraph l ms) = list_all is_line (l ∷ ms) ≡ true
 IsPlainBlock (PlainHeading level ts) = is_line (concat ts) ≡ true
 IsPlainBlock PlainRule = Unit {0}
-IsPlainBlock (PlainCode info lines) = (list_all is_info_character info && list_all (λ l. list_all is_code_character l) lines) ≡ true
+IsPlainBlock (PlainCode info lines) = (is_info info && list_all (λ l. list_all is_code_character l) lines) ≡ true
 
 -- the options name a delimiter of emphasis and a fence that Markdown reads
 pub record ArePlainTokens (options : OptionsView) : Type 0 where
