@@ -301,7 +301,7 @@ no_spaces : (at : ℕ) (info : List ℕ) → IsFlush info → length (take_while
 no_spaces at [] h = refl
 no_spaces at (b ∷ bs) h = rw (h.0) refl
 
-split_last : (b : ℕ) (bs : List ℕ) → (body : List ℕ) × (b ∷ bs ≡ body ++ last_byte b bs ∷ [])
+pub split_last : (b : ℕ) (bs : List ℕ) → (body : List ℕ) × (b ∷ bs ≡ body ++ last_byte b bs ∷ [])
 split_last b [] = ([], refl)
 split_last b (c ∷ cs) = let more = split_last c cs in (b ∷ more.0, ap (λ (l : List ℕ). b ∷ l) (more.1))
 

@@ -29,7 +29,7 @@ use Rattle.tocmark_laws.specs.TextBlocks.{ParagraphKind, HeadingKind}
 use Rattle.tocmark_laws.proofs.BlockSpelling.{LastEnd, NoEnd, TextEnd, CodeEnd, text_trees, last_of, page_of, blank, IsCalm}
 use Rattle.tocmark_laws.proofs.CodeBlocks as code
 use Rattle.tocmark_laws.proofs.DocumentCode.{IsToken, IsInfo, IsFlush, IsShort, opener, closer}
-use Rattle.tocmark_laws.proofs.DocumentRows.{Code, IsCode, IsCodeByte, AreCode, ArePrintable, closer_printable, code_joined, code_rest, row_bytes}
+use Rattle.tocmark_laws.proofs.DocumentRows.{all_append, clean_feed, Code, IsCode, IsCodeByte, AreCode, ArePrintable, closer_printable, code_joined, code_rest, row_bytes}
 use Rattle.tocmark_laws.proofs.DocumentSpelling.{laid_some, page_is, IsHanded}
 use Rattle.tocmark_laws.proofs.Fences.{any-run}
 use Rattle.tocmark_laws.proofs.Paragraphs.{laid-plain}
@@ -78,13 +78,6 @@ lines_end (l ∷ ls) s h =
 
 -- the fence
 
-all_joined : (P : ℕ → Type 0) (xs ys : List ℕ) → AllByRecursion P xs → AllByRecursion P ys → AllByRecursion P (xs ++ ys)
-all_joined P [] ys h k = k
-all_joined P (x ∷ xs) ys h k = (h.0, all_joined P xs ys (h.1) k)
-
-feed_clean : IsClean 10
-feed_clean = record { ascii = omega arith; some = refl; return = refl }
-
 run_wider : (n token : ℕ) (pre l rest : List ℕ) → HasRun n token l → HasRun n token (pre ++ ((l ++ 10 ∷ []) ++ rest))
 run_wider n token pre l rest h =
     let run : List ℕ = replicate n token in
@@ -131,7 +124,7 @@ module _ (o : OptionsView) (info : List ℕ) (ls : List (List ℕ)) where
   texts_clean : (ls : List (List ℕ)) → AllByRecursion AreCode ls → AllByRecursion IsClean (concat (line_texts ls))
   texts_clean [] h = tt
   texts_clean (l ∷ ls) h =
-      all_joined IsClean (l ++ 10 ∷ []) (concat (line_texts ls)) (all_joined IsClean l (10 ∷ []) (all_implied IsCodeByte IsClean l (λ b h. h.clean) (h.0)) (feed_clean, tt)) (texts_clean ls (h.1))
+      all_append IsClean (l ++ 10 ∷ []) (concat (line_texts ls)) (all_append IsClean l (10 ∷ []) (all_implied IsCodeByte IsClean l (λ b h. h.clean) (h.0)) (clean_feed, tt)) (texts_clean ls (h.1))
 
   -- a run of a line is one of all lines
   shorts : (token m : ℕ) (pre : List ℕ) (ls : List (List ℕ)) → ((n : ℕ) → HasRun n token (pre ++ concat (line_texts ls)) → n < suc m) → AllByRecursion (IsShort token m) ls

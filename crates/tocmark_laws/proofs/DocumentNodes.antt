@@ -43,7 +43,7 @@ use Rattle.tocmark_read_scan.specs.declared.syntax.TheConstants.{CORE}
 use Rattle.tocmark_read_blocks.proofs.PlainFronts.{BeginsPlainly}
 use Rattle.tocmark_laws.specs.TextBlocks.{Kind, ParagraphKind, HeadingKind, mark_of, tag_of}
 use Rattle.tocmark_laws.proofs.DocumentBlocks.{block, hyphens}
-use Rattle.tocmark_laws.proofs.DocumentCode.{IsInfo, opener, closer, code_kind}
+use Rattle.tocmark_laws.proofs.DocumentCode.{IsInfo, split_last, opener, closer, code_kind}
 use Rattle.tocmark_laws.proofs.DocumentRows.{Code, IsCode, IsCodeByte, AreCode, ArePrintable, clean_printable, code_body, code_count, code_end, code_joined, code_pieces, code_rest, Row, Blank, Break, Filled, row_bytes, rows_text, IsFilled, IsRow, AreRows, all_rows, block_kind, content_start, row_end, behind, filled_pieces, row_blocks, row_pieces, rows_blocks, counted}
 use Rattle.tocmark_laws.proofs.DocumentParagraphs.{content_of_lines, behind_line, line_length}
 
@@ -60,10 +60,6 @@ content_of_line text xs start next body y e split white zeros fits =
     ∙ ap (λ (l : List ℕ). (let f : content.State = record { bytes = l; places = places_of start xs } in f)) (sym split)
 
 -- how a line ends
-
-pub split_last : (b : ℕ) (bs : List ℕ) → (body : List ℕ) × (b ∷ bs ≡ body ++ last_byte b bs ∷ [])
-split_last b [] = ([], refl)
-split_last b (c ∷ cs) = let more = split_last c cs in (b ∷ more.0, ap (λ (l : List ℕ). b ∷ l) (more.1))
 
 abbrev EndsInInk : List ℕ → Type 0
 EndsInInk text = (body : List ℕ) × (y : ℕ) × (text ≡ body ++ y ∷ []) × (is_in White y ≡ false)

@@ -234,7 +234,7 @@ within_printable b h = let low : 32 ≤ b = h.low in record { feed = grind (arit
 pub clean_printable : (b : ℕ) → IsPrintable b → IsClean b
 clean_printable b h = let low : 32 ≤ b = h.low in let high : b < 127 = h.high in record { ascii = omega arith; some = grind (arith, nat_tests); return = grind (arith, nat_tests) }
 
-all_append : (P : ℕ → Type 0) (xs ys : List ℕ) → AllByRecursion P xs → AllByRecursion P ys → AllByRecursion P (xs ++ ys)
+pub all_append : (P : ℕ → Type 0) (xs ys : List ℕ) → AllByRecursion P xs → AllByRecursion P ys → AllByRecursion P (xs ++ ys)
 all_append P [] ys h k = k
 all_append P (x ∷ xs) ys h k = (h.0, all_append P xs ys (h.1) k)
 
@@ -316,7 +316,7 @@ rows_within : (rs : List Row) → AllByRecursion IsRow rs → AllWithin (behind 
 rows_within [] h = tt
 rows_within (r ∷ rs) h = within_append (row_first r ∷ row_more r) (behind rs) (row_within r (h.0)) (rows_within rs (h.1))
 
-clean_feed : IsClean 10
+pub clean_feed : IsClean 10
 clean_feed = record { ascii = omega arith; some = refl; return = refl }
 
 joined_clean : (l : List ℕ) (ms : List (List ℕ)) → AllByRecursion AreClean (l ∷ ms) → AreClean (feed_joined l ms)
