@@ -63,8 +63,8 @@ pub use tocmark_state::work::Progress;
 /// - A paragraph of plain lines: one text that `CoreReader` reads as exactly that paragraph
 ///   (`lines`). A plain line has only characters from U+0020 to U+007E, at least one, and no space
 ///   at its end.
-/// - A document of such paragraphs and of headings of one such line: texts that `CoreReader` reads,
-///   joined, as exactly that document (`documents`).
+/// - A document of such paragraphs, headings of one such line, thematic breaks and fenced code of
+///   ASCII lines: texts that `CoreReader` reads, joined, as exactly that document (`documents`).
 /// - A paragraph that holds only a code span: one text, the span that reads as its text (`code`).
 /// - A paragraph that holds only an inline link round one text: one text, the link (`link`).
 /// - A fenced code block: one text, with a fence that ends no sooner than its texts (`fence`).

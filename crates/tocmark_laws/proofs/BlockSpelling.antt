@@ -4,6 +4,7 @@ use Rattle.std.proofs.lemmas.Str.{chars-nil}
 use Rattle.std.specs.List.{concat}
 use Rattle.tocmark_event.specs.Forest.{empty, leaf, node, flat}
 use Rattle.tocmark_event.specs.View.{EventView, Start, End, Leaf, Text, SourcedEvent, SourcedLeaf, end_of}
+use Rattle.tocmark_event.specs.declared.event.TagEnd.TheVariants as end
 use Rattle.tocmark_write_texts.specs.Escape.{Surroundings, escaped}
 use Rattle.tocmark_spelling.specs.Body.{Trees, is_broken, some_leaf}
 use Rattle.tocmark_spelling.specs.Closing.{closing}
@@ -42,10 +43,17 @@ text_trees (t ∷ ts) = leaf (text_leaf t) (text_trees ts)
 abbrev pub unit : Block → Trees
 unit b = node (tag_of b.kind) (text_trees b.texts) empty
 
+-- the End that was written last: none, that of a paragraph or heading, or that of a code block
+pub data LastEnd : Type 0 where
+  NoEnd : LastEnd
+  TextEnd : Kind → LastEnd
+  CodeEnd : LastEnd
+
 -- what was written last behind a block, and at the beginning
-abbrev pub last_of : Option Kind → Last
-last_of None = Other
-last_of (Some kind) = BlockEnd (end_of (tag_of kind))
+abbrev pub last_of : LastEnd → Last
+last_of NoEnd = Other
+last_of CodeEnd = BlockEnd end.CodeBlock
+last_of (TextEnd kind) = BlockEnd (end_of (tag_of kind))
 
 abbrev pub calm : ℕ → Last → Trail
 calm owed last = record { owed = owed; last = last; last_list = None; quote_line = None; raw_end = false; open_html = false }
@@ -83,13 +91,15 @@ all_left : (n : ℕ) → max n 0 - 0 ≡ n
 all_left n = omega arith
 
 -- the gap before a block
-gap_before : (kind : Kind) (before : Option Kind) (owed : ℕ) → gap (Start (tag_of kind)) [] (page_of blank owed (last_of before) None) ≡ page_of (laid [] (replicate (max owed 0 - 0) 10) blank) 0 (last_of before) None
-gap_before ParagraphKind None owed = refl
-gap_before ParagraphKind (Some ParagraphKind) owed = refl
-gap_before ParagraphKind (Some (HeadingKind level)) owed = refl
-gap_before (HeadingKind level) None owed = refl
-gap_before (HeadingKind level) (Some ParagraphKind) owed = refl
-gap_before (HeadingKind level) (Some (HeadingKind other)) owed = refl
+gap_before : (kind : Kind) (before : LastEnd) (owed : ℕ) → gap (Start (tag_of kind)) [] (page_of blank owed (last_of before) None) ≡ page_of (laid [] (replicate (max owed 0 - 0) 10) blank) 0 (last_of before) None
+gap_before ParagraphKind NoEnd owed = refl
+gap_before ParagraphKind CodeEnd owed = refl
+gap_before ParagraphKind (TextEnd ParagraphKind) owed = refl
+gap_before ParagraphKind (TextEnd (HeadingKind level)) owed = refl
+gap_before (HeadingKind level) NoEnd owed = refl
+gap_before (HeadingKind level) CodeEnd owed = refl
+gap_before (HeadingKind level) (TextEnd ParagraphKind) owed = refl
+gap_before (HeadingKind level) (TextEnd (HeadingKind other)) owed = refl
 
 -- no gap stands before a text that begins a block
 gap_inside : (kind : Kind) (start : ℕ) (text : List ℕ) (sheet : Sheet) → gap (Leaf (Text text)) (in_block kind start) (page_of sheet 0 Other None) ≡ page_of sheet 0 Other None
@@ -178,7 +188,7 @@ module _ (s : Setting) where
       Some (site (record { tag = tag_of (HeadingKind level); prefix = []; start = length p.sheet.text; content = Underlined b } ∷ []) p)) (unbroken ts)
 
   -- the closing writes nothing, and owes line feeds
-  closed : (kind : Kind) (start : ℕ) (sheet : Sheet) → closing s.options (in_block kind start) (page_of sheet 0 Inline None) ≡ Some (site [] (page_of sheet (feeds_behind s.options kind) (last_of (Some kind)) None))
+  closed : (kind : Kind) (start : ℕ) (sheet : Sheet) → closing s.options (in_block kind start) (page_of sheet 0 Inline None) ≡ Some (site [] (page_of sheet (feeds_behind s.options kind) (last_of (TextEnd kind)) None))
   unfolding closing
   closed ParagraphKind start sheet = refl
   closed (HeadingKind level) start sheet = refl
@@ -204,7 +214,7 @@ module _ (s : Setting) where
   entered ParagraphKind start ts next p = refl
   entered (HeadingKind level) start ts next p = refl
 
-  ended : (kind : Kind) (start : ℕ) (ts : List (List ℕ)) (next : Option EventView) (sheet : Sheet) → from_texts kind ts next (site (in_block kind start) (page_of sheet 0 Inline None)) ≡ Some (site [] (page_of sheet (feeds_behind s.options kind) (last_of (Some kind)) None))
+  ended : (kind : Kind) (start : ℕ) (ts : List (List ℕ)) (next : Option EventView) (sheet : Sheet) → from_texts kind ts next (site (in_block kind start) (page_of sheet 0 Inline None)) ≡ Some (site [] (page_of sheet (feeds_behind s.options kind) (last_of (TextEnd kind)) None))
   unfolding spelling
   ended kind start ts next sheet =
       ap (λ o. then_site o (λ here. spelling s m empty (beyond (tag_of kind) (text_trees ts) (around [] [] next)) here.path here.page)) (closed kind start sheet)
@@ -218,10 +228,10 @@ module _ (s : Setting) where
 
   -- a block's page
   abbrev left_page : Kind → Sheet → Page
-  left_page kind sheet = page_of sheet (feeds_behind s.options kind) (last_of (Some kind)) None
+  left_page kind sheet = page_of sheet (feeds_behind s.options kind) (last_of (TextEnd kind)) None
 
   -- a block is spelled as its gap, its mark and the escape of its texts
-  unit_spelled : (kind : Kind) (t : List ℕ) (ts : List (List ℕ)) (before : Option Kind) (owed : ℕ) (next : Option EventView) → spelling s m (node (tag_of kind) (text_trees (t ∷ ts)) empty) (whole next) [] (page_of blank owed (last_of before) None) ≡ Some (site [] (left_page kind (laid [] (escape_of kind (concat (t ∷ ts))) (marked owed kind))))
+  unit_spelled : (kind : Kind) (t : List ℕ) (ts : List (List ℕ)) (before : LastEnd) (owed : ℕ) (next : Option EventView) → spelling s m (node (tag_of kind) (text_trees (t ∷ ts)) empty) (whole next) [] (page_of blank owed (last_of before) None) ≡ Some (site [] (left_page kind (laid [] (escape_of kind (concat (t ∷ ts))) (marked owed kind))))
   unit_spelled kind t ts before owed next =
       begun kind (t ∷ ts) next (page_of blank owed (last_of before) None)
       ∙ ap (from_gap kind (t ∷ ts) next) (gap_before kind before owed ∙ ap (λ n. page_of (laid [] (replicate n 10) blank) 0 (last_of before) None) (all_left owed))
@@ -246,12 +256,12 @@ module _ (s : Setting) where
       ∙ ap sheet_of (append_assoc (replicate owed 10) (mark_of kind) e)
 
 -- a document behind a block, or at its beginning, which owes so many line feeds
-pub record IsCalm (d : DocumentView) (owed : ℕ) (before : Option Kind) : Type 0 where
+pub record IsCalm (d : DocumentView) (owed : ℕ) (before : LastEnd) : Type 0 where
   pub trail : d.trail ≡ calm owed (last_of before)
   pub feeds : d.feeds ≡ 0
   pub none : d.references ≡ []
 
-page_is : (d : DocumentView) (owed : ℕ) (before : Option Kind) → IsCalm d owed before → page_in d ≡ page_of blank owed (last_of before) None
+page_is : (d : DocumentView) (owed : ℕ) (before : LastEnd) → IsCalm d owed before → page_in d ≡ page_of blank owed (last_of before) None
 page_is d owed before h =
     ap (λ n. record { sheet = record { text = []; feeds = n }; trail = d.trail; references = []; held = None }) h.feeds
     ∙ ap (λ t. record { sheet = blank; trail = t; references = []; held = None }) h.trail
@@ -302,9 +312,9 @@ module _ (s : Setting) (d : DocumentView) (b : Block) (next : Option EventView) 
   pub record IsChosen (owed : ℕ) : Type 0 where
     pub document : DocumentView
     pub is : chosen s d (flat (unit b)) next ≡ Ok (unit_text owed, document)
-    pub after : IsCalm document (feeds_behind s.options b.kind) (Some b.kind)
+    pub after : IsCalm document (feeds_behind s.options b.kind) (TextEnd b.kind)
 
-  page_spelled : (owed : ℕ) (before : Option Kind) → IsCalm d owed before → HasText b → spelled s d (unit b) next (preferred_manner s.options) ≡ Some (unit_page owed)
+  page_spelled : (owed : ℕ) (before : LastEnd) → IsCalm d owed before → HasText b → spelled s d (unit b) next (preferred_manner s.options) ≡ Some (unit_page owed)
   unfolding spelled
   page_spelled owed before h some = by_texts b.texts refl
     where
@@ -317,14 +327,14 @@ module _ (s : Setting) (d : DocumentView) (b : Block) (next : Option EventView) 
           ∙ ap (λ us. Some (left_page s b.kind (laid [] (escape_of s b.kind (concat us)) (marked s owed b.kind)))) (sym e)
           ∙ ap (λ x. Some (left_page s b.kind x)) (sheet_is s owed b.kind (concat b.texts) some)
 
-  left_calm : (owed : ℕ) (before : Option Kind) → IsCalm d owed before → IsCalm (document_after s d (unit_page owed)) (feeds_behind s.options b.kind) (Some b.kind)
+  left_calm : (owed : ℕ) (before : LastEnd) → IsCalm d owed before → IsCalm (document_after s d (unit_page owed)) (feeds_behind s.options b.kind) (TextEnd b.kind)
   unfolding document_after
   left_calm owed before h = record { trail = refl; feeds = refl; none = append-nil d.references ∙ h.none }
 
   unasked : (has_source (unit b) && has_standard_markers s.options) ≡ false
   unasked = ap (λ x. (x || false) && has_standard_markers s.options) (no_sources b.texts)
 
-  pub block_chosen : s.options.check_plain_blocks ≡ false → s.label ≡ None → (owed : ℕ) (before : Option Kind) → IsCalm d owed before → HasText b → IsChosen owed
+  pub block_chosen : s.options.check_plain_blocks ≡ false → s.label ≡ None → (owed : ℕ) (before : LastEnd) → IsCalm d owed before → HasText b → IsChosen owed
   block_chosen off none owed before h some = record {
     document = document_after s d (unit_page owed);
     is =

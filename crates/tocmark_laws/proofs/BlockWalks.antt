@@ -1,5 +1,5 @@
 -- What a document of paragraphs and headings hands: a text for each block.
-use Rattle.std.proofs.Common.{◌≡◌, ℕ, ◌<◌, true, false, if◌then◌else◌, List, [], ◌∷◌, ◌++◌, length, length-append, replicate, map, refl, ap, subst, ◌∙◌, arith, append_assoc, eq-eqb, Option, Some, None, Result, Ok, Err}
+use Rattle.std.proofs.Common.{◌≡◌, ℕ, ◌<◌, true, false, if◌then◌else◌, List, [], ◌∷◌, ◌++◌, length, length-append, replicate, map, refl, ap, subst, ◌∙◌, arith, append_assoc, eq-eqb, Some, None, Result, Ok, Err}
 use Rattle.std.specs.List.{AllByRecursion, concat}
 use Rattle.tocmark_write_texts.specs.Escape.{escaped}
 use Rattle.tocmark_event.specs.Ends.{same_end, end_code}
@@ -23,7 +23,7 @@ use Rattle.tocmark_laws.specs.TextBlocks.{Kind, Block, HasText, MakesBlocks, blo
 use Rattle.tocmark_state.specs.Walk.{Walk, Done, done, Kept, Rendering, Standing, beginning, nothing_yet, go_on, stay, finished_of, flushed, flushed_before, flushed_or_deferred, flush_of, joins, advance, step, walk, script, ended, with_event}
 use Rattle.tocmark_state.specs.Writes.{Makes}
 use Rattle.tocmark_laws.proofs.BlockEscapes.{IsFilled, escaped_filled}
-use Rattle.tocmark_laws.proofs.BlockSpelling.{text_leaf, text_trees, unit, IsCalm, IsChosen, block_placed, block_chosen}
+use Rattle.tocmark_laws.proofs.BlockSpelling.{LastEnd, NoEnd, TextEnd, text_leaf, text_trees, unit, IsCalm, IsChosen, block_placed, block_chosen}
 
 -- a standing in a block, with these events pending
 abbrev inside : Kind → Kept → List SourcedEvent → Standing
@@ -143,14 +143,14 @@ module _ (o : OptionsView) (reading : List ℕ → ParserOptions → ReadingView
       ∙ ap (λ ts. record { texts = ts; outcome = Ok done }) (text_some owed b h)
 
   -- a block that is pending, and the blocks behind it
-  rest_written : (d : DocumentView) (owed : ℕ) (before : Option Kind) (b : Block) (bs : List Block) → IsCalm d owed before → AllByRecursion HasText (b ∷ bs) → at_end (walk how source (behind (kept_of d) (flat (unit b))) (document_of bs)) ≡ record { texts = texts_behind o flags owed (b ∷ bs); outcome = Ok done }
+  rest_written : (d : DocumentView) (owed : ℕ) (before : LastEnd) (b : Block) (bs : List Block) → IsCalm d owed before → AllByRecursion HasText (b ∷ bs) → at_end (walk how source (behind (kept_of d) (flat (unit b))) (document_of bs)) ≡ record { texts = texts_behind o flags owed (b ∷ bs); outcome = Ok done }
   rest_written d owed before b [] calm h = last_written d owed b (block_chosen setting d b None off refl owed before calm (h.0)) (h.0)
   rest_written d owed before b (c ∷ cs) calm h =
       let chosen : IsChosen setting d b (Some (Start (tag_of c.kind))) owed = block_chosen setting d b (Some (Start (tag_of c.kind))) off refl owed before calm (h.0) in
       ap at_end (step_flushed d owed b (tag_of c.kind) (rest_of c.kind c.texts ++ document_of cs) chosen (h.0))
       ∙ at_end_cons (text_of owed b) (walk how source (beginning (kept_of chosen.document)) (document_of (c ∷ cs)))
       ∙ ap (λ w. cons_walk (text_of owed b) (at_end w)) (block_walked how source (kept_of chosen.document) c (document_of cs))
-      ∙ ap (cons_walk (text_of owed b)) (rest_written chosen.document (feeds_behind o b.kind) (Some b.kind) c cs chosen.after (h.1))
+      ∙ ap (cons_walk (text_of owed b)) (rest_written chosen.document (feeds_behind o b.kind) (TextEnd b.kind) c cs chosen.after (h.1))
 
   none_handed : script how source (nothing_yet flags) [] ≡ record { texts = []; outcome = Ok done }
   unfolding ended definitions_text
@@ -161,7 +161,7 @@ module _ (o : OptionsView) (reading : List ℕ → ParserOptions → ReadingView
   blocks_are_handed [] h = none_handed
   blocks_are_handed (b ∷ bs) h =
       ap at_end (block_walked how source (kept_of first_document) b (document_of bs))
-      ∙ rest_written first_document 0 None b bs (record { trail = refl; feeds = refl; none = refl }) h
+      ∙ rest_written first_document 0 NoEnd b bs (record { trail = refl; feeds = refl; none = refl }) h
 
 -- a call with the default options that made the script of a document of blocks handed a text for each
 pub blocks_made : {W X : Type 0} (gives refuses : W → List ℕ → W → Type 0) (w v : W) (r : Result X Error) (o : OptionsView) (reading : List ℕ → ParserOptions → ReadingView) (flags : ParserOptions) (p : List Pair) → o ≡ default_options → Makes gives refuses w v r done (script (rendering o reading) [] (nothing_yet flags) p) → MakesBlocks gives refuses w v r flags p

@@ -43,7 +43,7 @@ use Rattle.tocmark_laws.specs.CodeBlocks.{IsFence, code_events, code_text, opene
 use Rattle.tocmark_laws.specs.Links.{one_text_walk}
 
 -- the block as a tree
-abbrev unit : List ℕ → List (List ℕ) → Trees
+abbrev pub unit : List ℕ → List (List ℕ) → Trees
 unit info ts = node (CodeBlock (Fenced info)) (text_trees ts) empty
 
 -- ---- where a text ends a line
@@ -66,7 +66,7 @@ laid-ends (b ∷ bs) s h =
 -- ---- the spelling
 
 -- inside the block, whose opening ended there
-abbrev in_code : List ℕ → List ℕ → ℕ → Path
+abbrev pub in_code : List ℕ → List ℕ → ℕ → Path
 in_code info f start = record { tag = CodeBlock (Fenced info); prefix = []; start = start; content = Fence f } ∷ []
 
 abbrev site : Path → Page → Site
@@ -81,7 +81,7 @@ none_left n = omega arith
 gap-inside : (info f : List ℕ) (start : ℕ) (text : List ℕ) (sheet : Sheet) → gap (Leaf (Text text)) (in_code info f start) (page_of sheet 0 Other None) ≡ page_of sheet 0 Other None
 gap-inside info f start text sheet = ap (λ n. page_of (laid [] (replicate n 10) sheet) 0 Other None) (none_left sheet.feeds)
 
-joined-texts : (ts : List (List ℕ)) → joined_by text_of_leaf (text_trees ts) ≡ concat ts
+pub joined-texts : (ts : List (List ℕ)) → joined_by text_of_leaf (text_trees ts) ≡ concat ts
 joined-texts [] = refl
 joined-texts (t ∷ ts) = ap (λ x. t ++ x) (joined-texts ts)
 
@@ -138,10 +138,10 @@ module _ (s : Setting) (info : List ℕ) where
       ∙ ap (λ x. Some (written_site f start sheet x)) (ap (λ x. x ++ concat (u ∷ us)) (held-longer held t (ahead_of (text_trees (u ∷ us)) a)) ∙ append_assoc (held_text held) t (concat (u ∷ us)))
 
   -- the page behind the texts
-  abbrev filled_page : List (List ℕ) → Sheet → Page
+  abbrev pub filled_page : List (List ℕ) → Sheet → Page
   filled_page ts sheet = page_of (laid [] (concat ts) sheet) 0 (last_behind ts) None
 
-  body-written : (f : List ℕ) (start : ℕ) (ts : List (List ℕ)) (sheet : Sheet) (before : List SourcedEvent) (next : Option EventView) → spelling s m (text_trees ts) (around before (code_end ∷ []) next) (in_code info f start) (page_of sheet 0 Other None) ≡ Some (site (in_code info f start) (filled_page ts sheet))
+  pub body-written : (f : List ℕ) (start : ℕ) (ts : List (List ℕ)) (sheet : Sheet) (before : List SourcedEvent) (next : Option EventView) → spelling s m (text_trees ts) (around before (code_end ∷ []) next) (in_code info f start) (page_of sheet 0 Other None) ≡ Some (site (in_code info f start) (filled_page ts sheet))
   unfolding spelling
   body-written f start [] sheet before next = refl
   body-written f start (t ∷ ts) sheet before next = some-written f start t ts None sheet before next
@@ -161,7 +161,7 @@ module _ (s : Setting) (info : List ℕ) where
   opened ts a = open-code ts a ∙ ap (λ text. Some (opened_site (fence s.options info text))) (joined-texts ts)
 
   -- the page behind the block
-  abbrev closed_page : List ℕ → Sheet → Page
+  abbrev pub closed_page : List ℕ → Sheet → Page
   closed_page f sheet = record {
     sheet = laid [] (if nat_lt 0 sheet.feeds then f else []) sheet;
     trail = record { owed = max s.options.newlines_after_codeblock 2; last = BlockEnd end.CodeBlock; last_list = None; quote_line = None; raw_end = sheet.feeds == 0; open_html = false };
@@ -169,16 +169,16 @@ module _ (s : Setting) (info : List ℕ) where
     held = None;
   }
 
-  closed : (f : List ℕ) (start : ℕ) (sheet : Sheet) (last : Last) → closing s.options (in_code info f start) (page_of sheet 0 last None) ≡ Some (site [] (closed_page f sheet))
+  pub closed : (f : List ℕ) (start : ℕ) (sheet : Sheet) (last : Last) → closing s.options (in_code info f start) (page_of sheet 0 last None) ≡ Some (site [] (closed_page f sheet))
   unfolding closing
   closed f start sheet last = refl
 
   -- the rest of the block once its texts are written, once it is open, and once its gap is written
-  abbrev from_texts : List (List ℕ) → Option EventView → Site → Option Site
+  abbrev pub from_texts : List (List ℕ) → Option EventView → Site → Option Site
   from_texts ts next full =
       then_site (closing s.options full.path full.page) (λ here. spelling s m empty (beyond (CodeBlock (Fenced info)) (text_trees ts) (around [] [] next)) here.path here.page)
 
-  abbrev from_opening : List (List ℕ) → Option EventView → Site → Option Site
+  abbrev pub from_opening : List (List ℕ) → Option EventView → Site → Option Site
   from_opening ts next here =
       then_site (body_or_id (skips_body here.path) (CodeBlock (Fenced info)) here (λ here. spelling s m (text_trees ts) (around (Start (CodeBlock (Fenced info)) ∷ []) (code_end ∷ []) next) here.path here.page)) (λ full. from_texts ts next full)
 
@@ -190,7 +190,7 @@ module _ (s : Setting) (info : List ℕ) where
   abbrev filled_sheet : List (List ℕ) → Sheet
   filled_sheet ts = laid [] (concat ts) (opened_sheet (fence s.options info (concat ts)))
 
-  finished : (f : List ℕ) (start : ℕ) (ts : List (List ℕ)) (next : Option EventView) (sheet : Sheet) → from_texts ts next (site (in_code info f start) (filled_page ts sheet)) ≡ Some (site [] (closed_page f (laid [] (concat ts) sheet)))
+  pub finished : (f : List ℕ) (start : ℕ) (ts : List (List ℕ)) (next : Option EventView) (sheet : Sheet) → from_texts ts next (site (in_code info f start) (filled_page ts sheet)) ≡ Some (site [] (closed_page f (laid [] (concat ts) sheet)))
   unfolding spelling
   finished f start ts next sheet =
       ap (λ o. then_site o (λ here. spelling s m empty (beyond (CodeBlock (Fenced info)) (text_trees ts) (around [] [] next)) here.path here.page)) (closed f start (laid [] (concat ts) sheet) (last_behind ts))
@@ -233,17 +233,17 @@ tags-plain : (ts : List (List ℕ)) → some_tag is_delimiter_tag (text_trees ts
 tags-plain [] = refl
 tags-plain (t ∷ ts) = tags-plain ts
 
-undelimited : (info : List ℕ) (ts : List (List ℕ)) → is_delimiter_block (unit info ts) ≡ false
+pub undelimited : (info : List ℕ) (ts : List (List ℕ)) → is_delimiter_block (unit info ts) ≡ false
 undelimited info ts = rw (tags-plain ts) (rw (texts-plain ts) refl)
 
-unsourced : (info : List ℕ) (ts : List (List ℕ)) → has_source (unit info ts) ≡ false
+pub unsourced : (info : List ℕ) (ts : List (List ℕ)) → has_source (unit info ts) ≡ false
 unsourced info ts = rw (no-sources ts) refl
 
 texts-placed : (ts : List (List ℕ)) (a : Around) → needs_placeholder_at (text_trees ts) a ≡ false
 texts-placed [] a = refl
 texts-placed (t ∷ ts) a = texts-placed ts (record a { before = Leaf (text_leaf t) ∷ a.before })
 
-no-list : (info : List ℕ) (ts : List (List ℕ)) → needs_placeholder (unit info ts) ≡ false
+pub no-list : (info : List ℕ) (ts : List (List ℕ)) → needs_placeholder (unit info ts) ≡ false
 unfolding needs_placeholder
 no-list info ts = rw (texts-placed ts (record { before = Start (CodeBlock (Fenced info)) ∷ []; after = End end.CodeBlock ∷ []; next = None })) refl
 

@@ -1,5 +1,5 @@
 -- A page at the top of which blocks have ended, and what a line makes of it.
-use Rattle.std.proofs.Common.{◌≡◌, ℕ, ◌-◌, ◌^◌, ◌<◌, Bool, true, false, ◌==◌, nat_lt, nat_le, List, [], ◌∷◌, ◌++◌, length, slice_get, refl, ap, sym, ◌∙◌, arith, length-append, Some, None}
+use Rattle.std.proofs.Common.{◌≡◌, ℕ, ◌+◌, ◌-◌, ◌^◌, ◌<◌, Bool, true, false, ◌==◌, nat_lt, nat_le, List, [], ◌∷◌, ◌++◌, length, slice_get, refl, ap, sym, ◌∙◌, arith, length-append, Some, None}
 use Rattle.std.proofs.Math.Seq.{take-length}
 use Rattle.std.specs.Prelude.{slice_set}
 use Rattle.tocmark_read_scan.specs.Basic.{plus, byte_at, bytes_between}
@@ -13,7 +13,7 @@ use Rattle.tocmark_read_blocks.specs.Leaves.{metadata_or, task_or, quote_kind_or
 use Rattle.tocmark_read_constructs.specs.Tasks.{task_in}
 use Rattle.tocmark_read_constructs.specs.Quotes.{quote_kind_in, tag_in}
 use Rattle.tocmark_read_blocks.specs.Containers.{container_once_in, container_once, containers_opened, goes_directly, begun_at}
-use Rattle.tocmark_read_blocks.specs.Paragraphs.{text_taken, text_started}
+use Rattle.tocmark_read_blocks.specs.Paragraphs.{text_taken, text_started, rule_started}
 use Rattle.tocmark_read_constructs.specs.Headings.{heading_put, heading_started_in}
 use Rattle.tocmark_read_page.specs.Pieces.{piece_of, text_piece, heading_piece}
 use Rattle.tocmark_event.specs.declared.event.HeadingLevel.{HeadingLevel}
@@ -26,7 +26,7 @@ use Rattle.tocmark_read_page.specs.Definitions.{begins_definition, definitions_f
 use Rattle.tocmark_read_blocks.specs.Leaves.{leaf_at, mark_at, html_at, underline_in, rule_at, leaf_turn}
 use Rattle.tocmark_read_page.specs.Leaves.{is_paragraph}
 use Rattle.tocmark_read_lines.specs.Html.{html_kind}
-use Rattle.tocmark_read_lines.specs.Marks.{is_rule, marker_at, heading_at, underline_at, tail_of}
+use Rattle.tocmark_read_lines.specs.Marks.{is_rule, is_rule_byte, is_behind, marker_at, heading_at, fence_at, is_fence_byte, underline_at, tail_of}
 use Rattle.tocmark_read_page.specs.Pages.{State, leaf_opened, leaf_closed, closed_to, times, list_left, begun, loosened, had_marked, list_of, is_apart, leaf_finished, finished, settled, shortened, piece_taken, one_closed}
 use Rattle.tocmark_read_page.specs.declared.line_start.LineStart.{LineStart}
 use Rattle.tocmark_read_page.specs.declared.page.Block.{Block}
@@ -38,6 +38,7 @@ use Rattle.tocmark_read_page.specs.declared.piece.Piece.{Piece}
 use Rattle.tocmark_read_page.specs.declared.leaf.Leaf.TheVariants as leaf
 use Rattle.tocmark_read_page.specs.declared.page.HeaderLine.TheVariants.{Never}
 use Rattle.tocmark_read_blocks.specs.declared.leaf.LeafStart.TheVariants as start
+use Rattle.tocmark_read_blocks.proofs.PlainLines.{IsWithin, numbered, cells_within}
 use Rattle.tocmark_read_blocks.proofs.PlainSteps.{IsPlainLine, BeginsNothing, front, line_piece}
 
 abbrev pub here : LineStart
@@ -310,3 +311,65 @@ line_heads text cells l h from to bs ps end number k =
     ∙ ap (λ c. leaf_started text cells l (record { cursor = c; depth = 0 }) s) k.ink
     ∙ starts_heading text cells l h from to s k
     ∙ heading_comes text cells l h from to bs ps end number k
+
+-- a thematic break
+
+-- three hyphens
+abbrev pub hyphens : List ℕ
+hyphens = 45 ∷ 45 ∷ 45 ∷ []
+
+within_hyphen : IsWithin 45
+within_hyphen = record { feed = refl; return = refl; tab = refl }
+
+front_hyphens : (at : ℕ) → first_cursor (numbered at hyphens) ≡ front
+unfolding first_cursor
+front_hyphens at = refl
+
+rule_no_container : (at : ℕ) (within : Bool) → container_at (numbered at hyphens) (tail_of (numbered at hyphens)) front within ≡ None
+unfolding container_at is_rule is_rule_byte tail_of
+rule_no_container at within = refl
+
+rule_opens_none : (text : List ℕ) (at : ℕ) (l : Line) (s : State) → containers_opened text (numbered at hyphens) l (tail_of (numbered at hyphens)) here s ≡ (s, here)
+unfolding container_once_in container_in definition_start note_start
+rule_opens_none text at l s =
+    let cells : List Cell = numbered at hyphens in
+    repeated_stop (container_once text cells l (tail_of cells)) (length cells) here s s (omega arith)
+    (sym (ap (begun_at text cells l here s) (rule_no_container at (goes_directly 0 s))))
+
+a_rule : (at : ℕ) (bytes : List ℕ) (within : Bool) → (byte_at bytes 0 == 60) ≡ false → leaf_at (numbered at hyphens) bytes (tail_of (numbered at hyphens)) front within false ≡ start.Rule
+unfolding leaf_at mark_at rule_at heading_at is_behind fence_at is_fence_byte underline_in is_rule is_rule_byte tail_of
+a_rule at bytes within h = rw (no_html bytes within h) refl
+
+starts_rule : (text : List ℕ) (at : ℕ) (l : Line) (bs : List Block) (ps : List Piece) (end number : ℕ) → (byte_at (bytes_between text at l.end) 0 == 60) ≡ false → leaf_started text (numbered at hyphens) l here (closed bs ps end number) ≡ rule_started text (numbered at hyphens) l here (closed bs ps end number)
+unfolding leaf_started_in started_in metadata_in metadata_or task_in task_or quote_kind_in quote_kind_or tag_in tag_or goes_directly is_paragraph
+starts_rule text at l bs ps end number h =
+    let cells : List Cell = numbered at hyphens in
+    let s : State = closed bs ps end number in
+    ap (started_at text cells l (tail_of cells)) (rule_opens_none text at l s)
+    ∙ ap (λ x. started x text cells l (tail_of cells) here s) (a_rule at (bytes_between text at l.end) false h)
+
+-- a page on which a thematic break began
+abbrev ruled : List Block → List Piece → ℕ → ℕ → ℕ → State
+ruled bs ps at end number = record (closed (bs ++ block kind.Rule at at (length ps) (length ps) ∷ []) ps end number) { kept = length ps }
+
+rule_finished : (bs : List Block) (ps : List Piece) (at end number : ℕ) → leaf_finished (ruled bs ps at end number) ≡ closed (bs ++ block kind.Rule at end (length ps) (length ps) ∷ []) ps end number
+unfolding leaf_finished finished raised_at
+rule_finished bs ps at end number =
+    let b : Block = block kind.Rule at at (length ps) (length ps) in
+    rw (take-length ps, get_last bs b, set_last bs b (block kind.Rule at end (length ps) (length ps))) refl
+
+rule_comes : (text : List ℕ) (at : ℕ) (l : Line) (bs : List Block) (ps : List Piece) (end number : ℕ) → rule_started text (numbered at hyphens) l here (closed bs ps end number) ≡ closed (bs ++ block kind.Rule at l.end (length ps) (length ps) ∷ []) ps l.end l.number
+unfolding rule_started leaf_opened closed_to leaf_closed times list_left begun loosened had_marked list_of is_apart
+rule_comes text at l bs ps end number = rule_finished bs ps at l.end l.number
+
+-- a line of three hyphens is a thematic break
+pub line_rules : (text : List ℕ) (at next number : ℕ) (bs : List Block) (ps : List Piece) (end0 number0 : ℕ) → bytes_between text at (at + 3) ≡ hyphens → at + 3 < 2 ^ 64 →
+    line_taken text (closed bs ps end0 number0) (record { number = number; start = at; end = at + 3; next = next }) ≡ closed (bs ++ block kind.Rule at (at + 3) (length ps) (length ps) ∷ []) ps (at + 3) number
+unfolding line_taken_in cells_taken_in passed_in touched turn_in turn_of leaf_turn
+line_rules text at next number bs ps end0 number0 e fits =
+    let s : State = closed bs ps end0 number0 in
+    let l : Line = record { number = number; start = at; end = at + 3; next = next } in
+    ap (λ c. cells_taken text c l s) (ap (cells_of [] at) e ∙ cells_within at hyphens (within_hyphen, (within_hyphen, (within_hyphen, tt))) fits)
+    ∙ ap (λ c. leaf_started text (numbered at hyphens) l (record { cursor = c; depth = 0 }) s) (front_hyphens at)
+    ∙ starts_rule text at l bs ps end0 number0 (ap (λ (bytes : List ℕ). byte_at bytes 0 == 60) e)
+    ∙ rule_comes text at l bs ps end0 number0

@@ -28,7 +28,7 @@ pub numbered_length : (at : ℕ) (xs : List ℕ) → length (numbered at xs) ≡
 numbered_length at [] = refl
 numbered_length at (x ∷ xs) = ap suc (numbered_length (at + 1) xs)
 
-part_whole : (fs ds : List Cell) → part (fs ++ ds) (length fs) (length (fs ++ ds)) ≡ ds
+pub part_whole : (fs ds : List Cell) → part (fs ++ ds) (length fs) (length (fs ++ ds)) ≡ ds
 part_whole fs ds =
     let all : length (fs ++ ds) ≡ length fs + length ds = length-append fs ds in
     let order : nat_le (length fs) (length (fs ++ ds)) ≡ true = grind (arith, all, nat_tests) in
@@ -42,7 +42,7 @@ trailing_none ds c b h = rw (reverse-append ds (c ∷ []), h) refl
 trailing_one : (ds : List Cell) (d c : Cell) (b : ℕ) → (c.byte == b) ≡ true → (d.byte == b) ≡ false → trailing ((ds ++ d ∷ []) ++ c ∷ []) b ≡ 1
 trailing_one ds d c b h k = rw (reverse-append (ds ++ d ∷ []) (c ∷ []), h, reverse-append ds (d ∷ []), k) refl
 
-trimmed_none : (fs ds : List Cell) (c : Cell) (b : ℕ) → (c.byte == b) ≡ false → trimmed (fs ++ (ds ++ c ∷ [])) (length fs) (length (fs ++ (ds ++ c ∷ []))) b ≡ length (fs ++ (ds ++ c ∷ []))
+pub trimmed_none : (fs ds : List Cell) (c : Cell) (b : ℕ) → (c.byte == b) ≡ false → trimmed (fs ++ (ds ++ c ∷ [])) (length fs) (length (fs ++ (ds ++ c ∷ []))) b ≡ length (fs ++ (ds ++ c ∷ []))
 unfolding trimmed
 trimmed_none fs ds c b h =
     let n : ℕ = length (fs ++ (ds ++ c ∷ [])) in
@@ -137,11 +137,11 @@ ends_whole fs at xs h =
         (sym (ap (numbered at) (k.1.1) ∙ numbered_append at more (92 ∷ [])))
         (end_escaped fs (numbered at more) (cell 92 (at + length more)) c (k.0) s refl refl)
 
-past_last : (cells : List Cell) (end : ℕ) → cell_place cells (length cells) end ≡ end
+pub past_last : (cells : List Cell) (end : ℕ) → cell_place cells (length cells) end ≡ end
 past_last [] end = refl
 past_last (c ∷ cells) end = past_last cells end
 
-place_behind : (fs : List Cell) (c : Cell) (cs : List Cell) (end : ℕ) → cell_place (fs ++ c ∷ cs) (length fs) end ≡ c.at
+pub place_behind : (fs : List Cell) (c : Cell) (cs : List Cell) (end : ℕ) → cell_place (fs ++ c ∷ cs) (length fs) end ≡ c.at
 place_behind [] c cs end = refl
 place_behind (f ∷ fs) c cs end = place_behind fs c cs end
 
@@ -153,7 +153,7 @@ record IsHashed (cells : List Cell) : Type 0 where
   rule : is_rule cells (tail_of cells) 0 ≡ false
   marker : marker_at cells 0 ≡ None
 
-some_cells : (n : ℕ) → nat_le (suc n) 0 ≡ false
+pub some_cells : (n : ℕ) → nat_le (suc n) 0 ≡ false
 some_cells n = grind (arith, nat_tests)
 
 hashed : (at : ℕ) (bs : List ℕ) → IsHashed (numbered at (35 ∷ bs))

@@ -1,8 +1,8 @@
--- What a paragraph of lines is spelled as, wherever it stands among paragraphs and headings.
+-- What a paragraph of lines and a thematic break are spelled as, wherever they stand in a document.
 use Rattle.std.proofs.Common.{◌≡◌, ℕ, ◌-◌, ◌<◌, ◌≤◌, max, Bool, true, false, ◌==◌, ◌&&◌, ◌||◌, if◌then◌else◌, nat_lt, List, [], ◌∷◌, ◌++◌, length, replicate, refl, ap, sym, subst, ◌∙◌, arith, append_assoc, append-nil, eq-eqb, Option, Some, None, Ok}
 use Rattle.std.proofs.lemmas.Bool.Decides.{nat_tests}
 use Rattle.tocmark_event.specs.Forest.{empty, leaf, node, flat}
-use Rattle.tocmark_event.specs.View.{EventView, Start, End, Leaf, Text, SoftBreak, Paragraph, SourcedEvent, SourcedLeaf}
+use Rattle.tocmark_event.specs.View.{EventView, Start, End, Leaf, Text, SoftBreak, Rule, Paragraph, SourcedEvent, SourcedLeaf}
 use Rattle.tocmark_event.specs.declared.event.TagEnd.TheVariants as end
 use Rattle.tocmark_write_texts.specs.Escape.{Surroundings, escaped}
 use Rattle.tocmark_spelling.specs.Body.{Trees, some_leaf}
@@ -15,7 +15,7 @@ use Rattle.tocmark_spelling.specs.declared.trail.Last.{Last}
 use Rattle.tocmark_spelling.specs.declared.trail.Last.TheVariants.{Inline, Other}
 use Rattle.tocmark_spelling.specs.Plan.{Setting, Manner}
 use Rattle.tocmark_spelling.specs.Spelling.{spelling, then_site, body_or_id, skips_body}
-use Rattle.tocmark_spelling.specs.Stretch.{leaf_on, place, held_with, stretch_on}
+use Rattle.tocmark_spelling.specs.Stretch.{leaf_on, place, held_with, stretch_on, rule_text}
 use Rattle.tocmark_spelling.specs.Runs.{ahead_of, past, beyond}
 use Rattle.tocmark_render.specs.Candidates.{preferred_manner, has_source, is_delimiter_block, is_delimiter_tag, is_math, some_tag}
 use Rattle.tocmark_render.specs.Choice as choice
@@ -28,13 +28,15 @@ use Rattle.tocmark_render.proofs.PlainUnits.{choice-unasked}
 use Rattle.tocmark_reader.proofs.PlainReading.{IsPrintable, IsPlainLine, some_front}
 use Rattle.tocmark_read_scan.specs.PlainParts as parts
 use Rattle.tocmark_laws.specs.PlainLines.{PlacedLine}
-use Rattle.tocmark_laws.specs.TextBlocks.{Kind, ParagraphKind, HeadingKind, feeds_behind}
-use Rattle.tocmark_laws.proofs.BlockSpelling.{last_of, page_of, blank, IsCalm}
+use Rattle.tocmark_laws.specs.TextBlocks.{ParagraphKind, HeadingKind, feeds_behind}
+use Rattle.tocmark_laws.proofs.BlockSpelling.{LastEnd, NoEnd, TextEnd, CodeEnd, last_of, page_of, blank, IsCalm}
 use Rattle.tocmark_laws.proofs.Paragraphs.{laid-plain, neither_in}
 use Rattle.tocmark_laws.proofs.PlainCharacters.{parts_of}
 use Rattle.tocmark_laws.proofs.PlainEscapes.{ArePrintable, escape_is}
 use Rattle.tocmark_laws.proofs.PlainEscapedBytes.{escaped_is}
 use Rattle.tocmark_laws.proofs.PlainEscapedTexts.{IsLine, plain_line}
+use Rattle.tocmark_laws.proofs.DocumentBlocks.{hyphens}
+use Rattle.tocmark_laws.proofs.DocumentRows.{hyphens_printable}
 use Rattle.tocmark_laws.proofs.PlainSpelling.{text_leaf, break_leaf, line_trees, line_place, around, begun, within, placed, lines_text, AreLinesIn}
 
 -- bytes of a line, laid
@@ -56,7 +58,7 @@ laid_line x (y ∷ ys) s h =
     ∙ laid_line y ys (within (s.text ++ x ∷ [])) (h.1)
     ∙ ap within (append_assoc s.text (x ∷ []) (y ∷ ys))
 
-laid_some : (xs : List ℕ) (s : Sheet) → 0 < length xs → ArePrintable xs → laid [] xs s ≡ within (s.text ++ xs)
+pub laid_some : (xs : List ℕ) (s : Sheet) → 0 < length xs → ArePrintable xs → laid [] xs s ≡ within (s.text ++ xs)
 laid_some [] s some h = absurd (omega arith)
 laid_some (x ∷ xs) s some h = laid_line x xs s h
 
@@ -90,10 +92,11 @@ site path page = record { path = path; page = page }
 abbrev in_par : ℕ → Path
 in_par start = record { tag = Paragraph; prefix = []; start = start; content = Plain } ∷ []
 
-gap_before : (before : Option Kind) (owed : ℕ) → gap (Start Paragraph) [] (page_of blank owed (last_of before) None) ≡ page_of (laid [] (replicate (max owed 0 - 0) 10) blank) 0 (last_of before) None
-gap_before None owed = refl
-gap_before (Some ParagraphKind) owed = refl
-gap_before (Some (HeadingKind level)) owed = refl
+gap_before : (before : LastEnd) (owed : ℕ) → gap (Start Paragraph) [] (page_of blank owed (last_of before) None) ≡ page_of (laid [] (replicate (max owed 0 - 0) 10) blank) 0 (last_of before) None
+gap_before NoEnd owed = refl
+gap_before CodeEnd owed = refl
+gap_before (TextEnd ParagraphKind) owed = refl
+gap_before (TextEnd (HeadingKind level)) owed = refl
 
 gap_inside : (start : ℕ) (text : List ℕ) (sheet : Sheet) → gap (Leaf (Text text)) (in_par start) (page_of sheet 0 Other None) ≡ page_of sheet 0 Other None
 gap_inside start text sheet = ap (λ n. page_of (laid [] (replicate n 10) sheet) 0 Other None) (none_left sheet.feeds)
@@ -186,7 +189,7 @@ module _ (s : Setting) where
   unfolding opening
   opened kids a sheet last = refl
 
-  closed : (start : ℕ) (sheet : Sheet) → closing s.options (in_par start) (page_of sheet 0 Inline None) ≡ Some (site [] (page_of sheet (feeds_behind s.options ParagraphKind) (last_of (Some ParagraphKind)) None))
+  closed : (start : ℕ) (sheet : Sheet) → closing s.options (in_par start) (page_of sheet 0 Inline None) ≡ Some (site [] (page_of sheet (feeds_behind s.options ParagraphKind) (last_of (TextEnd ParagraphKind)) None))
   unfolding closing
   closed start sheet = refl
 
@@ -209,15 +212,15 @@ module _ (s : Setting) where
   entered : (start : ℕ) (kids : Trees) (next : Option EventView) (p : Page) → from_opening kids next (site (in_par start) p) ≡ then_site (spelling s m kids (around (Start Paragraph ∷ []) (End end.Paragraph ∷ []) next) (in_par start) p) (λ full. from_texts kids next full)
   entered start kids next p = refl
 
-  ended : (start : ℕ) (kids : Trees) (next : Option EventView) (sheet : Sheet) → from_texts kids next (written start sheet) ≡ Some (site [] (page_of sheet (feeds_behind s.options ParagraphKind) (last_of (Some ParagraphKind)) None))
+  ended : (start : ℕ) (kids : Trees) (next : Option EventView) (sheet : Sheet) → from_texts kids next (written start sheet) ≡ Some (site [] (page_of sheet (feeds_behind s.options ParagraphKind) (last_of (TextEnd ParagraphKind)) None))
   unfolding spelling
   ended start kids next sheet =
       ap (λ o. then_site o (λ here. spelling s m empty (beyond Paragraph kids (around [] [] next)) here.path here.page)) (closed start sheet)
 
   abbrev left_page : List ℕ → Page
-  left_page text = page_of (within text) (feeds_behind s.options ParagraphKind) (last_of (Some ParagraphKind)) None
+  left_page text = page_of (within text) (feeds_behind s.options ParagraphKind) (last_of (TextEnd ParagraphKind)) None
 
-  paragraph_spelled : (l : List ℕ) (ms : List (List ℕ)) (before : Option Kind) (owed : ℕ) (next : Option EventView) → AreLinesIn s m (l ∷ ms) → spelling s m (node Paragraph (line_trees l ms) empty) (whole next) [] (page_of blank owed (last_of before) None) ≡ Some (site [] (left_page (replicate owed 10 ++ lines_text s m l ms)))
+  paragraph_spelled : (l : List ℕ) (ms : List (List ℕ)) (before : LastEnd) (owed : ℕ) (next : Option EventView) → AreLinesIn s m (l ∷ ms) → spelling s m (node Paragraph (line_trees l ms) empty) (whole next) [] (page_of blank owed (last_of before) None) ≡ Some (site [] (left_page (replicate owed 10 ++ lines_text s m l ms)))
   paragraph_spelled l ms before owed next h =
       let kids : Trees = line_trees l ms in
       let sheet : Sheet = laid [] (replicate owed 10) blank in
@@ -252,35 +255,35 @@ pub para_placed : (l : List ℕ) (ms : List (List ℕ)) → needs_placeholder (p
 unfolding needs_placeholder
 para_placed l ms = ap (λ x. x || false) (lines_placed l ms _)
 
-page_is : (d : DocumentView) (owed : ℕ) (before : Option Kind) → IsCalm d owed before → page_in d ≡ page_of blank owed (last_of before) None
+pub page_is : (d : DocumentView) (owed : ℕ) (before : LastEnd) → IsCalm d owed before → page_in d ≡ page_of blank owed (last_of before) None
 page_is d owed before h =
     ap (λ n. record { sheet = record { text = []; feeds = n }; trail = d.trail; references = []; held = None }) h.feeds
     ∙ ap (λ t. record { sheet = blank; trail = t; references = []; held = None }) h.trail
 
--- a unit's choice is this text, and paragraphs and headings may follow
-pub record IsHanded (s : Setting) (d : DocumentView) (unit : Trees) (next : Option EventView) (kind : Kind) (text : List ℕ) : Type 0 where
+-- a unit's choice is this text, and what follows it stands behind so many line feeds and such a block
+pub record IsHanded (s : Setting) (d : DocumentView) (unit : Trees) (next : Option EventView) (text : List ℕ) (owed : ℕ) (before : LastEnd) : Type 0 where
   pub document : DocumentView
   pub is : chosen s d (flat unit) next ≡ Ok (text, document)
-  pub after : IsCalm document (feeds_behind s.options kind) (Some kind)
+  pub after : IsCalm document owed before
 
 module _ (s : Setting) (d : DocumentView) (l : List ℕ) (ms : List (List ℕ)) (next : Option EventView) where
   abbrev text_of : ℕ → List ℕ
   text_of owed = replicate owed 10 ++ lines_text s (preferred_manner s.options) l ms
 
-  page_spelled : (owed : ℕ) (before : Option Kind) → IsCalm d owed before → AreLinesIn s (preferred_manner s.options) (l ∷ ms) → spelled s d (para l ms) next (preferred_manner s.options) ≡ Some (left_page s (text_of owed))
+  page_spelled : (owed : ℕ) (before : LastEnd) → IsCalm d owed before → AreLinesIn s (preferred_manner s.options) (l ∷ ms) → spelled s d (para l ms) next (preferred_manner s.options) ≡ Some (left_page s (text_of owed))
   unfolding spelled
   page_spelled owed before h lines =
       ap (λ p. choice.page_of (spelling s (preferred_manner s.options) (para l ms) (whole next) [] p)) (page_is d owed before h)
       ∙ ap choice.page_of (paragraph_spelled s l ms before owed next lines)
 
-  left_calm : (owed : ℕ) (before : Option Kind) → IsCalm d owed before → IsCalm (document_after s d (left_page s (text_of owed))) (feeds_behind s.options ParagraphKind) (Some ParagraphKind)
+  left_calm : (owed : ℕ) (before : LastEnd) → IsCalm d owed before → IsCalm (document_after s d (left_page s (text_of owed))) (feeds_behind s.options ParagraphKind) (TextEnd ParagraphKind)
   unfolding document_after
   left_calm owed before h = record { trail = refl; feeds = refl; none = append-nil d.references ∙ h.none }
 
   unasked : (has_source (para l ms) && has_standard_markers s.options) ≡ false
   unasked = ap (λ x. (x || false) && has_standard_markers s.options) (no_sources l ms)
 
-  pub para_chosen : s.options.check_plain_blocks ≡ false → s.label ≡ None → (owed : ℕ) (before : Option Kind) → IsCalm d owed before → AreLinesIn s (preferred_manner s.options) (l ∷ ms) → IsHanded s d (para l ms) next ParagraphKind (text_of owed)
+  pub para_chosen : s.options.check_plain_blocks ≡ false → s.label ≡ None → (owed : ℕ) (before : LastEnd) → IsCalm d owed before → AreLinesIn s (preferred_manner s.options) (l ∷ ms) → IsHanded s d (para l ms) next (text_of owed) (feeds_behind s.options ParagraphKind) (TextEnd ParagraphKind)
   para_chosen off none owed before h lines = record {
     document = document_after s d (left_page s (text_of owed));
     is =
@@ -288,4 +291,80 @@ module _ (s : Setting) (d : DocumentView) (l : List ℕ) (ms : List (List ℕ)) 
         ∙ choice-unasked s d (para l ms) next (undelimited l ms) off unasked
         ∙ ap (accepted_if s d) (page_spelled owed before h lines);
     after = left_calm owed before h;
+  }
+
+-- a thematic break as a unit
+
+abbrev pub rule_leaf : SourcedLeaf
+rule_leaf = record { leaf = Rule; source = None }
+
+abbrev pub rule_unit : Trees
+rule_unit = leaf rule_leaf empty
+
+pub rule_placed : needs_placeholder rule_unit ≡ false
+unfolding needs_placeholder
+rule_placed = refl
+
+rule_gap : (before : LastEnd) (owed : ℕ) → gap (Leaf Rule) [] (page_of blank owed (last_of before) None) ≡ page_of (laid [] (replicate (max owed 0 - 0) 10) blank) 0 (last_of before) None
+rule_gap NoEnd owed = refl
+rule_gap CodeEnd owed = refl
+rule_gap (TextEnd ParagraphKind) owed = refl
+rule_gap (TextEnd (HeadingKind level)) owed = refl
+
+-- behind such blocks it is three hyphens
+rule_hyphens : (before : LastEnd) → rule_text (last_of before) [] ≡ hyphens
+rule_hyphens NoEnd = refl
+rule_hyphens CodeEnd = refl
+rule_hyphens (TextEnd ParagraphKind) = refl
+rule_hyphens (TextEnd (HeadingKind level)) = refl
+
+rule_laid : (owed : ℕ) → laid [] hyphens (laid [] (replicate owed 10) blank) ≡ within (replicate owed 10 ++ hyphens)
+rule_laid owed = laid_some hyphens (laid [] (replicate owed 10) blank) (omega arith) hyphens_printable ∙ ap (λ (x : List ℕ). within (x ++ hyphens)) (laid-plain (replicate owed 10) blank)
+
+module _ (s : Setting) where
+  abbrev rule_feeds : ℕ
+  rule_feeds = max s.options.newlines_after_rule 1
+
+  abbrev rule_page : ℕ → Page
+  rule_page owed = page_of (within (replicate owed 10 ++ hyphens)) rule_feeds Other None
+
+  -- the break behind its gap
+  abbrev ruled : List ℕ → Page → Site
+  ruled text g = site [] (record g { sheet = laid [] text g.sheet; trail = record g.trail { last = Other; owed = rule_feeds } })
+
+  rule_on_page : (a : Around) (p g : Page) → gap (Leaf Rule) [] p ≡ g → leaf_on s (preferred_manner s.options) rule_leaf a [] p ≡ ruled (rule_text g.trail.last []) g
+  unfolding leaf_on
+  rule_on_page a p g e = ap (λ (g : Page). ruled (rule_text g.trail.last []) g) e
+
+  rule_written : (a : Around) (before : LastEnd) (owed : ℕ) → leaf_on s (preferred_manner s.options) rule_leaf a [] (page_of blank owed (last_of before) None) ≡ site [] (rule_page owed)
+  rule_written a before owed =
+      let feeds : Page = page_of (laid [] (replicate owed 10) blank) 0 (last_of before) None in
+      rule_on_page a (page_of blank owed (last_of before) None) feeds (rule_gap before owed ∙ ap (λ n. page_of (laid [] (replicate n 10) blank) 0 (last_of before) None) (all_left owed))
+      ∙ ap (λ (t : List ℕ). ruled t feeds) (rule_hyphens before)
+      ∙ ap (λ (x : Sheet). site [] (page_of x rule_feeds Other None)) (rule_laid owed)
+
+  rule_spelled : (before : LastEnd) (owed : ℕ) (next : Option EventView) → spelling s (preferred_manner s.options) rule_unit (whole next) [] (page_of blank owed (last_of before) None) ≡ Some (site [] (rule_page owed))
+  rule_spelled before owed next =
+      spelled_leaf s rule_leaf empty (whole next) [] (page_of blank owed (last_of before) None) (site [] (rule_page owed)) (rule_written (ahead_of empty (whole next)) before owed)
+      ∙ spelled_end s (past (Leaf rule_leaf) (whole next)) (site [] (rule_page owed))
+
+module _ (s : Setting) (d : DocumentView) (next : Option EventView) where
+  rule_page_spelled : (owed : ℕ) (before : LastEnd) → IsCalm d owed before → spelled s d rule_unit next (preferred_manner s.options) ≡ Some (rule_page s owed)
+  unfolding spelled
+  rule_page_spelled owed before h =
+      ap (λ p. choice.page_of (spelling s (preferred_manner s.options) rule_unit (whole next) [] p)) (page_is d owed before h)
+      ∙ ap choice.page_of (rule_spelled s before owed next)
+
+  rule_calm : (owed : ℕ) (before : LastEnd) → IsCalm d owed before → IsCalm (document_after s d (rule_page s owed)) (rule_feeds s) NoEnd
+  unfolding document_after
+  rule_calm owed before h = record { trail = refl; feeds = refl; none = append-nil d.references ∙ h.none }
+
+  pub rule_chosen : s.options.check_plain_blocks ≡ false → s.label ≡ None → (owed : ℕ) (before : LastEnd) → IsCalm d owed before → IsHanded s d rule_unit next (replicate owed 10 ++ hyphens) (max s.options.newlines_after_rule 1) NoEnd
+  rule_chosen off none owed before h = record {
+    document = document_after s d (rule_page s owed);
+    is =
+        chosen-unlabelled s d rule_unit next none rule_placed
+        ∙ choice-unasked s d rule_unit next refl off refl
+        ∙ ap (accepted_if s d) (rule_page_spelled owed before h);
+    after = rule_calm owed before h;
   }

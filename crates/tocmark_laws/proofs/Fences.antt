@@ -24,7 +24,7 @@ inner-run (b ∷ before) n c after =
     let rest = inner-run before n c after in
     omega (arith, rest)
 
-any-run : (n c : ℕ) (text : List ℕ) → HasRun n c text → n ≤ longest_run c text
+pub any-run : (n c : ℕ) (text : List ℕ) → HasRun n c text → n ≤ longest_run c text
 any-run n c text h = subst (λ t. n ≤ longest_run c t) (sym h.is) (inner-run h.before n c h.after)
 
 -- no backtick stands behind the fence that is chosen

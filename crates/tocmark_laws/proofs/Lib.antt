@@ -31,13 +31,16 @@ pub mod LineFeeds
 pub mod DocumentBlocks
 pub mod DocumentHeadings
 pub mod DocumentParagraphs
+pub mod DocumentCode
 pub mod DocumentRows
 pub mod DocumentNodes
 pub mod DocumentEvents
 pub mod DocumentRowsWritten
 pub mod DocumentSpelling
+pub mod DocumentCodeSpelling
 pub mod DocumentWalks
 pub mod DocumentsReadBack
+mod DocumentExample
 pub mod ExtensionBlocks
 pub mod ExtensionParagraphs
 pub mod FrontMatterBlocks
