@@ -1,23 +1,36 @@
 -- What the program reads and writes.
-use Rattle.std.specs.Prelude.{◌≡◌, ◌⊎◌, ℕ, List, None, Option, Some, false, is_some, true}
+use Rattle.std.specs.Prelude.{◌≡◌, ◌⊎◌, ℕ, Bool, List, None, Option, Some, false, is_some, true}
 use Rattle.std.specs.Io.KnownBytes.{Appends}
 use Rattle.serde_json.specs.Written.{IsInOrder}
 use Rattle.tocmark_event.specs.Options.{options_view}
 use Rattle.tocmark_interchange.specs.Document.{IsWrittenTheSame}
 use Rattle.tocmark_interchange.specs.Interchange.{IsWrittenAgain, IsWrittenFrom, reading_json}
+use Rattle.tocmark_interchange.specs.Lines.{json_of, reading_lines}
 use Rattle.tocmark_interchange.specs.Rewriting.{IsRewrittenText}
 use Rattle.tocmark_events_program.specs.declared.arguments.Job.{Job}
 use Rattle.tocmark_events_program.specs.declared.arguments.Job.TheVariants as job
 use Rattle.tocmark_events_program.specs.declared.fault.Fault.{Fault}
 use Rattle.tocmark_events_program.specs.declared.fault.Fault.TheVariants as fault
 
+-- whether a job's input is JSON by lines
+abbrev pub takes_lines : Job → Bool
+takes_lines (job.Read flags lines) = false
+takes_lines job.Check = false
+takes_lines (job.Write flags options file is_document lines) = lines
+takes_lines (job.Rewrite flags options file reports lines) = lines
+
+-- what a job makes of its text, which is no JSON by lines
+abbrev pub IsMade : Job → List ℕ → List ℕ → List ℕ → Type 0
+IsMade (job.Read flags false) source text output = IsInOrder output (reading_json flags text)
+IsMade (job.Read flags true) source text output = output ≡ reading_lines flags text
+IsMade job.Check source text output = IsWrittenAgain text output
+IsMade (job.Write flags options file true lines) source text output = IsWrittenTheSame (options_view options) flags (is_some file) source text output
+IsMade (job.Write flags options file false lines) source text output = IsWrittenFrom (options_view options) flags (is_some file) source text output
+IsMade (job.Rewrite flags options file reports lines) source text output = IsRewrittenText flags source text output
+
 -- what a job makes of its input
 abbrev pub IsAnswer : Job → List ℕ → List ℕ → List ℕ → Type 0
-IsAnswer (job.Read flags) source input output = IsInOrder output (reading_json flags input)
-IsAnswer job.Check source input output = IsWrittenAgain input output
-IsAnswer (job.Write flags options file true) source input output = IsWrittenTheSame (options_view options) flags (is_some file) source input output
-IsAnswer (job.Write flags options file false) source input output = IsWrittenFrom (options_view options) flags (is_some file) source input output
-IsAnswer (job.Rewrite flags options file reports) source input output = IsRewrittenText flags source input output
+IsAnswer j source input output = IsMade j source (json_of (takes_lines j) input) output
 
 -- the output could not be written whole
 abbrev pub IsWriteFault : Fault → Type 0

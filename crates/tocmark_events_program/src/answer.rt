@@ -5,15 +5,18 @@ ghost use Rattle.serde_json.specs.Written.{IsInOrder};
 ghost use Rattle.tocmark_event.specs.Options.{options_view};
 ghost use Rattle.tocmark_interchange.specs.Document.{IsWrittenTheSame};
 ghost use Rattle.tocmark_interchange.specs.Interchange.{IsWrittenAgain, IsWrittenFrom, reading_json};
+ghost use Rattle.tocmark_interchange.specs.Lines.{array_of, reading_lines};
 ghost use Rattle.tocmark_interchange.specs.Rewriting.{IsRewrittenText};
-ghost use Rattle.tocmark_events_program.specs.Events.{IsAnswer, IsWriteFault};
+ghost use Rattle.tocmark_events_program.specs.Events.{IsAnswer, IsMade, IsWriteFault};
 
 use crate::arguments::Job;
 use crate::fault::Fault;
 use std::alloc::Global;
 use tocmark::Options;
 use tocmark::event::ParserOptions;
-use tocmark_interchange::{check_json, checked_over, read_json, rewrite_json, write_over};
+use tocmark_interchange::{
+    array_of, check_json, checked_over, read_json, read_lines, rewrite_json, write_over,
+};
 use tocmark_rewrite::RewrittenTree;
 
 /// What a call is answered.
@@ -42,6 +45,15 @@ fn read_events(alloc: Global, text: &str, flags: ParserOptions) -> Result<Answer
         IsInOrder (string_bytes answer.text) (reading_json flags text.now)) }
 {
     let output = read_json(alloc, text, flags)?;
+    Ok(only(alloc, output))
+}
+
+/// The lines of JSON of the events of a text under these flags, with their ranges.
+fn read_event_lines(alloc: Global, text: &str, flags: ParserOptions) -> Result<Answer, Fault>
+    ensures fault { IfErr result (λ fault. ¬ (IsWriteFault fault)) }
+    ensures read { IfOk result (λ answer. string_bytes answer.text ≡ reading_lines flags text.now) }
+{
+    let output = read_lines(alloc, text, flags)?;
     Ok(only(alloc, output))
 }
 
@@ -107,27 +119,56 @@ fn rewrite_events(
     })
 }
 
-/// What a job makes of its text.
-pub fn answered(alloc: Global, job: Job<'_>, source: &str, text: &str) -> Result<Answer, Fault>
+/// What a job makes of a text, which is no JSON by lines.
+fn made(alloc: Global, job: Job<'_>, source: &str, text: &str) -> Result<Answer, Fault>
     ensures fault { IfErr result (λ fault. ¬ (IsWriteFault fault)) }
-    ensures answers { IfOk result (λ answer.
-        IsAnswer job.entry source.now text.now (string_bytes answer.text)) }
+    ensures makes { IfOk result (λ answer.
+        IsMade job.entry source.now text.now (string_bytes answer.text)) }
 {
     match job {
-        Job::Read { flags } => read_events(alloc, text, flags),
+        Job::Read {
+            flags,
+            lines: false,
+        } => read_events(alloc, text, flags),
+        Job::Read { flags, lines: true } => read_event_lines(alloc, text, flags),
         Job::Check => checked_events(alloc, text),
         Job::Write {
             flags,
             options,
             source: file,
             is_document: false,
+            ..
         } => write_events(alloc, text, source, file.is_some(), flags, options),
         Job::Write {
             flags,
             options,
             source: file,
             is_document: true,
+            ..
         } => write_document(alloc, text, source, file.is_some(), flags, options),
         Job::Rewrite { flags, options, .. } => rewrite_events(alloc, text, source, flags, options),
+    }
+}
+
+/// What a job makes of JSON by lines.
+fn made_of_lines(alloc: Global, job: Job<'_>, source: &str, lines: &str) -> Result<Answer, Fault>
+    ensures fault { IfErr result (λ fault. ¬ (IsWriteFault fault)) }
+    ensures makes { IfOk result (λ answer.
+        IsMade job.entry source.now (array_of lines.now) (string_bytes answer.text)) }
+{
+    let json = array_of(alloc, lines)?;
+    made(alloc, job, source, json.as_str())
+}
+
+/// What a job makes of its input.
+pub fn answered(alloc: Global, job: Job<'_>, source: &str, input: &str) -> Result<Answer, Fault>
+    ensures fault { IfErr result (λ fault. ¬ (IsWriteFault fault)) }
+    ensures answers { IfOk result (λ answer.
+        IsAnswer job.entry source.now input.now (string_bytes answer.text)) }
+{
+    if job.takes_lines() {
+        made_of_lines(alloc, job, source, input)
+    } else {
+        made(alloc, job, source, input)
     }
 }

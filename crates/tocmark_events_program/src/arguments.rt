@@ -15,6 +15,8 @@ pub enum Job<'a> {
     /// Markdown, read under these flags, to events.
     Read {
         flags: ParserOptions,
+        /// Whether each event stands on a line of its own.
+        lines: bool,
     },
     /// Events to the one form of their JSON.
     Check,
@@ -25,6 +27,8 @@ pub enum Job<'a> {
         source: Option<&'a str>,
         /// Whether just these events have to be found in it again.
         is_document: bool,
+        /// Whether each event stands on a line of its own.
+        lines: bool,
     },
     /// The document in a file, rewritten to events that were read from it under these flags.
     Rewrite {
@@ -33,7 +37,25 @@ pub enum Job<'a> {
         source: &'a str,
         /// Whether a line is to say what became of each block.
         reports: bool,
+        /// Whether each event stands on a line of its own.
+        lines: bool,
     },
+}
+
+impl<'a> Job<'a> {
+    ghost use Rattle.std.specs.Prelude.{◌≡◌};
+    ghost use Rattle.tocmark_events_program.specs.Events.{takes_lines};
+
+    /// Whether the input is JSON by lines.
+    pub fn takes_lines(&self) -> bool
+        ensures { result ≡ takes_lines self.now }
+    {
+        match self {
+            Job::Read { .. } | Job::Check => false,
+            Job::Write { lines, .. } => *lines,
+            Job::Rewrite { lines, .. } => *lines,
+        }
+    }
 }
 
 /// Why arguments are wrong.
@@ -76,6 +98,8 @@ const WRITE: &str = "Turn events as JSON on standard input into Markdown";
 
 const REWRITE: &str =
     "Edit a document: keep all that isn't changed in its\nevents, which come as JSON on standard input";
+
+const LINES: &str = "One line of JSON for each event, and no array";
 
 const CHECK: &str = "Print the JSON of events without spaces, and with keys in one order";
 
@@ -124,8 +148,13 @@ fn write_command<'a>(alloc: Global, syntax_help: &'a str) -> Result<Command<'a>,
         "check-document",
         "Parse the whole output, and refuse it unless it\nhas just these events",
     );
+    let lines = switch(alloc, "lines", LINES);
     let write = Command::new(alloc, "write").about(WRITE);
-    let write = write.arg(source)?.arg(reads_back)?.arg(document)?;
+    let write = write
+        .arg(source)?
+        .arg(reads_back)?
+        .arg(document)?
+        .arg(lines)?;
     with_syntax(
         alloc,
         with_options(alloc, write)?,
@@ -145,8 +174,9 @@ fn rewrite_command<'a>(alloc: Global, syntax_help: &'a str) -> Result<Command<'a
         "report",
         "Tell on standard error what became of each block",
     );
+    let lines = switch(alloc, "lines", LINES);
     let rewrite = Command::new(alloc, "rewrite").about(REWRITE);
-    let rewrite = rewrite.arg(source)?.arg(report)?;
+    let rewrite = rewrite.arg(source)?.arg(report)?.arg(lines)?;
     with_syntax(
         alloc,
         with_options(alloc, rewrite)?,
@@ -157,7 +187,8 @@ fn rewrite_command<'a>(alloc: Global, syntax_help: &'a str) -> Result<Command<'a
 
 /// The command line, with this help of `--syntax`. `docs/JSON.md` says what its parts mean.
 pub fn command<'a>(alloc: Global, syntax_help: &'a str) -> Result<Command<'a>, AllocError> {
-    let read = Command::new(alloc, "read").about(READ);
+    let lines = switch(alloc, "lines", LINES);
+    let read = Command::new(alloc, "read").about(READ).arg(lines)?;
     let check = Command::new(alloc, "check").about(CHECK);
     Command::new(alloc, NAME)
         .bin_name(NAME)?
@@ -227,8 +258,9 @@ pub fn asked<'a>(
         return Ok(Job::Check);
     }
     let flags = flags_of(matches)?;
+    let lines = matches.get_flag("lines");
     if name == "read" {
-        return Ok(Job::Read { flags });
+        return Ok(Job::Read { flags, lines });
     }
     let mut options = options_of(alloc, matches, given)?;
     if name == "write" && matches.get_flag("check-plain-blocks") {
@@ -243,6 +275,7 @@ pub fn asked<'a>(
             options,
             source: matches.get_str("source"),
             is_document: matches.get_flag("check-document"),
+            lines,
         });
     }
     let Some(source) = matches.get_str("source") else {
@@ -253,5 +286,6 @@ pub fn asked<'a>(
         options,
         source,
         reports: matches.get_flag("report"),
+        lines,
     })
 }

@@ -1,4 +1,5 @@
 pub mod Document
 pub mod Interchange
+pub mod Lines
 pub mod Options
 pub mod Rewriting

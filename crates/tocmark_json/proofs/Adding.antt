@@ -1,5 +1,5 @@
 -- How the tokens of values are put together.
-use Rattle.std.proofs.Common.{◌≡◌, ℕ, suc, max, ◌+◌, ◌^◌, ◌<◌, ◌≤◌, List, [], ◌∷◌, ◌++◌, length, get_or, drop, map, Bool, Result, Option, Some, option_and_then, option_map, ap, ap₂, arith, subst, sym, refl, ◌∙◌, append_assoc, decimal}
+use Rattle.std.proofs.Common.{◌≡◌, ℕ, suc, max, ◌+◌, ◌^◌, ◌<◌, ◌≤◌, List, [], ◌∷◌, ◌++◌, length, get_or, drop, map, Bool, Result, Option, Some, option_and_then, option_map, ap, ap₂, arith, subst, sym, refl, ◌∙◌, append_assoc, append-nil, decimal}
 use Rattle.std.specs.Prelude.{OnOk}
 use Rattle.std.proofs.lemmas.List.{drop_more, drop_all, get_or_default}
 use Rattle.std.proofs.lemmas.Result.{on_ok_weaker}
@@ -11,13 +11,13 @@ use Rattle.json.specs.Print.{print}
 use Rattle.json.specs.Tree as tree
 use Rattle.json.specs.Tree.{json_tokens, items_tokens}
 use Rattle.json.specs.Written.{Written, Writes}
+use Rattle.json.proofs.Printed.Trees.{value-json_tokens}
 use Rattle.serde_json.specs.Data.{Data, null, boolean, number, unsigned, string, array, object, Items, item, no_items, Members, member, no_members, put, depth, items_depth, members_depth}
 use Rattle.serde_json.specs.Read.{of_items, of_json, max_depth, read}
 use Rattle.serde_json.specs.View.{items_of}
 use Rattle.serde_json.specs.Written.{outline, items_outline, members_outline, blank, blank_items, compact_text, unless_float, IsInOrder}
 use Rattle.serde_json.proofs.Numbers.{number_of-decimal}
 use Rattle.serde_json.proofs.Texts.{print-outline, unless_float-number_of}
-use Rattle.serde_json.proofs.Writing.{read_back}
 use Rattle.tocmark_event.specs.declared.event.Alignment.{Alignment}
 use Rattle.tocmark_json.specs.Json.{alignment_json, both, size_json, tagged}
 use Rattle.tocmark_json.specs.Printed.{Grows, Adds}
@@ -162,8 +162,11 @@ module _ (xs : List Alignment) (i : ℕ) (start a b : Written) (d : Alignment) (
 pub value_text : (d : Data) (a b : Written) (text : List ℕ) → a.tokens ≡ [] → Adds d a b → text ≡ print b.tokens → text ≡ compact_text d
 value_text d a b text none h is = is ∙ ap print (h.grows.tokens ∙ ap (λ l. l ++ json_tokens (outline d)) none) ∙ print-outline d
 
+value_tokens : (d : Data) (a b : Written) (text : List ℕ) → a.tokens ≡ [] → Adds d a b → tokens (print b.tokens) ≡ b.tokens → text ≡ print b.tokens → tokens text ≡ json_tokens (outline d)
+value_tokens d a b text none h again is = ap tokens is ∙ again ∙ h.grows.tokens ∙ ap (λ l. l ++ json_tokens (outline d)) none
+
 pub value_order : (d : Data) (a b : Written) (text : List ℕ) → a.tokens ≡ [] → Adds d a b → tokens (print b.tokens) ≡ b.tokens → text ≡ print b.tokens → IsInOrder text d
-value_order d a b text none h again is = (outline d, ap tokens is ∙ again ∙ h.grows.tokens ∙ ap (λ l. l ++ json_tokens (outline d)) none, h.whole)
+value_order d a b text none h again is = (outline d, value_tokens d a b text none h again is, h.whole)
 
 -- the outline of a value nests as deep as the value
 mutual
@@ -183,11 +186,16 @@ mutual
   members-depth no_members = refl
   members-depth (member k d ms) = ap₂ max (outline-depth d) (members-depth ms)
 
-same_le : (m n : ℕ) → m ≡ n → m ≤ n
-same_le m n h = omega arith
+same_le : (m n top : ℕ) → m ≡ n → n ≤ top → m ≤ top
+same_le m n top same h = omega arith
+
+-- the value of all tokens
+abbrev whole : Option (json.Json × List Token) → Option Data
+whole o = option_and_then of_json (option_and_then (λ p. json.if_last p.0 p.1) o)
 
 -- it reads as the value, if that is no deeper than is read
 pub value_read : (d : Data) (a b : Written) (text : List ℕ) → a.tokens ≡ [] → Adds d a b → tokens (print b.tokens) ≡ b.tokens → text ≡ print b.tokens → depth d ≤ max_depth → read text ≡ Some d
 value_read d a b text none h again is shallow =
-    let order = value_order d a b text none h again is in
-    read_back d (json_tokens (outline d)) text (outline d, refl, h.reads, same_le _ _ (outline-depth d), h.whole) order.1 shallow
+    let all = value_tokens d a b text none h again is in
+    let deep : tree.depth (outline d) ≤ max_depth = same_le (tree.depth (outline d)) (depth d) max_depth (outline-depth d) shallow in
+    ap whole (ap (json.value max_depth) (all ∙ sym (append-nil (json_tokens (outline d)))) ∙ value-json_tokens (outline d) max_depth [] deep) ∙ h.reads

@@ -1,6 +1,6 @@
 //! The JSON text of events, token by token: no value of it is made.
 
-ghost use Rattle.std.specs.Prelude.{◌≡◌, [], ◌∷◌, IfOk, OnOk, Some, codes, map, string_bytes};
+ghost use Rattle.std.specs.Prelude.{◌≡◌, [], ◌∷◌, ◌++◌, IfOk, OnOk, Some, codes, map, string_bytes};
 ghost use Rattle.std.specs.Option.{option_map};
 ghost use Rattle.json.specs.Lex.{tokens};
 ghost use Rattle.json.specs.Print.{IsPrintable, print};
@@ -11,7 +11,7 @@ ghost use Rattle.serde_json.specs.Read.{read};
 ghost use Rattle.serde_json.specs.Written.{IsInOrder, compact_text};
 ghost use Rattle.tocmark_event.specs.View.{attribute_view, code_view, event_view, tag_view};
 ghost use Rattle.tocmark_json.specs.Json.{alignment_json, attribute_json, code_json, end_json, event_json, events_json, heading_json, level_json, link_json, link_type_json, listed, metadata_json, optional, pair_json, pair_view, pairs_json, quote_json, range_json, ranged_view, size_json, tag_json, tagged};
-ghost use Rattle.tocmark_json.specs.Printed.{Adds, Grows};
+ghost use Rattle.tocmark_json.specs.Printed.{Adds, Grows, lines_text};
 
 use crate::names::{alignment_name, level_name, metadata_name, quote_name};
 use json::{Token, Writer};
@@ -573,4 +573,42 @@ pub fn ranged_to_text<T: Words>(
     let mut out = Writer::new(Vec::new(alloc));
     print_ranged_events(&mut out, pairs)?;
     text_of(out)
+}
+
+/// The JSON text of an event with its range, without spaces.
+fn ranged_event_to_text<T: Words>(
+    alloc: Global,
+    pair: &(EventOf<T>, (usize, usize)),
+) -> Result<String, AllocError>
+    ensures { IfOk result (λ text. string_bytes text
+        ≡ compact_text (pair_json (ranged_view T.bytes pair.now))) }
+{
+    let mut out = Writer::new(Vec::new(alloc));
+    print_pair(&mut out, &pair.0, Some(pair.1))?;
+    text_of(out)
+}
+
+/// Adds a line and a line feed.
+fn push_line(text: &mut String, line: &String) -> Result<(), AllocError>
+    ensures { OnOk result (string_bytes text.new
+        ≡ string_bytes text.old ++ (string_bytes line.now ++ 10 ∷ [])) }
+{
+    text.push_str(line.as_str())?;
+    text.push('\n')
+}
+
+/// The JSON texts of events that all have a range, a line each: an array of two, the event and its range, and a line feed.
+pub fn ranged_to_lines<T: Words>(
+    alloc: Global,
+    pairs: &[(EventOf<T>, (usize, usize))],
+) -> Result<String, AllocError>
+    ensures { IfOk result (λ text. string_bytes text
+        ≡ lines_text (map (ranged_view T.bytes) pairs.now)) }
+{
+    let mut text = String::new(alloc);
+    for pair in pairs {
+        let line = ranged_event_to_text(alloc, pair)?;
+        push_line(&mut text, &line)?;
+    }
+    Ok(text)
 }

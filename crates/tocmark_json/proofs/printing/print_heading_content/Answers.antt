@@ -1,4 +1,4 @@
-use Rattle.std.proofs.Common.{codes, map, subst}
+use Rattle.std.proofs.Common.{codes, map, subst, refl}
 use Rattle.std.specs.Option.{option_map}
 use Rattle.serde_json.specs.Data.{string}
 use Rattle.tocmark_event.specs.View.{attribute_view}

@@ -1,4 +1,4 @@
-use Rattle.std.proofs.Common.{codes}
+use Rattle.std.proofs.Common.{codes, refl}
 use Rattle.tocmark_json.specs.Json.{size_json}
 use Rattle.tocmark_json.proofs.Adding.{member_added, two_added}
 use Rattle.tocmark_json.proofs.printing.print_range.Goals as goal

@@ -1,4 +1,4 @@
-use Rattle.std.proofs.Common.{codes}
+use Rattle.std.proofs.Common.{codes, refl}
 use Rattle.serde_json.specs.Data.{string}
 use Rattle.tocmark_json.specs.Json.{link_type_json}
 use Rattle.tocmark_json.proofs.Adding.{four_added, member_added}

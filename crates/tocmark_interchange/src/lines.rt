@@ -1,0 +1,62 @@
+//! JSON by lines: each event, or each pair of an event and its range, stands on a line of its own.
+
+ghost use Rattle.std.specs.Prelude.{◌≡◌, [], ◌∷◌, ◌++◌, IfOk, OnOk, string_bytes};
+ghost use Rattle.tocmark_interchange.specs.Lines.{array_of, reading_lines, with_commas};
+
+use std::alloc::{AllocError, Global};
+use tocmark::event::ParserOptions;
+use tocmark::reader::Reader;
+use tocmark_json::printing::ranged_to_lines;
+use tocmark_reader::{ExtendedReader, Names};
+
+/// The lines of JSON of the events that the reader of extensions finds in a text under these flags: on each an event with its
+/// range in bytes.
+///
+/// It fails if memory runs out.
+pub fn read_lines(alloc: Global, text: &str, flags: ParserOptions) -> Result<String, AllocError>
+    ensures { IfOk result (λ output. string_bytes output ≡ reading_lines flags text.now) }
+{
+    let reader = ExtendedReader { names: Names::All };
+    let reading = reader.read(alloc, text, flags)?;
+    let output = ranged_to_lines(alloc, &reading.events)?;
+    Ok(output)
+}
+
+/// Adds a byte, and a comma before it if it stands behind a line feed.
+fn push(json: &mut Vec<u8>, is_behind: bool, byte: u8) -> Result<(), AllocError>
+    ensures { OnOk result (json.new.items ≡ json.old.items ++ with_commas is_behind (byte ∷ [])) }
+{
+    if is_behind {
+        json.push(b',')?;
+        json.push(byte)?;
+        Ok(())
+    } else {
+        json.push(byte)?;
+        Ok(())
+    }
+}
+
+/// The JSON text of an array whose items stand on lines of their own, as `read_lines` writes them. No line is blank.
+///
+/// It fails if memory runs out.
+///
+/// ```
+/// let json = array_of(alloc, "\"Rule\"\n\"Rule\"\n")?;
+/// assert_eq!(rt; json.as_str(), "[\"Rule\"\n,\"Rule\"\n]");
+/// ```
+pub fn array_of(alloc: Global, lines: &str) -> Result<String, AllocError>
+    ensures { IfOk result (λ json. string_bytes json ≡ array_of lines.now) }
+{
+    let mut json = Vec::new(alloc);
+    json.push(b'[')?;
+    let mut is_behind = false;
+    for byte in lines.as_bytes() {
+        push(&mut json, is_behind, *byte)?;
+        is_behind = *byte == b'\n';
+    }
+    json.push(b']')?;
+    match String::from_utf8(json) {
+        Ok(json) => Ok(json),
+        Err(_error) => Err(AllocError),
+    }
+}
