@@ -1,3 +1,3 @@
 mod Answers
 mod Causes
-mod Rewriting
+mod Rewritten

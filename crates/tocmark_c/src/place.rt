@@ -1,0 +1,56 @@
+//! Where an error is, as C is told.
+
+ghost use Rattle.tocmark_c.specs.Place.{IsFilled};
+
+use tocmark_interchange::RewriteError;
+use tocmark_json::fault::JsonError;
+use tocmark_rewrite::Place;
+
+/// The size of `TocmarkPlace` in bytes.
+const SIZE: u32 = 32;
+
+/// Where an error is.
+#[repr(C)]
+#[derive(Clone, Copy)]
+pub struct TocmarkPlace {
+    /// The size of this struct in bytes, as C knows it.
+    pub size: u32,
+    /// The number of the event, counted from 0; the largest number if it isn't known.
+    pub event: usize,
+    /// The first line of the source that is concerned, counted from 1; 0 if it isn't known.
+    pub first_line: usize,
+    /// The last one.
+    pub last_line: usize,
+}
+
+impl TocmarkPlace {
+    /// Takes over where an error is. A struct of another size stays as it is.
+    pub fn fill(&mut self, place: Option<Place>)
+        ensures { IsFilled self.old self.new }
+    {
+        if self.size != SIZE {
+            return;
+        }
+        let (event, lines) = match place {
+            Some(place) => (place.event, place.lines),
+            None => (usize::MAX, None),
+        };
+        let (first, last) = lines.unwrap_or((0, 0));
+        self.event = event;
+        self.first_line = first;
+        self.last_line = last;
+    }
+}
+
+/// Where a document isn't rewritten, if that is known.
+pub fn place_of(error: &RewriteError) -> Option<Place> {
+    match error {
+        RewriteError::Refused(place, _) => Some(*place),
+        RewriteError::ReadOtherwise(place) => Some(*place),
+        RewriteError::NotEvents(JsonError::Event { index, .. }) => Some(Place {
+            event: *index,
+            lines: None,
+        }),
+        _ => None,
+    }
+}
