@@ -2,7 +2,7 @@
 
 use std::io::{self, ErrorKind};
 use tocmark::event::ParserOptions;
-use tocmark_format::{Bullet, Delimiter, Fence, HardBreak, Marker, Numbering, Rule, Style};
+use tocmark_format::{Bullet, Delimiter, Fence, HardBreak, Marker, Numbering, Rule, Style, Wrap};
 use tocmark_reader::EXTENSIONS;
 
 /// Which extensions are read, and a style.
@@ -72,6 +72,15 @@ fn hard_break_of(word: &str) -> HardBreak {
     }
 }
 
+/// Where lines break: a number of columns, or `no`; anything else keeps them.
+fn wrap_of(word: &str) -> Wrap {
+    match word.parse::<usize>() {
+        Ok(columns) => Wrap::At(columns),
+        Err(_) if word == "no" => Wrap::No,
+        Err(_) => Wrap::Keep,
+    }
+}
+
 fn flags_of(word: &str) -> ParserOptions {
     match word.as_bytes().first() {
         Some(b'a') => EXTENSIONS,
@@ -106,6 +115,8 @@ impl Looks {
             };
         } else if name == "hard-break" {
             style.hard_break = hard_break_of(word);
+        } else if name == "wrap" {
+            style.wrap = wrap_of(word);
         } else {
             return false;
         }

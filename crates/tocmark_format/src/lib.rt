@@ -12,10 +12,14 @@
 mod answer;
 mod container;
 mod definitions;
+mod dialect;
+mod fill;
 mod format;
+mod hazard;
 mod inline;
 mod kept;
 mod leaf;
+mod lines;
 mod link;
 mod look;
 mod page;
@@ -25,10 +29,11 @@ mod piece;
 mod printer;
 mod source;
 mod style;
+mod summary;
 mod table;
 mod width;
 
 pub use answer::{Formatted, Left, Reason};
 pub use format::formatted;
 pub use parts::{PartReader, PartTaker};
-pub use style::{Bullet, Delimiter, Fence, HardBreak, Marker, Numbering, Rule, Style};
+pub use style::{Bullet, Delimiter, Fence, HardBreak, Marker, Numbering, Rule, Style, Wrap};

@@ -72,6 +72,17 @@ pub enum Rule {
     Dashes,
 }
 
+/// Where the lines of paragraphs break.
+#[derive(Clone, Copy, Debug, PartialEq, Eq)]
+pub enum Wrap {
+    /// As in the source.
+    Keep,
+    /// Nowhere: a paragraph is one line, but for its hard breaks.
+    No,
+    /// Lines are filled up to this many columns. A word that is longer has a line of its own.
+    At(usize),
+}
+
 /// How a document is to look. `None` says: as in the source.
 #[derive(Clone, Copy, Debug, PartialEq, Eq)]
 pub struct Style {
@@ -90,11 +101,12 @@ pub struct Style {
     pub rule: Rule,
     /// How many columns a table may take. The cells of wider ones aren't padded.
     pub table_width: usize,
+    pub wrap: Wrap,
 }
 
 impl Style {
-    /// Bullets, delimiters, numbers, fences and breaks as in the source, asterisks for emphasis, rules of `---`, fences of
-    /// three, and tables of 120 columns.
+    /// Bullets, delimiters, numbers, fences and breaks of lines as in the source, asterisks for emphasis, rules of `---`,
+    /// fences of three, and tables of 120 columns.
     pub fn new() -> Style
         ensures { result ≡ usual_style }
     {
@@ -109,6 +121,7 @@ impl Style {
             hard_break: HardBreak::Source,
             rule: Rule::Dashes,
             table_width: 120,
+            wrap: Wrap::Keep,
         }
     }
 }
