@@ -37,6 +37,8 @@ struct Filling {
     /// The word that isn't complete.
     word: String,
     before: Before,
+    /// Whether a tag of Jekyll or Hugo is open, as `{{ x }}`. It isn't broken, and keeps its blanks.
+    is_in_tag: bool,
 }
 
 /// Whether a character is of a script that has no blanks between words. Korean has some.
@@ -55,6 +57,14 @@ fn are_unspaced(before: &str, behind: &str) -> bool {
         (Some(last), Some(first)) => is_unspaced(last) && is_unspaced(first),
         _ => false,
     }
+}
+
+/// Whether a tag of Jekyll or Hugo is open behind a word.
+fn is_in_tag(word: &str, was_in_tag: bool) -> bool {
+    if word.contains("}}") || word.contains("%}") {
+        return false;
+    }
+    was_in_tag || word.contains("{{") || word.contains("{%")
 }
 
 /// A text up to its first blank or tab.
@@ -121,12 +131,16 @@ impl Filling {
         for _ in 0..=text.len() {
             let word = first_word(rest);
             self.word.push_str(word)?;
+            self.is_in_tag = is_in_tag(word, self.is_in_tag);
             let blanks = rest.get(word.len()..).unwrap_or("");
             rest = blanks.trim_start_matches(&[' ', '\t']);
             if blanks.is_empty() {
                 break;
             }
-            if are_unspaced(self.word.as_str(), rest) {
+            if self.is_in_tag {
+                let count = blanks.len().saturating_sub(rest.len());
+                self.word.push_str(blanks.get(..count).unwrap_or(" "))?;
+            } else if are_unspaced(self.word.as_str(), rest) {
                 self.word.push(' ')?;
             } else {
                 self.end_word(Before::Blank)?;
@@ -157,6 +171,7 @@ impl Filling {
         match piece {
             Piece::Text(_) => self.add_text(text),
             Piece::Solid(_) => self.word.push_str(text),
+            Piece::Soft { is_deep } if self.is_in_tag => self.break_line("", is_deep),
             Piece::Soft { .. } => self.end_word(Before::Break),
             Piece::Feed { is_deep } => self.break_line("", is_deep),
             Piece::Hard { is_deep, is_blanks } => self.break_line(
@@ -180,6 +195,7 @@ pub(crate) fn filled(
         is_deep: false,
         word: String::new(alloc),
         before: Before::Nothing,
+        is_in_tag: false,
     };
     let mut from = 0usize;
     for piece in &pieces.list {

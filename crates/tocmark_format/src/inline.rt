@@ -312,8 +312,11 @@ impl<'d, 'p, 'e, 'g> Inlines<'d, 'p, 'e, 'g> {
         let from = self.at;
         self.at = end;
         let source = self.context.source;
-        let is_kept = self.context.look.is_literal;
-        if is_kept || !source.slice(from, end).starts_with("](") {
+        let is_inline = source.slice(from, end).starts_with("](");
+        if !is_inline && self.wraps() {
+            return self.add_joined(from, end);
+        }
+        if !is_inline || self.context.look.is_literal {
             return self.add_slice(from, end);
         }
         if end <= source.line_end(from) {
@@ -344,15 +347,20 @@ impl<'d, 'p, 'e, 'g> Inlines<'d, 'p, 'e, 'g> {
         self.context.look.wrap != Wrap::Keep
     }
 
-    /// Adds a code span. Where lines are filled, its lines are joined: the reader takes their line feeds for blanks.
+    /// Adds a slice of the source as one line. The reader takes its line feeds for blanks.
+    fn add_joined(&mut self, from: usize, to: usize) -> Result<(), AllocError> {
+        let pieces = self.slice_pieces(from, to, Glue::Blank)?;
+        self.pieces.append(&pieces)
+    }
+
+    /// Adds a code span, whose lines are joined if lines are filled.
     fn add_code(&mut self, range: (usize, usize)) -> Result<(), AllocError> {
         if !self.wraps() {
             return self.add_copied(range);
         }
         self.add_gap(range.0)?;
         self.at = range.1;
-        let pieces = self.slice_pieces(range.0, range.1, Glue::Blank)?;
-        self.pieces.append(&pieces)
+        self.add_joined(range.0, range.1)
     }
 
     /// Adds a leaf, copied from the source.

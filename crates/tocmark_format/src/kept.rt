@@ -68,7 +68,7 @@ fn comment_at<'p>(part: &Part<'p>, at: usize) -> Option<&'p str> {
 }
 
 impl Printer<'_> {
-    /// Prints a part of a line of the source behind what its containers have before it.
+    /// Prints a part of a line of the source, behind the blanks that a tab leaves over.
     fn print_rest(&mut self, spare: usize, from: usize, to: usize) -> Result<(), AllocError> {
         let rest = self.source.slice(from, to);
         if spare == 0 {
@@ -82,7 +82,7 @@ impl Printer<'_> {
         self.page.line(line.as_str())
     }
 
-    /// Prints the lines between two places of the source as they stand, behind what their containers have before them.
+    /// Prints the source's lines from one place to another, unchanged but for the prefixes of the open containers.
     pub(crate) fn print_lines(&mut self, start: usize, end: usize) -> Result<(), AllocError> {
         let source = self.source;
         let base = source.line_start(start);

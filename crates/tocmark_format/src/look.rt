@@ -1,6 +1,8 @@
 //! How blocks are printed: a style, or the source's own spelling.
 
-use crate::style::{Bullet, Delimiter, Fence, HardBreak, Marker, Numbering, Rule, Style, Wrap};
+use crate::style::{
+    Bullet, Delimiter, Fence, HardBreak, ListIndent, Marker, Numbering, Rule, Style, Wrap,
+};
 
 /// How blocks are printed. `None` says: as in the source.
 #[derive(Clone, Copy)]
@@ -16,6 +18,7 @@ pub(crate) struct Look {
     pub(crate) hard_break: HardBreak,
     pub(crate) table_width: usize,
     pub(crate) wrap: Wrap,
+    pub(crate) list_indent: ListIndent,
     /// Whether headings, indents, fences, tables and definitions stay as they are spelled, too.
     pub(crate) is_literal: bool,
 }
@@ -66,6 +69,7 @@ impl Look {
             hard_break: style.hard_break,
             table_width: style.table_width,
             wrap: style.wrap,
+            list_indent: style.list_indent,
             is_literal: false,
         }
     }
@@ -84,6 +88,7 @@ impl Look {
             hard_break: HardBreak::Source,
             table_width: 0,
             wrap: Wrap::Keep,
+            list_indent: ListIndent::Marker,
             is_literal: true,
         }
     }

@@ -83,6 +83,15 @@ pub enum Wrap {
     At(usize),
 }
 
+/// Where the content of a list's items begins.
+#[derive(Clone, Copy, Debug, PartialEq, Eq)]
+pub enum ListIndent {
+    /// One blank behind the marker.
+    Marker,
+    /// Four columns behind the marker's front, as Python-Markdown wants it; one blank behind a marker that is longer.
+    Four,
+}
+
 /// How a document is to look. `None` says: as in the source.
 #[derive(Clone, Copy, Debug, PartialEq, Eq)]
 pub struct Style {
@@ -102,11 +111,12 @@ pub struct Style {
     /// How many columns a table may take. The cells of wider ones aren't padded.
     pub table_width: usize,
     pub wrap: Wrap,
+    pub list_indent: ListIndent,
 }
 
 impl Style {
     /// Bullets, delimiters, numbers, fences and breaks of lines as in the source, asterisks for emphasis, rules of `---`,
-    /// fences of three, and tables of 120 columns.
+    /// fences of three, one blank behind the markers of items, and tables of 120 columns.
     pub fn new() -> Style
         ensures { result ≡ usual_style }
     {
@@ -122,6 +132,7 @@ impl Style {
             rule: Rule::Dashes,
             table_width: 120,
             wrap: Wrap::Keep,
+            list_indent: ListIndent::Marker,
         }
     }
 }
