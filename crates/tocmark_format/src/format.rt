@@ -324,8 +324,10 @@ impl<R: PartReader> Formatter<'_, R> {
         back: &ReadBack,
     ) -> Result<bool, AllocError>
         ensures { IfOk result (λ same. IsTrue same
-            → Sums printed.now.said (found_events (R.reading self.now.reader.now source.now.text.now self.now.flags))
-            → Sums back.now.says (found_events (R.reading self.now.reader.now (string_bytes printed.now.text) self.now.flags))
+            → Sums printed.now.said (found_events
+            (R.reading self.now.reader.now source.now.text.now self.now.flags))
+            → Sums back.now.says (found_events
+            (R.reading self.now.reader.now (string_bytes printed.now.text) self.now.flags))
             → AreAlike self.now.style.wrap
             (λ t. R.reading self.now.reader.now t self.now.flags)
             (λ t. R.definitions self.now.reader.now t self.now.flags)

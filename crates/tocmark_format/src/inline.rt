@@ -199,8 +199,8 @@ impl<'d, 'p, 'e, 'g> Inlines<'d, 'p, 'e, 'g> {
 
     fn add_soft_break(&mut self, range: (usize, usize)) -> Result<(), AllocError> {
         let (start, end) = range;
-        if start > self.at && ends_with_backslash(self.pieces.last_text()) {
-            // without it the break would be a hard one
+        if start > self.at && !self.wraps() && ends_with_backslash(self.pieces.last_text()) {
+            // without it the break would be a hard one; a filled line doesn't end so
             self.pieces.add_solid(" ")?;
         }
         let (place, is_deep) = self.next_line(end);
