@@ -2,7 +2,9 @@
 
 use std::io::{self, ErrorKind};
 use tocmark::event::ParserOptions;
-use tocmark_format::{Bullet, Delimiter, Fence, HardBreak, Marker, Numbering, Rule, Style};
+use tocmark_format::{
+    Bullet, Delimiter, Fence, HardBreak, ListIndent, Marker, Numbering, Rule, Style, Wrap,
+};
 use tocmark_reader::EXTENSIONS;
 
 /// Which extensions are read, and a style.
@@ -72,6 +74,31 @@ fn hard_break_of(word: &str) -> HardBreak {
     }
 }
 
+fn rule_of(word: &str) -> Rule {
+    if word == "source" {
+        Rule::Source
+    } else {
+        Rule::Dashes
+    }
+}
+
+fn list_indent_of(word: &str) -> ListIndent {
+    if word == "four" {
+        ListIndent::Four
+    } else {
+        ListIndent::Marker
+    }
+}
+
+/// Where lines break: a number of columns, or `no`; anything else keeps them.
+fn wrap_of(word: &str) -> Wrap {
+    match word.parse::<usize>() {
+        Ok(columns) => Wrap::At(columns),
+        Err(_) if word == "no" => Wrap::No,
+        Err(_) => Wrap::Keep,
+    }
+}
+
 fn flags_of(word: &str) -> ParserOptions {
     match word.as_bytes().first() {
         Some(b'a') => EXTENSIONS,
@@ -99,13 +126,13 @@ impl Looks {
         } else if name == "fence" {
             style.fence = fence_of(word);
         } else if name == "rule" {
-            style.rule = if word == "source" {
-                Rule::Source
-            } else {
-                Rule::Dashes
-            };
+            style.rule = rule_of(word);
         } else if name == "hard-break" {
             style.hard_break = hard_break_of(word);
+        } else if name == "wrap" {
+            style.wrap = wrap_of(word);
+        } else if name == "list-indent" {
+            style.list_indent = list_indent_of(word);
         } else {
             return false;
         }

@@ -5,8 +5,11 @@ use Rattle.tocmark_format.specs.declared.style.HardBreak.TheVariants as break
 use Rattle.tocmark_format.specs.declared.style.Rule.TheVariants.{Dashes}
 use Rattle.tocmark_format.specs.declared.style.Marker.TheVariants.{Asterisk}
 use Rattle.tocmark_format.specs.declared.style.Numbering.TheVariants.{Source}
+use Rattle.tocmark_format.specs.declared.style.ListIndent.TheVariants as indent
+use Rattle.tocmark_format.specs.declared.style.Wrap.TheVariants.{Keep}
 
--- as in the source what the source has, emphasis by asterisks, fences of three, rules of dashes, and tables of 120 columns
+-- as in the source what the source has, also its lines; emphasis by asterisks, fences of three, rules of dashes, one blank
+-- behind the markers of items, and tables of 120 columns
 abbrev pub usual_style : Style
 usual_style = record {
   bullet = None;
@@ -19,4 +22,6 @@ usual_style = record {
   hard_break = break.Source;
   rule = Dashes;
   table_width = 120;
+  wrap = Keep;
+  list_indent = indent.Marker;
 }

@@ -1,1 +1,4 @@
 pub mod Defaults
+pub mod LinkDefinitions
+pub mod Same
+pub mod Summaries

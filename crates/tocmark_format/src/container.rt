@@ -4,7 +4,7 @@ use crate::page::{Frame, Kind, Lead};
 use crate::part::Part;
 use crate::printer::Printer;
 use crate::source::without_blanks;
-use crate::style::Numbering;
+use crate::style::{ListIndent, Numbering};
 use std::alloc::AllocError;
 use tocmark_event::event::Tag;
 
@@ -150,10 +150,12 @@ impl Printer<'_> {
             push_blanks(&mut first, columns.indent)?;
         }
         self.push_marker(&mut first, own.get(..digits).unwrap_or(""))?;
-        push_blanks(
-            &mut first,
-            if self.look.is_literal { columns.pad } else { 1 },
-        )?;
+        let pad = match self.look.list_indent {
+            _ if self.look.is_literal => columns.pad,
+            ListIndent::Marker => 1,
+            ListIndent::Four => 4usize.saturating_sub(first.len()).max(1),
+        };
+        push_blanks(&mut first, pad)?;
         let mut frame = Frame::new(self.alloc, Kind::Item, columns.content, end);
         frame.rest = Lead::Blanks(first.len());
         frame.first = first;

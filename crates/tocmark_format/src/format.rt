@@ -1,43 +1,44 @@
 //! Formats a document: all of it is printed in one pass and read back; what is read otherwise is printed nearer to the source.
 
-ghost use Rattle.std.specs.Prelude.{◌≡◌, IfOk, IfSome, IsTrue, string_bytes};
-ghost use Rattle.tocmark_event.specs.Merged.{merged};
-ghost use Rattle.tocmark_compare.specs.Digest.{SaysFirst, says};
+ghost use Rattle.std.specs.Prelude.{◌≡◌, IfOk, IfSome, IsTrue, map, string_bytes};
 ghost use Rattle.tocmark_compare.specs.Given.{found_events};
+ghost use Rattle.tocmark_format.specs.LinkDefinitions.{AreAlike, link_defined};
+ghost use Rattle.tocmark_format.specs.Same.{SaySame};
+ghost use Rattle.tocmark_format.specs.Summaries.{Sums, SumsFirst};
 
 use crate::answer::{Formatted, Left, Reason};
 use crate::look::Look;
 use crate::part::Part;
 use crate::parts::{PartReader, PartTaker};
-use crate::printer::{Block, Printer, Rung};
+use crate::printer::{Block, Printer, Step};
 use crate::source::Source;
 use crate::style::Style;
+use crate::summary::{Summary, same_definitions};
 use std::alloc::{AllocError, Global};
-use tocmark_compare::digest::Digest;
 use tocmark_event::event::{Event, ParserOptions};
 use tocmark_event::reader::Reading;
+use tocmark_reader::ReferenceDefinition;
 
-/// The byte order mark, which others take for no character, and readers of Markdown for one of the first line.
+/// The byte order mark. To the reader it is a character of the first line, to other programs it is none.
 const MARK: &str = "\u{feff}";
 
-/// How often a document is printed before all of it is left as it stands.
+/// How often a document is printed and read back. If it never reads as its source, it stays as it is.
 const ROUNDS: usize = 4;
 
-/// What a document is formatted with.
+/// Formats documents: what reads them, and how they are to look.
 #[derive(Clone, Copy)]
-struct Job<'j, R> {
+struct Formatter<'f, R> {
     alloc: Global,
-    reader: &'j R,
+    reader: &'f R,
     flags: ParserOptions,
-    source: &'j Source<'j>,
-    look: Look,
+    style: Style,
 }
 
 /// How near to the source each tree at the top is printed.
 #[derive(Drop)]
 struct Ladder {
-    /// For each tree; those behind the last one have the style's look.
-    rungs: Vec<Rung>,
+    /// For each tree. Those behind the last one are styled.
+    steps: Vec<Step>,
     /// Whether definitions stay as they are spelled.
     keeps_definitions: bool,
 }
@@ -48,23 +49,23 @@ struct Ladder {
 struct Printing<'d> {
     printer: Printer<'d>,
     /// What they say.
-    said: Digest,
+    said: Summary,
 }
 
 impl PartTaker for Printing<'_> {
-    ghost has_taken = { λ printing events. SaysFirst printing.said events };
+    ghost has_taken = { λ printing events. SumsFirst printing.said events };
 
     fn take(&mut self, alloc: Global, part: &Reading) -> Result<(), AllocError> {
         let trees = Part::new(alloc, self.printer.source, &part.events)?;
         self.printer.print(&trees)?;
-        self.said.add(alloc, &part.events)
+        self.said.take(alloc, part)
     }
 }
 
 /// Keeps what a text says that is read back, and where its trees begin.
 #[derive(Drop)]
 struct ReadBack {
-    says: Digest,
+    says: Summary,
     /// Where each tree at the top begins.
     starts: Vec<usize>,
 }
@@ -96,11 +97,11 @@ impl ReadBack {
 }
 
 impl PartTaker for ReadBack {
-    ghost has_taken = { λ back events. SaysFirst back.says events };
+    ghost has_taken = { λ back events. SumsFirst back.says events };
 
     fn take(&mut self, alloc: Global, part: &Reading) -> Result<(), AllocError> {
         add_starts(&mut self.starts, &part.events)?;
-        self.says.add(alloc, &part.events)
+        self.says.take(alloc, part)
     }
 }
 
@@ -109,77 +110,38 @@ impl PartTaker for ReadBack {
 struct Printed {
     text: String,
     blocks: Vec<Block>,
-    said: Digest,
-}
-
-/// Prints the source.
-fn print_source<R: PartReader>(job: &Job<'_, R>, ladder: &Ladder) -> Result<Printed, AllocError>
-    ensures { IfOk result (λ printed. says printed.said
-        ≡ merged (found_events (R.reading job.now.reader.now job.now.source.now.text.now
-        job.now.flags))) }
-{
-    let mut printing = Printing {
-        printer: Printer::new(
-            job.alloc,
-            job.source,
-            job.look,
-            &ladder.rungs,
-            ladder.keeps_definitions,
-        ),
-        said: Digest::new(job.alloc),
-    };
-    let text = job.source.text;
-    job.reader
-        .read_parts(job.alloc, text, job.flags, &mut printing)?;
-    let Printing { mut printer, said } = printing;
-    printer.end()?;
-    let (text, blocks) = printer.into_text();
-    Ok(Printed { text, blocks, said })
-}
-
-/// Reads a printed document.
-fn read_back<R: PartReader>(job: &Job<'_, R>, text: &str) -> Result<ReadBack, AllocError>
-    ensures { IfOk result (λ back. says back.says
-        ≡ merged (found_events (R.reading job.now.reader.now text.now job.now.flags))) }
-{
-    let mut back = ReadBack {
-        says: Digest::new(job.alloc),
-        starts: Vec::new(job.alloc),
-    };
-    job.reader
-        .read_parts(job.alloc, text, job.flags, &mut back)?;
-    Ok(back)
+    said: Summary,
 }
 
 impl Ladder {
-    /// All trees in the style's look; but the first one keeps its lines behind a byte order mark, which would move.
+    /// All trees in the style. Behind a byte order mark the first one keeps its lines, because the mark belongs to its text.
     fn new(alloc: Global, text: &str) -> Result<Ladder, AllocError> {
-        let mut rungs = Vec::new(alloc);
+        let mut steps = Vec::new(alloc);
         if text.starts_with(MARK) {
-            rungs.push(Rung::Lines)?;
+            steps.push(Step::Lines)?;
         }
         Ok(Ladder {
-            rungs,
+            steps,
             keeps_definitions: false,
         })
     }
 
-    /// Prints a tree nearer to the source; false if it has its lines already.
+    /// Takes a tree one step nearer to the source; false if it has its lines already.
     fn fall(&mut self, tree: usize) -> bool {
-        match self.rungs.get_mut(tree) {
-            Some(rung) if *rung == Rung::Look => {
-                *rung = Rung::Literal;
+        match self.steps.get_mut(tree) {
+            Some(step) if *step == Step::Styled => {
+                *step = Step::Spelled;
                 true
             }
-            Some(rung) if *rung == Rung::Literal => {
-                *rung = Rung::Lines;
+            Some(step) if *step == Step::Spelled => {
+                *step = Step::Lines;
                 true
             }
             _ => false,
         }
     }
 
-    /// Prints nearer to the source what is read otherwise; false if nothing is left to be.
+    /// Takes what is read otherwise one step nearer to the source; false if there is no such step left.
     fn fall_all(
         &mut self,
         alloc: Global,
@@ -188,8 +150,8 @@ impl Ladder {
     ) -> Result<bool, AllocError> {
         let old = printed.said.tree_ends(alloc)?;
         let new = back.says.tree_ends(alloc)?;
-        for _ in self.rungs.len()..old.len() {
-            self.rungs.push(Rung::Look)?;
+        for _ in self.steps.len()..old.len() {
+            self.steps.push(Step::Styled)?;
         }
         let mut has_fallen = !self.keeps_definitions;
         self.keeps_definitions = true;
@@ -215,95 +177,34 @@ impl Ladder {
         }
         Ok(has_fallen)
     }
-}
 
-/// The blocks that keep their lines.
-fn left_of<R>(
-    job: &Job<'_, R>,
-    ladder: &Ladder,
-    blocks: &[Block],
-) -> Result<Vec<Left>, AllocError> {
-    let mut all = Vec::new(job.alloc);
-    for block in blocks {
-        let Some(tree) = block.tree else {
-            continue;
-        };
-        let keeps_lines = ladder.rungs.get(tree) == Some(&Rung::Lines);
-        if block.is_outgrown || keeps_lines {
-            let (from, to) = block.range;
+    /// The blocks that keep their lines.
+    fn left(
+        &self,
+        alloc: Global,
+        source: &Source<'_>,
+        blocks: &[Block],
+    ) -> Result<Vec<Left>, AllocError> {
+        let mut all = Vec::new(alloc);
+        for block in blocks {
+            let Some(tree) = block.tree else {
+                continue;
+            };
             let reason = if block.is_outgrown {
                 Reason::Outgrown
-            } else {
+            } else if self.steps.get(tree) == Some(&Step::Lines) {
                 Reason::ReadOtherwise
+            } else {
+                continue;
             };
+            let (from, to) = block.range;
             all.push(Left {
-                lines: job.source.lines_between(from, to),
+                lines: source.lines_between(from, to),
                 reason,
             })?;
         }
+        Ok(all)
     }
-    Ok(all)
-}
-
-/// The document that is read as its source, if some round leads there.
-fn rounds<R: PartReader>(job: &Job<'_, R>) -> Result<Option<Formatted>, AllocError>
-    ensures { IfOk result (λ answer. IfSome answer (λ answer.
-        merged (found_events (R.reading job.now.reader.now (string_bytes answer.text)
-        job.now.flags))
-        ≡ merged (found_events (R.reading job.now.reader.now job.now.source.now.text.now
-        job.now.flags)))) }
-{
-    let mut ladder = Ladder::new(job.alloc, job.source.text)?;
-    for _ in 0..ROUNDS {
-        let printed = print_source(job, &ladder)?;
-        let back = read_back(job, printed.text.as_str())?;
-        if back.says.is_same(&printed.said) {
-            let left = left_of(job, &ladder, &printed.blocks)?;
-            let Printed { text, .. } = printed;
-            return Ok(Some(Formatted { text, left }));
-        }
-        if !ladder.fall_all(job.alloc, &printed, &back)? {
-            return Ok(None);
-        }
-    }
-    Ok(None)
-}
-
-/// A document whose lines end with line feeds, in this look.
-fn formatted_lines<R: PartReader>(job: &Job<'_, R>) -> Result<Formatted, AllocError>
-    ensures { IfOk result (λ answer.
-        merged (found_events (R.reading job.now.reader.now (string_bytes answer.text)
-        job.now.flags))
-        ≡ merged (found_events (R.reading job.now.reader.now job.now.source.now.text.now
-        job.now.flags))) }
-{
-    match rounds(job)? {
-        Some(answer) => Ok(answer),
-        None => unchanged(job.alloc, job.source.text),
-    }
-}
-
-/// A document in this style, of which a byte order mark and a carriage return are characters as others are.
-fn formatted_plain<R: PartReader>(
-    alloc: Global,
-    text: &str,
-    reader: &R,
-    flags: ParserOptions,
-    style: Style,
-) -> Result<Formatted, AllocError>
-    ensures { IfOk result (λ answer.
-        merged (found_events (R.reading reader.now (string_bytes answer.text) flags))
-        ≡ merged (found_events (R.reading reader.now text.now flags))) }
-{
-    let source = Source::new(alloc, text)?;
-    let job = Job {
-        alloc,
-        reader,
-        flags,
-        source: &source,
-        look: Look::of(style),
-    };
-    formatted_lines(&job)
 }
 
 /// Whether the first line of a text ends with a carriage return and a line feed.
@@ -314,110 +215,9 @@ fn has_returns(text: &str) -> bool {
     }
 }
 
-/// A document whose lines end with a carriage return and a line feed, as they do in the answer.
-fn formatted_with_returns<R: PartReader>(
-    alloc: Global,
-    text: &str,
-    reader: &R,
-    flags: ParserOptions,
-    style: Style,
-) -> Result<Formatted, AllocError>
-    ensures { IfOk result (λ answer.
-        merged (found_events (R.reading reader.now (string_bytes answer.text) flags))
-        ≡ merged (found_events (R.reading reader.now text.now flags))) }
-{
-    let bare = text.replace(alloc, "\r\n", "\n")?;
-    let Formatted { text: lines, left } = formatted_plain(
-        alloc,
-        bare.as_str(),
-        reader,
-        flags,
-        style,
-    )?;
-    let whole = lines.as_str().replace(alloc, "\n", "\r\n")?;
-    if are_read_alike(alloc, reader, flags, whole.as_str(), text)? {
-        Ok(Formatted { text: whole, left })
-    } else {
-        unchanged(alloc, text)
-    }
-}
-
-/// A document in this style, of which a byte order mark is a character as others are.
-fn formatted_text<R: PartReader>(
-    alloc: Global,
-    text: &str,
-    reader: &R,
-    flags: ParserOptions,
-    style: Style,
-) -> Result<Formatted, AllocError>
-    ensures { IfOk result (λ answer.
-        merged (found_events (R.reading reader.now (string_bytes answer.text) flags))
-        ≡ merged (found_events (R.reading reader.now text.now flags))) }
-{
-    if has_returns(text) {
-        formatted_with_returns(alloc, text, reader, flags, style)
-    } else {
-        formatted_plain(alloc, text, reader, flags, style)
-    }
-}
-
-/// What a reader finds in a text. Of the events themselves only a part is there at a time.
-fn digest_of<R: PartReader>(
-    alloc: Global,
-    reader: &R,
-    flags: ParserOptions,
-    text: &str,
-) -> Result<Digest, AllocError>
-    ensures { IfOk result (λ digest. says digest
-        ≡ merged (found_events (R.reading reader.now text.now flags))) }
-{
-    let mut digest = Digest::new(alloc);
-    reader.read_parts(alloc, text, flags, &mut digest)?;
-    Ok(digest)
-}
-
-/// Whether two texts are read alike.
-fn are_read_alike<R: PartReader>(
-    alloc: Global,
-    reader: &R,
-    flags: ParserOptions,
-    text: &str,
-    other: &str,
-) -> Result<bool, AllocError>
-    ensures { IfOk result (λ same. IsTrue same
-        → (merged (found_events (R.reading reader.now text.now flags))
-        ≡ merged (found_events (R.reading reader.now other.now flags)))) }
-{
-    let one = digest_of(alloc, reader, flags, text)?;
-    let two = digest_of(alloc, reader, flags, other)?;
-    Ok(one.is_same(&two))
-}
-
-/// What stands behind the mark of a text.
+/// The text behind the byte order mark of a text.
 fn behind_mark(text: &str) -> &str {
     text.get(MARK.len()..).unwrap_or("")
-}
-
-/// A document with a mark, of which what stands behind that is formatted by itself; none if it is read otherwise so.
-fn formatted_behind_mark<R: PartReader>(
-    alloc: Global,
-    text: &str,
-    reader: &R,
-    flags: ParserOptions,
-    style: Style,
-) -> Result<Option<Formatted>, AllocError>
-    ensures { IfOk result (λ answer. IfSome answer (λ answer.
-        merged (found_events (R.reading reader.now (string_bytes answer.text) flags))
-        ≡ merged (found_events (R.reading reader.now text.now flags)))) }
-{
-    let rest = formatted_text(alloc, behind_mark(text), reader, flags, style)?;
-    let mut whole = String::from_str(alloc, MARK)?;
-    whole.push_str(rest.text.as_str())?;
-    if !are_read_alike(alloc, reader, flags, whole.as_str(), text)? {
-        return Ok(None);
-    }
-    let Formatted { left, .. } = rest;
-    Ok(Some(Formatted { text: whole, left }))
 }
 
 /// A document that stays as it is, from its first line on.
@@ -433,37 +233,226 @@ fn unchanged(alloc: Global, text: &str) -> Result<Formatted, AllocError>
     Ok(Formatted { text, left })
 }
 
-/// A document with a mark, in this style.
-fn formatted_with_mark<R: PartReader>(
-    alloc: Global,
-    text: &str,
-    reader: &R,
-    flags: ParserOptions,
-    style: Style,
-) -> Result<Formatted, AllocError>
-    ensures { IfOk result (λ answer.
-        merged (found_events (R.reading reader.now (string_bytes answer.text) flags))
-        ≡ merged (found_events (R.reading reader.now text.now flags))) }
-{
-    if let Some(answer) = formatted_behind_mark(alloc, text, reader, flags, style)? {
-        return Ok(answer);
+impl<R: PartReader> Formatter<'_, R> {
+    /// Prints a document.
+    fn print(&self, source: &Source<'_>, ladder: &Ladder) -> Result<Printed, AllocError>
+        ensures { IfOk result (λ printed. Sums printed.said
+            (found_events (R.reading self.now.reader.now source.now.text.now self.now.flags))) }
+    {
+        let mut printing = Printing {
+            printer: Printer::new(
+                self.alloc,
+                source,
+                Look::of(self.style),
+                &ladder.steps,
+                ladder.keeps_definitions,
+            ),
+            said: Summary::new(self.alloc, self.style.wrap),
+        };
+        let text = source.text;
+        self.reader
+            .read_parts(self.alloc, text, self.flags, &mut printing)?;
+        let Printing { mut printer, said } = printing;
+        printer.end()?;
+        let (text, blocks) = printer.into_text();
+        Ok(Printed { text, blocks, said })
     }
-    let answer = formatted_text(alloc, text, reader, flags, style)?;
-    let behind = behind_mark(answer.text.as_str());
-    if are_read_alike(alloc, reader, flags, behind, behind_mark(text))? {
-        Ok(answer)
-    } else {
-        unchanged(alloc, text)
+
+    /// Reads a printed document.
+    fn read_back(&self, text: &str) -> Result<ReadBack, AllocError>
+        ensures { IfOk result (λ back. Sums back.says
+            (found_events (R.reading self.now.reader.now text.now self.now.flags))) }
+    {
+        let mut back = ReadBack {
+            says: Summary::new(self.alloc, self.style.wrap),
+            starts: Vec::new(self.alloc),
+        };
+        self.reader
+            .read_parts(self.alloc, text, self.flags, &mut back)?;
+        Ok(back)
+    }
+
+    /// What the reader finds in a text.
+    fn summary_of(&self, text: &str) -> Result<Summary, AllocError>
+        ensures { IfOk result (λ summary. Sums summary
+            (found_events (R.reading self.now.reader.now text.now self.now.flags))) }
+    {
+        let mut summary = Summary::new(self.alloc, self.style.wrap);
+        self.reader
+            .read_parts(self.alloc, text, self.flags, &mut summary)?;
+        Ok(summary)
+    }
+
+    fn definitions_of(&self, text: &str) -> Result<Vec<ReferenceDefinition>, AllocError>
+        ensures { IfOk result (λ all. map link_defined all.items
+            ≡ R.definitions self.now.reader.now text.now self.now.flags) }
+    {
+        self.reader.read_definitions(self.alloc, text, self.flags)
+    }
+
+    /// Whether two texts have the same link definitions.
+    fn have_same_definitions(&self, one: &str, other: &str) -> Result<bool, AllocError>
+        ensures { IfOk result (λ same. IsTrue same
+            → R.definitions self.now.reader.now one.now self.now.flags
+            ≡ R.definitions self.now.reader.now other.now self.now.flags) }
+    {
+        let first = self.definitions_of(one)?;
+        let second = self.definitions_of(other)?;
+        Ok(same_definitions(&first, &second))
+    }
+
+    /// Whether the reader finds the same in two texts.
+    fn are_alike(&self, one: &str, other: &str) -> Result<bool, AllocError>
+        ensures { IfOk result (λ same. IsTrue same → AreAlike self.now.style.wrap
+            (λ t. R.reading self.now.reader.now t self.now.flags)
+            (λ t. R.definitions self.now.reader.now t self.now.flags) one.now other.now) }
+    {
+        let first = self.summary_of(one)?;
+        let second = self.summary_of(other)?;
+        if first.is_same(&second, self.style.wrap) {
+            self.have_same_definitions(one, other)
+        } else {
+            Ok(false)
+        }
+    }
+
+    /// Whether a printed document reads as its source.
+    fn reads_as_source(
+        &self,
+        source: &Source<'_>,
+        printed: &Printed,
+        back: &ReadBack,
+    ) -> Result<bool, AllocError>
+        ensures { IfOk result (λ same. IsTrue same
+            → Sums printed.now.said (found_events
+            (R.reading self.now.reader.now source.now.text.now self.now.flags))
+            → Sums back.now.says (found_events
+            (R.reading self.now.reader.now (string_bytes printed.now.text) self.now.flags))
+            → AreAlike self.now.style.wrap
+            (λ t. R.reading self.now.reader.now t self.now.flags)
+            (λ t. R.definitions self.now.reader.now t self.now.flags)
+            (string_bytes printed.now.text) source.now.text.now) }
+    {
+        if back.says.is_same(&printed.said, self.style.wrap) {
+            self.have_same_definitions(printed.text.as_str(), source.text)
+        } else {
+            Ok(false)
+        }
+    }
+
+    /// The document that reads as its source, if some round leads there.
+    fn rounds(&self, source: &Source<'_>) -> Result<Option<Formatted>, AllocError>
+        ensures { IfOk result (λ answer. IfSome answer (λ answer. AreAlike self.now.style.wrap
+            (λ t. R.reading self.now.reader.now t self.now.flags)
+            (λ t. R.definitions self.now.reader.now t self.now.flags)
+            (string_bytes answer.text) source.now.text.now)) }
+    {
+        let mut ladder = Ladder::new(self.alloc, source.text)?;
+        for _ in 0..ROUNDS {
+            let printed = self.print(source, &ladder)?;
+            let back = self.read_back(printed.text.as_str())?;
+            if self.reads_as_source(source, &printed, &back)? {
+                let left = ladder.left(self.alloc, source, &printed.blocks)?;
+                let Printed { text, .. } = printed;
+                return Ok(Some(Formatted { text, left }));
+            }
+            if !ladder.fall_all(self.alloc, &printed, &back)? {
+                return Ok(None);
+            }
+        }
+        Ok(None)
+    }
+
+    /// Formats a text whose lines end with line feeds. Carriage returns and a byte order mark are ordinary characters.
+    fn format_lines(&self, text: &str) -> Result<Formatted, AllocError>
+        ensures { IfOk result (λ answer. AreAlike self.now.style.wrap
+            (λ t. R.reading self.now.reader.now t self.now.flags)
+            (λ t. R.definitions self.now.reader.now t self.now.flags)
+            (string_bytes answer.text) text.now) }
+    {
+        let source = Source::new(self.alloc, text)?;
+        match self.rounds(&source)? {
+            Some(answer) => Ok(answer),
+            None => unchanged(self.alloc, text),
+        }
+    }
+
+    /// Formats a text whose lines end with a carriage return and a line feed, as they do in the answer.
+    fn format_with_returns(&self, text: &str) -> Result<Formatted, AllocError>
+        ensures { IfOk result (λ answer. AreAlike self.now.style.wrap
+            (λ t. R.reading self.now.reader.now t self.now.flags)
+            (λ t. R.definitions self.now.reader.now t self.now.flags)
+            (string_bytes answer.text) text.now) }
+    {
+        let bare = text.replace(self.alloc, "\r\n", "\n")?;
+        let Formatted { text: lines, left } = self.format_lines(bare.as_str())?;
+        let whole = lines.as_str().replace(self.alloc, "\n", "\r\n")?;
+        if self.are_alike(whole.as_str(), text)? {
+            Ok(Formatted { text: whole, left })
+        } else {
+            unchanged(self.alloc, text)
+        }
+    }
+
+    /// Formats a text. A byte order mark is an ordinary character.
+    fn format_text(&self, text: &str) -> Result<Formatted, AllocError>
+        ensures { IfOk result (λ answer. AreAlike self.now.style.wrap
+            (λ t. R.reading self.now.reader.now t self.now.flags)
+            (λ t. R.definitions self.now.reader.now t self.now.flags)
+            (string_bytes answer.text) text.now) }
+    {
+        if has_returns(text) {
+            self.format_with_returns(text)
+        } else {
+            self.format_lines(text)
+        }
+    }
+
+    /// Formats the text behind a byte order mark by itself; `None` if the whole reads otherwise then.
+    fn format_behind_mark(&self, text: &str) -> Result<Option<Formatted>, AllocError>
+        ensures { IfOk result (λ answer. IfSome answer (λ answer. AreAlike self.now.style.wrap
+            (λ t. R.reading self.now.reader.now t self.now.flags)
+            (λ t. R.definitions self.now.reader.now t self.now.flags)
+            (string_bytes answer.text) text.now)) }
+    {
+        let rest = self.format_text(behind_mark(text))?;
+        let mut whole = String::from_str(self.alloc, MARK)?;
+        whole.push_str(rest.text.as_str())?;
+        if !self.are_alike(whole.as_str(), text)? {
+            return Ok(None);
+        }
+        let Formatted { left, .. } = rest;
+        Ok(Some(Formatted { text: whole, left }))
+    }
+
+    /// Formats a text with a byte order mark.
+    fn format_with_mark(&self, text: &str) -> Result<Formatted, AllocError>
+        ensures { IfOk result (λ answer. AreAlike self.now.style.wrap
+            (λ t. R.reading self.now.reader.now t self.now.flags)
+            (λ t. R.definitions self.now.reader.now t self.now.flags)
+            (string_bytes answer.text) text.now) }
+    {
+        if let Some(answer) = self.format_behind_mark(text)? {
+            return Ok(answer);
+        }
+        let answer = self.format_text(text)?;
+        let behind = behind_mark(answer.text.as_str());
+        if self.are_alike(behind, behind_mark(text))? {
+            Ok(answer)
+        } else {
+            unchanged(self.alloc, text)
+        }
     }
 }
 
-/// The document in this style: one blank line between blocks, and one line feed at its end. HTML and metadata are copied,
-/// texts are as they are spelled, and lines end as the first one does. A block that would be read otherwise is printed in
-/// its own spelling, and else keeps its lines; the answer names these lines, and why.
+/// Formats a document: one blank line between blocks, and one line feed at its end. HTML and metadata are copied, texts stay as
+/// they are spelled, and lines end as the first one does. If a block would read otherwise, it is printed in its own spelling;
+/// if that doesn't help, it keeps its lines, and the answer names these and the reason.
 ///
-/// The reader finds the same in the new text as in the old one under these flags, on either side with each longest stretch
-/// of texts as one (the clause `same`). A byte order mark stays in front of the text, and what stands behind it is read as
-/// before also without it.
+/// Under these flags the reader finds the same events in the new text as in the old one, if each longest stretch of texts
+/// counts as one (`same`). If the style fills lines, soft breaks count as blanks, and so does each run of white space in a
+/// text. The text also defines the same links, in the same order, used or not (`definitions`). A byte order mark stays in
+/// front, and what stands behind it reads as before also without it.
 ///
 /// ```
 /// let answer = formatted(alloc, "a\n=\n -  b\n", &CoreReader, ParserOptions::empty(), Style::new())?;
@@ -476,13 +465,22 @@ pub fn formatted<R: PartReader>(
     flags: ParserOptions,
     style: Style,
 ) -> Result<Formatted, AllocError>
-    ensures same { IfOk result (λ answer.
-        merged (found_events (R.reading reader.now (string_bytes answer.text) flags))
-        ≡ merged (found_events (R.reading reader.now text.now flags))) }
+    ensures same { IfOk result (λ answer. SaySame style.wrap
+        (R.reading reader.now (string_bytes answer.text) flags)
+        (R.reading reader.now text.now flags)) }
+    ensures definitions { IfOk result (λ answer.
+        R.definitions reader.now (string_bytes answer.text) flags
+        ≡ R.definitions reader.now text.now flags) }
 {
+    let formatter = Formatter {
+        alloc,
+        reader,
+        flags,
+        style,
+    };
     if text.starts_with(MARK) {
-        formatted_with_mark(alloc, text, reader, flags, style)
+        formatter.format_with_mark(text)
     } else {
-        formatted_text(alloc, text, reader, flags, style)
+        formatter.format_text(text)
     }
 }

@@ -1,5 +1,5 @@
-//! From the events within a leaf to pieces. What stands between two events is copied from the source, so each text stays as it
-//! is spelled; only the signs of emphasis, breaks and the tails of links are chosen.
+//! Turns the events within a leaf into pieces. The text between two events is copied from the source, so each text stays as it
+//! is spelled. Only the signs of emphasis, breaks and the tails of links are chosen.
 
 use crate::link::push_tail;
 use crate::look::Look;
@@ -7,13 +7,13 @@ use crate::page::Page;
 use crate::part::Part;
 use crate::piece::{Piece, Pieces, ends_with_backslash};
 use crate::source::{Source, without_blanks};
-use crate::style::HardBreak;
+use crate::style::{HardBreak, Wrap};
 use std::alloc::{AllocError, Global};
 use tocmark_event::event::{Event, LinkType, Tag, TagEnd};
 
-/// What the inlines of a leaf are printed with.
+/// What the inlines of a leaf are printed from.
 #[derive(Clone, Copy)]
-pub(crate) struct Scene<'d, 'p, 'e, 'g> {
+pub(crate) struct Context<'d, 'p, 'e, 'g> {
     pub(crate) alloc: Global,
     pub(crate) source: &'d Source<'d>,
     pub(crate) part: &'p Part<'e>,
@@ -31,7 +31,7 @@ struct Open {
 /// A cursor over the events of a leaf, and their pieces.
 #[derive(Drop)]
 pub(crate) struct Inlines<'d, 'p, 'e, 'g> {
-    scene: Scene<'d, 'p, 'e, 'g>,
+    context: Context<'d, 'p, 'e, 'g>,
     /// The place in the source behind what is printed.
     pub(crate) at: usize,
     pub(crate) pieces: Pieces,
@@ -92,8 +92,7 @@ fn hinders_underscore(character: Option<char>) -> bool {
 /// How far before the end of emphasis a bare web address is looked for, in bytes.
 const LONGEST_ADDRESS: usize = 256;
 
-/// Whether a text ends with a bare web address, of which programs that link it would take an underscore behind it for a
-/// part.
+/// Whether a text ends with a bare web address. Programs that link such an address would add an underscore behind it.
 fn ends_with_address(text: &str) -> bool {
     let word = match text.rsplit_once(' ') {
         Some((_, word)) => word,
@@ -109,13 +108,13 @@ fn is_sign(character: Option<char>) -> bool {
 
 impl<'d, 'p, 'e, 'g> Inlines<'d, 'p, 'e, 'g> {
     /// The pieces of no event, from this place in the source on.
-    pub(crate) fn new(scene: Scene<'d, 'p, 'e, 'g>, at: usize) -> Inlines<'d, 'p, 'e, 'g> {
+    pub(crate) fn new(context: Context<'d, 'p, 'e, 'g>, at: usize) -> Inlines<'d, 'p, 'e, 'g> {
         Inlines {
-            scene,
+            context,
             at,
-            pieces: Pieces::new(scene.alloc),
-            open: Vec::new(scene.alloc),
-            links: Vec::new(scene.alloc),
+            pieces: Pieces::new(context.alloc),
+            open: Vec::new(context.alloc),
+            links: Vec::new(context.alloc),
             labels: 0,
         }
     }
@@ -123,8 +122,8 @@ impl<'d, 'p, 'e, 'g> Inlines<'d, 'p, 'e, 'g> {
     /// Where a leaf goes on on a line of the source, and whether that could begin a block there, but that it is indented or
     /// lazy.
     fn next_line(&self, line_start: usize) -> (usize, bool) {
-        let source = self.scene.source;
-        let place = self.scene.page.stripped(source, line_start);
+        let source = self.context.source;
+        let place = self.context.page.stripped(source, line_start);
         let at = source.past_blanks(place.at);
         let mut columns = place.spare;
         for byte in source.slice(place.at, at).as_bytes() {
@@ -136,8 +135,8 @@ impl<'d, 'p, 'e, 'g> Inlines<'d, 'p, 'e, 'g> {
 
     /// The pieces of a slice of the source that isn't broken, without the prefixes of containers in it.
     fn slice_pieces(&self, from: usize, to: usize, glue: Glue) -> Result<Pieces, AllocError> {
-        let source = self.scene.source;
-        let mut pieces = Pieces::new(self.scene.alloc);
+        let source = self.context.source;
+        let mut pieces = Pieces::new(self.context.alloc);
         let mut end = source.line_end(from);
         pieces.add_solid(source.slice(from, to.min(end)))?;
         for _ in 0..to.saturating_sub(from) {
@@ -158,7 +157,7 @@ impl<'d, 'p, 'e, 'g> Inlines<'d, 'p, 'e, 'g> {
 
     /// Adds a slice of the source that isn't broken, without the prefixes of containers in it.
     fn add_slice(&mut self, from: usize, to: usize) -> Result<(), AllocError> {
-        let source = self.scene.source;
+        let source = self.context.source;
         if to <= source.line_end(from) {
             return self.pieces.add_solid(source.slice(from, to));
         }
@@ -173,7 +172,7 @@ impl<'d, 'p, 'e, 'g> Inlines<'d, 'p, 'e, 'g> {
         }
         let from = self.at;
         self.at = start;
-        let source = self.scene.source;
+        let source = self.context.source;
         if start <= source.line_end(from) {
             let text = source.slice(from, start);
             let is_blank = without_blanks(text).is_empty();
@@ -189,9 +188,9 @@ impl<'d, 'p, 'e, 'g> Inlines<'d, 'p, 'e, 'g> {
 
     /// Whether a hard break at a place of the source is printed as blanks.
     fn is_blanks(&self, start: usize) -> bool {
-        let own = self.scene.source.byte(start) != b'\\';
+        let own = self.context.source.byte(start) != b'\\';
         let is_behind_blank = self.pieces.last_text().ends_with(' ');
-        match self.scene.look.hard_break {
+        match self.context.look.hard_break {
             HardBreak::Backslash if !is_behind_blank => false,
             HardBreak::Blanks if !is_behind_blank => true,
             _ => own,
@@ -200,8 +199,8 @@ impl<'d, 'p, 'e, 'g> Inlines<'d, 'p, 'e, 'g> {
 
     fn add_soft_break(&mut self, range: (usize, usize)) -> Result<(), AllocError> {
         let (start, end) = range;
-        if start > self.at && ends_with_backslash(self.pieces.last_text()) {
-            // without it the break would be a hard one
+        if start > self.at && !self.wraps() && ends_with_backslash(self.pieces.last_text()) {
+            // without it the break would be a hard one; a filled line doesn't end so
             self.pieces.add_solid(" ")?;
         }
         let (place, is_deep) = self.next_line(end);
@@ -212,7 +211,7 @@ impl<'d, 'p, 'e, 'g> Inlines<'d, 'p, 'e, 'g> {
     fn add_hard_break(&mut self, range: (usize, usize)) -> Result<(), AllocError> {
         let (start, end) = range;
         let is_blanks = self.is_blanks(start);
-        if self.scene.source.byte(start) == b'\\' {
+        if self.context.source.byte(start) == b'\\' {
             self.add_gap(start)?;
         }
         let (place, is_deep) = self.next_line(end);
@@ -222,7 +221,7 @@ impl<'d, 'p, 'e, 'g> Inlines<'d, 'p, 'e, 'g> {
 
     /// The characters before and behind a stretch of the source.
     fn around(&self, start: usize, end: usize) -> (Option<char>, Option<char>) {
-        let text = self.scene.source.text;
+        let text = self.context.source.text;
         let before = text.get(..start).unwrap_or("").chars().next_back();
         let behind = text.get(end..).unwrap_or("").chars().next();
         (before, behind)
@@ -232,7 +231,7 @@ impl<'d, 'p, 'e, 'g> Inlines<'d, 'p, 'e, 'g> {
     fn fits(&self, sign: u8, range: (usize, usize)) -> bool {
         let (start, end) = range;
         if self
-            .scene
+            .context
             .part
             .has_between(sign, start.saturating_sub(1), end.saturating_add(1))
         {
@@ -243,7 +242,7 @@ impl<'d, 'p, 'e, 'g> Inlines<'d, 'p, 'e, 'g> {
             return false;
         }
         let front = start.max(end.saturating_sub(LONGEST_ADDRESS));
-        if sign == b'_' && ends_with_address(self.scene.source.slice(front, end)) {
+        if sign == b'_' && ends_with_address(self.context.source.slice(front, end)) {
             return false;
         }
         let is_in_changed = match self.open.last() {
@@ -256,8 +255,8 @@ impl<'d, 'p, 'e, 'g> Inlines<'d, 'p, 'e, 'g> {
     /// The sign of emphasis: that of the look, if the source has it neither in nor beside the emphasis, and if it can stand
     /// there.
     fn sign(&self, range: (usize, usize), is_strong: bool) -> u8 {
-        let own = self.scene.source.byte(range.0);
-        let look = self.scene.look;
+        let own = self.context.source.byte(range.0);
+        let look = self.context.look;
         let wanted = if is_strong {
             look.strong
         } else {
@@ -272,7 +271,7 @@ impl<'d, 'p, 'e, 'g> Inlines<'d, 'p, 'e, 'g> {
     fn open_emphasis(&mut self, range: (usize, usize), is_strong: bool) -> Result<(), AllocError> {
         self.add_gap(range.0)?;
         let byte = self.sign(range, is_strong);
-        let is_changed = byte != self.scene.source.byte(range.0);
+        let is_changed = byte != self.context.source.byte(range.0);
         self.open.push(Open { byte, is_changed })?;
         self.at = range.0.saturating_add(if is_strong { 2 } else { 1 });
         self.pieces.add_solid(sign_text(byte, is_strong))
@@ -291,7 +290,7 @@ impl<'d, 'p, 'e, 'g> Inlines<'d, 'p, 'e, 'g> {
         self.add_gap(start)?;
         let is_double = match tag {
             Tag::Image { .. } => true,
-            Tag::Strikethrough => self.scene.source.slice(start, start.saturating_add(2)) == "~~",
+            Tag::Strikethrough => self.context.source.slice(start, start.saturating_add(2)) == "~~",
             _ => false,
         };
         let behind = start.saturating_add(if is_double { 2 } else { 1 });
@@ -302,7 +301,7 @@ impl<'d, 'p, 'e, 'g> Inlines<'d, 'p, 'e, 'g> {
         }
         self.at = behind;
         self.pieces
-            .add_solid(self.scene.source.slice(start, behind))
+            .add_solid(self.context.source.slice(start, behind))
     }
 
     /// Closes a link or an image: its tail, as the look has it.
@@ -312,17 +311,20 @@ impl<'d, 'p, 'e, 'g> Inlines<'d, 'p, 'e, 'g> {
         }
         let from = self.at;
         self.at = end;
-        let source = self.scene.source;
-        let is_kept = self.scene.look.is_literal;
-        if is_kept || !source.slice(from, end).starts_with("](") {
+        let source = self.context.source;
+        let is_inline = source.slice(from, end).starts_with("](");
+        if !is_inline && self.wraps() {
+            return self.add_joined(from, end);
+        }
+        if !is_inline || self.context.look.is_literal {
             return self.add_slice(from, end);
         }
         if end <= source.line_end(from) {
             return self.pieces.add_tail(source.slice(from, end));
         }
         let pieces = self.slice_pieces(from, end, Glue::Feed)?;
-        let tail = pieces.lines(self.scene.alloc)?;
-        let mut whole = String::new(self.scene.alloc);
+        let tail = pieces.lines(self.context.alloc)?;
+        let mut whole = String::new(self.context.alloc);
         push_tail(&mut whole, tail.as_str())?;
         self.add_lines(whole.as_str())
     }
@@ -340,7 +342,28 @@ impl<'d, 'p, 'e, 'g> Inlines<'d, 'p, 'e, 'g> {
         Ok(())
     }
 
-    /// Adds a leaf that is copied as it stands in the source.
+    /// Whether the lines of the leaf are filled or joined.
+    fn wraps(&self) -> bool {
+        self.context.look.wrap != Wrap::Keep
+    }
+
+    /// Adds a slice of the source as one line. The reader takes its line feeds for blanks.
+    fn add_joined(&mut self, from: usize, to: usize) -> Result<(), AllocError> {
+        let pieces = self.slice_pieces(from, to, Glue::Blank)?;
+        self.pieces.append(&pieces)
+    }
+
+    /// Adds a code span, whose lines are joined if lines are filled.
+    fn add_code(&mut self, range: (usize, usize)) -> Result<(), AllocError> {
+        if !self.wraps() {
+            return self.add_copied(range);
+        }
+        self.add_gap(range.0)?;
+        self.at = range.1;
+        self.add_joined(range.0, range.1)
+    }
+
+    /// Adds a leaf, copied from the source.
     fn add_copied(&mut self, range: (usize, usize)) -> Result<(), AllocError> {
         self.add_gap(range.0)?;
         self.at = range.1;
@@ -359,7 +382,7 @@ impl<'d, 'p, 'e, 'g> Inlines<'d, 'p, 'e, 'g> {
             Tag::Strong => self.open_emphasis(range, true)?,
             _ if is_address(tag) => {
                 self.add_copied(range)?;
-                return Ok(self.scene.part.end(at).saturating_add(1));
+                return Ok(self.context.part.end(at).saturating_add(1));
             }
             _ => self.open_other(tag, range.0)?,
         }
@@ -382,8 +405,8 @@ impl<'d, 'p, 'e, 'g> Inlines<'d, 'p, 'e, 'g> {
     /// Adds the event at a place; the place behind it.
     fn add(&mut self, at: usize) -> Result<usize, AllocError> {
         let next = at.saturating_add(1);
-        let range = self.scene.part.range(at);
-        let Some(event) = self.scene.part.event(at) else {
+        let range = self.context.part.range(at);
+        let Some(event) = self.context.part.event(at) else {
             return Ok(next);
         };
         match event {
@@ -391,11 +414,12 @@ impl<'d, 'p, 'e, 'g> Inlines<'d, 'p, 'e, 'g> {
             Event::End(end) => self.add_end(*end, range)?,
             Event::SoftBreak => self.add_soft_break(range)?,
             Event::HardBreak => self.add_hard_break(range)?,
+            Event::Code(_) => self.add_code(range)?,
             Event::Text(_) => {
                 self.add_gap(range.0)?;
                 self.at = range.1;
                 self.pieces
-                    .add_text(self.scene.source.slice(range.0, range.1))?;
+                    .add_text(self.context.source.slice(range.0, range.1))?;
             }
             _ => self.add_copied(range)?,
         }

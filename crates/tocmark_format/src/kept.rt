@@ -1,4 +1,4 @@
-//! What keeps its lines: trees that no other way leads to, and what comments name.
+//! Lines that are kept: those that a comment names, and those of blocks that would be read otherwise.
 
 use crate::page::Kind;
 use crate::part::Part;
@@ -18,7 +18,7 @@ enum Until {
 
 /// A stretch of the source that a comment keeps.
 #[derive(Clone, Copy)]
-pub(crate) struct Region {
+pub(crate) struct Stretch {
     from: usize,
     to: usize,
     /// How many containers are open round it.
@@ -68,7 +68,7 @@ fn comment_at<'p>(part: &Part<'p>, at: usize) -> Option<&'p str> {
 }
 
 impl Printer<'_> {
-    /// Prints a part of a line of the source behind what its containers have before it.
+    /// Prints a part of a line of the source, behind the blanks that a tab leaves over.
     fn print_rest(&mut self, spare: usize, from: usize, to: usize) -> Result<(), AllocError> {
         let rest = self.source.slice(from, to);
         if spare == 0 {
@@ -82,7 +82,7 @@ impl Printer<'_> {
         self.page.line(line.as_str())
     }
 
-    /// Prints the lines between two places of the source as they stand, behind what their containers have before them.
+    /// Prints the source's lines from one place to another, unchanged but for the prefixes of the open containers.
     pub(crate) fn print_lines(&mut self, start: usize, end: usize) -> Result<(), AllocError> {
         let source = self.source;
         let base = source.line_start(start);
@@ -108,46 +108,54 @@ impl Printer<'_> {
     }
 
     /// Ends the stretch that a comment keeps at the end of the innermost container.
-    pub(crate) fn end_region(&mut self) -> Result<(), AllocError> {
-        let Some(region) = self.region else {
+    pub(crate) fn end_kept(&mut self) -> Result<(), AllocError> {
+        let Some(stretch) = self.kept else {
             return Ok(());
         };
-        if region.depth != self.page.depth() {
+        if stretch.depth != self.page.depth() {
             return Ok(());
         }
-        let to = match region.until {
-            Until::Next => region.to,
+        let to = match stretch.until {
+            Until::Next => stretch.to,
             Until::Comment(_) => {
                 let end = self.page.top().end;
                 self.source.slice(0, end).trim_end_matches('\n').len()
             }
         };
-        self.print_region(region.from, to)
+        self.print_kept(stretch.from, to)
     }
 
     /// Prints a stretch that a comment keeps.
-    fn print_region(&mut self, from: usize, to: usize) -> Result<(), AllocError> {
-        self.region = None;
+    fn print_kept(&mut self, from: usize, to: usize) -> Result<(), AllocError> {
+        self.kept = None;
         self.print_lines(from, to)?;
         self.finish(Kind::Kept, to)
     }
 
     /// Passes a block or bare text in a stretch that a comment keeps, up to this place of the source.
-    fn extend_region(
+    fn extend_kept(
         &mut self,
-        region: Region,
+        stretch: Stretch,
         comment: Option<&str>,
         end: usize,
     ) -> Result<(), AllocError> {
-        let is_last = match region.until {
+        let is_last = match stretch.until {
             Until::Next => true,
             Until::Comment(text) => comment == Some(text),
         };
         if is_last {
-            return self.print_region(region.from, end);
+            return self.print_kept(stretch.from, end);
         }
-        self.region = Some(Region { to: end, ..region });
+        self.kept = Some(Stretch { to: end, ..stretch });
         Ok(())
+    }
+
+    /// The stretch that a comment keeps at this depth, if there is one.
+    fn kept_here(&self) -> Option<Stretch> {
+        match self.kept {
+            Some(stretch) if stretch.depth == self.page.depth() => Some(stretch),
+            _ => None,
+        }
     }
 
     /// Passes a block or bare text that a comment keeps, or such a comment; the place behind it.
@@ -156,31 +164,26 @@ impl Printer<'_> {
         part: &Part<'_>,
         at: usize,
     ) -> Result<Option<usize>, AllocError> {
-        let behind = if part.is_block(at) {
-            part.end(at).saturating_add(1)
-        } else {
-            part.past_inlines(at)
-        };
+        let comment = comment_at(part, at);
+        let kept = self.kept_here();
+        let until = comment.and_then(kept_until);
+        if kept.is_none() && until.is_none() {
+            return Ok(None);
+        }
+        let behind = part.past(at);
         let (from, _) = part.range(at);
         let (_, to) = part.range(behind.saturating_sub(1));
-        let comment = comment_at(part, at);
-        let depth = self.page.depth();
-        if let Some(region) = self.region
-            && region.depth == depth
-        {
-            self.extend_region(region, comment, to)?;
-            return Ok(Some(behind));
+        if let Some(stretch) = kept {
+            self.extend_kept(stretch, comment, to)?;
+        } else if let Some(until) = until {
+            self.begin_events(Kind::Kept, from, to)?;
+            self.kept = Some(Stretch {
+                from,
+                to,
+                depth: self.page.depth(),
+                until,
+            });
         }
-        let Some(until) = comment.and_then(kept_until) else {
-            return Ok(None);
-        };
-        self.begin_events(Kind::Kept, from, to)?;
-        self.region = Some(Region {
-            from,
-            to,
-            depth,
-            until,
-        });
         Ok(Some(behind))
     }
 }

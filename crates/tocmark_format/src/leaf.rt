@@ -1,12 +1,14 @@
 //! Leaves: paragraphs, headings, code, HTML and rules.
 
-use crate::inline::{Inlines, Scene};
+use crate::fill::{Measure, filled};
+use crate::inline::{Context, Inlines};
+use crate::lines::Lines;
 use crate::page::Kind;
 use crate::part::Part;
-use crate::piece::{Lines, Pieces};
+use crate::piece::Pieces;
 use crate::printer::Printer;
 use crate::source::{is_blank, without_blanks};
-use crate::style::Rule;
+use crate::style::{Rule, Wrap};
 use std::alloc::AllocError;
 use tocmark_event::event::{CodeBlockKind, Event, HeadingLevel};
 
@@ -99,20 +101,36 @@ impl Printer<'_> {
         events: (usize, usize),
         start: usize,
     ) -> Result<(Pieces, usize), AllocError> {
-        let scene = Scene {
+        let context = Context {
             alloc: self.alloc,
             source: self.source,
             part,
             page: &self.page,
             look: self.look,
         };
-        let mut inlines = Inlines::new(scene, start);
+        let mut inlines = Inlines::new(context, start);
         inlines.add_all(events.0, events.1)?;
         let Inlines { pieces, at, .. } = inlines;
         Ok((pieces, at))
     }
 
-    /// Prints the lines of a text.
+    /// The lines of a paragraph, as the look breaks them.
+    fn lines_of(&self, pieces: &Pieces) -> Result<Lines, AllocError> {
+        let limit = match self.look.wrap {
+            Wrap::Keep => return Lines::kept(self.alloc, pieces, false),
+            Wrap::No => usize::MAX,
+            Wrap::At(limit) => limit,
+        };
+        let (first, others) = self.page.prefix_columns();
+        let measure = Measure {
+            first,
+            others,
+            limit,
+        };
+        filled(self.alloc, pieces, measure)
+    }
+
+    /// Prints a paragraph's lines.
     pub(crate) fn print_text(
         &mut self,
         part: &Part<'_>,
@@ -120,7 +138,15 @@ impl Printer<'_> {
         start: usize,
     ) -> Result<(), AllocError> {
         let (pieces, _) = self.pieces_of(part, events, start)?;
-        let lines = Lines::kept(self.alloc, &pieces)?;
+        let lines = self.lines_of(&pieces)?;
+        self.print_all(&lines)
+    }
+
+    /// Prints the title of a definition list. A line more would be a title of its own.
+    pub(crate) fn print_title(&mut self, part: &Part<'_>, at: usize) -> Result<(), AllocError> {
+        let events = (at.saturating_add(1), part.end(at));
+        let (pieces, _) = self.pieces_of(part, events, part.range(at).0)?;
+        let lines = Lines::kept(self.alloc, &pieces, false)?;
         self.print_all(&lines)
     }
 
@@ -144,7 +170,8 @@ impl Printer<'_> {
         let first = at.saturating_add(1);
         let text = start.saturating_add(signs);
         let (pieces, behind) = self.pieces_of(part, (first, part.end(at)), text)?;
-        let mut lines = Lines::kept(self.alloc, &pieces)?;
+        let joins = self.look.wrap != Wrap::Keep;
+        let mut lines = Lines::kept(self.alloc, &pieces, joins)?;
         let tail = source.slice(behind, end.min(source.line_end(behind)));
         if let Some(attributes) = attributes_in(tail) {
             lines.add_to_last(" ")?;

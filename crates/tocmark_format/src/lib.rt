@@ -4,7 +4,8 @@
 //! that format files. Enter at `formatted` (`format`), which prints, reads back, and prints nearer to the source what is read
 //! otherwise. `style` says how things look, `answer` what comes out, and `parts` which readers hand out a text's events part
 //! by part. `printer` walks over the events; `page` has what is printed and the containers that are open; `leaf`, `table`,
-//! `container`, `definitions` and `kept` print the blocks; `inline` makes `piece`s of what stands in lines.
+//! `container` and `definitions` print the blocks; `kept` and `dialect` say which keep their lines. `inline` makes `piece`s of
+//! events, and `lines` and `fill` make lines of these. `summary` compares two texts.
 //!
 //! What is printed is read again and compared, so all that stands between can be changed freely.
 #![tactic(auto)]
@@ -12,10 +13,14 @@
 mod answer;
 mod container;
 mod definitions;
+mod dialect;
+mod fill;
 mod format;
+mod hazard;
 mod inline;
 mod kept;
 mod leaf;
+mod lines;
 mod link;
 mod look;
 mod page;
@@ -25,10 +30,13 @@ mod piece;
 mod printer;
 mod source;
 mod style;
+mod summary;
 mod table;
 mod width;
 
 pub use answer::{Formatted, Left, Reason};
 pub use format::formatted;
 pub use parts::{PartReader, PartTaker};
-pub use style::{Bullet, Delimiter, Fence, HardBreak, Marker, Numbering, Rule, Style};
+pub use style::{
+    Bullet, Delimiter, Fence, HardBreak, ListIndent, Marker, Numbering, Rule, Style, Wrap,
+};

@@ -1,6 +1,8 @@
 //! How blocks are printed: a style, or the source's own spelling.
 
-use crate::style::{Bullet, Delimiter, Fence, HardBreak, Marker, Numbering, Rule, Style};
+use crate::style::{
+    Bullet, Delimiter, Fence, HardBreak, ListIndent, Marker, Numbering, Rule, Style, Wrap,
+};
 
 /// How blocks are printed. `None` says: as in the source.
 #[derive(Clone, Copy)]
@@ -15,6 +17,8 @@ pub(crate) struct Look {
     pub(crate) rule: Rule,
     pub(crate) hard_break: HardBreak,
     pub(crate) table_width: usize,
+    pub(crate) wrap: Wrap,
+    pub(crate) list_indent: ListIndent,
     /// Whether headings, indents, fences, tables and definitions stay as they are spelled, too.
     pub(crate) is_literal: bool,
 }
@@ -64,6 +68,8 @@ impl Look {
             rule: style.rule,
             hard_break: style.hard_break,
             table_width: style.table_width,
+            wrap: style.wrap,
+            list_indent: style.list_indent,
             is_literal: false,
         }
     }
@@ -81,6 +87,8 @@ impl Look {
             rule: Rule::Source,
             hard_break: HardBreak::Source,
             table_width: 0,
+            wrap: Wrap::Keep,
+            list_indent: ListIndent::Marker,
             is_literal: true,
         }
     }

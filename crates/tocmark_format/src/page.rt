@@ -2,6 +2,7 @@
 
 use crate::piece::cut_blanks;
 use crate::source::{Source, is_blank};
+use crate::width::width;
 use std::alloc::{AllocError, Global};
 use std::mem;
 
@@ -28,6 +29,8 @@ pub(crate) enum Kind {
     Definitions,
     /// Lines that a comment keeps.
     Kept,
+    /// Lines of another dialect.
+    Foreign,
 }
 
 /// What a container has before its lines.
@@ -102,6 +105,20 @@ impl Frame {
             text.push_str(self.first.as_str())
         } else {
             push_lead(text, self.rest)
+        }
+    }
+
+    /// How many columns stand before its next line, and before each line behind it.
+    fn prefix_columns(&self) -> (usize, usize) {
+        let others = match self.rest {
+            Lead::Nothing => 0,
+            Lead::Quote => 2,
+            Lead::Blanks(count) => count,
+        };
+        if self.is_used || self.first.is_empty() {
+            (others, others)
+        } else {
+            (width(self.first.as_str()), others)
         }
     }
 
@@ -281,6 +298,17 @@ impl Page {
             }
             self.text.pop();
         }
+    }
+
+    /// How many columns the containers have before the next line, and before each line behind it.
+    pub(crate) fn prefix_columns(&self) -> (usize, usize) {
+        let (mut first, mut others) = self.top.prefix_columns();
+        for frame in self.outer.iter() {
+            let (next, behind) = frame.prefix_columns();
+            first = first.saturating_add(next);
+            others = others.saturating_add(behind);
+        }
+        (first, others)
     }
 
     /// Starts a line: what the containers have before it. From here on their first lines are printed.

@@ -319,6 +319,15 @@ impl<'p> Part<'p> {
         next
     }
 
+    /// The place behind the block, or behind the stretch of inlines, that begins at a place.
+    pub(crate) fn past(&self, at: usize) -> usize {
+        if self.is_block(at) {
+            self.end(at).saturating_add(1)
+        } else {
+            self.past_inlines(at)
+        }
+    }
+
     /// The texts of a code block or an HTML block that starts at a place, as one.
     pub(crate) fn raw_text(&self, alloc: Global, at: usize) -> Result<String, AllocError> {
         let mut text = String::new(alloc);

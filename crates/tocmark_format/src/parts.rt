@@ -1,17 +1,23 @@
 //! Readers that hand out what they find part by part, so that never all events of a text are there at once.
 
-ghost use Rattle.std.specs.Prelude.{◌++◌, List, OnOk};
+ghost use Rattle.std.specs.Prelude.{◌≡◌, ◌++◌, [], ℕ, IfOk, List, OnOk, map};
+ghost use Rattle.tocmark_read_scan.specs.declared.syntax.TheConstants.{CORE};
+ghost use Rattle.tocmark_event.specs.declared.event.flags.ParserOptions.{ParserOptions};
+ghost use Rattle.tocmark_reader.specs.Definitions.{definitions_of};
+ghost use Rattle.tocmark_reader.specs.Flags.{syntax_of};
 ghost use Rattle.tocmark_reader.specs.Left.{reading_left};
 ghost use Rattle.tocmark_event.specs.Reading.{reading_view};
 ghost use Rattle.tocmark_event.specs.View.{EventView};
-ghost use Rattle.tocmark_compare.specs.Digest.{SaysFirst};
 ghost use Rattle.tocmark_compare.specs.Given.{found_events};
+ghost use Rattle.tocmark_format.specs.LinkDefinitions.{DefinedLink, link_defined, unplaced};
 
 use std::alloc::{AllocError, Global};
-use tocmark_compare::digest::Digest;
 use tocmark_event::event::ParserOptions;
 use tocmark_event::reader::{Reader, Reading};
-use tocmark_reader::{BlockReading, CoreReader, ExtendedReader};
+use tocmark_read_scan::syntax::CORE;
+use tocmark_reader::{
+    BlockReading, CoreReader, ExtendedReader, ReferenceDefinition, find_definitions,
+};
 
 /// What takes the events of a text, part by part.
 pub trait PartTaker {
@@ -24,11 +30,37 @@ pub trait PartTaker {
             → has_taken self.new (before ++ found_events (reading_view part.now))) };
 }
 
-/// A reader that can hand out a text's events part by part.
+/// A reader that can hand out a text's events part by part, and name its link definitions.
 ///
-/// The parts, one behind the other, are what it finds in the text at once. A reader that has no other way than to read
-/// all at once hands out that as one part: `impl PartReader for MyReader {}`.
+/// The parts, one behind the other, are what it finds in the text at once. A reader that can only read all at once hands out
+/// one part; that needs no code. A reader that can't name definitions returns none, and formatting may then lose unused ones.
+///
+/// ```
+/// impl PartReader for MyReader {
+///     fn read_definitions(
+///         &self,
+///         alloc: Global,
+///         _text: &str,
+///         _flags: ParserOptions,
+///     ) -> Result<Vec<ReferenceDefinition>, AllocError> {
+///         Ok(Vec::new(alloc))
+///     }
+/// }
+/// ```
 pub trait PartReader: Reader {
+    /// What the link definitions in a text say, in their order, whether links use them or not.
+    ghost definitions: { Self → List ℕ → ParserOptions → List DefinedLink } = { λ _ _ _. [] };
+
+    /// The link definitions in a text. It fails if memory runs out.
+    fn read_definitions(
+        &self,
+        alloc: Global,
+        text: &str,
+        flags: ParserOptions,
+    ) -> Result<Vec<ReferenceDefinition>, AllocError>
+        ensures { IfOk result (λ all. map link_defined all.items
+            ≡ definitions self.now text.now flags) };
+
     /// Hands the events of a text to a taker. It fails if memory runs out, here or there.
     fn read_parts<T: PartTaker>(
         &self,
@@ -64,6 +96,17 @@ fn hand_blocks<T: PartTaker>(
 }
 
 impl PartReader for CoreReader {
+    ghost definitions = { λ _ text _. map unplaced (definitions_of CORE text) };
+
+    fn read_definitions(
+        &self,
+        alloc: Global,
+        text: &str,
+        _flags: ParserOptions,
+    ) -> Result<Vec<ReferenceDefinition>, AllocError> {
+        find_definitions(alloc, CORE, text)
+    }
+
     fn read_parts<T: PartTaker>(
         &self,
         alloc: Global,
@@ -79,6 +122,18 @@ impl PartReader for CoreReader {
 }
 
 impl PartReader for ExtendedReader {
+    ghost definitions = { λ reader text flags.
+        map unplaced (definitions_of (syntax_of reader.names flags) text) };
+
+    fn read_definitions(
+        &self,
+        alloc: Global,
+        text: &str,
+        flags: ParserOptions,
+    ) -> Result<Vec<ReferenceDefinition>, AllocError> {
+        self.definitions(alloc, text, flags)
+    }
+
     fn read_parts<T: PartTaker>(
         &self,
         alloc: Global,
@@ -95,6 +150,17 @@ impl PartReader for ExtendedReader {
 
 /// A reference to a reader hands out the reader's parts.
 impl<R: PartReader> PartReader for &R {
+    ghost definitions = { λ r. R.definitions r.now };
+
+    fn read_definitions(
+        &self,
+        alloc: Global,
+        text: &str,
+        flags: ParserOptions,
+    ) -> Result<Vec<ReferenceDefinition>, AllocError> {
+        (**self).read_definitions(alloc, text, flags)
+    }
+
     fn read_parts<T: PartTaker>(
         &self,
         alloc: Global,
@@ -103,14 +169,5 @@ impl<R: PartReader> PartReader for &R {
         taker: &mut T,
     ) -> Result<(), AllocError> {
         (**self).read_parts(alloc, text, flags, taker)
-    }
-}
-
-/// Keeps what the parts say.
-impl PartTaker for Digest {
-    ghost has_taken = { SaysFirst };
-
-    fn take(&mut self, alloc: Global, part: &Reading) -> Result<(), AllocError> {
-        self.add(alloc, &part.events)
     }
 }

@@ -1,6 +1,7 @@
 //! The walk over the events of a document: each block is printed as it comes.
 
-use crate::kept::Region;
+use crate::dialect::Foreign;
+use crate::kept::Stretch;
 use crate::look::Look;
 use crate::page::{Kind, Page};
 use crate::part::{Part, is_inline};
@@ -10,12 +11,12 @@ use tocmark_event::event::{Event, Tag};
 
 /// How near to the source a tree at the top is printed.
 #[derive(Clone, Copy, Debug, PartialEq, Eq)]
-pub(crate) enum Rung {
-    /// In the style's look.
-    Look,
+pub(crate) enum Step {
+    /// In the style.
+    Styled,
     /// In the source's own spelling.
-    Literal,
-    /// Its lines of the source.
+    Spelled,
+    /// By its lines of the source.
     Lines,
 }
 
@@ -44,8 +45,8 @@ pub(crate) struct Printer<'d> {
     wanted: Look,
     /// How the block at the top is printed that is open.
     pub(crate) look: Look,
-    /// For each tree how near to the source it is printed; `Look` for those that have none.
-    rungs: &'d [Rung],
+    /// For each tree how near to the source it is printed; `Styled` for those that have none.
+    steps: &'d [Step],
     /// Whether definitions stay as they are spelled.
     keeps_definitions: bool,
     pub(crate) blocks: Vec<Block>,
@@ -53,8 +54,10 @@ pub(crate) struct Printer<'d> {
     trees: usize,
     /// Whether the source ends within a line of code or HTML.
     pub(crate) is_cut: bool,
-    /// What a comment keeps that came before.
-    pub(crate) region: Option<Region>,
+    /// The stretch that a comment keeps and that isn't printed yet.
+    pub(crate) kept: Option<Stretch>,
+    /// The last block of another dialect, as long as only blocks below it came.
+    pub(crate) foreign: Option<Foreign>,
 }
 
 impl<'d> Printer<'d> {
@@ -62,7 +65,7 @@ impl<'d> Printer<'d> {
         alloc: Global,
         source: &'d Source<'d>,
         wanted: Look,
-        rungs: &'d [Rung],
+        steps: &'d [Step],
         keeps_definitions: bool,
     ) -> Printer<'d> {
         Printer {
@@ -71,17 +74,18 @@ impl<'d> Printer<'d> {
             page: Page::new(alloc, source.text.len()),
             wanted,
             look: wanted,
-            rungs,
+            steps,
             keeps_definitions,
             blocks: Vec::new(alloc),
             trees: 0,
             is_cut: false,
-            region: None,
+            kept: None,
+            foreign: None,
         }
     }
 
-    fn rung(&self, tree: usize) -> Rung {
-        self.rungs.get(tree).copied().unwrap_or(Rung::Look)
+    fn step(&self, tree: usize) -> Step {
+        self.steps.get(tree).copied().unwrap_or(Step::Styled)
     }
 
     /// Prints the line between a block and the one before it in its container: none in tight items, and none between some
@@ -92,7 +96,7 @@ impl<'d> Printer<'d> {
             return Ok(());
         };
         if top.is_tight {
-            if last == Kind::Quote && kind == Kind::Paragraph {
+            if last == Kind::Quote && matches!(kind, Kind::Paragraph | Kind::Foreign) {
                 // else the text would go on with the quote's paragraph
                 return self.page.line(">");
             }
@@ -103,6 +107,7 @@ impl<'d> Printer<'d> {
             (Kind::Definition, Kind::Definition) => true,
             (Kind::Title, Kind::Title | Kind::Definition) => true,
             (Kind::Definitions, _) => self.look.is_literal,
+            (Kind::Foreign, _) | (_, Kind::Foreign) => true,
             _ => false,
         };
         if is_apart || !is_pair {
@@ -112,7 +117,8 @@ impl<'d> Printer<'d> {
         }
     }
 
-    /// Begins a block, of which one at the top has a look and a limit of its own.
+    /// Begins a block: puts a line between it and the one before. At the top of the document it also chooses the block's
+    /// look, and limits its prefixes.
     fn begin(
         &mut self,
         kind: Kind,
@@ -122,12 +128,12 @@ impl<'d> Printer<'d> {
         let (tree, range) = block;
         let is_top = self.page.depth() == 0;
         if is_top {
-            let rung = match tree {
-                Some(tree) => self.rung(tree),
-                None if self.keeps_definitions => Rung::Literal,
-                None => Rung::Look,
+            let step = match tree {
+                Some(tree) => self.step(tree),
+                None if self.keeps_definitions => Step::Spelled,
+                None => Step::Styled,
             };
-            self.look = if rung == Rung::Look {
+            self.look = if step == Step::Styled {
                 self.wanted
             } else {
                 Look::literal()
@@ -188,7 +194,7 @@ impl<'d> Printer<'d> {
 
     /// Closes the innermost container, whose End this is.
     fn close(&mut self, end: usize) -> Result<(), AllocError> {
-        self.end_region()?;
+        self.end_kept()?;
         let top = self.page.top();
         let kind = top.kind;
         let marker = top.marker;
@@ -213,6 +219,10 @@ impl<'d> Printer<'d> {
         let place = source.past_blanks(front.at).min(start);
         let behind = part.past_inlines(at);
         let end = part.range(behind.saturating_sub(1)).1;
+        if self.is_foreign(Kind::Paragraph, place, end) {
+            self.print_foreign(place, end)?;
+            return Ok(behind);
+        }
         self.begin_events(Kind::Paragraph, place, end)?;
         self.print_text(part, (at, behind), place)?;
         self.finish(Kind::Paragraph, end)?;
@@ -228,9 +238,10 @@ impl<'d> Printer<'d> {
         match event {
             Event::Rule => self.print_rule(range)?,
             Event::Start(tag) => match tag {
-                Tag::Paragraph | Tag::DefinitionListTitle => {
+                Tag::Paragraph => {
                     self.print_text(part, (at.saturating_add(1), part.end(at)), range.0)?;
                 }
+                Tag::DefinitionListTitle => self.print_title(part, at)?,
                 Tag::Heading { level, .. } => self.print_heading(part, at, *level)?,
                 Tag::CodeBlock(kind) => self.print_code(part, at, kind)?,
                 Tag::HtmlBlock => self.print_html(part, at)?,
@@ -252,12 +263,15 @@ impl<'d> Printer<'d> {
         let behind = part.end(at).saturating_add(1);
         if kind == Kind::Item {
             self.separate(kind, true)?;
+        } else if self.is_foreign(kind, start, end) {
+            self.print_foreign(start, end)?;
+            return Ok(behind);
         } else {
             self.begin_events(kind, start, end)?;
         }
         let tree = self.trees.saturating_sub(1);
         let is_top = self.page.depth() == 0;
-        if is_top && self.rung(tree) == Rung::Lines {
+        if is_top && self.step(tree) == Step::Lines {
             self.print_lines(start, end)?;
         } else if self.print_block(part, at)? {
             return Ok(at.saturating_add(1));
@@ -302,7 +316,7 @@ impl<'d> Printer<'d> {
 
     /// Prints what stands behind the last tree.
     pub(crate) fn end(&mut self) -> Result<(), AllocError> {
-        self.end_region()?;
+        self.end_kept()?;
         self.print_gap(self.source.text.len().saturating_add(1))?;
         if self.is_cut && self.page.text.as_str().ends_with('\n') {
             self.page.text.pop();

@@ -58,6 +58,14 @@ impl<'s> Source<'s> {
             .saturating_sub(1)
     }
 
+    /// A line by its number, counted from 0, without its line feed; empty if there is none.
+    pub(crate) fn line(&self, number: usize) -> &'s str {
+        match self.starts.get(number) {
+            Some(start) => self.slice(*start, self.line_end(*start)),
+            None => "",
+        }
+    }
+
     /// Where the line of a place begins.
     pub(crate) fn line_start(&self, at: usize) -> usize {
         let line = self.line_of(at);

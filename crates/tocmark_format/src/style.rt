@@ -72,6 +72,26 @@ pub enum Rule {
     Dashes,
 }
 
+/// Where the lines of paragraphs break.
+#[derive(Clone, Copy, Debug, PartialEq, Eq)]
+pub enum Wrap {
+    /// As in the source.
+    Keep,
+    /// Nowhere: a paragraph is one line, but for its hard breaks.
+    No,
+    /// Lines are filled up to this many columns. A word that is longer has a line of its own.
+    At(usize),
+}
+
+/// Where the content of a list's items begins.
+#[derive(Clone, Copy, Debug, PartialEq, Eq)]
+pub enum ListIndent {
+    /// One blank behind the marker.
+    Marker,
+    /// Four columns behind the marker's front, as Python-Markdown wants it; one blank behind a marker that is longer.
+    Four,
+}
+
 /// How a document is to look. `None` says: as in the source.
 #[derive(Clone, Copy, Debug, PartialEq, Eq)]
 pub struct Style {
@@ -90,11 +110,13 @@ pub struct Style {
     pub rule: Rule,
     /// How many columns a table may take. The cells of wider ones aren't padded.
     pub table_width: usize,
+    pub wrap: Wrap,
+    pub list_indent: ListIndent,
 }
 
 impl Style {
-    /// Bullets, delimiters, numbers, fences and breaks as in the source, asterisks for emphasis, rules of `---`, fences of
-    /// three, and tables of 120 columns.
+    /// Bullets, delimiters, numbers, fences and breaks of lines as in the source, asterisks for emphasis, rules of `---`,
+    /// fences of three, one blank behind the markers of items, and tables of 120 columns.
     pub fn new() -> Style
         ensures { result ≡ usual_style }
     {
@@ -109,6 +131,8 @@ impl Style {
             hard_break: HardBreak::Source,
             rule: Rule::Dashes,
             table_width: 120,
+            wrap: Wrap::Keep,
+            list_indent: ListIndent::Marker,
         }
     }
 }

@@ -2,11 +2,11 @@ use Rattle.std.proofs.Common.{◌≡◌, ◌∙◌, ◌++◌, List, OnOk, ap, su
 use Rattle.tocmark_event.specs.Reading.{reading_view}
 use Rattle.tocmark_event.specs.View.{EventView}
 use Rattle.tocmark_compare.proofs.Found.{found-given}
-use Rattle.tocmark_compare.specs.Digest.{SaysFirst}
 use Rattle.tocmark_compare.specs.Given.{found_events, given_events}
-use Rattle.tocmark_format.proofs.parts.DigestPartTaker.take.Goals as goal
+use Rattle.tocmark_format.specs.Summaries.{SumsFirst}
+use Rattle.tocmark_format.proofs.summary.SummaryPartTaker.take.Goals as goal
 
 pub returns : goal.returns
 returns c =
     let read : given_events c.deref.result.now ≡ found_events (reading_view c.args.part.now) = ap given_events c.deref.ensures.value ∙ sym (found-given c.args.part.now) in
-    subst (λ (es : List EventView). OnOk c.add.result ((before : List EventView) → SaysFirst c.args.self.now before → SaysFirst c.add.new.self (before ++ es))) read c.add.ensures
+    subst (λ (es : List EventView). OnOk c.add.result ((before : List EventView) → SumsFirst c.args.self.now before → SumsFirst c.add.new.self (before ++ es))) read c.add.ensures

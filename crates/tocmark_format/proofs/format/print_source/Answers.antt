@@ -1,9 +1,0 @@
-use Rattle.std.proofs.Common.{[]}
-use Rattle.tocmark_compare.specs.Given.{found_events}
-use Rattle.tocmark_compare.proofs.Digests.{says-all}
-use Rattle.tocmark_format.proofs.format.print_source.Goals as goal
-
-pub returns : goal.returns
-returns g c =
-    let j = c.args.job.now in
-    says-all c.read_parts.new.taker.said (found_events (g.R.Reader.reading j.reader.now j.source.now.text.now j.flags)) (c.in_ok-read_parts.ensures [] c.new-2.ensures)

@@ -1,0 +1,114 @@
+//! Other dialects of Markdown. Their blocks are text to the reader; here they keep their lines, and what stands below them.
+
+use crate::page::Kind;
+use crate::printer::Printer;
+use std::alloc::AllocError;
+
+/// What begins a line that another dialect takes for more than text.
+const LINE_OPENERS: [&str; 6] = [
+    "!!!", // MkDocs: an admonition
+    "???", // MkDocs: one that can be folded
+    ":::", // Docusaurus, pandoc: a container, and its end
+    "{:", // kramdown: attributes of the block beside it
+    "{%", // Jekyll: a tag
+    "{{", // Jekyll, Hugo: a value, a shortcode
+];
+
+/// What begins a block of another dialect, beside the lines above.
+const BLOCK_OPENERS: [&str; 5] = [
+    "{", // MDX: an expression
+    "import ", // MDX: what the document imports and exports
+    "export ", "=== \"", // MkDocs: a tab
+    "--8<-- ", // MkDocs: an included file
+];
+
+/// A block of another dialect: how many containers are open round it, and the column where it begins in the innermost one.
+#[derive(Clone, Copy)]
+pub(crate) struct Foreign {
+    depth: usize,
+    column: usize,
+}
+
+/// Whether a text begins with one of some words.
+fn begins_with(text: &str, openers: &[&str]) -> bool {
+    openers.iter().any(|opener| text.starts_with(*opener))
+}
+
+/// Whether a line that begins like this text is one of another dialect.
+pub(crate) fn begins_foreign_line(text: &str) -> bool {
+    begins_with(text, &LINE_OPENERS)
+}
+
+impl Printer<'_> {
+    /// Whether a line between two places of the source, but not that of the first one, begins as one of another dialect;
+    /// behind its indent and the signs of quotes, or at its very front.
+    fn has_foreign_line(&self, start: usize, end: usize, is_at_front: bool) -> bool {
+        let source = self.source;
+        let first = source.line_of(start).saturating_add(1);
+        let last = source.line_of(end.saturating_sub(1));
+        for line in first..=last {
+            let text = source.line(line);
+            let bare = text.trim_start_matches(&[' ', '\t', '>']);
+            let is_inner = bare.len() < text.len();
+            if begins_foreign_line(bare) && !(is_inner && is_at_front) {
+                return true;
+            }
+        }
+        false
+    }
+
+    /// Whether a block has a line of another dialect where that could be read as one: in a leaf any line, in a container at
+    /// the top a lazy one.
+    fn has_foreign(&self, kind: Kind, start: usize, end: usize) -> bool {
+        match kind {
+            Kind::Paragraph | Kind::Heading => {
+                let text = self.source.slice(start, end);
+                begins_foreign_line(text)
+                    || begins_with(text, &BLOCK_OPENERS)
+                    || self.has_foreign_line(start, end, false)
+            }
+            Kind::Table => self.has_foreign_line(start, end, false),
+            Kind::List | Kind::Quote if self.page.depth() == 0 => self.has_foreign_line(
+                start, end, true,
+            ),
+            _ => false,
+        }
+    }
+
+    /// The column in the innermost container where the line of a place begins, without its blanks.
+    fn column_in_container(&self, place: usize) -> usize {
+        let source = self.source;
+        let front = self.page.front(source, place);
+        let at = source.past_blanks(front.at);
+        let column = source.column_at(front.column, front.at, at);
+        column
+            .saturating_sub(front.column)
+            .saturating_add(front.spare)
+    }
+
+    /// Whether a block belongs to another dialect: it has a line of that, or it stands below such a block, deeper indented.
+    pub(crate) fn is_foreign(&mut self, kind: Kind, start: usize, end: usize) -> bool {
+        let depth = self.page.depth();
+        if let Some(above) = self.foreign
+            && above.depth == depth
+            && self.column_in_container(start) > above.column
+        {
+            return true;
+        }
+        let is_foreign = self.has_foreign(kind, start, end);
+        if is_foreign {
+            let column = self.column_in_container(start);
+            self.foreign = Some(Foreign { depth, column });
+        } else if self.foreign.is_some_and(|above| above.depth >= depth) {
+            self.foreign = None;
+        }
+        is_foreign
+    }
+
+    /// Prints a block of another dialect: its lines.
+    pub(crate) fn print_foreign(&mut self, start: usize, end: usize) -> Result<(), AllocError> {
+        self.begin_events(Kind::Foreign, start, end)?;
+        self.print_lines(start, end)?;
+        self.finish(Kind::Foreign, end)
+    }
+}
