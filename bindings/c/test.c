@@ -309,6 +309,10 @@ static void styles(void) {
   expect(formats("a\\\nb\n\n* * *\n", (struct tocmark_style){.size = size, .hard_break = 2, .rule = 1}, "a  \nb\n\n* * *\n"), 13,
          "breaks");
   expect(formats("|a|\n|-|\n", (struct tocmark_style){.size = size, .table_width = 1}, "| a |\n| --- |\n"), 14, "tables");
+  expect(formats("a\nb c\n", (struct tocmark_style){.size = size, .wrap = 3}, "a b\nc\n"), 6, "filled lines");
+  expect(formats("a\nb\n", (struct tocmark_style){.size = size, .wrap = UINT32_MAX}, "a b\n"), 4, "joined lines");
+  expect(formats("- a\n\n  b\n", (struct tocmark_style){.size = size, .list_indent = 4}, "-   a\n\n    b\n"), 13,
+         "indented items");
   expect(formats("\xFF", style, ""), TOCMARK_NOT_UTF8, "text that is formatted");
   struct tocmark_style wrongs[] = {{.size = 0},
                                    {.size = size - 4},
@@ -320,7 +324,8 @@ static void styles(void) {
                                    {.size = size, .strong = 1},
                                    {.size = size, .fence = '"'},
                                    {.size = size, .hard_break = 3},
-                                   {.size = size, .rule = 2}};
+                                   {.size = size, .rule = 2},
+                                   {.size = size, .list_indent = 2}};
   for (size_t i = 0; i < sizeof wrongs / sizeof *wrongs; i++)
     expect(formats("a", wrongs[i], ""), TOCMARK_INVALID_STYLE, "a style");
 }

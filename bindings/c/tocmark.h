@@ -131,10 +131,13 @@ struct tocmark_style {
   uint32_t hard_break;   /* a line break: 0: as in the source; 1: a backslash; 2: two spaces */
   uint32_t rule;         /* a thematic break: 0: ---; 1: as in the source */
   uint32_t table_width;  /* tables are padded up to this many columns; 0: up to 120 */
+  uint32_t wrap;         /* lines of paragraphs: 0: as in the source; UINT32_MAX: joined; else filled up to this many columns */
+  uint32_t list_indent;  /* columns before the content of items: 0: as many as the marker takes; 4: four */
 };
 
-/* Formats Markdown. The result parses to the same events under these flags; texts side by side count as one. A block that would
- * parse otherwise keeps its lines. If `style` is NULL, all parts of it are the default.
+/* Formats Markdown. The result parses to the same events under these flags; texts side by side count as one. If `wrap` isn't 0,
+ * a soft line break counts as a space, and so does each run of white space. The definitions of links are the same, too. A block
+ * that would parse otherwise keeps its lines. If `style` is NULL, all parts of it are the default.
  *
  * Errors: TOCMARK_NOT_UTF8, TOCMARK_INVALID_STYLE, and TOCMARK_OUT_OF_MEMORY. */
 ptrdiff_t tocmark_format(const uint8_t *text, size_t text_len, uint32_t flags, const struct tocmark_style *style, uint8_t *out,
@@ -185,7 +188,7 @@ static inline ptrdiff_t tocmark_rewrite_(const uint8_t *json, size_t json_len, c
 
 static inline ptrdiff_t tocmark_format_(const uint8_t *text, size_t text_len, uint32_t flags,
                                         const struct tocmark_style *style, uint8_t *out, size_t out_len) {
-  static const struct tocmark_style plain = {sizeof plain, 0, 0, 0, 0, 0, 0, 0, 0, 0, 0};
+  static const struct tocmark_style plain = {sizeof plain, 0, 0, 0, 0, 0, 0, 0, 0, 0, 0, 0, 0};
   return tocmark_format(tocmark_text_(text), text_len, flags, style ? style : &plain, tocmark_room_(out), out_len);
 }
 

@@ -297,8 +297,18 @@ class Formatting(unittest.TestCase):
             tocmark.format("a", table_width=0)
         with self.assertRaisesRegex(ValueError, "and not 2"):
             tocmark.format("a", fence_length=2)
+        with self.assertRaisesRegex(ValueError, "keep, no, or from 1 to 1000, and not 0"):
+            tocmark.format("a", wrap=0)
+        with self.assertRaisesRegex(ValueError, "marker or 4, and not 2"):
+            tocmark.format("a", list_indent=2)
         with self.assertRaises(TypeError):
             tocmark.format("a", bulet="-")
+
+    def test_lines_are_filled(self):
+        self.assertEqual(tocmark.format("one\ntwo three\n", wrap=7), "one two\nthree\n")
+        self.assertEqual(tocmark.format("one\ntwo\n", wrap="no"), "one two\n")
+        self.assertEqual(tocmark.format("one\ntwo\n"), "one\ntwo\n")
+        self.assertEqual(tocmark.format("- a\n\n  b\n", list_indent=4), "-   a\n\n    b\n")
 
     def test_the_same_is_read(self):
         styles = ({}, {"bullet": "-", "delimiter": ")", "numbering": "first", "emphasis": "_", "fence": "~", "hard_break": "backslash", "rule": "source", "table_width": 1})

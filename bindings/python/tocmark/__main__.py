@@ -23,6 +23,10 @@ def _print(text: str) -> None:
     sys.stdout.buffer.flush()
 
 
+def _word_or_number(word: str) -> int | str:
+    return int(word) if word.isdecimal() else word
+
+
 def _json_of(text: str, words: argparse.Namespace) -> str:
     pairs = read(text, **_syntax_of(words))
     return json.dumps([[event, place and {"start": place.start, "end": place.stop}] for event, place in pairs],
@@ -31,7 +35,7 @@ def _json_of(text: str, words: argparse.Namespace) -> str:
 
 def _format(words: argparse.Namespace) -> int:
     style = {name: value for name in ("bullet", "delimiter", "numbering", "emphasis", "strong", "fence", "hard_break", "rule",
-                                      "fence_length", "table_width") if (value := getattr(words, name)) is not None}
+                                      "fence_length", "table_width", "wrap", "list_indent") if (value := getattr(words, name)) is not None}
     if not words.file:
         _print(format(_read_input(), **style, **_syntax_of(words)))
         return 0
@@ -97,6 +101,8 @@ def _parser() -> argparse.ArgumentParser:
         one.add_argument(f"--{name}", help="see the function format")
     for name in ("fence-length", "table-width"):
         one.add_argument(f"--{name}", type=int, metavar="N", help="see the function format")
+    for name in ("wrap", "list-indent"):
+        one.add_argument(f"--{name}", type=_word_or_number, metavar="WORD|N", help="see the function format")
     one.set_defaults(run=_format)
 
     one = commands.add_parser("read", help="print the events of a file or of standard input as JSON")

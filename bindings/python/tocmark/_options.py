@@ -24,6 +24,7 @@ SYNTAXES: Mapping[str, int] = {
 _NUMBERINGS = {"source": 0, "first": 1, "increment": 2}
 _HARD_BREAKS = {"source": 0, "backslash": 1, "spaces": 2}
 _RULES = {"---": 0, "source": 1}
+_WRAPS: dict[int | str, int] = {"keep": 0, "no": 2**32 - 1}
 
 _TOKENS = {"code_block_token": ("`", "~"), "list_token": ("*", "-", "+"), "ordered_list_token": (".", ")"),
            "emphasis_token": ("*", "_"), "strong_token": ("**", "__")}
@@ -71,7 +72,7 @@ def options_of(options: Mapping[str, Any]) -> bytes:
 
 def style_of(*, bullet: str = "", delimiter: str = "", numbering: str = "source", emphasis: str = "*", strong: str = "*",
              fence: str = "", fence_length: int = 3, hard_break: str = "source", rule: str = "---",
-             table_width: int = 120) -> _library.Style:
+             table_width: int = 120, wrap: int | str = "keep", list_indent: int | str = "marker") -> _library.Style:
     """Returns a style, or raises `ValueError` if a name or a number can't be. The library looks at the characters."""
     for name, known in ((numbering, _NUMBERINGS), (hard_break, _HARD_BREAKS), (rule, _RULES)):
         if name not in known:
@@ -80,8 +81,13 @@ def style_of(*, bullet: str = "", delimiter: str = "", numbering: str = "source"
         raise ValueError(f"fence_length must be from 3 to 1000, and not {fence_length}")
     if not 1 <= table_width <= 1000:
         raise ValueError(f"table_width must be from 1 to 1000, and not {table_width}")
+    if wrap not in _WRAPS and not (isinstance(wrap, int) and 1 <= wrap <= 1000):
+        raise ValueError(f"wrap must be keep, no, or from 1 to 1000, and not {wrap!r}")
+    if list_indent not in ("marker", 4):
+        raise ValueError(f"list_indent must be marker or 4, and not {list_indent!r}")
     style = _library.Style(numbering=_NUMBERINGS[numbering], hard_break=_HARD_BREAKS[hard_break], rule=_RULES[rule],
-                           fence_length=fence_length, table_width=table_width)
+                           fence_length=fence_length, table_width=table_width, wrap=_WRAPS.get(wrap, wrap),
+                           list_indent=0 if list_indent == "marker" else 4)
     for part, mark in (("bullet", bullet), ("delimiter", delimiter), ("emphasis", emphasis), ("strong", strong), ("fence", fence)):
         setattr(style, part, ord(mark) if len(mark) == 1 else min(len(mark), 1))
     style.size = _library.ctypes.sizeof(style)

@@ -115,3 +115,5 @@ class Style(TypedDict, total=False):
     hard_break: Literal["source", "backslash", "spaces"]
     rule: Literal["---", "source"]
     table_width: int
+    wrap: int | Literal["keep", "no"]
+    list_indent: Literal["marker", 4]

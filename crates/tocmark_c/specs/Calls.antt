@@ -1,5 +1,5 @@
 -- What each call writes, and what causes each error.
-use Rattle.std.specs.Prelude.{◌≡◌, ◌==◌, ℕ, List, Bool, false, not, length, true, IsUtf8, Err, None, Some}
+use Rattle.std.specs.Prelude.{◌≡◌, ◌==◌, ℕ, List, Bool, false, not, length, map, true, IsUtf8, Err, None, Some}
 use Rattle.serde_json.specs.Data.{Data}
 use Rattle.serde_json.specs.Read.{read}
 use Rattle.serde_json.specs.Written.{IsInOrder}
@@ -16,9 +16,11 @@ use Rattle.tocmark_interchange.specs.Interchange.{AreOptions, IsNoList, IsTextOf
 use Rattle.tocmark_reader.specs.Reading.{reading_of}
 use Rattle.tocmark_reader.specs.Flags.{syntax_of}
 use Rattle.tocmark_read_scan.specs.declared.syntax.Names.TheVariants.{All}
-use Rattle.tocmark_event.specs.Merged.{merged}
-use Rattle.tocmark_compare.specs.Given.{found_events}
-use Rattle.tocmark_c.specs.Style.{has_style}
+use Rattle.tocmark_event.specs.Reading.{ReadingView}
+use Rattle.tocmark_format.specs.LinkDefinitions.{DefinedLink, unplaced}
+use Rattle.tocmark_format.specs.Same.{SaySame}
+use Rattle.tocmark_reader.specs.Definitions.{definitions_of}
+use Rattle.tocmark_c.specs.Style.{has_style, wrap_of}
 use Rattle.tocmark_c.specs.declared.style.TocmarkStyle.{TocmarkStyle}
 use Rattle.tocmark_c.specs.declared.cause.Cause.{Cause}
 use Rattle.tocmark_c.specs.declared.cause.Cause.TheVariants as cause
@@ -37,11 +39,19 @@ IsReadCause text cause.OutOfMemory = Unit {0}
 IsReadCause text cause.NotUtf8 = ¬ (IsUtf8 text)
 IsReadCause text c = ⊥
 
--- the reader finds the same in both texts under these flags, with each longest stretch of texts as one
-abbrev pub IsSameDocument : ℕ → List ℕ → List ℕ → Type 0
-IsSameDocument bits text output =
-    merged (found_events (reading_of (syntax_of All (flags_of bits)) output))
-    ≡ merged (found_events (reading_of (syntax_of All (flags_of bits)) text))
+-- what the reader finds in a text under these flags
+abbrev pub read_under : ℕ → List ℕ → ReadingView
+read_under bits text = reading_of (syntax_of All (flags_of bits)) text
+
+-- the definitions of links that it finds: labels, destinations and titles
+abbrev pub defined_under : ℕ → List ℕ → List DefinedLink
+defined_under bits text = map unplaced (definitions_of (syntax_of All (flags_of bits)) text)
+
+-- both texts say the same under a style, and have the same definitions of links
+abbrev pub IsSameDocument : ℕ → TocmarkStyle → List ℕ → List ℕ → Type 0
+IsSameDocument bits style text output =
+    SaySame (wrap_of style.wrap) (read_under bits output) (read_under bits text)
+    × (defined_under bits output ≡ defined_under bits text)
 
 -- why a text is not formatted
 abbrev pub IsFormatCause : List ℕ → TocmarkStyle → Cause → Type 0

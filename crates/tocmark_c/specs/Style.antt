@@ -14,7 +14,11 @@ use Rattle.tocmark_format.specs.declared.style.Numbering.{Numbering}
 use Rattle.tocmark_format.specs.declared.style.Numbering.TheVariants as numbering
 use Rattle.tocmark_format.specs.declared.style.Rule.{Rule}
 use Rattle.tocmark_format.specs.declared.style.Rule.TheVariants as rule
+use Rattle.tocmark_format.specs.declared.style.ListIndent.{ListIndent}
+use Rattle.tocmark_format.specs.declared.style.ListIndent.TheVariants as indent
 use Rattle.tocmark_format.specs.declared.style.Style.{Style}
+use Rattle.tocmark_format.specs.declared.style.Wrap.{Wrap}
+use Rattle.tocmark_format.specs.declared.style.Wrap.TheVariants as wrap
 use Rattle.tocmark_c.specs.declared.style.TocmarkStyle.{TocmarkStyle}
 
 -- each character stands for itself, and 0 for what the source has
@@ -70,13 +74,22 @@ rule_of n = if n == 0 then Some rule.Dashes else if n == 1 then Some rule.Source
 abbrev pub table_width_of : ℕ → ℕ
 table_width_of n = if n == 0 then 120 else n
 
+-- 0 for lines that stay, the largest number for one line, and else so many columns
+abbrev pub wrap_of : ℕ → Wrap
+wrap_of n = if n == 0 then wrap.Keep else if n == 4294967295 then wrap.No else wrap.At n
+
+-- so many columns, and 0 for those of the marker
+abbrev pub list_indent_of : ℕ → Option ListIndent
+list_indent_of n = if n == 0 then Some indent.Marker else if n == 4 then Some indent.Four else None
+
 -- the size of the struct is known, and each number means something
 abbrev pub has_style : TocmarkStyle → Bool
 has_style s =
-    s.size == 44 && is_some (bullet_of s.bullet) && is_some (delimiter_of s.delimiter)
+    s.size == 52 && is_some (bullet_of s.bullet) && is_some (delimiter_of s.delimiter)
     && is_some (numbering_of s.numbering) && is_some (marker_of s.emphasis)
     && is_some (marker_of s.strong) && is_some (fence_of s.fence)
     && is_some (hard_break_of s.hard_break) && is_some (rule_of s.rule)
+    && is_some (list_indent_of s.list_indent)
 
 -- a style is what a struct says
 abbrev pub IsStyleOf : TocmarkStyle → Style → Type 0
@@ -86,4 +99,5 @@ IsStyleOf s style =
     × (marker_of s.strong ≡ Some style.strong) × (fence_of s.fence ≡ Some style.fence)
     × (style.fence_length ≡ s.fence_length)
     × (hard_break_of s.hard_break ≡ Some style.hard_break) × (rule_of s.rule ≡ Some style.rule)
-    × (style.table_width ≡ table_width_of s.table_width)
+    × (style.table_width ≡ table_width_of s.table_width) × (style.wrap ≡ wrap_of s.wrap)
+    × (list_indent_of s.list_indent ≡ Some style.list_indent)

@@ -131,15 +131,15 @@ pub extern "C" fn tocmark_format(
     style: &TocmarkStyle,
     out: &mut [u8],
 ) -> isize
-    ensures { IsAnswer (IsSameDocument flags text.now) (IsFormatCause text.now style.now) result
-        out.old out.new }
+    ensures { IsAnswer (IsSameDocument flags style.now text.now)
+        (IsFormatCause text.now style.now) result out.old out.new }
 {
     answer(format(alloc, text, flags, style), out)
 }
 
 fn format(alloc: Global, text: &[u8], flags: u32, style: &TocmarkStyle) -> Result<String, Cause>
     ensures text { IfOk result (λ output.
-        IsSameDocument flags text.now (string_bytes output)) }
+        IsSameDocument flags style.now text.now (string_bytes output)) }
     ensures cause { IfErr result (IsFormatCause text.now style.now) }
 {
     let text = match std::str::from_utf8(text) {

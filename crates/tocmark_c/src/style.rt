@@ -1,12 +1,14 @@
 //! How a formatted document is to look, as C says it.
 
 ghost use Rattle.std.specs.Prelude.{◌≡◌, IfSome, is_some};
-ghost use Rattle.tocmark_c.specs.Style.{bullet_of, delimiter_of, fence_of, hard_break_of, has_style, marker_of, numbering_of, rule_of, table_width_of, IsStyleOf};
+ghost use Rattle.tocmark_c.specs.Style.{bullet_of, delimiter_of, fence_of, hard_break_of, has_style, list_indent_of, marker_of, numbering_of, rule_of, table_width_of, wrap_of, IsStyleOf};
 
-use tocmark_format::{Bullet, Delimiter, Fence, HardBreak, Marker, Numbering, Rule, Style};
+use tocmark_format::{
+    Bullet, Delimiter, Fence, HardBreak, ListIndent, Marker, Numbering, Rule, Style, Wrap,
+};
 
 /// The size of `TocmarkStyle` in bytes.
-const SIZE: u32 = 44;
+const SIZE: u32 = 52;
 
 /// How a document is to look. A character stands for itself, and 0 for what is usual.
 #[repr(C)]
@@ -34,6 +36,10 @@ pub struct TocmarkStyle {
     pub rule: u32,
     /// Tables are padded up to this many columns; 0: up to 120.
     pub table_width: u32,
+    /// Lines of paragraphs are filled up to this many columns; 0: they stay; 4,294,967,295: each paragraph is one line.
+    pub wrap: u32,
+    /// Columns that the content of items is indented by: 4; 0: as many as the marker takes.
+    pub list_indent: u32,
 }
 
 fn bullet_of(code: u32) -> Option<Option<Bullet>>
@@ -119,6 +125,26 @@ fn table_width_of(columns: u32) -> usize
     if columns == 0 { 120 } else { columns as usize }
 }
 
+fn wrap_of(columns: u32) -> Wrap
+    ensures { result ≡ wrap_of columns }
+{
+    match columns {
+        0 => Wrap::Keep,
+        4_294_967_295 => Wrap::No,
+        _ => Wrap::At(columns as usize),
+    }
+}
+
+fn list_indent_of(columns: u32) -> Option<ListIndent>
+    ensures { result ≡ list_indent_of columns }
+{
+    match columns {
+        0 => Some(ListIndent::Marker),
+        4 => Some(ListIndent::Four),
+        _ => None,
+    }
+}
+
 /// The style, if the struct has the size that it has here, and each number means something.
 pub fn style_of(style: &TocmarkStyle) -> Option<Style>
     ensures there { is_some result ≡ has_style style.now }
@@ -138,5 +164,7 @@ pub fn style_of(style: &TocmarkStyle) -> Option<Style>
         hard_break: hard_break_of(style.hard_break)?,
         rule: rule_of(style.rule)?,
         table_width: table_width_of(style.table_width),
+        wrap: wrap_of(style.wrap),
+        list_indent: list_indent_of(style.list_indent)?,
     })
 }
