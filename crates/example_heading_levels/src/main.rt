@@ -18,6 +18,7 @@ ghost use Rattle.tocmark_event.specs.Merged.{merged};
 ghost use Rattle.tocmark_event.specs.Text.{text_of};
 ghost use Rattle.tocmark_event.specs.View.{event_view};
 ghost use Rattle.tocmark_compare.specs.Given.{found_events, given_events};
+ghost use Rattle.tocmark_rewrite.specs.Edited.{read_source};
 ghost use Rattle.tocmark_rewrite.specs.Kept.{IsTold};
 ghost use Rattle.tocmark_rewrite.specs.Parts.{IsMadeOf};
 ghost use Rattle.example_heading_levels.specs.Levels.{mended};
@@ -85,7 +86,7 @@ fn mend_text<R: DefinitionReader>(
     ensures parts { IfOk result (λ found.
         IsMadeOf text.now (string_bytes found.answer.text) found.answer.parts.items) }
     ensures kept { IfOk result (λ found.
-        All (IsTold (found_events (R.reading reader.now text.now flags))
+        All (IsTold (read_source (λ text. R.reading reader.now text flags) text.now)
         (mended [] (found_events (R.reading reader.now text.now flags))) found.answer.parts.items)
         found.answer.trees.items) }
 {

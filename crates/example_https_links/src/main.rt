@@ -13,6 +13,7 @@ ghost use Rattle.tocmark_event.specs.Merged.{merged};
 ghost use Rattle.tocmark_event.specs.Text.{text_of};
 ghost use Rattle.tocmark_event.specs.View.{event_view};
 ghost use Rattle.tocmark_compare.specs.Given.{found_events, given_events};
+ghost use Rattle.tocmark_rewrite.specs.Edited.{read_source};
 ghost use Rattle.tocmark_rewrite.specs.Kept.{IsTold};
 ghost use Rattle.tocmark_rewrite.specs.Parts.{IsMadeOf};
 ghost use Rattle.example_https_links.specs.Links.{by_https, destination, secured, secured_events};
@@ -106,7 +107,7 @@ fn with_https<R: DefinitionReader>(
     ensures parts { IfOk result (λ answer.
         IsMadeOf text.now (string_bytes answer.text) answer.parts.items) }
     ensures kept { IfOk result (λ answer.
-        All (IsTold (found_events (R.reading reader.now text.now flags))
+        All (IsTold (read_source (λ text. R.reading reader.now text flags) text.now)
         (secured_events (R.reading reader.now text.now flags)) answer.parts.items)
         answer.trees.items) }
 {

@@ -2,3 +2,9 @@ pub mod Parts
 pub mod Readings
 pub mod Slices
 pub mod Fronts
+pub mod Plans
+pub mod LabelLists
+pub mod Copied
+pub mod Honest
+pub mod Spans
+pub mod Causes

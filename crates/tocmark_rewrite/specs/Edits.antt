@@ -1,6 +1,6 @@
 -- What edits make of an event.
-use Rattle.std.specs.Prelude.{ℕ, ◌+◌, ◌-◌, Bool, false, not, List, bytes_eq, if◌then◌else◌, nat_le}
-use Rattle.tocmark_event.specs.View.{EventView, TagView, Start, End, Leaf, Heading, Link, Image, Text, Code}
+use Rattle.std.specs.Prelude.{ℕ, ◌+◌, ◌-◌, ◌∷◌, [], Bool, true, false, not, List, bytes_eq, if◌then◌else◌, nat_le}
+use Rattle.tocmark_event.specs.View.{EventView, TagView, Start, End, Leaf, Heading, Link, Image, Text, Code, SoftBreak, HardBreak}
 use Rattle.tocmark_event.specs.declared.event.HeadingLevel.{HeadingLevel}
 use Rattle.tocmark_event.specs.declared.event.HeadingLevel.TheVariants.{H1, H2, H3, H4, H5, H6}
 use Rattle.tocmark_event.specs.declared.event.LinkType.{LinkType}
@@ -71,3 +71,28 @@ abbrev pub with_level : Shift → EventView → EventView
 with_level s (Start (Heading level id classes attrs)) = Start (Heading (shifted s level) id classes attrs)
 with_level s (End (end.Heading level)) = End (end.Heading (shifted s level))
 with_level s e = e
+
+-- whether a heading of this level stands on one line
+abbrev pub is_on_one_line : HeadingLevel → Bool
+is_on_one_line level = not (nat_le (number_of level) 2)
+
+-- whether a heading on one line is open behind an event, by whether one is before it
+abbrev pub is_open_behind : Bool → EventView → Bool
+is_open_behind is_open (Start (Heading level id classes attrs)) = is_on_one_line level
+is_open_behind is_open (End (end.Heading level)) = false
+is_open_behind is_open e = is_open
+
+-- a line break as a space; any other event stays
+abbrev pub joined_line : EventView → EventView
+joined_line (Leaf SoftBreak) = Leaf (Text (32 ∷ []))
+joined_line (Leaf HardBreak) = Leaf (Text (32 ∷ []))
+joined_line e = e
+
+-- an event, joined if a heading on one line is open before it
+abbrev pub joined_event : Bool → EventView → EventView
+joined_event is_open e = if is_open then joined_line e else e
+
+-- the events with a space in place of each line break in a heading on one line, which is open before them or not
+abbrev pub joined_lines : Bool → List EventView → List EventView
+joined_lines is_open [] = []
+joined_lines is_open (e ∷ es) = joined_event is_open e ∷ joined_lines (is_open_behind is_open e) es

@@ -1,5 +1,9 @@
 pub mod Edited
 pub mod Kept
+pub mod Labels
+pub mod Lines
 pub mod Parts
 pub mod Edits
 pub mod Given
+pub mod Trees
+pub mod Units

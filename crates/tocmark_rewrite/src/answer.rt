@@ -1,18 +1,20 @@
 //! The answer: the new text, and what became of each tree.
 
-ghost use Rattle.std.specs.Prelude.{◌≡◌, IfOk, IfSome, List};
+ghost use Rattle.std.specs.Prelude.{◌≡◌, ◌≤◌, ℕ, IfOk, IfSome, IsSome, IsTrue, List, Some, map, slice_get};
 ghost use Rattle.std.specs.List.{All};
 ghost use Rattle.tocmark_event.specs.View.{EventView};
 ghost use Rattle.tocmark_rewrite.specs.declared.output.Part.{Part};
+ghost use Rattle.tocmark_rewrite.specs.declared.output.Part.TheVariants.{Source};
 ghost use Rattle.tocmark_rewrite.specs.declared.answer.RewrittenTree.{RewrittenTree};
-ghost use Rattle.tocmark_rewrite.specs.Kept.{Copies, FateIsSo, IsHonest, IsTold};
+ghost use Rattle.tocmark_rewrite.specs.declared.trees.Block.{Block};
+ghost use Rattle.tocmark_rewrite.specs.Kept.{AreCopied, Copies, FateIsSo, IsCopied, IsHonest, IsKeptIn, IsTold, ReadSource, WasKept, planned_span, span_of};
 
 use crate::output::Part;
 use crate::plan::{Plan, lines_of};
 use crate::trees::Block;
 use std::alloc::{AllocError, Global};
 
-/// A tree that stands in the new text as it does in the source.
+/// A block that is in the new text as it is in the source.
 #[derive(Clone, Copy, Debug, PartialEq, Eq)]
 pub struct Kept {
     /// Its events in the reading of the source: the first one, and the one behind the last.
@@ -30,22 +32,21 @@ pub struct Kept {
 pub enum Fate {
     /// Its lines are those of the source.
     Kept(Kept),
-    /// Its lines are those of the source but for the bytes of what was changed: events, blocks or items in
-    /// it, or a definition that others use.
+    /// Some bytes of its lines were replaced: those of changed events, blocks or items, of a definition that others use, or
+    /// the marks of a list that follows another one.
     Patched,
     /// It was written anew.
     Written,
 }
 
-/// A tree at the top of the list that was given.
+/// A block at the top of the events that you passed.
 #[derive(Clone, Copy, Debug, PartialEq, Eq)]
 pub struct RewrittenTree {
     /// Its first event.
     pub first: usize,
     /// The event behind it.
     pub past: usize,
-    /// The first and the last line of the block of the source in whose place it stands, counted from 1;
-    /// none if it stands for no block.
+    /// The first and the last line of the source's block that it is, or that it replaces, counted from 1; none if it is new.
     pub lines: Option<(usize, usize)>,
     pub fate: Fate,
 }
@@ -54,17 +55,17 @@ pub struct RewrittenTree {
 #[derive(Debug, Drop)]
 pub struct Rewritten {
     pub text: String,
-    /// What the text is made of, one after the other.
+    /// What the text consists of, in order.
     pub parts: Vec<Part>,
-    /// Each tree at the top of the events that were given.
+    /// What became of each block at the top of the events that you passed, in order.
     pub trees: Vec<RewrittenTree>,
 }
 
-/// The first part from one on that copies all of these bytes; none is looked for behind one that copies later bytes.
-fn part_of(parts: &[Part], next: usize, from: usize, to: usize) -> Option<usize>
+/// The first part behind one that copies all of these bytes; none is looked for behind one that copies later bytes.
+fn later_part(parts: &[Part], next: usize, from: usize, to: usize) -> Option<usize>
     ensures { IfSome result (λ at. Copies parts.now at from to) }
 {
-    for at in next..parts.len() {
+    for at in next.saturating_add(1)..parts.len() {
         if let Some(Part::Source(first, past)) = parts.get(at) {
             if *first <= from && to <= *past {
                 return Some(at);
@@ -77,9 +78,20 @@ fn part_of(parts: &[Part], next: usize, from: usize, to: usize) -> Option<usize>
     None
 }
 
+/// The first part from one on that copies all of these bytes.
+fn part_of(parts: &[Part], next: usize, from: usize, to: usize) -> Option<usize>
+    ensures copied { IfSome result (λ at. Copies parts.now at from to) }
+    ensures all { IsCopied parts.now next from to → result ≡ Some next }
+{
+    match parts.get(next) {
+        Some(Part::Source(first, past)) if *first <= from && to <= *past => Some(next),
+        _ => later_part(parts, next, from, to),
+    }
+}
+
 fn changed(patched: bool) -> Fate
-    ensures { (found given : List EventView) → (parts : List Part) → (t : RewrittenTree)
-        → FateIsSo found given parts t result }
+    ensures { (r : ReadSource) → (given : List EventView) → (parts : List Part)
+        → (t : RewrittenTree) → FateIsSo r given parts t result }
 {
     if patched {
         Fate::Patched
@@ -90,9 +102,11 @@ fn changed(patched: bool) -> Fate
 
 /// What became of a tree.
 fn fate_of(parts: &[Part], next: usize, plan: &Plan, patched: bool) -> Fate
-    ensures { (found given : List EventView) → IsHonest found given plan.now → (t : RewrittenTree)
-        → t.first ≡ plan.now.tree.first → t.past ≡ plan.now.tree.past
-        → FateIsSo found given parts.now t result }
+    ensures told { (r : ReadSource) → (given : List EventView) → IsHonest r given plan.now
+        → (t : RewrittenTree) → t.first ≡ plan.now.tree.first → t.past ≡ plan.now.tree.past
+        → FateIsSo r given parts.now t result }
+    ensures all { (block : Block) → plan.now.kept ≡ Some block
+        → IsCopied parts.now next block.from block.to → IsKeptIn next result }
 {
     let Some(block) = plan.kept else {
         return changed(patched);
@@ -101,8 +115,8 @@ fn fate_of(parts: &[Part], next: usize, plan: &Plan, patched: bool) -> Fate
         return Fate::Patched;
     };
     Fate::Kept(Kept {
-        first: block.first,
-        past: block.past,
+        first: block.tree.first,
+        past: block.tree.past,
         from: block.from,
         to: block.to,
         part,
@@ -117,14 +131,27 @@ fn tree_of(
     plan: &Plan,
     patched: bool,
 ) -> RewrittenTree
-    ensures { (found given : List EventView) → IsHonest found given plan.now
-        → IsTold found given parts.now result }
+    ensures place { span_of result ≡ planned_span plan.now }
+    ensures told { (r : ReadSource) → (given : List EventView) → IsHonest r given plan.now
+        → IsTold r given parts.now result }
+    ensures all { (block : Block) → plan.now.kept ≡ Some block
+        → IsCopied parts.now next block.from block.to → IsKeptIn next result.fate }
 {
     RewrittenTree {
         first: plan.tree.first,
         past: plan.tree.past,
         lines: lines_of(blocks, plan),
         fate: fate_of(parts, next, plan, patched),
+    }
+}
+
+/// The part in which a tree was kept; if it wasn't, the one in which the tree before it was.
+fn next_part(before: usize, fate: Fate) -> usize
+    ensures { (part : ℕ) → IsKeptIn part fate → result ≡ part }
+{
+    match fate {
+        Fate::Kept(kept) => kept.part,
+        _ => before,
     }
 }
 
@@ -138,17 +165,19 @@ pub(crate) fn told(
     patched: bool,
     written: &[usize],
 ) -> Result<Vec<RewrittenTree>, AllocError>
-    ensures { IfOk result (λ trees. (found given : List EventView)
-        → All (IsHonest found given) plans.now → All (IsTold found given parts.now) trees.items) }
+    ensures trees { IfOk result (λ trees. map span_of trees.items
+        ≡ map planned_span plans.now) }
+    ensures told { IfOk result (λ trees. (r : ReadSource) → (given : List EventView)
+        → All (IsHonest r given) plans.now → All (IsTold r given parts.now) trees.items) }
+    ensures all { IfOk result (λ trees. AreCopied parts.now plans.now
+        → All WasKept trees.items) }
 {
     let mut trees = Vec::new(alloc);
     let mut next = 0usize;
     for plan in plans {
         let is_patched = patched && written.binary_search(&plan.tree.first).is_err();
         let tree = tree_of(blocks, parts, next, plan, is_patched);
-        if let Fate::Kept(kept) = tree.fate {
-            next = kept.part;
-        }
+        next = next_part(next, tree.fate);
         trees.push(tree)?;
     }
     Ok(trees)

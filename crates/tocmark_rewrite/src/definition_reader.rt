@@ -4,7 +4,9 @@ use std::alloc::{AllocError, Global};
 use tocmark_event::event::ParserOptions;
 use tocmark_event::reader::Reader;
 use tocmark_read_scan::syntax::CORE;
-use tocmark_reader::{CoreReader, ExtendedReader, ReferenceDefinition, find_definitions};
+use tocmark_reader::{
+    CoreReader, ExtendedReader, ReferenceDefinition, UnitReader, find_definitions,
+};
 
 /// A reader that can say where the links in a text are defined.
 ///
@@ -20,6 +22,12 @@ pub trait DefinitionReader: Reader {
         _flags: ParserOptions,
     ) -> Result<Vec<ReferenceDefinition>, AllocError> {
         Ok(Vec::new(alloc))
+    }
+
+    /// The reader by which the writer reads back one unit at a time, if this reader doesn't read units as it reads
+    /// documents: a reader of footnotes needs the definition of a footnote, which is a unit of its own.
+    fn unit_reader(&self) -> Option<UnitReader> {
+        None
     }
 }
 
@@ -43,6 +51,10 @@ impl DefinitionReader for ExtendedReader {
     ) -> Result<Vec<ReferenceDefinition>, AllocError> {
         self.definitions(alloc, text, flags)
     }
+
+    fn unit_reader(&self) -> Option<UnitReader> {
+        Some(self.for_units())
+    }
 }
 
 /// A reference to a reader names the reader's definitions.
@@ -54,5 +66,9 @@ impl<R: DefinitionReader> DefinitionReader for &R {
         flags: ParserOptions,
     ) -> Result<Vec<ReferenceDefinition>, AllocError> {
         (**self).reference_definitions(alloc, text, flags)
+    }
+
+    fn unit_reader(&self) -> Option<UnitReader> {
+        (**self).unit_reader()
     }
 }

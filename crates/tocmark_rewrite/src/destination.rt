@@ -1,9 +1,10 @@
 //! Where a link leads, as it is spelled: a changed destination keeps what it can of the old one's spelling.
 
 use crate::patch::Patch;
+use crate::title::spelled_title;
 use std::alloc::{AllocError, Global};
 use tocmark_event::event::LinkType;
-use tocmark_reader::DefinitionPlace;
+use tocmark_reader::{DefinitionPlace, ReferenceDefinition};
 use tocmark_write_texts::text_modifications::close_link;
 
 /// Whether a destination can stand as it is.
@@ -124,6 +125,22 @@ pub(crate) fn respelled(
         Some(text) => Ok(text),
         None => spelled_destination(alloc, new),
     }
+}
+
+/// A definition as a line.
+pub(crate) fn definition_line(
+    alloc: Global,
+    definition: &ReferenceDefinition,
+) -> Result<String, AllocError> {
+    let (to, title) = (definition.destination.as_str(), definition.title.as_str());
+    let destination = if to.is_empty() {
+        String::from_str(alloc, "<>")?
+    } else {
+        spelled_destination(alloc, to)?
+    };
+    let title = spelled_title(alloc, title)?;
+    let label = definition.label.as_str();
+    format!(in alloc; "[{label}]: {destination}{title}")
 }
 
 /// A definition that leads elsewhere.

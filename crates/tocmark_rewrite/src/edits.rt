@@ -1,10 +1,10 @@
 //! Changes of events that filters make. Each is safe on every list; whether the result can be written
 //! `rewritten` says.
 
-ghost use Rattle.std.specs.Prelude.{◌≡◌, map};
+ghost use Rattle.std.specs.Prelude.{◌≡◌, false, map};
 ghost use Rattle.tocmark_event.specs.Text.{text_of};
 ghost use Rattle.tocmark_event.specs.View.{event_view, tag_view};
-ghost use Rattle.tocmark_rewrite.specs.Edits.{leading_to, leads_elsewhere, level_of, number_of, shifted, tag_with_destination, with_destination, with_level, with_own_text, with_text, without_address};
+ghost use Rattle.tocmark_rewrite.specs.Edits.{is_on_one_line, is_open_behind, joined_event, joined_line, joined_lines, leading_to, leads_elsewhere, level_of, number_of, shifted, tag_with_destination, with_destination, with_level, with_own_text, with_text, without_address};
 
 use tocmark_event::event::{CowStr, Event, HeadingLevel, LinkType, Tag, TagEnd};
 
@@ -168,5 +168,64 @@ pub fn shift_headings(events: &mut [(Event<'static>, (usize, usize))], shift: Sh
 {
     for (event, _range) in events.iter_mut() {
         shift_heading(event, shift);
+    }
+}
+
+/// Whether a heading of this level stands on one line.
+fn is_on_one_line(level: HeadingLevel) -> bool
+    ensures { result ≡ is_on_one_line level }
+{
+    number_of(level) > 2
+}
+
+/// Whether a heading on one line is open behind an event, by whether one is before it.
+fn is_open_behind(is_open: bool, event: &Event<'_>) -> bool
+    ensures { result ≡ is_open_behind is_open (event_view text_of event.now) }
+{
+    match event {
+        Event::Start(Tag::Heading { level, .. }) => is_on_one_line(*level),
+        Event::End(TagEnd::Heading(_)) => false,
+        _ => is_open,
+    }
+}
+
+/// Puts a space in place of a line break.
+fn join_line(event: &mut Event<'static>)
+    ensures { event_view text_of event.new ≡ joined_line (event_view text_of event.old) }
+{
+    match event {
+        Event::SoftBreak => *event = Event::Text(CowStr::Borrowed(" ")),
+        Event::HardBreak => *event = Event::Text(CowStr::Borrowed(" ")),
+        _ => {}
+    }
+}
+
+/// Puts a space in place of a line break in a heading on one line. Returns whether one is open behind the event.
+fn join_event(event: &mut Event<'static>, is_open: bool) -> bool
+    ensures event { event_view text_of event.new
+        ≡ joined_event is_open (event_view text_of event.old) }
+    ensures open { result ≡ is_open_behind is_open (event_view text_of event.old) }
+{
+    let opens = is_open_behind(is_open, event);
+    if is_open {
+        join_line(event);
+    }
+    opens
+}
+
+/// Joins the lines of each heading of level 3 to 6: a space takes the place of each line break. Markdown has headings of
+/// several lines at levels 1 and 2 only, so `rewritten` refuses a deeper one with a line break.
+///
+/// ```
+/// shift_headings(&mut reading.events, Shift::Down(1));
+/// join_heading_lines(&mut reading.events);
+/// ```
+pub fn join_heading_lines(events: &mut [(Event<'static>, (usize, usize))])
+    ensures { map (λ e. event_view text_of e.0) events.new
+        ≡ joined_lines false (map (λ e. event_view text_of e.0) events.old) }
+{
+    let mut is_open = false;
+    for (event, _range) in events.iter_mut() {
+        is_open = join_event(event, is_open);
     }
 }

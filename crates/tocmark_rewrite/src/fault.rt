@@ -7,24 +7,25 @@ use std::alloc::{AllocError, AllocFailed};
 use std::fmt;
 use tocmark_event::options::Error;
 
-/// Where a tree of the edited events stands.
+/// A block of the edited events.
 #[derive(Clone, Copy, Debug, PartialEq, Eq)]
 pub struct Place {
-    /// Its first event's index in the list that was given.
+    /// The index of its first event in the list that you passed.
     pub event: usize,
-    /// The first and the last line of the block of the source in whose place it stands, counted from 1;
-    /// none if it stands for no block.
+    /// The first and the last line of the source's block that it replaces, counted from 1; none if it is new.
     pub lines: Option<(usize, usize)>,
 }
 
-/// Why there is no text. The source and the events are the caller's, as before.
+/// Why there is no new text. The source and the events are still yours.
 #[derive(Debug, Drop)]
 pub enum Fault {
     /// Memory ran out.
     OutOfMemory,
-    /// The writer refused this tree.
+    /// The writer has no text for this block, for this reason.
     Refused(Place, Error),
-    /// Each text that was tried is read otherwise; this is the first tree at which the last one is.
+    /// Each text that was tried parses to other events, or lacks a label that the source defines. This is the first block
+    /// at which the last text does. Some events have no text, such as a heading of level 3 with a line break:
+    /// `join_heading_lines` of `edits` removes those.
     ReadOtherwise(Place),
 }
 

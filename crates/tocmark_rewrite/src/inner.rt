@@ -3,6 +3,7 @@
 //! As in `patch`, what is made here is tried, and no more.
 
 use crate::collect::lent;
+use crate::line_end::LineEnd;
 use crate::patch::Patch;
 use crate::pieces::{Piece, Tools, write_tree};
 use crate::trees::{line_start, lines_end, trees};
@@ -194,8 +195,11 @@ fn behind_prefix(alloc: Global, text: &str, prefix: &str) -> Result<String, Allo
     for (at, line) in text.split('\n').enumerate() {
         if at > 0 {
             all.push('\n')?;
-            let is_empty = line.is_empty() || line == "\r";
-            all.push_str(if is_empty { prefix.trim_end() } else { prefix })?;
+            all.push_str(if line.is_empty() {
+                prefix.trim_end()
+            } else {
+                prefix
+            })?;
         }
         all.push_str(line)?;
     }
@@ -271,9 +275,12 @@ pub(crate) fn block_patch<'a, R: Reader>(
     };
     let prefix = prefix_of(tools.alloc, source, range.0)?;
     let text = behind_prefix(tools.alloc, piece.body.as_str(), prefix.as_str())?;
+    let bytes = source.as_bytes();
+    let to = lines_end(bytes, range.0, range.1);
+    let line_end = LineEnd::beside(bytes, range.0, to, tools.line_end);
     Ok(Some(Patch {
         from: range.0,
-        to: lines_end(source.as_bytes(), range.0, range.1),
-        text,
+        to,
+        text: line_end.ending(tools.alloc, text.as_str())?,
     }))
 }

@@ -3,12 +3,18 @@
 ghost use Rattle.std.specs.Prelude.{IfOk, OnOk};
 ghost use Rattle.tocmark_rewrite.specs.Parts.{Builds};
 
+use crate::joint::Joint;
+use crate::line_end::{LineEnd, ends_between};
 use crate::output::Output;
 use crate::patch::Patch;
 use crate::pieces::{Definitions, Piece};
-use crate::plan::Plan;
-use crate::trees::{Block, has_text, trimmed};
+use crate::plan::{Plan, behind};
+use crate::trees::{Block, gap, has_text, trimmed};
 use std::alloc::{AllocError, Global};
+
+/// What stands between two blocks of which the second would be read as a part of the first: the definition of a label that
+/// nothing uses.
+const DIVIDER: &str = "[cmark-apart-1]: <>";
 
 /// The source with its patches, whose places grow; none that begins before the end of another is made.
 pub(crate) fn patched(
@@ -34,43 +40,42 @@ pub(crate) fn patched(
     Ok(output)
 }
 
-/// The blocks of the source, and the definitions in it that are written anew, in the order of their places.
+/// The blocks of the source, and what replaces bytes of theirs and between them, in the order of the places.
 #[derive(Clone, Copy)]
 struct Between<'b> {
     blocks: &'b [Block],
-    definitions: &'b [Patch],
+    patches: &'b [Patch],
+    /// What ends the first line of the source.
+    common: LineEnd,
 }
 
-/// The source between the tree before this one and this one.
-fn gap(source: &str, blocks: &[Block], k: usize) -> (usize, usize) {
-    let from = match k.checked_sub(1) {
-        None => 0,
-        Some(before) => match blocks.get(before) {
-            None => source.len(),
-            Some(block) => block.to,
-        },
-    };
-    let to = match blocks.get(k) {
-        None => source.len(),
-        Some(block) => block.from,
-    };
-    (from, to)
+impl Between<'_> {
+    /// What ends the line before the block with a number.
+    fn line_end(self, number: usize) -> LineEnd {
+        let near = match number.checked_sub(1) {
+            Some(before) => self.blocks.get(before),
+            None => self.blocks.first(),
+        };
+        match near {
+            Some(block) => block.line_end,
+            None => self.common,
+        }
+    }
 }
 
 /// Two line ends, if something stands before.
-fn separate(source: &str, output: &mut Output) -> Result<(), AllocError>
+fn separate(source: &str, line_end: LineEnd, output: &mut Output) -> Result<(), AllocError>
     requires { Builds source.now output.old }
     ensures { OnOk result (Builds source.now output.new) }
 {
     if output.text.is_empty() {
         return Ok(());
     }
-    let end = output.line_end();
-    output.put_str(source, end)?;
-    output.put_str(source, end)
+    output.put_str(source, line_end.as_str())?;
+    output.put_str(source, line_end.as_str())
 }
 
-/// What stands in the gaps from one tree of the source on to another: definitions.
+/// What stands in the gaps from one block of the source on to another: definitions.
 fn put_gaps(
     source: &str,
     between: Between<'_>,
@@ -84,18 +89,18 @@ fn put_gaps(
     for k in first..last {
         let (from, to) = gap(source, between.blocks, k);
         if has_text(source.as_bytes(), from, to) {
-            separate(source, output)?;
+            separate(source, between.line_end(k), output)?;
             let (start, past) = trimmed(source.as_bytes(), from, to);
-            copy_stretch(source, between.definitions, start, past, output)?;
+            copy_stretch(source, between.patches, start, past, output)?;
         }
     }
     Ok(())
 }
 
-/// A stretch of the source; definitions in it that written trees define anew are replaced.
+/// A stretch of the source with its patches.
 fn copy_stretch(
     source: &str,
-    definitions: &[Patch],
+    patches: &[Patch],
     from: usize,
     to: usize,
     output: &mut Output,
@@ -104,9 +109,9 @@ fn copy_stretch(
     ensures { OnOk result (Builds source.now output.new) }
 {
     let mut at = from;
-    let first = definitions.partition_point(|patch| patch.from < from);
-    for k in first..definitions.len() {
-        let Some(patch) = definitions.get(k) else {
+    let first = patches.partition_point(|patch| patch.from < from);
+    for k in first..patches.len() {
+        let Some(patch) = patches.get(k) else {
             break;
         };
         if patch.to > to {
@@ -122,11 +127,11 @@ fn copy_stretch(
 /// How the blocks are put side by side.
 #[derive(Clone, Copy, Debug)]
 pub(crate) struct Manner {
-    /// Whether two line ends stand before and behind a written block, in place of the source's.
+    /// Whether a blank line stands before and behind a written block, also where the source has none.
     pub(crate) apart: bool,
-    /// Whether they take the place of the source's definitions of these labels.
+    /// Whether definitions that written blocks ask for take the place of the source's of these labels.
     pub(crate) redefines: bool,
-    /// Whether the definitions that written blocks ask for stand at the end.
+    /// Whether they stand at the end.
     pub(crate) defines: bool,
 }
 
@@ -144,47 +149,68 @@ impl Manner {
 fn put_definitions(
     source: &str,
     definitions: &Definitions,
+    line_end: LineEnd,
     output: &mut Output,
 ) -> Result<(), AllocError>
     requires { Builds source.now output.old }
     ensures { OnOk result (Builds source.now output.new) }
 {
-    let end = output.line_end();
+    let end = line_end.as_str();
     let text = definitions.text(output.alloc, end)?;
     if text.is_empty() {
         return Ok(());
     }
-    if !output.text.as_str().ends_with("\n") {
+    if !output.text.is_empty() {
+        if !output.ends_line() {
+            output.put_str(source, end)?;
+        }
         output.put_str(source, end)?;
     }
-    output.put_str(source, end)?;
     output.put(source, text)?;
     output.put_str(source, end)
 }
 
-/// The source's end, or what is left of it.
-fn put_tail(
+/// Whether a stretch between two blocks begins and ends with a blank line.
+fn is_wide(bytes: &[u8], from: usize, to: usize) -> bool {
+    let (first, past) = trimmed(bytes, from, to);
+    if first >= past {
+        return ends_between(bytes, from, to) > 1;
+    }
+    ends_between(bytes, from, first) > 1 && ends_between(bytes, past, to) > 1
+}
+
+/// The stretch of the source that stands before the block at a place as it does in the source, if there is one:
+/// if no block was taken out before it, the gap before it; else, if there is no text, a gap with a blank line.
+fn stretch_before(
     source: &str,
     between: Between<'_>,
     next: usize,
-    output: &mut Output,
-) -> Result<(), AllocError>
-    requires { Builds source.now output.old }
-    ensures { OnOk result (Builds source.now output.new) }
-{
-    let count = between.blocks.len();
-    if next == count {
-        let (from, to) = gap(source, between.blocks, next);
-        return copy_stretch(source, between.definitions, from, to, output);
+    place: usize,
+    is_loose: bool,
+) -> Option<(usize, usize)> {
+    let bytes = source.as_bytes();
+    let (from, to) = gap(source, between.blocks, place);
+    if next == place {
+        return if !is_loose || is_wide(bytes, from, to) {
+            Some((from, to))
+        } else {
+            None
+        };
     }
-    let past = count.saturating_add(1);
-    put_gaps(source, between, next, past, output)?;
-    if source.ends_with("\r\n") {
-        output.put_str(source, "\r\n")?;
-    } else if source.ends_with("\n") {
-        output.put_str(source, "\n")?;
+    for number in next..place.saturating_add(1) {
+        let (from, to) = gap(source, between.blocks, number);
+        if has_text(bytes, from, to) {
+            return None;
+        }
     }
-    Ok(())
+    let (start, past) = gap(source, between.blocks, next);
+    if next == 0 && !is_loose || is_wide(bytes, start, past) {
+        Some((start, past))
+    } else if is_wide(bytes, from, to) {
+        Some((from, to))
+    } else {
+        None
+    }
 }
 
 /// What stands before a block.
@@ -193,50 +219,191 @@ fn put_before(
     between: Between<'_>,
     next: usize,
     stands_for: Option<usize>,
-    raw: bool,
+    is_loose: bool,
     output: &mut Output,
 ) -> Result<(), AllocError>
     requires { Builds source.now output.old }
     ensures { OnOk result (Builds source.now output.new) }
 {
-    match stands_for {
-        None => separate(source, output),
-        Some(place) => {
-            if raw && place == next {
-                let (from, to) = gap(source, between.blocks, place);
-                return copy_stretch(source, between.definitions, from, to, output);
-            }
-            let past = place.saturating_add(1);
-            put_gaps(source, between, next, past, output)?;
-            separate(source, output)
-        }
+    let Some(place) = stands_for else {
+        return separate(source, between.line_end(next), output);
+    };
+    if let Some((from, to)) = stretch_before(source, between, next, place, is_loose) {
+        return copy_stretch(source, between.patches, from, to, output);
     }
+    put_gaps(source, between, next, place.saturating_add(1), output)?;
+    separate(source, between.line_end(place), output)
 }
 
-/// A block, kept or written.
+/// A definition before a block that would be read as a part of the one before it.
+fn put_divider(
+    source: &str,
+    between: Between<'_>,
+    next: usize,
+    output: &mut Output,
+) -> Result<(), AllocError>
+    requires { Builds source.now output.old }
+    ensures { OnOk result (Builds source.now output.new) }
+{
+    separate(source, between.line_end(next), output)?;
+    output.put_str(source, DIVIDER)?;
+    separate(source, between.line_end(next), output)
+}
+
+/// A block, kept or written, whose lines end in this way.
 fn put_block(
     source: &str,
     between: Between<'_>,
     plan: &Plan,
     piece: &Piece,
+    line_end: LineEnd,
     output: &mut Output,
 ) -> Result<(), AllocError>
     requires { Builds source.now output.old }
     ensures { OnOk result (Builds source.now output.new) }
 {
     match plan.kept {
-        Some(block) => copy_stretch(source, between.definitions, block.from, block.to, output),
-        None => output.put(source, piece.body.clone()?),
+        Some(block) => copy_stretch(source, between.patches, block.from, block.to, output),
+        None => {
+            let text = line_end.ending(output.alloc, piece.body.as_str())?;
+            output.put(source, text)
+        }
     }
 }
 
-/// What was written: the trees that aren't kept, the definitions that they ask for, and those of the source
-/// whose place these take.
+/// The source's end, or what is left of it if its last blocks were taken out.
+fn put_tail(
+    source: &str,
+    between: Between<'_>,
+    next: usize,
+    is_loose: bool,
+    output: &mut Output,
+) -> Result<(), AllocError>
+    requires { Builds source.now output.old }
+    ensures { OnOk result (Builds source.now output.new) }
+{
+    let count = between.blocks.len();
+    let (from, to) = gap(source, between.blocks, count);
+    let bytes = source.as_bytes();
+    if next == count && (!is_loose || !has_text(bytes, from, to) || output.text.is_empty()) {
+        return copy_stretch(source, between.patches, from, to, output);
+    }
+    put_gaps(source, between, next, count.saturating_add(1), output)?;
+    if output.text.is_empty() {
+        return Ok(());
+    }
+    output.put_str(source, between.line_end(next).as_str())
+}
+
+/// A line end, if a text has none at its end.
+fn end_line(source: &str, line_end: LineEnd, output: &mut Output) -> Result<(), AllocError>
+    requires { Builds source.now output.old }
+    ensures { OnOk result (Builds source.now output.new) }
+{
+    if output.text.is_empty() || output.ends_line() {
+        return Ok(());
+    }
+    output.put_str(source, line_end.as_str())
+}
+
+/// What was written: the trees that aren't kept, the definitions that they ask for, and what these and the marks of lists
+/// replace in the source.
 #[derive(Clone, Copy)]
 pub(crate) struct Written<'w> {
     pub(crate) pieces: &'w [Piece],
     pub(crate) definitions: &'w Definitions,
+    /// The marks of kept lists.
+    pub(crate) marks: &'w [Patch],
+    /// These marks, and the definitions.
     pub(crate) redefined: &'w [Patch],
+    /// What ends the first line of the source.
+    pub(crate) line_end: LineEnd,
+}
+
+/// What was put last, and how the next one is put.
+#[derive(Clone, Copy)]
+struct Last {
+    manner: Manner,
+    /// The first block of the source that isn't passed.
+    next: usize,
+    /// Whether a tree stands before that is new, and whether one that was kept, or none.
+    is_new: bool,
+    is_kept: bool,
+}
+
+impl Last {
+    /// Whether a blank line has to stand behind it, before a block that is kept or written.
+    fn is_loose(self, is_kept: bool) -> bool {
+        self.is_new || self.manner.apart && !(self.is_kept && is_kept)
+    }
+
+    fn with(self, plan: &Plan) -> Last {
+        Last {
+            manner: self.manner,
+            next: behind(self.next, plan),
+            is_new: plan.stands_for.is_none(),
+            is_kept: plan.kept.is_some(),
+        }
+    }
+}
+
+/// A tree and what stands before it.
+fn put_tree(
+    source: &str,
+    between: Between<'_>,
+    last: Last,
+    joint: &Joint,
+    piece: &Piece,
+    output: &mut Output,
+) -> Result<(), AllocError>
+    requires { Builds source.now output.old }
+    ensures { OnOk result (Builds source.now output.new) }
+{
+    let plan = &joint.plan;
+    if joint.needs_divider {
+        put_divider(source, between, last.next, output)?;
+    } else {
+        let is_loose = last.is_loose(plan.kept.is_some());
+        put_before(
+            source,
+            between,
+            last.next,
+            plan.stands_for,
+            is_loose,
+            output,
+        )?;
+    }
+    let number = behind(last.next, plan);
+    put_block(
+        source,
+        between,
+        plan,
+        piece,
+        between.line_end(number),
+        output,
+    )
+}
+
+/// What stands behind the last tree: what is left of the source, and definitions.
+fn put_end(
+    source: &str,
+    between: Between<'_>,
+    last: Last,
+    definitions: &Definitions,
+    output: &mut Output,
+) -> Result<(), AllocError>
+    requires { Builds source.now output.old }
+    ensures { OnOk result (Builds source.now output.new) }
+{
+    put_tail(source, between, last.next, last.is_new, output)?;
+    let line_end = between.line_end(between.blocks.len());
+    if last.manner.apart && !last.is_kept {
+        end_line(source, line_end, output)?;
+    }
+    if last.manner.defines {
+        put_definitions(source, definitions, line_end, output)?;
+    }
+    Ok(())
 }
 
 /// The blocks side by side.
@@ -244,37 +411,33 @@ pub(crate) fn joined(
     alloc: Global,
     source: &str,
     blocks: &[Block],
-    plans: &[Plan],
+    joints: &[Joint],
     written: Written<'_>,
     manner: Manner,
 ) -> Result<Output, AllocError>
     ensures { IfOk result (λ output. Builds source.now output) }
 {
     let mut output = Output::new(alloc, source);
+    let patches = if manner.redefines {
+        written.redefined
+    } else {
+        written.marks
+    };
     let between = Between {
         blocks,
-        definitions: if manner.redefines {
-            written.redefined
-        } else {
-            &[]
-        },
+        patches,
+        common: written.line_end,
     };
-    // the first block of the source that isn't passed, and whether the one before was kept
-    let mut next = 0usize;
-    let mut follows = true;
-    for (plan, piece) in plans.iter().zip(written.pieces) {
-        let raw = !manner.apart || (follows && plan.kept.is_some());
-        let place = plan.stands_for;
-        put_before(source, between, next, place, raw, &mut output)?;
-        put_block(source, between, plan, piece, &mut output)?;
-        if let Some(place) = place {
-            next = place.saturating_add(1);
-        }
-        follows = plan.kept.is_some();
+    let mut last = Last {
+        manner,
+        next: 0,
+        is_new: false,
+        is_kept: true,
+    };
+    for (joint, piece) in joints.iter().zip(written.pieces) {
+        put_tree(source, between, last, joint, piece, &mut output)?;
+        last = last.with(&joint.plan);
     }
-    put_tail(source, between, next, &mut output)?;
-    if manner.defines {
-        put_definitions(source, written.definitions, &mut output)?;
-    }
+    put_end(source, between, last, written.definitions, &mut output)?;
     Ok(output)
 }

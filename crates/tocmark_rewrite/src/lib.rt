@@ -1,16 +1,16 @@
-//! Writes an edited document again: what wasn't changed stays byte for byte, and the answer is read as the edited
-//! events.
+//! Writes an edited document: what you didn't change stays byte for byte, and the new text parses to the edited events.
 //!
-//! Below it stand the writer (`tocmark_state`), of which it takes the text of blocks that it has to write, and
-//! `tocmark_compare`; above it stand programs that change documents. Enter at `edits`, the changes of events that filters
-//! make, and at `rewritten` (`rewrite`). `trees` cuts events into their trees, and finds the lines on which these stand;
-//! `plan` finds which of them stand in the source as they are.
+//! The writer (`tocmark_state`) writes the blocks that can't be patched, and `tocmark_compare` compares events. Programs that
+//! change documents stand above this crate. Start at `edits`, which has common changes of events, and at `rewritten`
+//! (`rewrite`).
 //!
-//! `patch` replaces the bytes of what was edited: of single events (`event`), and of links (`link`), by their `destination`
-//! and `title`, or by those of the `label`'s definition, which `definition_reader` finds. `inner` writes the blocks in a
-//! tree that were changed. `pieces` and `join` write changed trees, which `given` lends to a state, and put them between the
-//! kept ones. All leave a list of parts (`output`), which is read back. `answer` says what became of each tree, and `fault`
-//! why there is no answer.
+//! `trees` cuts events into their trees, and finds the lines of these; `line_end` says what ends them. `plan` finds which
+//! trees are in the source as they are. `patch` replaces the bytes of single events (`event`) and of links (`link`), with
+//! their `destination` and `title`, or those of the `label`'s definition, which `definition_reader` finds. `inner` writes
+//! the changed blocks in a tree. `pieces` writes changed trees, which `given` lends to a state, whose reader is that of
+//! `unit_reader`. `joint` decides how trees stand behind one another, and `join` puts them side by side. All leave a list of
+//! parts (`output`), whose text is parsed; `labels` compares the labels that it defines. `answer` says what became of each
+//! tree, and `fault` why there is no text.
 //!
 //! ```
 //! let mut reading = CoreReader.read(alloc, source, flags)?;
@@ -29,7 +29,10 @@ pub mod fault;
 mod given;
 mod inner;
 mod join;
+mod joint;
 mod label;
+mod labels;
+pub mod line_end;
 mod link;
 pub mod output;
 pub mod patch;
@@ -40,6 +43,7 @@ mod source_bytes;
 mod texts;
 mod title;
 pub mod trees;
+mod unit_reader;
 
 pub use answer::{Fate, Kept, Rewritten, RewrittenTree};
 pub use definition_reader::DefinitionReader;

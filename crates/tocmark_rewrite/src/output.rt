@@ -3,6 +3,7 @@
 ghost use Rattle.std.specs.Prelude.{OnOk};
 ghost use Rattle.tocmark_rewrite.specs.Parts.{Builds};
 
+use crate::line_end::is_end;
 use std::alloc::{AllocError, Global};
 
 /// A part of the new text.
@@ -20,8 +21,6 @@ pub(crate) struct Output {
     pub(crate) alloc: Global,
     pub(crate) text: String,
     pub(crate) parts: Vec<Part>,
-    /// Whether lines of the source end with a carriage return and a line feed.
-    pub(crate) has_returns: bool,
     /// Whether it is the source with patches.
     pub(crate) is_patched: bool,
     /// The first events of the trees that were written as a whole, in their order, where it is.
@@ -29,22 +28,25 @@ pub(crate) struct Output {
 }
 
 impl Output {
-    pub(crate) fn new(alloc: Global, source: &str) -> Output
-        ensures { Builds source.now result }
+    /// Nothing of a source so far.
+    pub(crate) fn new(alloc: Global, _source: &str) -> Output
+        ensures { Builds _source.now result }
     {
         Output {
             alloc,
             text: String::new(alloc),
             parts: Vec::new(alloc),
-            has_returns: source.contains("\r\n"),
             is_patched: false,
             written: Vec::new(alloc),
         }
     }
 
-    /// What ends a line.
-    pub(crate) fn line_end(&self) -> &'static str {
-        if self.has_returns { "\r\n" } else { "\n" }
+    /// Whether its last line has ended.
+    pub(crate) fn ends_line(&self) -> bool {
+        match self.text.as_bytes().last() {
+            Some(byte) => is_end(*byte),
+            None => false,
+        }
     }
 
     /// Copies bytes of the source; nothing if they are no slice of it.
@@ -68,6 +70,7 @@ impl Output {
         self.parts.push(Part::Written(text))?;
         Ok(())
     }
+
     /// Adds a copy of a text that was written.
     pub(crate) fn put_str(&mut self, source: &str, text: &str) -> Result<(), AllocError>
         requires { Builds source.now self.old }

@@ -21,6 +21,16 @@ pub struct Patch {
     pub text: String,
 }
 
+impl Patch {
+    pub(crate) fn copied(&self, alloc: Global) -> Result<Patch, AllocError> {
+        Ok(Patch {
+            from: self.from,
+            to: self.to,
+            text: String::from_str(alloc, self.text.as_str())?,
+        })
+    }
+}
+
 /// The patches of a document, in the order of their places.
 #[derive(Drop)]
 pub struct Patches {

@@ -1,11 +1,15 @@
 //! The trees that were changed, each written by itself.
 
+use crate::destination::definition_line;
 use crate::fault::Fault;
 use crate::given::{GivenEvents, GivenPairs};
+use crate::joint::{Joint, mark_at};
+use crate::line_end::LineEnd;
 use crate::patch::Patch;
-use crate::plan::{Plan, place_of};
+use crate::plan::{Plan, kept_blocks, place_of};
 use crate::texts::Texts;
 use crate::trees::{Block, Tree};
+use crate::unit_reader::ReaderOfUnits;
 use std::alloc::{AllocError, Global};
 use std::collections::{HashMap, HashSet};
 use tocmark_event::event::{Event, ParserOptions};
@@ -14,7 +18,7 @@ use tocmark_event::reader::Reader;
 use tocmark_read_scan::basic::bytes_between;
 use tocmark_read_tokens::label::key_of;
 use tocmark_read_tokens::word::definition_at;
-use tocmark_reader::ReferenceDefinition;
+use tocmark_reader::{ReferenceDefinition, UnitReader};
 use tocmark_state::state::State;
 
 /// What reading and writing take beside a text or its events.
@@ -22,15 +26,17 @@ use tocmark_state::state::State;
 pub struct Tools<'t, 'o, R> {
     pub alloc: Global,
     pub reader: &'t R,
+    /// What reads units back, if it isn't the reader.
+    pub units: Option<UnitReader>,
     pub flags: ParserOptions,
     pub options: Options<'o>,
-    /// Whether lines of the source end with a carriage return and a line feed.
-    pub has_returns: bool,
+    /// What ends the first line of the source.
+    pub line_end: LineEnd,
     /// Whether texts are spelled as in the source.
     pub has_ranges: bool,
 }
 
-/// A changed tree as it is written; empty for a kept one.
+/// A changed tree as it is written; empty for a kept one. Its lines end with line feeds.
 #[derive(Drop)]
 pub struct Piece {
     pub body: String,
@@ -47,46 +53,22 @@ pub(crate) struct Definitions {
     places: HashMap<String, usize>,
 }
 
-/// A text with the line ends of the source, without line feeds before it.
-fn in_manner_of(alloc: Global, has_returns: bool, text: &str) -> Result<String, AllocError> {
-    let bare = text.trim_start_matches('\n');
-    if has_returns {
-        bare.replace(alloc, "\n", "\r\n")
-    } else {
-        String::from_str(alloc, bare)
-    }
-}
-
-/// The byte behind the digits that begin at a place; the place itself where there are none.
-fn behind_digits(source: &str, begins: usize) -> Option<&u8> {
-    let digits = source.as_bytes().get(begins..)?;
-    digits.iter().find(|byte| !byte.is_ascii_digit())
-}
-
-/// The options with the bullet, or the sign behind the number, with which a tree begins in the source.
-fn with_marker<'o>(source: &str, begins: usize, options: Options<'o>) -> Options<'o> {
-    match behind_digits(source, begins) {
-        Some(b'-') => Options {
-            list_token: '-',
-            ..options
-        },
-        Some(b'+') => Options {
-            list_token: '+',
-            ..options
-        },
-        Some(b'*') => Options {
-            list_token: '*',
-            ..options
-        },
-        Some(b')') => Options {
-            ordered_list_token: ')',
-            ..options
-        },
-        Some(b'.') => Options {
+/// The options with this mark for the items of lists.
+fn with_mark<'o>(options: Options<'o>, mark: Option<char>) -> Options<'o> {
+    match mark {
+        None => options,
+        Some('.') => Options {
             ordered_list_token: '.',
             ..options
         },
-        _ => options,
+        Some(')') => Options {
+            ordered_list_token: ')',
+            ..options
+        },
+        Some(bullet) => Options {
+            list_token: bullet,
+            ..options
+        },
     }
 }
 
@@ -130,18 +112,19 @@ pub fn write_with<'a, R: Reader>(
     let alloc = tools.alloc;
     let spelled = if tools.has_ranges { Some(source) } else { None };
     let mut texts = Texts::new(alloc);
-    let mut state = State::new(alloc, tools.reader, tools.flags, options)?;
+    let reader = ReaderOfUnits {
+        reader: tools.reader,
+        units: tools.units,
+    };
+    let mut state = State::new(alloc, reader, tools.flags, options)?;
     let handed = hand(&mut state, spelled, events, &mut texts);
     drop(state);
     if let Err(error) = handed {
         return Err(fault_of(error));
     }
-    let body = in_manner_of(alloc, tools.has_returns, texts.text_at(0))?;
-    let ends = in_manner_of(alloc, tools.has_returns, texts.text_at(1))?;
-    Ok(Piece {
-        body,
-        definitions: ends,
-    })
+    let body = String::from_str(alloc, texts.text_at(0).trim_start_matches('\n'))?;
+    let definitions = String::from_str(alloc, texts.text_at(1).trim_start_matches('\n'))?;
+    Ok(Piece { body, definitions })
 }
 
 /// A tree that begins at a byte of the source, written with the marker that stands there.
@@ -151,7 +134,7 @@ pub(crate) fn write_tree<'a, R: Reader>(
     begins: usize,
     events: &'a [(Event<'a>, (usize, usize))],
 ) -> Result<Piece, Error> {
-    let options = with_marker(source, begins, tools.options);
+    let options = with_mark(tools.options, mark_at(source, begins));
     write_with(tools, options, source, events)
 }
 
@@ -168,17 +151,18 @@ fn piece_of<'a, R: Reader>(
     tools: &Tools<'_, '_, R>,
     source: &str,
     blocks: &[Block],
-    plan: &Plan,
+    joint: &Joint,
     events: &'a [(Event<'a>, (usize, usize))],
 ) -> Result<Piece, Fault> {
+    let plan = &joint.plan;
     if plan.kept.is_some() {
         return Ok(Piece {
             body: String::new(tools.alloc),
             definitions: String::new(tools.alloc),
         });
     }
-    let some = events_of(events, plan.tree);
-    match write_tree(tools, source, plan.tree.begins, some) {
+    let options = with_mark(tools.options, joint.mark);
+    match write_with(tools, options, source, events_of(events, plan.tree)) {
         Ok(piece) => Ok(piece),
         Err(Error::OutOfMemory) => Err(Fault::OutOfMemory),
         Err(error) => Err(Fault::Refused(place_of(blocks, plan), error)),
@@ -190,12 +174,12 @@ pub(crate) fn make_pieces<'a, R: Reader>(
     tools: &Tools<'_, '_, R>,
     source: &str,
     blocks: &[Block],
-    plans: &[Plan],
+    joints: &[Joint],
     events: &'a [(Event<'a>, (usize, usize))],
 ) -> Result<Vec<Piece>, Fault> {
     let mut all = Vec::new(tools.alloc);
-    for plan in plans {
-        let piece = piece_of(tools, source, blocks, plan, events)?;
+    for joint in joints {
+        let piece = piece_of(tools, source, blocks, joint, events)?;
         all.push(piece)?;
     }
     Ok(all)
@@ -241,6 +225,27 @@ impl Definitions {
             }
         }
         Ok(all)
+    }
+
+    /// Adds those of the source that stand in blocks which aren't kept, the first one of each label.
+    pub(crate) fn add_lost(
+        &mut self,
+        alloc: Global,
+        found: &[ReferenceDefinition],
+        blocks: &[Block],
+        plans: &[Plan],
+    ) -> Result<(), AllocError> {
+        let kept = kept_blocks(alloc, blocks, plans)?;
+        for definition in found {
+            let begins = definition.place.whole.0;
+            let place = blocks.partition_point(|block| block.to <= begins);
+            let is_inside = blocks.get(place).is_some_and(|block| block.from <= begins);
+            if is_inside && kept.get(place).copied() == Some(false) {
+                let line = definition_line(alloc, definition)?;
+                self.add(alloc, line.as_str())?;
+            }
+        }
+        Ok(())
     }
 
     pub(crate) fn is_empty(&self) -> bool {

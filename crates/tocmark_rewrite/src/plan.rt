@@ -1,9 +1,11 @@
 //! Which trees of the edited events stand in the source as they are.
 
-ghost use Rattle.std.specs.Prelude.{IfOk, IfSome, IsTrue};
+ghost use Rattle.std.specs.Prelude.{◌≡◌, ◌↔◌, ◌<◌, ◌+◌, ◌^◌, ℕ, IfOk, IfSome, IsSome, IsTrue, Some, map, slice_get, slice_range};
 ghost use Rattle.std.specs.List.{All};
 ghost use Rattle.tocmark_compare.specs.Given.{given_events};
-ghost use Rattle.tocmark_rewrite.specs.Kept.{AreSame, HasEventsOf, IsHonest};
+ghost use Rattle.tocmark_rewrite.specs.Kept.{HasEventsOf, IsFrom};
+ghost use Rattle.tocmark_rewrite.specs.Trees.{ranges_of, trees_of};
+ghost use Rattle.tocmark_rewrite.specs.declared.trees.Block.{Block};
 
 use crate::fault::Place;
 use crate::trees::{Block, Tree, trees};
@@ -21,98 +23,209 @@ pub struct Plan {
     pub kept: Option<Block>,
 }
 
-/// Whether two stretches have the same events, each stretch of texts as one; false for what is no
-/// stretch.
-fn have_same(
-    alloc: Global,
-    found: &[(Event<'_>, (usize, usize))],
-    block: Block,
-    events: &[(Event<'_>, (usize, usize))],
-    tree: Tree,
-) -> Result<bool, AllocError>
-    ensures { IfOk result (λ same. IsTrue same
-        → AreSame (given_events found.now) block.first block.past
-        (given_events events.now) tree.first tree.past) }
+/// The events of a stretch; what ends behind the last event ends there.
+fn stretch<'e>(
+    events: &'e [(Event<'e>, (usize, usize))],
+    first: usize,
+    past: usize,
+) -> &'e [(Event<'e>, (usize, usize))]
+    ensures { result.now ≡ slice_range events.now first past }
 {
-    let Some(left) = found.get(block.first..block.past) else {
-        return Ok(false);
-    };
-    let Some(right) = events.get(tree.first..tree.past) else {
-        return Ok(false);
-    };
-    if differ(left, right) {
-        return Ok(false);
-    }
-    let same = are_same(alloc, left, right)?;
-    Ok(same)
-}
-
-/// The block, if it has the events of the tree.
-fn kept_block(
-    alloc: Global,
-    found: &[(Event<'_>, (usize, usize))],
-    block: Block,
-    events: &[(Event<'_>, (usize, usize))],
-    tree: Tree,
-) -> Result<Option<Block>, AllocError>
-    ensures { IfOk result (λ kept. IfSome kept
-        (HasEventsOf (given_events found.now) (given_events events.now) tree)) }
-{
-    if have_same(alloc, found, block, events, tree)? {
-        Ok(Some(block))
+    let past = past.min(events.len());
+    if first < past {
+        &events[first..past]
     } else {
-        Ok(None)
+        &[]
     }
 }
 
-/// What becomes of a tree: it stands for the block that begins at the same byte, if none behind it is
-/// taken.
-fn plan_of(
-    alloc: Global,
-    found: &[(Event<'_>, (usize, usize))],
-    blocks: &[Block],
-    next: usize,
-    events: &[(Event<'_>, (usize, usize))],
-    tree: Tree,
-) -> Result<Plan, AllocError>
-    ensures { IfOk result (IsHonest (given_events found.now) (given_events events.now)) }
-{
-    let mut plan = Plan {
-        tree,
-        stands_for: None,
-        kept: None,
-    };
-    let place = blocks.partition_point(|block| block.begins < tree.begins);
-    if let Some(block) = blocks.get(place)
-        && place >= next
-        && block.begins == tree.begins
+/// What is compared: the events that the reader found, their blocks, and the events that were given.
+#[derive(Clone, Copy)]
+pub(crate) struct Documents<'d, 'e> {
+    pub(crate) found: &'d [(Event<'d>, (usize, usize))],
+    pub(crate) blocks: &'d [Block],
+    pub(crate) given: &'e [(Event<'e>, (usize, usize))],
+}
+
+impl Documents<'_, '_> {
+    /// Whether a block has the events of a tree, each stretch of texts as one.
+    fn have_same(&self, alloc: Global, block: Block, tree: Tree) -> Result<bool, AllocError>
+        ensures { IfOk result (λ same. IsTrue same
+            ↔ HasEventsOf (given_events self.now.found.now) (given_events self.now.given.now)
+            tree block) }
     {
-        plan.stands_for = Some(place);
-        plan.kept = kept_block(alloc, found, *block, events, tree)?;
+        let left = stretch(self.found, block.tree.first, block.tree.past);
+        let right = stretch(self.given, tree.first, tree.past);
+        if differ(left, right) {
+            return Ok(false);
+        }
+        let same = are_same(alloc, left, right)?;
+        Ok(same)
     }
-    Ok(plan)
+
+    /// The block at a place, if it begins where a tree does and has its events.
+    fn kept_at(&self, alloc: Global, place: usize, tree: Tree) -> Result<Option<Block>, AllocError>
+        ensures kept { IfOk result (λ kept. IfSome kept (λ block.
+            (slice_get self.now.blocks.now place ≡ Some block)
+            × HasEventsOf (given_events self.now.found.now) (given_events self.now.given.now)
+            tree block)) }
+        ensures all { IfOk result (λ kept. IfSome (slice_get self.now.blocks.now place) (λ block.
+            block.tree.begins ≡ tree.begins
+            → HasEventsOf (given_events self.now.found.now) (given_events self.now.given.now)
+            tree block → kept ≡ Some block)) }
+    {
+        match self.blocks.get(place) {
+            Some(block) if block.tree.begins == tree.begins => {
+                let same = self.have_same(alloc, *block, tree)?;
+                Ok(if same { Some(*block) } else { None })
+            }
+            _ => Ok(None),
+        }
+    }
+
+    /// The number of the block from a number on that begins where a tree does.
+    fn place_of(&self, next: usize, tree: Tree) -> Option<usize> {
+        let place = self
+            .blocks
+            .partition_point(|block| block.tree.begins < tree.begins);
+        match self.blocks.get(place) {
+            Some(block) if place >= next && block.tree.begins == tree.begins => Some(place),
+            _ => None,
+        }
+    }
+
+    /// Whether the tree behind one that begins where a block does is that block, as it was.
+    fn is_taken(
+        &self,
+        alloc: Global,
+        place: usize,
+        follows: Option<&Tree>,
+    ) -> Result<bool, AllocError> {
+        match follows {
+            None => Ok(false),
+            Some(tree) => {
+                let kept = self.kept_at(alloc, place, *tree)?;
+                Ok(kept.is_some())
+            }
+        }
+    }
+
+    /// What becomes of a tree that isn't the first block that isn't passed: it stands for the block that begins at
+    /// the same byte, unless it has no bytes, or the next tree is that block.
+    fn later_plan(
+        &self,
+        alloc: Global,
+        next: usize,
+        tree: Tree,
+        follows: Option<&Tree>,
+    ) -> Result<Plan, AllocError>
+        ensures tree { IfOk result (λ plan. plan.tree ≡ tree) }
+        ensures kept { IfOk result (IsFrom (given_events self.now.found.now)
+            (given_events self.now.given.now) self.now.blocks.now) }
+    {
+        let new = Plan {
+            tree,
+            stands_for: None,
+            kept: None,
+        };
+        if tree.begins >= tree.ends {
+            return Ok(new);
+        }
+        let Some(place) = self.place_of(next, tree) else {
+            return Ok(new);
+        };
+        let kept = self.kept_at(alloc, place, tree)?;
+        if kept.is_none() && self.is_taken(alloc, place, follows)? {
+            return Ok(new);
+        }
+        Ok(Plan {
+            tree,
+            stands_for: Some(place),
+            kept,
+        })
+    }
+
+    /// What becomes of a tree, if the blocks before a number are passed.
+    fn plan_of(
+        &self,
+        alloc: Global,
+        next: usize,
+        tree: Tree,
+        follows: Option<&Tree>,
+    ) -> Result<Plan, AllocError>
+        ensures tree { IfOk result (λ plan. plan.tree ≡ tree) }
+        ensures kept { IfOk result (IsFrom (given_events self.now.found.now)
+            (given_events self.now.given.now) self.now.blocks.now) }
+        ensures all { IfOk result (λ plan. IfSome (slice_get self.now.blocks.now next) (λ block.
+            block.tree.begins ≡ tree.begins
+            → HasEventsOf (given_events self.now.found.now) (given_events self.now.given.now)
+            tree block → (plan.kept ≡ Some block) × (plan.stands_for ≡ Some next))) }
+    {
+        match self.kept_at(alloc, next, tree)? {
+            None => self.later_plan(alloc, next, tree, follows),
+            kept => Ok(Plan {
+                tree,
+                stands_for: Some(next),
+                kept,
+            }),
+        }
+    }
+
+    /// What becomes of each tree at the top of the given events.
+    pub(crate) fn plans(&self, alloc: Global) -> Result<Vec<Plan>, AllocError>
+        ensures trees { IfOk result (λ plans. map (λ plan. plan.tree) plans.items
+            ≡ trees_of (given_events self.now.given.now) (ranges_of self.now.given.now)) }
+        ensures kept { IfOk result (λ plans. All (IsFrom (given_events self.now.found.now)
+            (given_events self.now.given.now) self.now.blocks.now) plans.items) }
+        ensures all { IfOk result (λ plans.
+            map (λ block. block.tree) self.now.blocks.now
+            ≡ trees_of (given_events self.now.found.now) (ranges_of self.now.found.now)
+            → given_events self.now.given.now ≡ given_events self.now.found.now
+            → ranges_of self.now.given.now ≡ ranges_of self.now.found.now
+            → All (λ plan. IsSome plan.kept) plans.items) }
+    {
+        let mut plans = Vec::new(alloc);
+        let mut next = 0usize;
+        let trees = trees(alloc, self.given)?;
+        for at in 0..trees.len() {
+            let follows = trees.get(at.saturating_add(1));
+            let plan = self.plan_of(alloc, next, trees[at], follows)?;
+            next = behind(next, &plan);
+            plans.push(plan)?;
+        }
+        Ok(plans)
+    }
 }
 
-/// What becomes of each tree at the top of the events.
-pub(crate) fn planned(
-    alloc: Global,
-    found: &[(Event<'_>, (usize, usize))],
-    blocks: &[Block],
-    events: &[(Event<'_>, (usize, usize))],
-) -> Result<Vec<Plan>, AllocError>
-    ensures { IfOk result (λ plans.
-        All (IsHonest (given_events found.now) (given_events events.now)) plans.items) }
+/// The first block that isn't passed behind a tree, by that before it.
+pub(crate) fn behind(next: usize, plan: &Plan) -> usize
+    ensures { (place : ℕ) → plan.now.stands_for ≡ Some place → place < 2 ^ 63
+        → result ≡ place + 1 }
 {
-    let mut plans = Vec::new(alloc);
-    let mut next = 0usize;
-    for tree in &trees(alloc, events)? {
-        let plan = plan_of(alloc, found, blocks, next, events, *tree)?;
-        if let Some(place) = plan.stands_for {
-            next = place.saturating_add(1);
-        }
-        plans.push(plan)?;
+    match plan.stands_for {
+        Some(place) => place.saturating_add(1),
+        None => next,
     }
-    Ok(plans)
+}
+
+/// Of each block, whether a tree keeps it.
+pub(crate) fn kept_blocks(
+    alloc: Global,
+    blocks: &[Block],
+    plans: &[Plan],
+) -> Result<Vec<bool>, AllocError> {
+    let mut kept = Vec::new(alloc);
+    for _block in blocks {
+        kept.push(false)?;
+    }
+    for plan in plans {
+        if let Some(place) = plan.stands_for
+            && let Some(is_kept) = kept.get_mut(place)
+        {
+            *is_kept = plan.kept.is_some();
+        }
+    }
+    Ok(kept)
 }
 
 /// The lines of the source that a tree stands for.

@@ -1,16 +1,21 @@
 //! Rewrites a document: what wasn't changed stays byte for byte.
 
-ghost use Rattle.std.specs.Prelude.{◌≡◌, ◌↔◌, ℕ, IfOk, IfSome, IsNone, IsTrue, List, Option, string_bytes};
+ghost use Rattle.std.specs.Prelude.{◌≡◌, ◌≢◌, ◌↔◌, ◌∷◌, [], ℕ, IfErr, IfOk, IfSome, IsNone, IsTrue, List, Option, length, map, string_bytes};
 ghost use Rattle.std.specs.Borrow.{Bor};
 ghost use Rattle.std.specs.Iterator.{Drains, IsFinite};
 ghost use Rattle.std.specs.List.{All};
 ghost use Rattle.tocmark_event.specs.Merged.{merged};
+ghost use Rattle.tocmark_event.specs.Reading.{reading_view};
 ghost use Rattle.tocmark_event.specs.Text.{ParserEvent};
 ghost use Rattle.tocmark_event.specs.View.{EventView};
 ghost use Rattle.tocmark_compare.specs.Given.{found_events, given_events};
-ghost use Rattle.tocmark_rewrite.specs.Edited.{IsWrittenFor, edited_events};
-ghost use Rattle.tocmark_rewrite.specs.Kept.{IsHonest, IsTold};
+ghost use Rattle.tocmark_rewrite.specs.Edited.{HasItsCause, IsVain, IsWrittenFor, SaysSame, edited_events, read_source};
+ghost use Rattle.tocmark_rewrite.specs.Kept.{AreCopied, IsHonest, IsTold, ReadSource, WasKept, planned_span, span_of};
+ghost use Rattle.tocmark_rewrite.specs.Labels.{AreAmong};
 ghost use Rattle.tocmark_rewrite.specs.Parts.{Builds, IsMadeOf};
+ghost use Rattle.tocmark_rewrite.specs.Trees.{ranges_of, spans_of};
+ghost use Rattle.tocmark_rewrite.specs.declared.fault.Fault.TheVariants.{OutOfMemory};
+ghost use Rattle.tocmark_rewrite.specs.declared.output.Part.TheVariants.{Source};
 
 use crate::answer::{Rewritten, told};
 use crate::collect::{collected, lent};
@@ -18,68 +23,36 @@ use crate::definition_reader::DefinitionReader;
 use crate::fault::{Fault, Place};
 use crate::inner::{block_patch, innermost};
 use crate::join::{Manner, Written, joined, patched};
+use crate::joint::{Joint, Row, mark_patches};
+use crate::labels::has_all;
+use crate::line_end::LineEnd;
 use crate::output::{Output, Part};
 use crate::patch::{Patch, Patches};
-use crate::pieces::{Definitions, Tools, events_of, make_pieces, write_tree};
-use crate::plan::{Plan, place_of, planned};
+use crate::pieces::{Definitions, Piece, Tools, events_of, make_pieces, write_tree};
+use crate::plan::{Documents, Plan, place_of};
 use crate::trees::{Block, Tree, blocks, trees};
 use std::alloc::{AllocError, Global};
 use tocmark_compare::same::{are_same, differ};
 use tocmark_event::event::{Event, ParserOptions};
 use tocmark_event::options::Options;
-use tocmark_event::reader::Reader;
+use tocmark_event::reader::{Reader, Reading};
 
 /// The source as it was read, and what becomes of the trees that were given.
 #[derive(Clone, Copy)]
 struct Work<'w> {
     found: &'w [(Event<'w>, (usize, usize))],
+    /// The labels that the source defines.
+    defined: &'w [String],
     blocks: &'w [Block],
     plans: &'w [Plan],
-}
-
-/// Whether a text is read as the events, on either side with each longest stretch of texts as one.
-fn is_read_as<R: Reader>(
-    alloc: Global,
-    reader: &R,
-    flags: ParserOptions,
-    text: &str,
-    events: &[(Event<'_>, (usize, usize))],
-) -> Result<bool, AllocError>
-    ensures { IfOk result (λ same. IsTrue same
-        ↔ (merged (found_events (R.reading reader.now text.now flags))
-        ≡ merged (given_events events.now))) }
-{
-    let reading = reader.read(alloc, text, flags)?;
-    let same = are_same(alloc, &reading.events, events)?;
-    Ok(same)
-}
-
-/// The new text, if it is read as the events.
-fn accepted<R: Reader>(
-    tools: &Tools<'_, '_, R>,
-    source: &str,
-    output: Output,
-    events: &[(Event<'_>, (usize, usize))],
-) -> Result<Option<Output>, AllocError>
-    requires { Builds source.now output }
-    ensures same { IfOk result (λ answer. IfSome answer (λ output.
-        merged (found_events
-        (R.reading tools.now.reader.now (string_bytes output.text) tools.now.flags))
-        ≡ merged (given_events events.now))) }
-    ensures parts { IfOk result (λ answer. IfSome answer (λ output. Builds source.now output)) }
-{
-    let text = output.text.as_str();
-    if is_read_as(tools.alloc, tools.reader, tools.flags, text, events)? {
-        Ok(Some(output))
-    } else {
-        Ok(None)
-    }
 }
 
 /// The source as it stands.
 fn whole(alloc: Global, source: &str) -> Result<Output, AllocError>
     ensures text { IfOk result (λ output. string_bytes output.text ≡ source.now) }
     ensures parts { IfOk result (λ output. Builds source.now output) }
+    ensures copied { IfOk result (λ output.
+        output.parts.items ≡ Source 0 (length source.now) ∷ []) }
 {
     let text = String::from_str(alloc, source)?;
     let mut parts = Vec::new(alloc);
@@ -88,7 +61,6 @@ fn whole(alloc: Global, source: &str) -> Result<Output, AllocError>
         alloc,
         text,
         parts,
-        has_returns: false,
         is_patched: false,
         written: Vec::new(alloc),
     })
@@ -98,9 +70,13 @@ fn whole(alloc: Global, source: &str) -> Result<Output, AllocError>
 fn answer(alloc: Global, work: &Work<'_>, output: Output) -> Result<Rewritten, AllocError>
     ensures text { IfOk result (λ answer. (string_bytes answer.text ≡ string_bytes output.text)
         × (answer.parts.items ≡ output.parts.items)) }
-    ensures told { IfOk result (λ answer. (found given : List EventView)
-        → All (IsHonest found given) work.now.plans.now
-        → All (IsTold found given answer.parts.items) answer.trees.items) }
+    ensures trees { IfOk result (λ answer. map span_of answer.trees.items
+        ≡ map planned_span work.now.plans.now) }
+    ensures told { IfOk result (λ answer. (r : ReadSource) → (given : List EventView)
+        → All (IsHonest r given) work.now.plans.now
+        → All (IsTold r given answer.parts.items) answer.trees.items) }
+    ensures all { IfOk result (λ answer. AreCopied output.parts.items work.now.plans.now
+        → All WasKept answer.trees.items) }
 {
     let trees = told(
         alloc,
@@ -194,14 +170,15 @@ fn add_written<'a, R: Reader>(
     tree: Tree,
     events: &'a [(Event<'a>, (usize, usize))],
 ) -> Result<bool, AllocError> {
-    let Ok(piece) = write_tree(tools, source, block.begins, events_of(events, tree)) else {
+    let Ok(piece) = write_tree(tools, source, block.tree.begins, events_of(events, tree)) else {
         return Ok(false);
     };
     patches.written.push(tree.first)?;
+    let text = block.line_end.ending(tools.alloc, piece.body.as_str())?;
     patches.list.push(Patch {
         from: block.from,
         to: block.to,
-        text: piece.body,
+        text,
     })?;
     Ok(true)
 }
@@ -222,7 +199,10 @@ fn add_tree<'a, R: Reader>(
     if plan.kept.is_some() {
         return Ok(true);
     }
-    let old = work.found.get(block.first..block.past).unwrap_or(&[]);
+    let old = work
+        .found
+        .get(block.tree.first..block.tree.past)
+        .unwrap_or(&[]);
     let new = events_of(events, plan.tree);
     if add_small(tools.alloc, source, patches, old, new)? {
         return Ok(true);
@@ -256,40 +236,6 @@ fn all_patches<'a, R: DefinitionReader>(
     }
     patches.sort()?;
     Ok(Some(patches))
-}
-
-/// The source with just what was edited replaced, if it is read as the events: where blocks in trees may be
-/// written by themselves, and where they may not.
-fn patched_text<'a, R: DefinitionReader>(
-    tools: &Tools<'_, '_, R>,
-    source: &str,
-    work: &Work<'_>,
-    events: &'a [(Event<'a>, (usize, usize))],
-) -> Result<Option<Output>, AllocError>
-    ensures same { IfOk result (λ answer. IfSome answer (λ output.
-        merged (found_events
-        (R.reading tools.now.reader.now (string_bytes output.text) tools.now.flags))
-        ≡ merged (given_events events.now))) }
-    ensures parts { IfOk result (λ answer. IfSome answer (λ output. Builds source.now output)) }
-{
-    if !are_in_place(work) {
-        return Ok(None);
-    }
-    for inner in [true, false] {
-        let Some(patches) = all_patches(tools, source, work, events, inner)? else {
-            return Ok(None);
-        };
-        let output = patched(tools.alloc, source, &patches.list, &patches.written)?;
-        let has_inner = patches.has_inner;
-        drop(patches);
-        if let Some(output) = accepted(tools, source, output, events)? {
-            return Ok(Some(output));
-        }
-        if !has_inner {
-            return Ok(None);
-        }
-    }
-    Ok(None)
 }
 
 /// Whether a tree that was read is one that was given.
@@ -332,44 +278,107 @@ fn difference<'e>(
     Ok(place)
 }
 
-/// The first tree at which a text is read otherwise than the events; none if it is read as them.
+/// Whether a reading has these events, and defines these labels.
+fn says_same(
+    alloc: Global,
+    reading: &Reading,
+    labels: &[String],
+    events: &[(Event<'_>, (usize, usize))],
+) -> Result<bool, AllocError>
+    ensures { IfOk result (λ same. IsTrue same
+        ↔ (merged (found_events (reading_view reading.now)) ≡ merged (given_events events.now))
+        × AreAmong (map string_bytes labels.now) (reading_view reading.now).defined) }
+{
+    let same = are_same(alloc, &reading.events, events)?;
+    if !same {
+        return Ok(false);
+    }
+    let among = has_all(alloc, labels, &reading.defined)?;
+    Ok(among)
+}
+
+/// The first tree at which a text is read otherwise than the events; none if it is read as them, and defines each label
+/// that the source does.
 fn refusal<R: Reader>(
     tools: &Tools<'_, '_, R>,
     work: &Work<'_>,
     text: &str,
     events: &[(Event<'_>, (usize, usize))],
 ) -> Result<Option<Place>, AllocError>
-    ensures { IfOk result (λ place. IsNone place
-        → merged (found_events (R.reading tools.now.reader.now text.now tools.now.flags))
-        ≡ merged (given_events events.now)) }
+    ensures none { IfOk result (λ place. IsNone place
+        → SaysSame (λ text. R.reading tools.now.reader.now text tools.now.flags)
+        (map string_bytes work.now.defined.now) (given_events events.now) text.now) }
+    ensures some { IfOk result (λ place. IfSome place (λ _.
+        ¬ (SaysSame (λ text. R.reading tools.now.reader.now text tools.now.flags)
+        (map string_bytes work.now.defined.now) (given_events events.now) text.now))) }
 {
     let reading = tools.reader.read(tools.alloc, text, tools.flags)?;
-    let same = are_same(tools.alloc, &reading.events, events)?;
-    if same {
+    let says = says_same(tools.alloc, &reading, work.defined, events)?;
+    if says {
         return Ok(None);
     }
     let place = difference(tools.alloc, &reading.events, work, events)?;
     Ok(Some(place))
 }
 
-/// The definitions of the source that others take the place of.
-fn redefined<R: DefinitionReader>(
+/// The source with just what was edited replaced, if it is read as the events: where blocks in trees may be
+/// written by themselves, and where they may not.
+fn patched_text<'a, R: DefinitionReader>(
     tools: &Tools<'_, '_, R>,
     source: &str,
-    definitions: &Definitions,
-) -> Result<Vec<Patch>, AllocError> {
+    work: &Work<'_>,
+    events: &'a [(Event<'a>, (usize, usize))],
+) -> Result<Option<Output>, AllocError>
+    ensures says { IfOk result (λ answer. IfSome answer (λ output.
+        SaysSame (λ text. R.reading tools.now.reader.now text tools.now.flags)
+        (map string_bytes work.now.defined.now) (given_events events.now)
+        (string_bytes output.text))) }
+    ensures parts { IfOk result (λ answer. IfSome answer (λ output. Builds source.now output)) }
+{
+    if !are_in_place(work) {
+        return Ok(None);
+    }
+    for inner in [true, false] {
+        let Some(patches) = all_patches(tools, source, work, events, inner)? else {
+            return Ok(None);
+        };
+        let output = patched(tools.alloc, source, &patches.list, &patches.written)?;
+        let has_inner = patches.has_inner;
+        drop(patches);
+        match refusal(tools, work, output.text.as_str(), events)? {
+            None => return Ok(Some(output)),
+            Some(_place) => {}
+        }
+        if !has_inner {
+            return Ok(None);
+        }
+    }
+    Ok(None)
+}
+
+/// The definitions that written trees ask for, those that were in blocks which aren't kept, and the patches of the source
+/// by which the first ones take the place of the source's.
+fn definitions_for<R: DefinitionReader>(
+    tools: &Tools<'_, '_, R>,
+    source: &str,
+    work: &Work<'_>,
+    pieces: &[Piece],
+) -> Result<(Definitions, Vec<Patch>), AllocError> {
     let alloc = tools.alloc;
-    if definitions.is_empty() {
-        return Ok(Vec::new(alloc));
+    let mut asked = Definitions::of(alloc, pieces)?;
+    if asked.is_empty() && work.defined.is_empty() {
+        return Ok((asked, Vec::new(alloc)));
     }
     let found = tools
         .reader
         .reference_definitions(alloc, source, tools.flags)?;
-    definitions.patches(alloc, &found)
+    let patches = asked.patches(alloc, &found)?;
+    asked.add_lost(alloc, &found, work.blocks, work.plans)?;
+    Ok((asked, patches))
 }
 
-/// The manners in which blocks are put side by side, as they are tried: apart or not, with the source's definitions
-/// redefined or not, with definitions at the end or not. The last one, with all three, is no part of it.
+/// The manners in which blocks are put side by side, as they are tried: with blank lines between them or not, with the
+/// source's definitions redefined or not, with definitions at the end or not. The last one, with all three, is no part of it.
 const MANNERS: [(bool, bool, bool); 7] = [
     (false, false, false),
     (false, true, false),
@@ -380,6 +389,44 @@ const MANNERS: [(bool, bool, bool); 7] = [
     (true, false, true),
 ];
 
+/// Trees side by side, in the first manner in which they are read as the events.
+fn try_manners<R: Reader>(
+    tools: &Tools<'_, '_, R>,
+    source: &str,
+    work: &Work<'_>,
+    joints: &[Joint],
+    written: Written<'_>,
+    events: &[(Event<'_>, (usize, usize))],
+) -> Result<Output, Fault>
+    ensures says { IfOk result (λ output.
+        SaysSame (λ text. R.reading tools.now.reader.now text tools.now.flags)
+        (map string_bytes work.now.defined.now) (given_events events.now)
+        (string_bytes output.text)) }
+    ensures parts { IfOk result (λ output. Builds source.now output) }
+    ensures refused { IfErr result
+        (IsVain (λ text. R.reading tools.now.reader.now text tools.now.flags)
+        (map string_bytes work.now.defined.now) source.now (given_events events.now)) }
+{
+    let (alloc, blocks) = (tools.alloc, work.blocks);
+    for (apart, redefines, defines) in MANNERS {
+        if (apart || redefines || defines) && written.definitions.is_empty() {
+            continue;
+        }
+        let manner = Manner::new(apart, redefines, defines);
+        let output = joined(alloc, source, blocks, joints, written, manner)?;
+        match refusal(tools, work, output.text.as_str(), events)? {
+            None => return Ok(output),
+            Some(_place) => {}
+        }
+    }
+    let manner = Manner::new(true, true, true);
+    let last = joined(alloc, source, blocks, joints, written, manner)?;
+    match refusal(tools, work, last.text.as_str(), events)? {
+        None => Ok(last),
+        Some(place) => Err(Fault::ReadOtherwise(place)),
+    }
+}
+
 /// Kept blocks and written ones side by side, in the first manner in which they are read as the events.
 fn joined_text<'a, R: DefinitionReader>(
     tools: &Tools<'_, '_, R>,
@@ -387,35 +434,38 @@ fn joined_text<'a, R: DefinitionReader>(
     work: &Work<'_>,
     events: &'a [(Event<'a>, (usize, usize))],
 ) -> Result<Output, Fault>
-    ensures same { IfOk result (λ output.
-        merged (found_events
-        (R.reading tools.now.reader.now (string_bytes output.text) tools.now.flags))
-        ≡ merged (given_events events.now)) }
+    ensures says { IfOk result (λ output.
+        SaysSame (λ text. R.reading tools.now.reader.now text tools.now.flags)
+        (map string_bytes work.now.defined.now) (given_events events.now)
+        (string_bytes output.text)) }
     ensures parts { IfOk result (λ output. Builds source.now output) }
+    ensures refused { IfErr result
+        (IsVain (λ text. R.reading tools.now.reader.now text tools.now.flags)
+        (map string_bytes work.now.defined.now) source.now (given_events events.now)) }
 {
     let alloc = tools.alloc;
-    let (blocks, plans) = (work.blocks, work.plans);
-    let pieces = make_pieces(tools, source, blocks, plans, events)?;
-    let definitions = Definitions::of(alloc, &pieces)?;
-    let redefined = redefined(tools, source, &definitions)?;
+    let row = Row {
+        source,
+        blocks: work.blocks,
+        plans: work.plans,
+        events,
+    };
+    let joints = row.joints(alloc, tools.options)?;
+    let pieces = make_pieces(tools, source, work.blocks, &joints, events)?;
+    let (definitions, mut redefined) = definitions_for(tools, source, work, &pieces)?;
+    let marks = mark_patches(alloc, source, work.found, &joints)?;
+    for patch in &marks {
+        redefined.push(patch.copied(alloc)?)?;
+    }
+    redefined.sort_by_key(|patch| patch.from)?;
     let written = Written {
         pieces: &pieces,
         definitions: &definitions,
+        marks: &marks,
         redefined: &redefined,
+        line_end: tools.line_end,
     };
-    for (apart, redefines, defines) in MANNERS {
-        let manner = Manner::new(apart, redefines, defines);
-        let output = joined(alloc, source, blocks, plans, written, manner)?;
-        if let Some(output) = accepted(tools, source, output, events)? {
-            return Ok(output);
-        }
-    }
-    let manner = Manner::new(true, true, true);
-    let last = joined(alloc, source, blocks, plans, written, manner)?;
-    match refusal(tools, work, last.text.as_str(), events)? {
-        None => Ok(last),
-        Some(place) => Err(Fault::ReadOtherwise(place)),
-    }
+    try_manners(tools, source, work, &joints, written, events)
 }
 
 /// The new text: the source if nothing was changed, else with patches, else kept and written blocks.
@@ -425,16 +475,22 @@ fn new_text<'a, R: DefinitionReader>(
     work: &Work<'_>,
     events: &'a [(Event<'a>, (usize, usize))],
 ) -> Result<Output, Fault>
-    requires { given_events work.now.found.now
+    requires found { given_events work.now.found.now
         ≡ found_events (R.reading tools.now.reader.now source.now tools.now.flags) }
-    ensures same { IfOk result (λ output.
-        merged (found_events
-        (R.reading tools.now.reader.now (string_bytes output.text) tools.now.flags))
-        ≡ merged (given_events events.now)) }
+    requires defined { map string_bytes work.now.defined.now
+        ≡ (R.reading tools.now.reader.now source.now tools.now.flags).defined }
+    ensures says { IfOk result (λ output.
+        SaysSame (λ text. R.reading tools.now.reader.now text tools.now.flags)
+        (map string_bytes work.now.defined.now) (given_events events.now)
+        (string_bytes output.text)) }
     ensures unchanged { merged (given_events events.now)
         ≡ merged (found_events (R.reading tools.now.reader.now source.now tools.now.flags))
-        → IfOk result (λ output. string_bytes output.text ≡ source.now) }
+        → IfOk result (λ output. (string_bytes output.text ≡ source.now)
+        × (output.parts.items ≡ Source 0 (length source.now) ∷ [])) }
     ensures parts { IfOk result (λ output. Builds source.now output) }
+    ensures refused { IfErr result
+        (HasItsCause (λ text. R.reading tools.now.reader.now text tools.now.flags) source.now
+        (given_events events.now)) }
 {
     if !differ(work.found, events) && are_same(tools.alloc, work.found, events)? {
         let output = whole(tools.alloc, source)?;
@@ -446,8 +502,8 @@ fn new_text<'a, R: DefinitionReader>(
     joined_text(tools, source, work, events)
 }
 
-/// The same for events in a slice, each with a range, which aren't copied: an event that is new has that of what it
-/// replaces, or an empty one at its place.
+/// Writes an edited document, as `rewritten` does, from events in a slice, which it doesn't copy. Each event has a range: a
+/// new one has that of what it replaces, or an empty one at its place.
 pub fn rewritten_slice<'a, R: DefinitionReader>(
     alloc: Global,
     source: &str,
@@ -459,59 +515,73 @@ pub fn rewritten_slice<'a, R: DefinitionReader>(
     ensures same { IfOk result (λ answer.
         merged (found_events (R.reading reader.now (string_bytes answer.text) flags))
         ≡ merged (given_events events.now)) }
+    ensures labels { IfOk result (λ answer. AreAmong (R.reading reader.now source.now flags).defined
+        (R.reading reader.now (string_bytes answer.text) flags).defined) }
     ensures parts { IfOk result (λ answer.
         IsMadeOf source.now (string_bytes answer.text) answer.parts.items) }
     ensures unchanged { IfOk result (λ answer.
         merged (given_events events.now)
         ≡ merged (found_events (R.reading reader.now source.now flags))
         → string_bytes answer.text ≡ source.now) }
+    ensures trees { IfOk result (λ answer.
+        map span_of answer.trees.items ≡ spans_of (given_events events.now)) }
     ensures kept { IfOk result (λ answer.
-        All (IsTold (found_events (R.reading reader.now source.now flags))
+        All (IsTold (read_source (λ text. R.reading reader.now text flags) source.now)
         (given_events events.now) answer.parts.items) answer.trees.items) }
+    ensures all { IfOk result (λ answer.
+        given_events events.now ≡ found_events (R.reading reader.now source.now flags)
+        → ranges_of events.now ≡ ranges_of (R.reading reader.now source.now flags).events
+        → All WasKept answer.trees.items) }
+    ensures refused { IfErr result
+        (HasItsCause (λ text. R.reading reader.now text flags) source.now
+        (given_events events.now)) }
 {
     let reading = reader.read(alloc, source, flags)?;
     let blocks = blocks(alloc, source, &reading.events)?;
-    let plans = planned(alloc, &reading.events, &blocks, events)?;
+    let documents = Documents {
+        found: &reading.events,
+        blocks: &blocks,
+        given: events,
+    };
+    let plans = documents.plans(alloc)?;
     let work = Work {
         found: &reading.events,
+        defined: &reading.defined,
         blocks: &blocks,
         plans: &plans,
     };
     let tools = Tools {
         alloc,
         reader,
+        units: reader.unit_reader(),
         flags,
         options,
-        has_returns: source.contains("\r\n"),
+        line_end: LineEnd::of(source),
         has_ranges: true,
     };
     let output = new_text(&tools, source, &work, events)?;
     Ok(answer(alloc, &work, output)?)
 }
 
-/// The edited document: what wasn't changed stays byte for byte.
+/// Writes an edited document, and leaves every byte as it is that you didn't edit.
 ///
-/// `events` are those that `reader` finds in `source` under `flags`, each with its range, in which the
-/// caller has changed, added or taken away some; an event that is new has no range, or that of what it
-/// replaces. `Reading::pairs` gives those of a reading that was edited in place. The options say how trees are
-/// written that can't be patched.
+/// `events` are those that `reader` finds in `source` under `flags`, each with its range, after you changed, added or
+/// removed some. A new event has no range, or the range of what it replaces. `Reading::pairs` gives the events of a reading
+/// that you edited in place. The options say how blocks are written that can't be patched.
 ///
 /// - If nothing was changed, the answer is the source.
-/// - Where a link's or an image's destination or title, a text, a heading's level or the info string of a
-///   code block was changed, the bytes of just that are replaced, if the whole is read as the events then.
-///   What a link by a label leads to stands in the label's definition, and is replaced there.
-/// - Where more was changed, so is the innermost block in which it was, or the item, as it is written by
-///   itself; or else the whole tree at the top.
-/// - Else trees at the top whose events are those of the source keep their lines, and what stands between
-///   them, and the others are written.
+/// - If a destination, a title, a text, a heading's level or an info string was changed, just those bytes are replaced. The
+///   destination of a link by label is replaced in the label's definition.
+/// - If more was changed, the innermost block or item with a change is written again, or else the block at the top.
+/// - If blocks at the top were added or removed, the others keep their lines, and so does what stands between them.
 ///
-/// The new text is read as the events that were given, on either side with each longest stretch of texts
-/// as one (the clause `edited`). It is its parts one after the other, each a slice of the source or a text
-/// that was written (`parts`). Of a tree that is said to be kept, the events are those of the source, and
-/// its lines were copied (`edited`).
+/// The new text is parsed. It is answered only if it has these events, with neighbouring texts joined, and defines each label
+/// that the source defines (`edited`). It consists of slices of the source and of written texts (`parts`). The answer also
+/// says what became of each block at the top. A block that was kept has its old events, and a part copies its lines.
 ///
-/// It fails if memory runs out, or which tree is refused by the writer, or at which tree the last text
-/// that was tried is read otherwise; the source is the caller's, as before.
+/// It fails if memory runs out (`OutOfMemory`), if the writer has no text for a block (`Refused`), or if each text that was
+/// tried parses to other events (`ReadOtherwise`). The last two name the block. A document that wasn't changed is never
+/// refused (`refused`). The source and the events are still yours.
 pub fn rewritten<'a, R, I>(
     alloc: Global,
     source: &str,
@@ -530,6 +600,11 @@ where
         × I.into_iter_gives events it × Drains I.IntoIter.next_gives it xs
         × IsWrittenFor (λ text. R.reading reader.now text flags) source.now (edited_events xs)
         answer) }
+    ensures refused { IfErr result (λ fault. fault ≢ OutOfMemory
+        → (it : I.IntoIter) × (xs : List (Bor ParserEvent × Option (ℕ × ℕ)))
+        × I.into_iter_gives events it × Drains I.IntoIter.next_gives it xs
+        × HasItsCause (λ text. R.reading reader.now text flags) source.now (edited_events xs)
+        fault) }
     ensures parts { IfOk result (λ answer.
         IsMadeOf source.now (string_bytes answer.text) answer.parts.items) }
 {

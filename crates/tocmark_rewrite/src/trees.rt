@@ -1,5 +1,14 @@
 //! The trees at the top of a list of events, and the lines of the source that they stand on.
 
+ghost use Rattle.std.specs.Prelude.{◌≡◌, ◌≤◌, ◌<◌, ◌^◌, ◌⊎◌, IfOk, length, map};
+ghost use Rattle.std.specs.List.{All};
+ghost use Rattle.tocmark_event.specs.Text.{text_of};
+ghost use Rattle.tocmark_event.specs.View.{event_view};
+ghost use Rattle.tocmark_rewrite.specs.Lines.{AreBlank, HasItsLines, is_blank, is_blank_at};
+ghost use Rattle.tocmark_compare.specs.Given.{given_events};
+ghost use Rattle.tocmark_rewrite.specs.Trees.{depth_behind, ranges_of, tree_at, trees_of};
+
+use crate::line_end::{LineEnd, is_end};
 use std::alloc::{AllocError, Global};
 use tocmark_event::event::Event;
 
@@ -18,30 +27,37 @@ pub struct Tree {
 /// A tree that the reader found, and its lines.
 #[derive(Clone, Copy, Debug)]
 pub struct Block {
-    /// Its first event.
-    pub first: usize,
-    /// The event behind it.
-    pub past: usize,
-    /// Where it begins in the source, as its first event says.
-    pub begins: usize,
+    pub tree: Tree,
     /// Its first line's first byte.
     pub from: usize,
     /// The end of its last line.
     pub to: usize,
     /// Its first and its last line, counted from 1.
     pub lines: (usize, usize),
+    /// What ends its last line, or else the line before it.
+    pub line_end: LineEnd,
 }
 
-fn is_blank(byte: u8) -> bool {
+fn is_blank(byte: u8) -> bool
+    ensures { result ≡ is_blank byte }
+{
     byte == b' ' || byte == b'\t' || byte == b'\n' || byte == b'\r'
 }
 
-fn is_end(byte: u8) -> bool {
-    byte == b'\n' || byte == b'\r'
+/// Whether a byte is blank, or there is none.
+fn is_blank_at(bytes: &[u8], at: usize) -> bool
+    ensures { result ≡ is_blank_at bytes.now at }
+{
+    match bytes.get(at) {
+        Some(byte) => is_blank(*byte),
+        None => true,
+    }
 }
 
 /// The first byte of the line on which a byte stands.
-pub fn line_start(bytes: &[u8], at: usize) -> usize {
+pub fn line_start(bytes: &[u8], at: usize) -> usize
+    ensures { result ≤ at }
+{
     for k in (0..at.min(bytes.len())).rev() {
         if let Some(byte) = bytes.get(k)
             && is_end(*byte)
@@ -53,7 +69,10 @@ pub fn line_start(bytes: &[u8], at: usize) -> usize {
 }
 
 /// The end of the line on which a byte stands.
-pub fn line_end(bytes: &[u8], at: usize) -> usize {
+pub fn line_end(bytes: &[u8], at: usize) -> usize
+    ensures ends { result ≤ length bytes.now }
+    ensures follows { at ≤ result ⊎ length bytes.now ≤ result }
+{
     for k in at..bytes.len() {
         if let Some(byte) = bytes.get(k)
             && is_end(*byte)
@@ -64,26 +83,30 @@ pub fn line_end(bytes: &[u8], at: usize) -> usize {
     bytes.len()
 }
 
-/// The end of the last line before a byte that isn't blank.
-pub fn lines_end(bytes: &[u8], from: usize, to: usize) -> usize {
-    let mut last = from;
+/// The byte behind the last one of a stretch that isn't blank; the first one if all are.
+fn past_text(bytes: &[u8], from: usize, to: usize) -> usize
+    ensures { AreBlank bytes.now result to }
+{
     for k in (from..to.min(bytes.len())).rev() {
-        if let Some(byte) = bytes.get(k)
-            && !is_blank(*byte)
-        {
-            last = k;
-            break;
+        if !is_blank_at(bytes, k) {
+            return k.saturating_add(1);
         }
     }
-    line_end(bytes, last)
+    from
+}
+
+/// The end of the last line of a stretch that isn't blank.
+pub fn lines_end(bytes: &[u8], from: usize, to: usize) -> usize
+    ensures blank { AreBlank bytes.now result to }
+    ensures ends { result ≤ length bytes.now }
+{
+    line_end(bytes, past_text(bytes, from, to))
 }
 
 /// Whether some byte of a stretch isn't blank.
 pub fn has_text(bytes: &[u8], from: usize, to: usize) -> bool {
-    for k in from..to {
-        if let Some(byte) = bytes.get(k)
-            && !is_blank(*byte)
-        {
+    for k in from..to.min(bytes.len()) {
+        if !is_blank_at(bytes, k) {
             return true;
         }
     }
@@ -103,15 +126,7 @@ pub fn trimmed(bytes: &[u8], from: usize, to: usize) -> (usize, usize) {
             }
         }
     }
-    let mut past = first;
-    for k in first..to {
-        if let Some(byte) = bytes.get(k)
-            && !is_blank(*byte)
-        {
-            past = k.saturating_add(1);
-        }
-    }
-    (first, past)
+    (first, past_text(bytes, first, to))
 }
 
 /// How many lines end before a byte.
@@ -142,39 +157,51 @@ impl LineCounter {
     }
 }
 
-fn make_tree(events: &[(Event<'_>, (usize, usize))], first: usize, past: usize) -> Option<Tree> {
-    let pair = events.get(first)?;
-    let (begins, ends) = pair.1;
-    Some(Tree {
+/// The tree of a stretch of events.
+fn tree_at(events: &[(Event<'_>, (usize, usize))], first: usize, past: usize) -> Tree
+    ensures { result ≡ tree_at (ranges_of events.now) (first, past) }
+{
+    let (begins, ends) = match events.get(first) {
+        Some(pair) => pair.1,
+        None => (0, 0),
+    };
+    Tree {
         first,
         past,
         begins,
         ends,
-    })
+    }
 }
 
-/// The trees at the top, in their order.
-pub fn trees(
-    alloc: Global,
-    events: &[(Event<'_>, (usize, usize))],
-) -> Result<Vec<Tree>, AllocError> {
+/// How many containers are open behind an event.
+fn depth_behind(depth: usize, event: &Event<'_>) -> usize
+    requires { depth < 2 ^ 63 }
+    ensures { result ≡ depth_behind depth (event_view text_of event.now) }
+{
+    match event {
+        Event::Start(_) => depth + 1,
+        Event::End(_) => depth.saturating_sub(1),
+        _ => depth,
+    }
+}
+
+/// The trees at the top, in their order. What has no end is a tree up to the last event.
+pub fn trees(alloc: Global, events: &[(Event<'_>, (usize, usize))]) -> Result<Vec<Tree>, AllocError>
+    ensures { IfOk result (λ all. all.items
+        ≡ trees_of (given_events events.now) (ranges_of events.now)) }
+{
     let mut all = Vec::new(alloc);
     let mut depth = 0usize;
-    let mut first = 0;
+    let mut first = 0usize;
     for i in 0..events.len() {
+        depth = depth_behind(depth, &events[i].0);
         if depth == 0 {
-            first = i;
+            all.push(tree_at(events, first, i + 1))?;
+            first = i + 1;
         }
-        match events.get(i) {
-            Some((Event::Start(_), _)) => depth = depth.saturating_add(1),
-            Some((Event::End(_), _)) => depth = depth.saturating_sub(1),
-            _ => {}
-        }
-        if depth == 0
-            && let Some(found) = make_tree(events, first, i.saturating_add(1))
-        {
-            all.push(found)?;
-        }
+    }
+    if depth > 0 {
+        all.push(tree_at(events, first, events.len()))?;
     }
     Ok(all)
 }
@@ -186,8 +213,13 @@ pub fn blocks_in(
     source: &str,
     part: &[(Event<'_>, (usize, usize))],
     counter: &mut LineCounter,
-) -> Result<Vec<Block>, AllocError> {
+) -> Result<Vec<Block>, AllocError>
+    ensures trees { IfOk result (λ all.
+        map (λ b. b.tree) all.items ≡ trees_of (given_events part.now) (ranges_of part.now)) }
+    ensures lines { IfOk result (λ all. All (HasItsLines source.now) all.items) }
+{
     let bytes = source.as_bytes();
+    let common = LineEnd::of(source);
     let mut all = Vec::new(alloc);
     for tree in &trees(alloc, part)? {
         let from = line_start(bytes, tree.begins);
@@ -195,12 +227,11 @@ pub fn blocks_in(
         let first_line = counter.line_of(bytes, from);
         let last_line = counter.line_of(bytes, to);
         all.push(Block {
-            first: tree.first,
-            past: tree.past,
-            begins: tree.begins,
+            tree: *tree,
             from,
             to,
             lines: (first_line, last_line),
+            line_end: LineEnd::beside(bytes, from, to, common),
         })?;
     }
     Ok(all)
@@ -211,6 +242,27 @@ pub fn blocks(
     alloc: Global,
     source: &str,
     events: &[(Event<'_>, (usize, usize))],
-) -> Result<Vec<Block>, AllocError> {
+) -> Result<Vec<Block>, AllocError>
+    ensures trees { IfOk result (λ all.
+        map (λ b. b.tree) all.items
+        ≡ trees_of (given_events events.now) (ranges_of events.now)) }
+    ensures lines { IfOk result (λ all. All (HasItsLines source.now) all.items) }
+{
     blocks_in(alloc, source, events, &mut LineCounter::new())
+}
+
+/// The source between the block before the one with a number and that block.
+pub(crate) fn gap(source: &str, blocks: &[Block], k: usize) -> (usize, usize) {
+    let from = match k.checked_sub(1) {
+        None => 0,
+        Some(before) => match blocks.get(before) {
+            None => source.len(),
+            Some(block) => block.to,
+        },
+    };
+    let to = match blocks.get(k) {
+        None => source.len(),
+        Some(block) => block.from,
+    };
+    (from, to)
 }

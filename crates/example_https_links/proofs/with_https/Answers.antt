@@ -1,8 +1,9 @@
-use Rattle.std.proofs.Common.{◌∙◌, List, ap, subst}
+use Rattle.std.proofs.Common.{◌∙◌, ℕ, List, ap, subst}
 use Rattle.std.specs.List.{All}
 use Rattle.tocmark_event.specs.Merged.{merged}
 use Rattle.tocmark_event.specs.View.{EventView}
-use Rattle.tocmark_compare.specs.Given.{found_events, given_events}
+use Rattle.tocmark_compare.specs.Given.{given_events}
+use Rattle.tocmark_rewrite.specs.Edited.{read_source}
 use Rattle.tocmark_rewrite.specs.Kept.{IsTold}
 use Rattle.example_https_links.proofs.with_https.Goals as goal
 
@@ -12,6 +13,6 @@ returns-clause-same g c =
 
 pub returns-clause-kept : goal.returns-clause-kept
 returns-clause-kept g c =
-    subst (λ (given : List EventView). All (IsTold (found_events (g.R.Reader.reading c.args.reader.now c.args.text.now c.args.flags)) given c.in_ok-answer.answer.parts.items) c.in_ok-answer.answer.trees.items)
+    subst (λ (given : List EventView). All (IsTold (read_source (λ (text : List ℕ). g.R.Reader.reading c.args.reader.now text c.args.flags) c.args.text.now) given c.in_ok-answer.answer.parts.items) c.in_ok-answer.answer.trees.items)
     (ap given_events c.deref.ensures.value ∙ c.in_ok-reading.ensures)
     c.in_ok-answer.ensures.kept

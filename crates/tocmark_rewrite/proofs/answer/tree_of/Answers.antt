@@ -1,5 +1,5 @@
 use Rattle.std.proofs.Common.{refl}
 use Rattle.tocmark_rewrite.proofs.answer.tree_of.Goals as goal
 
-pub returns : goal.returns
-returns c = λ found given h. c.fate_of.ensures found given h _ refl refl
+pub returns-clause-told : goal.returns-clause-told
+returns-clause-told c = λ r given h. c.fate_of.ensures.told r given h _ refl refl

@@ -13,5 +13,8 @@ returns-clause-edited g c =
       c.into_iter.ensures.into_iter_gives,
       e.1,
       subst (λ (given : List EventView). IsWrittenFor (λ text. g.R.Reader.reading c.args.reader.now text c.args.flags) c.args.source.now given c.in_ok-answer.answer) same
-          (record { same = c.in_ok-answer.ensures.same; unchanged = c.in_ok-answer.ensures.unchanged; kept = c.in_ok-answer.ensures.kept }),
+          (record { same = c.in_ok-answer.ensures.same; labels = c.in_ok-answer.ensures.labels; trees = c.in_ok-answer.ensures.trees; unchanged = c.in_ok-answer.ensures.unchanged; kept = c.in_ok-answer.ensures.kept }),
     )
+
+pub returns-in_err-answer-clause-refused : goal.returns-in_err-answer-clause-refused
+returns-in_err-answer-clause-refused g c = ?
