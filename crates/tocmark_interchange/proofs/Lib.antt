@@ -4,3 +4,4 @@ mod Refused
 mod FoundAgain
 mod Stretches
 mod Rewritten
+mod Commas

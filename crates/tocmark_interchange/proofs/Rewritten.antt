@@ -1,20 +1,23 @@
 -- The events that are handed to rewriting are those of the JSON text.
-use Rattle.std.proofs.Common.{◌≡◌, ℕ, List, Option, Result, map, sym, ap, ◌∙◌}
+use Rattle.std.proofs.Common.{◌≡◌, ℕ, List, Option, Result, map, subst, sym, ap, ◌∙◌}
 use mathlib.Core.List.{map-map}
 use Rattle.std.specs.Borrow.{Bor}
 use Rattle.std.specs.Iterator.{Drains, YieldsFirstBy}
-use Rattle.std.specs.Prelude.{IfErr, true}
-use Rattle.std.proofs.lemmas.Result.{IfErr-weaker}
+use Rattle.std.specs.Prelude.{IfErr, IfOk, true}
+use Rattle.std.proofs.lemmas.Result.{IfErr-weaker, IfOk-weaker}
 use Rattle.tocmark_event.specs.Reading.{lent_pair}
 use Rattle.tocmark_event.specs.Text.{ParserEvent, text_of}
+use Rattle.tocmark_event.specs.View.{EventView}
+use Rattle.tocmark_event.specs.declared.event.flags.ParserOptions.{ParserOptions}
 use Rattle.tocmark_compare.specs.Given.{given_events}
 use Rattle.tocmark_json.specs.Json.{pair_view}
 use Rattle.tocmark_laws.proofs.Handed.{drained}
-use Rattle.tocmark_rewrite.specs.Edited.{edited_events}
+use Rattle.tocmark_rewrite.specs.Edited.{IsWrittenFor, edited_events}
+use Rattle.tocmark_rewrite.specs.declared.answer.Rewritten.{Rewritten}
 use Rattle.tocmark_state.specs.Ranges.{Pair, Range}
 use Rattle.tocmark_interchange.specs.Document.{without_range}
 use Rattle.tocmark_interchange.specs.Interchange.{IsTextOf, in_source, kept, places_left}
-use Rattle.tocmark_interchange.specs.Rewriting.{IsOfBlock, IsRewriteCause}
+use Rattle.tocmark_interchange.specs.Rewriting.{IsOfBlock, IsRewriteCause, IsRewrittenFrom, reading_under}
 use Rattle.tocmark_interchange.specs.declared.fault.RewriteError.{RewriteError}
 use Rattle.tocmark_interchange.specs.declared.fault.RewriteError.TheVariants as rewrite_error
 use Rattle.tocmark_interchange.specs.declared.pairs.EventPairs.{EventPairs}
@@ -22,7 +25,7 @@ use Rattle.tocmark_interchange.proofs.FoundAgain.{given_read}
 
 -- all that was lent was handed on
 edited_are : (xs : List (Bor ParserEvent × Option Range)) (it : EventPairs) → Drains (YieldsFirstBy lent_pair places_left) it xs → edited_events xs ≡ without_range (places_left it)
-edited_are xs it (u, t, gave, last) =
+edited_are xs it (u, (t, gave, last)) =
     sym (map-map (λ (p : Pair). p.0) lent_pair xs) ∙ ap without_range (drained lent_pair places_left xs it (t, gave, λ _. (u, last)))
 
 -- ranges don't count
@@ -37,6 +40,15 @@ events_handed xs it given ps same left all =
     ∙ ap without_range left
     ∙ without_kept (map (pair_view text_of) ps)
     ∙ sym (given_read ps)
+
+-- what is written for the events of a JSON text is written from that text
+pub written_from : (flags : ParserOptions) (source input : List ℕ) (ps : List (ParserEvent × Option (ℕ × ℕ))) (r : Result Rewritten RewriteError) → IsTextOf input (map (pair_view text_of) ps) → IfOk r (IsWrittenFor (reading_under flags) source (given_events ps)) → IfOk r (IsRewrittenFrom flags source input)
+written_from flags source input ps r is h =
+    IfOk-weaker r (IsWrittenFor (reading_under flags) source (given_events ps)) (IsRewrittenFrom flags source input) (λ answer w. record {
+      pairs = map (pair_view text_of) ps;
+      is_text = is;
+      is_written = subst (λ (es : List EventView). IsWrittenFor (reading_under flags) source es answer) (given_read ps) w;
+    }) h
 
 of_block : (input : List ℕ) (pairs : List Pair) → IsTextOf input pairs → (e : RewriteError) → IsOfBlock e → IsRewriteCause input e
 of_block input pairs is (rewrite_error.NotJson e) h = absurd h

@@ -36,6 +36,21 @@ fn push(json: &mut Vec<u8>, is_behind: bool, byte: u8) -> Result<(), AllocError>
     }
 }
 
+/// The bytes of an array whose items stand on lines of their own.
+fn array_bytes(alloc: Global, lines: &[u8]) -> Result<Vec<u8>, AllocError>
+    ensures { IfOk result (λ json. json.items ≡ array_of lines.now) }
+{
+    let mut json = Vec::new(alloc);
+    json.push(b'[')?;
+    let mut is_behind = false;
+    for byte in lines {
+        push(&mut json, is_behind, *byte)?;
+        is_behind = *byte == b'\n';
+    }
+    json.push(b']')?;
+    Ok(json)
+}
+
 /// The JSON text of an array whose items stand on lines of their own, as `read_lines` writes them. No line is blank.
 ///
 /// It fails if memory runs out.
@@ -47,15 +62,8 @@ fn push(json: &mut Vec<u8>, is_behind: bool, byte: u8) -> Result<(), AllocError>
 pub fn array_of(alloc: Global, lines: &str) -> Result<String, AllocError>
     ensures { IfOk result (λ json. string_bytes json ≡ array_of lines.now) }
 {
-    let mut json = Vec::new(alloc);
-    json.push(b'[')?;
-    let mut is_behind = false;
-    for byte in lines.as_bytes() {
-        push(&mut json, is_behind, *byte)?;
-        is_behind = *byte == b'\n';
-    }
-    json.push(b']')?;
-    match String::from_utf8(json) {
+    let bytes = array_bytes(alloc, lines.as_bytes())?;
+    match String::from_utf8(bytes) {
         Ok(json) => Ok(json),
         Err(_error) => Err(AllocError),
     }

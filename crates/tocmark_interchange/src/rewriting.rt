@@ -1,11 +1,12 @@
 //! Documents that are rewritten to the events of a JSON text.
 
-ghost use Rattle.std.specs.Prelude.{IfErr, IfOk, map};
+ghost use Rattle.std.specs.Prelude.{ℕ, IfErr, IfOk, List, map};
 ghost use Rattle.tocmark_event.specs.Text.{text_of};
 ghost use Rattle.tocmark_compare.specs.Given.{given_events};
 ghost use Rattle.tocmark_json.specs.Json.{pair_view};
 ghost use Rattle.tocmark_rewrite.specs.Edited.{IsWrittenFor};
 ghost use Rattle.tocmark_interchange.specs.Document.{without_range};
+ghost use Rattle.tocmark_interchange.specs.Interchange.{IsNoEvents};
 ghost use Rattle.tocmark_interchange.specs.Rewriting.{IsOfBlock, IsRewriteCause, IsRewrittenFrom, reading_under};
 
 use crate::aligning::aligned;
@@ -45,7 +46,9 @@ fn rewritten_pairs(
 }
 
 /// Why a text is not the JSON of events.
-fn not_events(error: WriteError) -> RewriteError {
+fn not_events(error: WriteError) -> RewriteError
+    ensures { (input : List ℕ) → IsNoEvents input error → IsRewriteCause input result }
+{
     match error {
         WriteError::NotJson(error) => RewriteError::NotJson(error),
         WriteError::NotEvents(error) => RewriteError::NotEvents(error),
