@@ -31,6 +31,13 @@ pub(crate) enum Key {
     TableWidth,
 }
 
+/// An option with its value.
+#[derive(Drop)]
+pub(crate) struct Setting {
+    pub(crate) key: Key,
+    pub(crate) word: String,
+}
+
 /// The options by their names, with what each takes.
 pub(crate) const KEYS: [(&str, Key, &str); 12] = [
     ("syntax", Key::Syntax, "commonmark, gfm or all"),
@@ -167,6 +174,16 @@ fn width_of(word: &str) -> Option<usize> {
         return None;
     }
     Some(width)
+}
+
+/// Sets each option to what its word says. `Err`: the first that takes no such word.
+pub(crate) fn set_all(settings: &mut Settings, values: &[Setting]) -> Result<(), Key> {
+    for Setting { key, word } in values {
+        if !set(settings, *key, word.as_str()) {
+            return Err(*key);
+        }
+    }
+    Ok(())
 }
 
 /// Sets an option to what a word says. `false`: it takes no such word, and nothing is changed.
