@@ -46,7 +46,7 @@ use quoted::Quoted;
 use replace::{Change, remove_left, replace_text};
 use report::Report;
 use search::{Found, Origin, Search, Target};
-use settings::{DOCUMENTS, Settings};
+use settings::Settings;
 use std::alloc::{AllocError, Global};
 use std::io::{BufWriter, IsTerminal, Read, Stderr, Write};
 use std::process::ExitCode;
@@ -410,7 +410,7 @@ fn main(rt: HostRuntime) -> ExitCode {
     let Ok(Words { words, broken }) = words_of(&rt) else {
         return FORMAT.refuse(&mut rt.stderr(), "out of memory");
     };
-    let Ok(syntax_help) = syntax_help(rt.alloc(), SYNTAX, DOCUMENTS) else {
+    let Ok(syntax_help) = syntax_help(rt.alloc(), SYNTAX) else {
         return FORMAT.refuse(&mut rt.stderr(), "out of memory");
     };
     let Ok(command) = command(rt.alloc(), syntax_help.as_str()) else {

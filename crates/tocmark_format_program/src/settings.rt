@@ -1,9 +1,9 @@
 //! What the options of formatting name, on the command line and in configuration files.
 
-use tocmark_command::syntax::{GFM, extension_named, syntax_named};
+use tocmark_command::syntax::{extension_named, syntax_named};
 use tocmark_event::event::ParserOptions;
 use tocmark_format::{Bullet, Delimiter, Fence, HardBreak, Marker, Numbering, Rule, Style};
-use tocmark_reader::EXTENSIONS;
+use tocmark_reader::GFM;
 
 /// What a text is read as, and how it is to look.
 #[derive(Clone, Copy)]
@@ -58,14 +58,6 @@ pub(crate) const KEYS: [(&str, Key, &str); 12] = [
     ("table-width", Key::TableWidth, "a number from 1 to 1000"),
 ];
 
-/// What documents on GitHub have beside CommonMark, front matter among it, so far as the reader reads it.
-pub(crate) const DOCUMENTS: ParserOptions = ParserOptions(
-    GFM.0
-        | ((ParserOptions::ENABLE_YAML_STYLE_METADATA_BLOCKS.0
-            | ParserOptions::ENABLE_PLUSES_DELIMITED_METADATA_BLOCKS.0)
-            & EXTENSIONS.0),
-);
-
 const BULLETS: [(&str, Option<Bullet>); 4] = [
     ("*", Some(Bullet::Asterisk)),
     ("-", Some(Bullet::Hyphen)),
@@ -107,7 +99,7 @@ impl Settings {
     /// GFM with front matter, in the style that changes least.
     pub(crate) fn new() -> Settings {
         Settings {
-            flags: DOCUMENTS,
+            flags: GFM,
             style: Style::new(),
         }
     }
@@ -190,7 +182,7 @@ pub(crate) fn set_all(settings: &mut Settings, values: &[Setting]) -> Result<(),
 pub(crate) fn set(settings: &mut Settings, key: Key, word: &str) -> bool {
     let Settings { flags, style } = settings;
     match key {
-        Key::Syntax => put(flags, syntax_named(word, DOCUMENTS)),
+        Key::Syntax => put(flags, syntax_named(word)),
         Key::Extension => {
             let extended = extended(*flags, word);
             put(flags, extended)
