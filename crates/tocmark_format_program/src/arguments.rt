@@ -127,8 +127,14 @@ fn with_fences<'a>(alloc: Global, command: Command<'a>) -> Result<Command<'a>, A
         .long("table-width")
         .value_name("N")
         .help("Pad tables up to this many columns (default 120)");
+    let wrap = Arg::new(alloc, "wrap")
+        .long("wrap")
+        .value_name("WHERE")
+        .help(
+            "Lines of paragraphs: keep (default), no (join them)\nor N (fill them up to N columns)",
+        );
     let command = command.arg(fence)?.arg(length)?;
-    command.arg(hard_break)?.arg(rule)?.arg(width)
+    command.arg(hard_break)?.arg(rule)?.arg(width)?.arg(wrap)
 }
 
 /// The options that say what is done.

@@ -5,7 +5,6 @@ ghost use Rattle.tocmark_format_program.specs.Formats.{KeepsWhatItSays};
 
 use crate::settings::Settings;
 use std::alloc::{AllocError, Global};
-use tocmark_event::event::ParserOptions;
 use tocmark_format::{Formatted, Left, PartReader, formatted};
 
 /// What becomes of a text.
@@ -15,14 +14,14 @@ pub struct Decision {
     pub old: String,
     /// The text that is written in its place; `None`: it stays.
     pub new: Option<String>,
-    /// The extensions under which both say the same.
-    pub flags: ParserOptions,
+    /// By which both say the same.
+    pub settings: Settings,
     /// The blocks that keep their lines.
     pub left: Vec<Left>,
 }
 
-/// What becomes of a text that was read. The reader finds the same in what is written as in the text, on either side with
-/// each longest stretch of texts as one.
+/// What becomes of a text that was read. The reader finds in what is written what counts as the same as in the text, and the
+/// same link definitions.
 pub fn decided<R: PartReader>(
     alloc: Global,
     text: String,
@@ -30,10 +29,13 @@ pub fn decided<R: PartReader>(
     settings: Settings,
 ) -> Result<Decision, AllocError>
     ensures read { IfOk result (λ decision. string_bytes decision.old ≡ string_bytes text) }
-    ensures flags { IfOk result (λ decision. decision.flags ≡ settings.flags) }
+    ensures asked { IfOk result (λ decision. decision.settings ≡ settings) }
     ensures same { IfOk result (KeepsWhatItSays (R.reading reader.now)) }
     ensures changed { IfOk result (λ decision. IfSome decision.new (λ new.
         string_bytes new ≢ string_bytes decision.old)) }
+    ensures definitions { IfOk result (λ decision. IfSome decision.new (λ new.
+        R.definitions reader.now (string_bytes new) settings.flags
+        ≡ R.definitions reader.now (string_bytes decision.old) settings.flags)) }
 {
     let Settings { flags, style } = settings;
     let Formatted { text: new, left } = formatted(alloc, text.as_str(), reader, flags, style)?;
@@ -42,14 +44,14 @@ pub fn decided<R: PartReader>(
         return Ok(Decision {
             old: text,
             new: None,
-            flags,
+            settings,
             left,
         });
     }
     Ok(Decision {
         old: text,
         new: Some(new),
-        flags,
+        settings,
         left,
     })
 }

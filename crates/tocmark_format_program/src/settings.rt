@@ -2,7 +2,7 @@
 
 use tocmark_command::syntax::{extension_named, syntax_named};
 use tocmark_event::event::ParserOptions;
-use tocmark_format::{Bullet, Delimiter, Fence, HardBreak, Marker, Numbering, Rule, Style};
+use tocmark_format::{Bullet, Delimiter, Fence, HardBreak, Marker, Numbering, Rule, Style, Wrap};
 use tocmark_reader::GFM;
 
 /// What a text is read as, and how it is to look.
@@ -29,6 +29,7 @@ pub(crate) enum Key {
     HardBreak,
     Rule,
     TableWidth,
+    Wrap,
 }
 
 /// An option with its value.
@@ -39,7 +40,7 @@ pub(crate) struct Setting {
 }
 
 /// The options by their names, with what each takes.
-pub(crate) const KEYS: [(&str, Key, &str); 12] = [
+pub(crate) const KEYS: [(&str, Key, &str); 13] = [
     ("syntax", Key::Syntax, "commonmark, gfm or all"),
     (
         "extension",
@@ -56,6 +57,7 @@ pub(crate) const KEYS: [(&str, Key, &str); 12] = [
     ("hard-break", Key::HardBreak, "source, backslash or spaces"),
     ("rule", Key::Rule, "--- or source"),
     ("table-width", Key::TableWidth, "a number from 1 to 1000"),
+    ("wrap", Key::Wrap, "keep, no or a number from 1 to 1000"),
 ];
 
 const BULLETS: [(&str, Option<Bullet>); 4] = [
@@ -159,13 +161,27 @@ fn length_of(word: &str) -> Option<usize> {
     Some(length)
 }
 
-/// The width of a table that a word says.
+/// The columns that a word says.
 fn width_of(word: &str) -> Option<usize> {
     let width: usize = word.parse().ok()?;
     if width < 1 || width > 1000 {
         return None;
     }
     Some(width)
+}
+
+/// Where lines break that a word says.
+fn wrap_of(word: &str) -> Option<Wrap> {
+    if word == "keep" {
+        return Some(Wrap::Keep);
+    }
+    if word == "no" {
+        return Some(Wrap::No);
+    }
+    match width_of(word) {
+        Some(width) => Some(Wrap::At(width)),
+        None => None,
+    }
 }
 
 /// Sets each option to what its word says. `Err`: the first that takes no such word.
@@ -197,5 +213,6 @@ pub(crate) fn set(settings: &mut Settings, key: Key, word: &str) -> bool {
         Key::HardBreak => put(&mut style.hard_break, named(&HARD_BREAKS, word)),
         Key::Rule => put(&mut style.rule, named(&RULES, word)),
         Key::TableWidth => put(&mut style.table_width, width_of(word)),
+        Key::Wrap => put(&mut style.wrap, wrap_of(word)),
     }
 }

@@ -34,7 +34,8 @@ fn formatted_text<R: PartReader>(
     text: String,
 ) -> Result<(String, Passed), Fault>
     ensures same { IfOk result (λ done. SaysTheSame
-        (λ t. R.reading reader.now t settings.flags) (string_bytes text) (string_bytes done.0)) }
+        settings.style.wrap (λ t. R.reading reader.now t settings.flags)
+        (string_bytes text) (string_bytes done.0)) }
     ensures fault { IfErr result (λ fault. ¬ (IsOutputFault fault)) }
 {
     let decision = decided(alloc, text, reader, settings)?;
@@ -55,7 +56,8 @@ fn formatted_input<R: PartReader, I: Read>(
     input: &mut I,
 ) -> Result<(String, Passed), Fault>
     ensures same { IfSome (I.remaining input.old) (λ bytes. IfOk result (λ done. SaysTheSame
-        (λ t. R.reading reader.now t settings.flags) bytes (string_bytes done.0))) }
+        settings.style.wrap (λ t. R.reading reader.now t settings.flags)
+        bytes (string_bytes done.0))) }
     ensures fault { IfErr result (λ fault. ¬ (IsOutputFault fault)) }
 {
     let text = text_in(alloc, input)?;
@@ -72,7 +74,7 @@ pub fn format_stream<R: PartReader, I: Read, O: Write>(
     output: &mut O,
 ) -> Result<Passed, Fault>
     ensures same { IfSome (I.remaining input.old) (λ bytes. OnOk result (IsFormatted
-        (λ t. R.reading reader.now t settings.flags) bytes
+        settings.style.wrap (λ t. R.reading reader.now t settings.flags) bytes
         (O.contents output.old) (O.contents output.new))) }
     ensures unwritten { IfErr result (λ fault.
         ¬ (IsOutputFault fault) → output.new ≡ output.old) }
