@@ -1,27 +1,38 @@
 -- What is written for a text, and for standard input.
-use Rattle.std.specs.Prelude.{◌≡◌, ℕ, List, Option}
+use Rattle.std.specs.Prelude.{ℕ, List, Option, IfSome, string_bytes}
 use Rattle.std.specs.Io.KnownBytes.{Appends}
-use Rattle.tocmark_event.specs.Merged.{merged}
+use Rattle.tocmark_event.specs.declared.event.ParserOptions.{ParserOptions}
 use Rattle.tocmark_event.specs.Reading.{ReadingView}
-use Rattle.tocmark_compare.specs.Given.{found_events}
+use Rattle.tocmark_format.specs.Same.{SaySame}
+use Rattle.tocmark_format.specs.declared.style.Wrap.{Wrap}
+use Rattle.tocmark_format_program.specs.declared.decide.Decision.{Decision}
 use Rattle.tocmark_format_program.specs.declared.fault.Fault.{Fault}
 use Rattle.tocmark_format_program.specs.declared.fault.Fault.TheVariants as fault
 
--- a reader finds the same events in both texts, on either side with each longest stretch of texts as one
-abbrev pub SaysTheSame : (List ℕ → ReadingView) → List ℕ → List ℕ → Type 0
-SaysTheSame reading old new = merged (found_events (reading new)) ≡ merged (found_events (reading old))
+-- a reader finds in both texts what counts as the same under a style
+abbrev pub SaysTheSame : Wrap → (List ℕ → ReadingView) → List ℕ → List ℕ → Type 0
+SaysTheSame wrap reading old new = SaySame wrap (reading new) (reading old)
+
+-- what a decision writes says the same as the text that was read
+abbrev pub KeepsWhatItSays : (List ℕ → ParserOptions → ReadingView) → Decision → Type 0
+KeepsWhatItSays reading d = IfSome d.new (λ new. SaysTheSame d.settings.style.wrap
+    (λ t. reading t d.settings.flags) (string_bytes d.old) (string_bytes new))
 
 -- a text that says the same as the input stands behind what the output held
-pub record IsFormatted (reading : List ℕ → ReadingView) (input : List ℕ) (old new : Option (List ℕ)) : Type 0 where
+pub record IsFormatted (wrap : Wrap) (reading : List ℕ → ReadingView) (input : List ℕ) (old new : Option (List ℕ)) : Type 0 where
   pub text : List ℕ
-  pub same : SaysTheSame reading input text
+  pub same : SaysTheSame wrap reading input text
   pub appended : Appends old new text
 
 -- the output could not be written whole
 abbrev pub IsOutputFault : Fault → Type 0
 IsOutputFault (fault.Read e) = ⊥
-IsOutputFault fault.NotUtf8 = ⊥
+IsOutputFault (fault.NotUtf8 line) = ⊥
+IsOutputFault fault.Name = ⊥
+IsOutputFault fault.NameWithin = ⊥
 IsOutputFault fault.NotRegular = ⊥
+IsOutputFault fault.ReadOnly = ⊥
+IsOutputFault (fault.Ignores e) = ⊥
 IsOutputFault (fault.Write e) = ⊥
 IsOutputFault (fault.Attributes e) = ⊥
 IsOutputFault fault.Changed = ⊥

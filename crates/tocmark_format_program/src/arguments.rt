@@ -1,6 +1,9 @@
 //! What a call asks for.
 
-use crate::settings::{KEYS, Key, Settings, set};
+use crate::lookup::{Refused, whole_path};
+use crate::outcome::Terms;
+use crate::rules::Rules;
+use crate::settings::{KEYS, Key, Setting, Settings, set_all};
 use clap::{Arg, ArgAction, ArgMatches, Command};
 use std::alloc::{AllocError, Global};
 use tocmark_command::syntax::with_syntax;
@@ -8,16 +11,18 @@ use tocmark_command::syntax::with_syntax;
 /// What becomes of formatted texts.
 #[derive(Clone, Copy, Drop)]
 pub struct Task {
-    /// Nothing is written, and a file that would change is a reason for status 1.
-    pub checks: bool,
-    /// Nothing is written, and what would change is shown.
+    /// For what the call ends with status 1.
+    pub terms: Terms,
+    /// What would change is shown, and nothing is written.
     pub shows: bool,
+    /// Whether new files are synced.
+    pub syncs: bool,
 }
 
 impl Task {
     /// Whether no file is changed.
     pub fn is_dry(&self) -> bool {
-        self.checks || self.shows
+        self.terms.checks || self.shows
     }
 }
 
@@ -30,6 +35,18 @@ pub struct Voice {
     pub is_verbose: bool,
 }
 
+/// What a command line says of all files.
+#[derive(Drop)]
+pub struct Choice {
+    /// The options of the style.
+    pub(crate) values: Vec<Setting>,
+    pub exclude: Rules,
+    /// What is formatted below a folder, if it is said.
+    pub include: Option<Rules>,
+    /// Whether `.gitignore` files hold.
+    pub respects_ignores: bool,
+}
+
 /// Whether a diff is coloured.
 #[derive(Clone, Copy, Drop)]
 pub enum Color {
@@ -39,22 +56,16 @@ pub enum Color {
     Never,
 }
 
-/// A value on the command line that its option doesn't take.
-#[derive(Clone, Copy, Drop)]
-pub struct Refusal {
-    /// The option's name, without `--`.
-    pub option: &'static str,
-    /// What it takes.
-    pub wanted: &'static str,
-}
-
 /// The command's name.
 pub const NAME: &str = "tocmark-format";
 
 /// What `--help` says of the paths.
 const PATHS: &str = "FILE: format it in place
-FOLDER: format the files *.md and *.markdown below it
+FOLDER: format the Markdown files below it
 - or no path: standard input to standard output";
+
+/// The last lines of `--help`.
+const LAST: &str = "The value source keeps what each list, fence, break or rule has.";
 
 /// What `--help` says of `--extension`.
 const EXTENSION: &str = "Add one of these extensions, or remove it by\nno-NAME; repeatable";
@@ -116,8 +127,14 @@ fn with_fences<'a>(alloc: Global, command: Command<'a>) -> Result<Command<'a>, A
         .long("table-width")
         .value_name("N")
         .help("Pad tables up to this many columns (default 120)");
+    let wrap = Arg::new(alloc, "wrap")
+        .long("wrap")
+        .value_name("WHERE")
+        .help(
+            "Lines of paragraphs: keep (default), no (join them)\nor N (fill them up to N columns)",
+        );
     let command = command.arg(fence)?.arg(length)?;
-    command.arg(hard_break)?.arg(rule)?.arg(width)
+    command.arg(hard_break)?.arg(rule)?.arg(width)?.arg(wrap)
 }
 
 /// The options that say what is done.
@@ -128,10 +145,66 @@ fn with_task<'a>(alloc: Global, command: Command<'a>) -> Result<Command<'a>, All
         .help(
             "Write nothing; name each file that would change,\nand end with status 1 if there are any",
         );
+    let list = Arg::new(alloc, "list-different")
+        .short('l')
+        .long("list-different")
+        .action(ArgAction::SetTrue)
+        .help("As --check, without the summary");
     let diff = Arg::new(alloc, "diff")
         .long("diff")
         .action(ArgAction::SetTrue)
         .help("Write nothing; show the changes as a unified diff");
+    let strict = Arg::new(alloc, "strict")
+        .long("strict")
+        .action(ArgAction::SetTrue)
+        .help("End with status 1 if a block keeps its lines");
+    let no_sync = Arg::new(alloc, "no-sync")
+        .long("no-sync")
+        .action(ArgAction::SetTrue)
+        .help("Don't sync files; faster, and less safe if the\npower fails");
+    let command = command.arg(check)?.arg(list)?.arg(diff)?;
+    command.arg(strict)?.arg(no_sync)
+}
+
+/// The options that say which files are meant.
+fn with_files<'a>(alloc: Global, command: Command<'a>) -> Result<Command<'a>, AllocError> {
+    let exclude = Arg::new(alloc, "exclude")
+        .long("exclude")
+        .value_name("GLOB")
+        .action(ArgAction::Append)
+        .help("Don't format what matches; repeatable");
+    let include = Arg::new(alloc, "include")
+        .long("include")
+        .value_name("GLOB")
+        .action(ArgAction::Append)
+        .help(
+            "Below folders, format what matches, and not *.md,\n*.markdown, *.mdown and *.mkd; repeatable",
+        );
+    let no_ignore = Arg::new(alloc, "no-ignore")
+        .long("no-ignore")
+        .action(ArgAction::SetTrue)
+        .help("Below folders, format what .gitignore ignores, too");
+    let list = Arg::new(alloc, "files-from")
+        .long("files-from")
+        .value_name("FILE")
+        .help("Format the Markdown files that this file names, a\nline each; - is standard input");
+    let null = Arg::new(alloc, "null")
+        .short('0')
+        .long("null")
+        .action(ArgAction::SetTrue)
+        .help("Names of --files-from end with NUL, and not with\na line feed");
+    let input = Arg::new(alloc, "stdin-filepath")
+        .long("stdin-filepath")
+        .value_name("PATH")
+        .help(
+            "Format standard input as this file, which need not\nexist: by its configuration and under its name",
+        );
+    let command = command.arg(exclude)?.arg(include)?.arg(no_ignore)?;
+    command.arg(list)?.arg(null)?.arg(input)
+}
+
+/// The options that say by what, and how much is said.
+fn with_voice<'a>(alloc: Global, command: Command<'a>) -> Result<Command<'a>, AllocError> {
     let config = Arg::new(alloc, "config")
         .long("config")
         .value_name("FILE")
@@ -145,15 +218,15 @@ fn with_task<'a>(alloc: Global, command: Command<'a>) -> Result<Command<'a>, All
     let verbose = Arg::new(alloc, "verbose")
         .long("verbose")
         .action(ArgAction::SetTrue)
-        .help("Name each file that changes");
+        .help("Name each file that changes or is excluded");
     let color = Arg::new(alloc, "color")
         .long("color")
         .value_name("WHEN")
         .help(
             "Colour the diff: auto (default: on a terminal,\nunless NO_COLOR is set), always or never",
         );
-    let command = command.arg(check)?.arg(diff)?.arg(config)?;
-    command.arg(quiet)?.arg(verbose)?.arg(color)
+    let command = command.arg(config)?.arg(quiet)?;
+    command.arg(verbose)?.arg(color)
 }
 
 /// The command line, with this help of `--syntax`. `docs/FORMAT.md` says what its parts mean.
@@ -167,30 +240,36 @@ pub fn command<'a>(alloc: Global, syntax_help: &'a str) -> Result<Command<'a>, A
         .bin_name(NAME)?
         .version("0.1.0")
         .about("Give Markdown files one style, and keep what they say")
-        .after_help("The value source keeps what each list or fence has.")
+        .after_help(LAST)
         .arg(paths)?;
     let command = with_task(alloc, command)?;
+    let command = with_files(alloc, command)?;
+    let command = with_voice(alloc, command)?;
     with_style(alloc, with_syntax(alloc, command, syntax_help, EXTENSION)?)
 }
 
 /// What is to be done, as a command line says it.
 pub fn task_of(matches: &ArgMatches<'_>) -> Task {
     Task {
-        checks: matches.get_flag("check"),
+        terms: Terms {
+            checks: matches.get_flag("check") || matches.get_flag("list-different"),
+            is_strict: matches.get_flag("strict"),
+        },
         shows: matches.get_flag("diff"),
+        syncs: !matches.get_flag("no-sync"),
     }
 }
 
 /// How much is to be said, as a command line says it.
 pub fn voice_of(matches: &ArgMatches<'_>) -> Voice {
     Voice {
-        is_quiet: matches.get_flag("quiet"),
+        is_quiet: matches.get_flag("quiet") || matches.get_flag("list-different"),
         is_verbose: matches.get_flag("verbose"),
     }
 }
 
-/// When a diff is coloured, as a command line says it, or that it says it by another word than `--color` takes.
-pub fn color_of(matches: &ArgMatches<'_>) -> Result<Color, Refusal> {
+/// When a diff is coloured, as a command line says it.
+pub fn color_of(matches: &ArgMatches<'_>) -> Result<Color, Refused> {
     let Some(word) = matches.get_str("color") else {
         return Ok(Color::Auto);
     };
@@ -199,34 +278,56 @@ pub fn color_of(matches: &ArgMatches<'_>) -> Result<Color, Refusal> {
             return Ok(*color);
         }
     }
-    Err(Refusal {
-        option: "color",
-        wanted: "auto, always or never",
-    })
+    Err(Refused::Option("color", "auto, always or never"))
 }
 
-/// Sets an option to what each of its words says. `false`: it doesn't take one of them.
-fn set_all(settings: &mut Settings, key: Key, words: &[&str]) -> bool {
-    for word in words {
-        if !set(settings, key, word) {
-            return false;
-        }
-    }
-    true
-}
-
-/// The settings with what the command line says.
-pub(crate) fn settings_of(matches: &ArgMatches<'_>, given: Settings) -> Result<Settings, Refusal> {
-    let mut settings = given;
+/// The options of the style with their values, as a command line says them.
+fn values_of(alloc: Global, matches: &ArgMatches<'_>) -> Result<Vec<Setting>, Refused> {
+    let mut values = Vec::new(alloc);
     for (option, key, wanted) in &KEYS {
-        if let Some(words) = matches.get_strs(option)
-            && !set_all(&mut settings, *key, words)
-        {
-            return Err(Refusal {
-                option: *option,
-                wanted: *wanted,
-            });
+        let before = values.len();
+        for word in matches.get_strs(option).unwrap_or(&[]) {
+            let word = String::from_str(alloc, word)?;
+            values.push(Setting { key: *key, word })?;
+        }
+        let added = values.get(before..).unwrap_or(&[]);
+        if set_all(&mut Settings::new(), added).is_err() {
+            return Err(Refused::Option(*option, *wanted));
         }
     }
-    Ok(settings)
+    Ok(values)
+}
+
+/// The globs that an option has, for what is below the working folder. `None`: it isn't there.
+fn globs_of(
+    rt: &HostRuntime,
+    matches: &ArgMatches<'_>,
+    option: &'static str,
+) -> Result<Option<Rules>, Refused> {
+    let Some(globs) = matches.get_strs(option) else {
+        return Ok(None);
+    };
+    let folder = whole_path(rt, ".")?;
+    let mut rules = Rules::new(rt.alloc(), folder.as_str())?;
+    for glob in globs {
+        if !rules.add_glob(rt.alloc(), glob)? {
+            return Err(Refused::Option(option, "a glob whose brackets and braces are closed"));
+        }
+    }
+    Ok(Some(rules))
+}
+
+/// What a command line says of all files.
+pub fn choice_of(rt: &HostRuntime, matches: &ArgMatches<'_>) -> Result<Choice, Refused> {
+    let values = values_of(rt.alloc(), matches)?;
+    let exclude = match globs_of(rt, matches, "exclude")? {
+        Some(rules) => rules,
+        None => Rules::new(rt.alloc(), "/")?,
+    };
+    Ok(Choice {
+        values,
+        exclude,
+        include: globs_of(rt, matches, "include")?,
+        respects_ignores: !matches.get_flag("no-ignore"),
+    })
 }

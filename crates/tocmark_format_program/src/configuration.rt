@@ -1,10 +1,29 @@
-//! Configuration files: TOML, whose keys are the long options of formatting.
+//! Configuration files: TOML, whose keys are the long options of formatting, `exclude`, `include` and `overrides`.
 
-use crate::settings::{Key, Settings, key_named, set};
-use std::alloc::{AllocError, Global};
+use crate::rules::{Entry, Rules};
+use crate::settings::{Key, Setting, Settings, key_named, set_all};
+use std::alloc::{AllocError, AllocFailed, Global};
 use std::fmt;
 use std::fmt::Write;
 use toml::{Table, Value};
+
+/// What a configuration file says.
+#[derive(Drop)]
+pub(crate) struct Configuration {
+    settings: Settings,
+    /// What isn't formatted.
+    pub(crate) exclude: Rules,
+    /// What is formatted below a folder. `None`: files with names of Markdown.
+    pub(crate) include: Option<Rules>,
+    overrides: Vec<Override>,
+}
+
+/// Options for some files.
+#[derive(Drop)]
+struct Override {
+    files: Rules,
+    values: Vec<Setting>,
+}
 
 /// What is wrong with the text of a configuration file.
 #[derive(Debug, Drop)]
@@ -18,8 +37,31 @@ pub enum ConfigError {
     OutOfMemory,
 }
 
+/// The text of a configuration file, and the lines in which a key is looked for.
+#[derive(Clone, Copy)]
+struct Source<'t> {
+    alloc: Global,
+    text: &'t str,
+    /// The folder of the file.
+    folder: &'t str,
+    /// How many lines are passed by.
+    passed: usize,
+}
+
+/// What a list of globs takes.
+const GLOBS: &str = "a list of globs, as [\"docs/**\", \"*.{md,txt}\"]";
+
+/// What `overrides` takes.
+const OVERRIDES: &str = "a list of tables, each with files = [globs]";
+
 impl From<AllocError> for ConfigError {
     fn from(_fault: AllocError) -> ConfigError {
+        ConfigError::OutOfMemory
+    }
+}
+
+impl<T: Drop> From<AllocFailed<T>> for ConfigError {
+    fn from(_fault: AllocFailed<T>) -> ConfigError {
         ConfigError::OutOfMemory
     }
 }
@@ -74,50 +116,13 @@ fn names(line: &str, key: &str) -> bool {
     }
 }
 
-/// The first line that begins with this key, counted from 1.
-fn line_of(text: &str, key: &str) -> Option<usize> {
-    let mut number = 0usize;
-    for line in text.lines() {
-        number = number.saturating_add(1);
-        if names(line, key) {
-            return Some(number);
+fn is_among(names: &[&str], name: &str) -> bool {
+    for it in names {
+        if *it == name {
+            return true;
         }
     }
-    None
-}
-
-/// Sets an option to each of these strings. `false`: one isn't a string or no word that it takes.
-fn set_each(settings: &mut Settings, key: Key, values: &[Value]) -> bool {
-    for value in values {
-        let is_set = match value.as_str() {
-            Some(word) => set(settings, key, word),
-            None => false,
-        };
-        if !is_set {
-            return false;
-        }
-    }
-    true
-}
-
-/// Sets an option to what a value says. `Ok(false)`: it takes no such value.
-fn set_value(
-    alloc: Global,
-    settings: &mut Settings,
-    key: Key,
-    value: &Value,
-) -> Result<bool, AllocError> {
-    match value {
-        Value::String(word) => Ok(set(settings, key, word.as_str())),
-        Value::Integer(number) => {
-            let Ok(word) = format!(in alloc; "{number}") else {
-                return Err(AllocError);
-            };
-            Ok(set(settings, key, word.as_str()))
-        }
-        Value::Array(values) if is_list(key) => Ok(set_each(settings, key, values)),
-        _ => Ok(false),
-    }
+    false
 }
 
 fn is_list(key: Key) -> bool {
@@ -127,52 +132,205 @@ fn is_list(key: Key) -> bool {
     }
 }
 
-/// Sets the option that a key of the text names.
-fn set_named(
-    alloc: Global,
-    text: &str,
-    settings: &mut Settings,
-    name: &str,
-    value: &Value,
-) -> Result<(), ConfigError> {
-    let Some((key, option, wanted)) = key_named(name) else {
-        let line = line_of(text, name);
-        return Err(ConfigError::UnknownKey(String::from_str(alloc, name)?, line));
-    };
-    if set_value(alloc, settings, key, value)? {
-        return Ok(());
+impl<'t> Source<'t> {
+    /// The first line that begins with this key, counted from 1.
+    fn line_of(self, key: &str) -> Option<usize> {
+        let mut number = 0usize;
+        for line in self.text.lines() {
+            number = number.saturating_add(1);
+            if number > self.passed && names(line, key) {
+                return Some(number);
+            }
+        }
+        None
     }
-    Err(ConfigError::WrongValue(option, line_of(text, name), wanted))
-}
 
-/// The table that a text is, or why it is none.
-fn table_of(alloc: Global, text: &str) -> Result<Table, ConfigError> {
-    match toml::table_from_str(alloc, text) {
-        Ok(table) => Ok(table),
-        Err(error) if error.is_memory() => Err(ConfigError::OutOfMemory),
-        Err(error) => {
-            let line = error.span().map(|span| line_at(text, span.start));
-            Err(ConfigError::NotToml(error, line))
+    fn wrong(self, key: &'static str, wanted: &'static str) -> ConfigError {
+        ConfigError::WrongValue(key, self.line_of(key), wanted)
+    }
+
+    /// The table that the text is, or why it is none.
+    fn table(self) -> Result<Table, ConfigError> {
+        match toml::table_from_str(self.alloc, self.text) {
+            Ok(table) => Ok(table),
+            Err(error) if error.is_memory() => Err(ConfigError::OutOfMemory),
+            Err(error) => {
+                let line = error.span().map(|span| line_at(self.text, span.start));
+                Err(ConfigError::NotToml(error, line))
+            }
         }
     }
+
+    /// The globs that a key has. `None`: it isn't there.
+    fn globs(self, table: &Table, key: &'static str) -> Result<Option<Rules>, ConfigError> {
+        let values = match table.get(key) {
+            None => return Ok(None),
+            Some(Value::Array(values)) => values,
+            Some(_) => return Err(self.wrong(key, GLOBS)),
+        };
+        let mut rules = Rules::new(self.alloc, self.folder)?;
+        for value in values {
+            let is_added = match value.as_str() {
+                Some(glob) => rules.add_glob(self.alloc, glob)?,
+                None => false,
+            };
+            if !is_added {
+                return Err(self.wrong(key, GLOBS));
+            }
+        }
+        Ok(Some(rules))
+    }
+
+    /// Adds an option with a value of its own, or with each value of a list. `Ok(false)`: it takes no such value.
+    fn add_value(
+        self,
+        values: &mut Vec<Setting>,
+        key: Key,
+        value: &Value,
+    ) -> Result<bool, AllocError> {
+        let word = match value {
+            Value::String(word) => String::from_str(self.alloc, word.as_str())?,
+            Value::Integer(number) => match format!(in self.alloc; "{number}") {
+                Ok(word) => word,
+                Err(_) => return Err(AllocError),
+            },
+            Value::Array(items) if is_list(key) => {
+                for item in items {
+                    let Some(word) = item.as_str() else {
+                        return Ok(false);
+                    };
+                    let word = String::from_str(self.alloc, word)?;
+                    values.push(Setting { key, word })?;
+                }
+                return Ok(true);
+            }
+            _ => return Ok(false),
+        };
+        values.push(Setting { key, word })?;
+        Ok(true)
+    }
+
+    /// Adds the option that a key names, if its value is one that it takes.
+    fn add_named(
+        self,
+        values: &mut Vec<Setting>,
+        name: &str,
+        value: &Value,
+    ) -> Result<(), ConfigError> {
+        let Some((key, option, wanted)) = key_named(name) else {
+            let line = self.line_of(name);
+            return Err(ConfigError::UnknownKey(String::from_str(self.alloc, name)?, line));
+        };
+        let before = values.len();
+        let is_added = self.add_value(values, key, value)?;
+        let added = values.get(before..).unwrap_or(&[]);
+        if !is_added || set_all(&mut Settings::new(), added).is_err() {
+            return Err(self.wrong(option, wanted));
+        }
+        Ok(())
+    }
+
+    /// The options of a table, but for these keys. A syntax comes before the extensions that are added to it.
+    fn values(self, table: &Table, others: &[&str]) -> Result<Vec<Setting>, ConfigError> {
+        let mut values = Vec::new(self.alloc);
+        if let Some(value) = table.get("syntax") {
+            self.add_named(&mut values, "syntax", value)?;
+        }
+        for (name, value) in table {
+            let name = name.as_str();
+            if name != "syntax" && !is_among(others, name) {
+                self.add_named(&mut values, name, value)?;
+            }
+        }
+        Ok(values)
+    }
+
+    /// The source from the next line on that names `overrides`, if there is one.
+    fn next_override(self) -> Source<'t> {
+        let passed = self.line_of("overrides").unwrap_or(self.passed);
+        Source { passed, ..self }
+    }
+
+    fn overrides(self, table: &Table) -> Result<Vec<Override>, ConfigError> {
+        let mut overrides = Vec::new(self.alloc);
+        let items = match table.get("overrides") {
+            None => return Ok(overrides),
+            Some(Value::Array(items)) => items,
+            Some(_) => return Err(self.wrong("overrides", OVERRIDES)),
+        };
+        let mut source = self;
+        for item in items {
+            let Value::Table(table) = item else {
+                return Err(self.wrong("overrides", OVERRIDES));
+            };
+            source = source.next_override();
+            let Some(files) = source.globs(table, "files")? else {
+                return Err(self.wrong("overrides", OVERRIDES));
+            };
+            let values = source.values(table, &["files"])?;
+            overrides.push(Override { files, values })?;
+        }
+        Ok(overrides)
+    }
 }
 
-/// The settings with what the text of a configuration file says.
-pub(crate) fn configured(
-    alloc: Global,
-    text: &str,
-    given: Settings,
-) -> Result<Settings, ConfigError> {
-    let table = table_of(alloc, text)?;
-    let mut settings = given;
-    // A syntax comes before the extensions that are added to it, wherever it stands.
-    if let Some(value) = table.get("syntax") {
-        set_named(alloc, text, &mut settings, "syntax", value)?;
+impl Configuration {
+    /// What holds where there is no configuration file.
+    pub(crate) fn new(alloc: Global) -> Result<Configuration, AllocError> {
+        Ok(Configuration {
+            settings: Settings::new(),
+            exclude: Rules::new(alloc, "/")?,
+            include: None,
+            overrides: Vec::new(alloc),
+        })
     }
-    for (name, value) in &table {
-        if name.as_str() != "syntax" {
-            set_named(alloc, text, &mut settings, name.as_str(), value)?;
+
+    /// Parses the text of a configuration file in this folder.
+    pub(crate) fn parse(
+        alloc: Global,
+        text: &str,
+        folder: &str,
+    ) -> Result<Configuration, ConfigError> {
+        let source = Source {
+            alloc,
+            text,
+            folder,
+            passed: 0,
+        };
+        let table = source.table()?;
+        let values = source.values(&table, &["exclude", "include", "overrides"])?;
+        let mut settings = Settings::new();
+        let _ = set_all(&mut settings, &values);
+        let exclude = match source.globs(&table, "exclude")? {
+            Some(rules) => rules,
+            None => Rules::new(alloc, folder)?,
+        };
+        let include = source.globs(&table, "include")?;
+        let overrides = source.overrides(&table)?;
+        Ok(Configuration {
+            settings,
+            exclude,
+            include,
+            overrides,
+        })
+    }
+
+    /// The settings of the file with this path, and those of a text without a name.
+    pub(crate) fn settings(
+        &self,
+        alloc: Global,
+        path: Option<&str>,
+    ) -> Result<Settings, AllocError> {
+        let mut settings = self.settings;
+        let Some(path) = path else {
+            return Ok(settings);
+        };
+        let entry = Entry::file(path);
+        for Override { files, values } in &self.overrides {
+            if files.mean(alloc, entry)? {
+                let _ = set_all(&mut settings, values);
+            }
         }
+        Ok(settings)
     }
-    Ok(settings)
 }

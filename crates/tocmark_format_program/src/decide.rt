@@ -1,7 +1,7 @@
 //! What is written for a text.
 
 ghost use Rattle.std.specs.Prelude.{◌≡◌, ◌≢◌, IfOk, IfSome, string_bytes};
-ghost use Rattle.tocmark_format_program.specs.Formats.{SaysTheSame};
+ghost use Rattle.tocmark_format_program.specs.Formats.{KeepsWhatItSays};
 
 use crate::settings::Settings;
 use std::alloc::{AllocError, Global};
@@ -10,35 +10,48 @@ use tocmark_format::{Formatted, Left, PartReader, formatted};
 /// What becomes of a text.
 #[derive(Drop)]
 pub struct Decision {
+    /// The text that was read.
+    pub old: String,
     /// The text that is written in its place; `None`: it stays.
-    pub text: Option<String>,
-    /// The blocks of it that were left as they stand.
+    pub new: Option<String>,
+    /// By which both say the same.
+    pub settings: Settings,
+    /// The blocks that keep their lines.
     pub left: Vec<Left>,
 }
 
-/// What becomes of a text. The reader finds the same in what is written as in the text, on either side with each longest
-/// stretch of texts as one.
+/// What becomes of a text that was read. The reader finds in what is written what counts as the same as in the text, and the
+/// same link definitions.
 pub fn decided<R: PartReader>(
     alloc: Global,
-    text: &str,
+    text: String,
     reader: &R,
     settings: Settings,
 ) -> Result<Decision, AllocError>
-    ensures same { IfOk result (λ decision. IfSome decision.text (λ written. SaysTheSame
-        (λ t. R.reading reader.now t settings.flags) text.now (string_bytes written))) }
-    ensures changed { IfOk result (λ decision. IfSome decision.text (λ written.
-        string_bytes written ≢ text.now)) }
+    ensures read { IfOk result (λ decision. string_bytes decision.old ≡ string_bytes text) }
+    ensures asked { IfOk result (λ decision. decision.settings ≡ settings) }
+    ensures same { IfOk result (KeepsWhatItSays (R.reading reader.now)) }
+    ensures changed { IfOk result (λ decision. IfSome decision.new (λ new.
+        string_bytes new ≢ string_bytes decision.old)) }
+    ensures definitions { IfOk result (λ decision. IfSome decision.new (λ new.
+        R.definitions reader.now (string_bytes new) settings.flags
+        ≡ R.definitions reader.now (string_bytes decision.old) settings.flags)) }
 {
-    let Formatted {
-        text: written,
-        left,
-    } = formatted(alloc, text, reader, settings.flags, settings.style)?;
-    if written.as_str() == text {
-        drop(written);
-        return Ok(Decision { text: None, left });
+    let Settings { flags, style } = settings;
+    let Formatted { text: new, left } = formatted(alloc, text.as_str(), reader, flags, style)?;
+    if new.as_str() == text.as_str() {
+        drop(new);
+        return Ok(Decision {
+            old: text,
+            new: None,
+            settings,
+            left,
+        });
     }
     Ok(Decision {
-        text: Some(written),
+        old: text,
+        new: Some(new),
+        settings,
         left,
     })
 }

@@ -7,17 +7,24 @@ ghost use Rattle.tocmark_format_program.specs.declared.fault.Fault.TheVariants.{
 use std::alloc::{AllocError, AllocFailed};
 use std::io;
 use thiserror::Error;
-use tocmark_command::streams::InputError;
 
 /// What is wrong with one file, said behind its name.
 #[derive(Debug, Drop, Error)]
 pub enum Fault {
     #[error("cannot be read: {0}")]
     Read(io::Error),
-    #[error("is not UTF-8")]
-    NotUtf8,
+    #[error("line {0} is not UTF-8")]
+    NotUtf8(usize),
+    #[error("is not formatted: the name is not UTF-8")]
+    Name,
+    #[error("has a name that is not UTF-8, which is passed by")]
+    NameWithin,
     #[error("is no regular file")]
     NotRegular,
+    #[error("is read-only")]
+    ReadOnly,
+    #[error("a .gitignore that holds in it cannot be read: {0}")]
+    Ignores(io::Error),
     #[error("cannot be written: {0}")]
     Write(io::Error),
     #[error("its owner and permissions cannot be kept: {0}")]
@@ -28,6 +35,24 @@ pub enum Fault {
     Output(io::Error),
     #[error("out of memory")]
     OutOfMemory,
+}
+
+impl Fault {
+    /// Whether nothing more can be written to standard output.
+    pub fn is_of_output(&self) -> bool {
+        match self {
+            Fault::Output(_) => true,
+            _ => false,
+        }
+    }
+
+    /// Whether nobody reads standard output any more.
+    pub fn is_broken_pipe(&self) -> bool {
+        match self {
+            Fault::Output(error) => error.kind() == io::ErrorKind::BrokenPipe,
+            _ => false,
+        }
+    }
 }
 
 impl From<AllocError> for Fault {
@@ -43,16 +68,5 @@ impl<T: Drop> From<AllocFailed<T>> for Fault {
 
     fn from(_fault: AllocFailed<T>) -> Fault {
         Fault::OutOfMemory
-    }
-}
-
-impl From<InputError> for Fault {
-    ghost from_gives = { λ _ e. ¬ (IsOutputFault e) };
-
-    fn from(error: InputError) -> Fault {
-        match error {
-            InputError::Unreadable(error) => Fault::Read(error),
-            InputError::NotUtf8 => Fault::NotUtf8,
-        }
     }
 }

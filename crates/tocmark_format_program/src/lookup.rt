@@ -1,10 +1,10 @@
-//! The settings of each file: those of the nearest configuration file upwards from it, then those of the command line.
+//! The configuration of each folder: the nearest file upwards from it. Each is read once.
 
-use crate::arguments::{Refusal, settings_of};
-use crate::configuration::{ConfigError, configured};
+use crate::configuration::{ConfigError, Configuration};
+use crate::quoted::Quoted;
 use crate::settings::Settings;
-use clap::ArgMatches;
-use std::alloc::{AllocError, AllocFailed};
+use std::alloc::{AllocError, AllocFailed, Global};
+use std::collections::HashMap;
 use std::path::{Path, PathBuf};
 use std::{fmt, fs, io};
 
@@ -16,7 +16,13 @@ const NAME: &str = ".tocmark.toml";
 pub enum Refused {
     /// An option of the command line, and what it takes.
     Option(&'static str, &'static str),
-    /// A configuration file that can't be read.
+    /// Options that don't go together, and why.
+    Usage(&'static str),
+    /// A file that isn't there.
+    Missing(String),
+    /// A link to a configuration file that isn't there.
+    Dangling(String),
+    /// A configuration file or a list that can't be read.
     Unreadable(String, io::Error),
     /// A configuration file, and what is wrong in it.
     Wrong(String, ConfigError),
@@ -35,38 +41,28 @@ impl<T: Drop> From<AllocFailed<T>> for Refused {
     }
 }
 
-impl From<Refusal> for Refused {
-    fn from(refusal: Refusal) -> Refused {
-        Refused::Option(refusal.option, refusal.wanted)
-    }
-}
-
 impl fmt::Display for Refused {
     fn fmt<W: fmt::Write>(&self, f: &mut fmt::Formatter<W>) -> fmt::Result {
         match self {
             Refused::Option(option, wanted) => write!(f, "--{option} wants {wanted}"),
-            Refused::Unreadable(path, error) => write!(f, "{path}: cannot be read: {error}"),
-            Refused::Wrong(path, error) => write!(f, "{path}{error}"),
+            Refused::Usage(why) => f.write_str(why),
+            Refused::Missing(path) => {
+                let path = Quoted(path.as_str());
+                write!(f, "{path}: no such file")
+            }
+            Refused::Dangling(path) => {
+                let path = Quoted(path.as_str());
+                write!(f, "{path}: is a link to a file that isn't there")
+            }
+            Refused::Unreadable(path, error) => {
+                let path = Quoted(path.as_str());
+                write!(f, "{path}: cannot be read: {error}")
+            }
+            Refused::Wrong(path, error) => {
+                let path = Quoted(path.as_str());
+                write!(f, "{path}{error}")
+            }
             Refused::OutOfMemory => f.write_str("out of memory"),
-        }
-    }
-}
-
-/// The settings that a configuration file gives. `Ok(None)`: there is no such file.
-fn settings_in(rt: &HostRuntime, path: &str) -> Result<Option<Settings>, Refused> {
-    let text = match fs::read_to_string(rt, path) {
-        Ok(text) => text,
-        Err(error) if is_absence(&error) => return Ok(None),
-        Err(error) => {
-            let path = String::from_str(rt.alloc(), path)?;
-            return Err(Refused::Unreadable(path, error));
-        }
-    };
-    match configured(rt.alloc(), text.as_str(), Settings::new()) {
-        Ok(settings) => Ok(Some(settings)),
-        Err(error) => {
-            let path = String::from_str(rt.alloc(), path)?;
-            Err(Refused::Wrong(path, error))
         }
     }
 }
@@ -76,64 +72,141 @@ fn is_absence(error: &io::Error) -> bool {
     kind == io::ErrorKind::NotFound || kind == io::ErrorKind::NotADirectory
 }
 
-/// The settings of the file that `--config` names.
-fn settings_named(rt: &HostRuntime, path: &str) -> Result<Settings, Refused> {
-    match settings_in(rt, path)? {
-        Some(settings) => Ok(settings),
-        None => {
-            let path = String::from_str(rt.alloc(), path)?;
-            let error = io::Error::from(io::ErrorKind::NotFound);
-            Err(Refused::Unreadable(path, error))
-        }
-    }
-}
-
 /// The folder in which a file is, as it is named.
-fn folder_of(path: &str) -> &str {
+pub fn folder_of(path: &str) -> &str {
     match Path::new(path).parent() {
         Some(folder) if !folder.as_str().is_empty() => folder.as_str(),
         _ => ".",
     }
 }
 
-/// The settings of the nearest configuration file upwards from this folder, and the default ones where there is none.
-fn nearest_settings(rt: &HostRuntime, folder: &str) -> Result<Settings, Refused> {
-    // A folder that isn't there has no files either, which is said where they are read.
-    let Ok(folder) = Path::new(folder).canonicalize(rt) else {
-        return Ok(Settings::new());
-    };
-    for folder in folder.as_path().ancestors() {
-        let path: PathBuf = folder.join(rt.alloc(), NAME)?;
-        if let Some(settings) = settings_in(rt, path.as_path().as_str())? {
-            return Ok(settings);
-        }
+/// The path of something in a folder.
+pub fn joined(alloc: Global, folder: &str, name: &str) -> Result<String, AllocError> {
+    let mut path = String::from_str(alloc, folder)?;
+    if !folder.ends_with('/') {
+        path.push('/')?;
     }
-    Ok(Settings::new())
+    path.push_str(name)?;
+    Ok(path)
 }
 
-/// The settings of each of these files, in their order, or why the call is refused. Nothing but configuration files is
-/// read.
-pub fn settings_of_files(
-    rt: &HostRuntime,
-    matches: &ArgMatches<'_>,
-    files: &[String],
-) -> Result<Vec<Settings>, Refused> {
-    let all = match matches.get_str("config") {
-        Some(path) => Some(settings_of(matches, settings_named(rt, path)?)?),
-        None => None,
+/// A path from the root on, without links where it is there.
+pub fn whole_path(rt: &HostRuntime, path: &str) -> Result<String, Refused> {
+    let whole = match Path::new(path).canonicalize(rt) {
+        Ok(whole) => whole,
+        Err(error) if error.kind() == io::ErrorKind::OutOfMemory => {
+            return Err(Refused::OutOfMemory);
+        }
+        Err(_) => match std::path::absolute(rt, path) {
+            Ok(whole) => whole,
+            Err(error) => {
+                let path = String::from_str(rt.alloc(), path)?;
+                return Err(Refused::Unreadable(path, error));
+            }
+        },
     };
-    settings_of(matches, Settings::new())?;
-    let mut settings = Vec::new(rt.alloc());
-    let mut last: Option<(&str, Settings)> = None;
-    for file in files {
-        let folder = folder_of(file.as_str());
-        let these = match (all, last) {
-            (Some(all), _) => all,
-            (None, Some((known, these))) if known == folder => these,
-            _ => settings_of(matches, nearest_settings(rt, folder)?)?,
-        };
-        last = Some((folder, these));
-        settings.push(these)?;
+    Ok(whole.into_string())
+}
+
+/// The configuration that a file is. `Ok(None)`: there is no such file.
+fn configuration_in(rt: &HostRuntime, path: &str) -> Result<Option<Configuration>, Refused> {
+    let text = match fs::read_to_string(rt, path) {
+        Ok(text) => text,
+        Err(error) if is_absence(&error) => return Ok(None),
+        Err(error) => {
+            let path = String::from_str(rt.alloc(), path)?;
+            return Err(Refused::Unreadable(path, error));
+        }
+    };
+    let folder = whole_path(rt, folder_of(path))?;
+    match Configuration::parse(rt.alloc(), text.as_str(), folder.as_str()) {
+        Ok(configuration) => Ok(Some(configuration)),
+        Err(error) => {
+            let path = String::from_str(rt.alloc(), path)?;
+            Err(Refused::Wrong(path, error))
+        }
     }
-    Ok(settings)
+}
+
+/// The configuration of a folder itself. `Ok(None)`: it has none.
+fn configuration_of(rt: &HostRuntime, folder: Path<'_>) -> Result<Option<Configuration>, Refused> {
+    let path: PathBuf = folder.join(rt.alloc(), NAME)?;
+    let found = configuration_in(rt, path.as_path().as_str())?;
+    if found.is_none() && fs::symlink_metadata(rt, path.as_path()).is_ok() {
+        return Err(Refused::Dangling(path.into_string()));
+    }
+    Ok(found)
+}
+
+/// The configurations that were read, and which folder has which.
+#[derive(Drop)]
+pub struct Configurations {
+    /// The first holds where there is no file, or is that of `--config`.
+    all: Vec<Configuration>,
+    /// Whether the first is for all folders.
+    is_one: bool,
+    by_folder: HashMap<String, usize>,
+}
+
+impl Configurations {
+    /// The configuration in this file for all folders, or that of each folder if there is no file.
+    pub fn new(rt: &HostRuntime, path: Option<&str>) -> Result<Configurations, Refused> {
+        let first = match path {
+            None => Configuration::new(rt.alloc())?,
+            Some(path) => match configuration_in(rt, path)? {
+                Some(configuration) => configuration,
+                None => return Err(Refused::Missing(String::from_str(rt.alloc(), path)?)),
+            },
+        };
+        let mut all = Vec::new(rt.alloc());
+        all.push(first)?;
+        Ok(Configurations {
+            all,
+            is_one: path.is_some(),
+            by_folder: HashMap::new(rt.alloc()),
+        })
+    }
+
+    /// Which configuration a folder has, by its path from the root on.
+    pub fn nearest(&mut self, rt: &HostRuntime, folder: &str) -> Result<usize, Refused> {
+        if self.is_one {
+            return Ok(0);
+        }
+        let mut nearest = 0usize;
+        let mut passed = 0usize;
+        for above in Path::new(folder).ancestors() {
+            if let Some(known) = self.by_folder.get(above.as_str()) {
+                nearest = *known;
+                break;
+            }
+            passed = passed.saturating_add(1);
+            if let Some(configuration) = configuration_of(rt, above)? {
+                nearest = self.all.len();
+                self.all.push(configuration)?;
+                break;
+            }
+        }
+        for above in Path::new(folder).ancestors().take(passed) {
+            let above = String::from_str(rt.alloc(), above.as_str())?;
+            self.by_folder.insert(above, nearest)?;
+        }
+        Ok(nearest)
+    }
+
+    pub(crate) fn get(&self, at: usize) -> Option<&Configuration> {
+        self.all.get(at)
+    }
+
+    /// The settings by a configuration of the file with this path, or of a text without a name.
+    pub(crate) fn settings(
+        &self,
+        rt: &HostRuntime,
+        at: usize,
+        path: Option<&str>,
+    ) -> Result<Settings, Refused> {
+        match self.all.get(at) {
+            Some(configuration) => Ok(configuration.settings(rt.alloc(), path)?),
+            None => Ok(Settings::new()),
+        }
+    }
 }

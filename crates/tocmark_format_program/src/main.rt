@@ -4,42 +4,59 @@
 //!
 //! It stands on `tocmark_format`, and on `tocmark_command`, which has what it shares with `tocmark-events`. Enter at `main`.
 //!
-//! What a call asks for: `arguments` has the command line, `lookup` finds the settings of each file, `configuration` reads a
-//! configuration file, `settings` has what the options and the keys of such a file name, and `walk` has which files are
-//! meant. What is done: `decide` has what is written for a text, `stream` how standard input is answered, `diff` what is
-//! shown of a text, `replace` how a file is replaced, and `report` and `fault` what is said.
+//! What a call asks for: `words` has its words, `arguments` the command line, `settings` what the options and the keys of a
+//! configuration name, `configuration` reads such a file, and `lookup` finds that of each folder. Which texts are meant:
+//! `search` finds them, `walk` those below a folder, and `list` those of a list; `glob` matches names, `rules` says what globs
+//! mean, and `ignores` has those of `.gitignore`. What is done: `decide` has what is written for a text, `text` reads one,
+//! `stream` answers standard input, `changes` and `diff` show what would change, and `replace` replaces a file. What is said:
+//! `outcome` has what became of a text and the status, `report`, `fault` and `quoted` the messages.
 #![tactic(auto)]
 
 mod arguments;
+mod changes;
 mod configuration;
 mod decide;
 mod diff;
 mod fault;
+mod glob;
+mod ignores;
+mod list;
 mod lookup;
+mod outcome;
+mod quoted;
 mod replace;
 mod report;
+mod rules;
+mod search;
 mod settings;
 mod stream;
+mod text;
 mod walk;
+mod words;
 
-use arguments::{Color, NAME, Task, color_of, command, task_of, voice_of};
+use arguments::{Color, NAME, Task, choice_of, color_of, command, task_of, voice_of};
 use clap::ArgMatches;
-use decide::{Decision, decided};
+use decide::decided;
 use diff::{Look, unified_diff};
 use fault::Fault;
-use lookup::{Refused, settings_of_files};
-use replace::{Change, replace_text};
+use list::add_list;
+use lookup::Refused;
+use outcome::{Outcome, outcome_of, status_of};
+use quoted::Quoted;
+use replace::{Change, remove_left, replace_text};
 use report::Report;
-use settings::{DOCUMENTS, Settings};
-use std::alloc::Global;
-use std::io::{IsTerminal, Stderr};
+use search::{Found, Origin, Search, Target};
+use settings::Settings;
+use std::alloc::{AllocError, Global};
+use std::io::{BufWriter, IsTerminal, Read, Stderr, Write};
 use std::process::ExitCode;
 use std::{env, fs};
 use stream::{Passed, READER, format_stream};
-use tocmark_command::program::{Program, words_of};
-use tocmark_command::streams::{text_in, write_out};
+use text::text_in;
+use tocmark_command::program::Program;
+use tocmark_command::streams::write_out;
 use tocmark_command::syntax::syntax_help;
-use walk::{Found, files_of};
+use words::{Words, words_of};
 
 /// This program.
 const FORMAT: Program = Program { name: NAME };
@@ -66,9 +83,11 @@ fn shown_change(
     new: &str,
 ) -> Result<String, Fault> {
     if !work.task.shows {
-        let mut line = String::from_str(alloc, name)?;
-        line.push('\n')?;
-        return Ok(line);
+        let name = Quoted(name);
+        return match format!(in alloc; "{name}\n") {
+            Ok(line) => Ok(line),
+            Err(_) => Err(Fault::OutOfMemory),
+        };
     }
     let look = Look {
         name,
@@ -83,64 +102,46 @@ fn preview(
     work: Work,
     settings: Settings,
     name: &str,
-    text: &str,
+    text: String,
 ) -> Result<Passed, Fault> {
-    let Decision {
-        text: written,
-        left,
-    } = decided(rt.alloc(), text, &READER, settings)?;
-    let Some(written) = written else {
-        return Ok(Passed {
-            is_changed: false,
-            left,
-        });
-    };
-    let shown = shown_change(rt.alloc(), work, name, text, written.as_str())?;
-    write_out(&mut rt.stdout(), shown.as_str()).map_err(Fault::Output)?;
+    let decision = decided(rt.alloc(), text, &READER, settings)?;
+    if let Some(new) = &decision.new {
+        let shown = shown_change(rt.alloc(), work, name, decision.old.as_str(), new.as_str())?;
+        write_out(&mut rt.stdout(), shown.as_str()).map_err(Fault::Output)?;
+    }
+    let outcome = outcome_of(&decision);
     Ok(Passed {
-        is_changed: true,
-        left,
+        outcome,
+        left: decision.left,
     })
 }
 
 /// Formats a file in place, which isn't touched where its text stays.
 fn format_file(
     rt: &HostRuntime,
+    work: Work,
     settings: Settings,
     path: &str,
-    text: &str,
+    text: String,
 ) -> Result<Passed, Fault> {
-    let Decision {
-        text: written,
-        left,
-    } = decided(rt.alloc(), text, &READER, settings)?;
-    let Some(written) = written else {
-        return Ok(Passed {
-            is_changed: false,
-            left,
-        });
-    };
+    let decision = decided(rt.alloc(), text, &READER, settings)?;
     let change = Change {
         reader: &READER,
-        flags: settings.flags,
-        old: text,
-        new: written.as_str(),
+        decision: &decision,
+        syncs: work.task.syncs,
     };
     replace_text(rt, path, &change)?;
+    let outcome = outcome_of(&decision);
     Ok(Passed {
-        is_changed: true,
-        left,
+        outcome,
+        left: decision.left,
     })
 }
 
-/// The text of a file that is formatted.
+/// The text of a file.
 fn text_of(rt: &HostRuntime, path: &str) -> Result<String, Fault> {
-    let metadata = fs::metadata(rt, path).map_err(Fault::Read)?;
-    if !metadata.is_file() {
-        return Err(Fault::NotRegular);
-    }
     let mut file = fs::open(rt, path).map_err(Fault::Read)?;
-    Ok(text_in(rt.alloc(), &mut file)?)
+    text_in(rt.alloc(), &mut file)
 }
 
 /// Formats standard input to standard output.
@@ -149,40 +150,88 @@ fn pass_through(rt: &HostRuntime, settings: Settings) -> Result<Passed, Fault> {
     format_stream(rt.alloc(), &READER, settings, &mut input, &mut output)
 }
 
-/// Does one file, or standard input.
-fn done(rt: &HostRuntime, work: Work, settings: Settings, path: &str) -> Result<Passed, Fault> {
-    let is_stream = path == "-";
-    if is_stream && !work.task.is_dry() {
-        return pass_through(rt, settings);
+/// Copies standard input to standard output, unless nothing is to be written.
+fn copy_through(rt: &HostRuntime, work: Work) -> Result<Passed, Fault> {
+    if !work.task.is_dry() {
+        let mut bytes = Vec::new(rt.alloc());
+        rt.stdin().read_to_end(&mut bytes).map_err(Fault::Read)?;
+        let mut output = rt.stdout();
+        output.write_all(&bytes).map_err(Fault::Output)?;
+        output.flush().map_err(Fault::Output)?;
     }
-    let text = if is_stream {
-        text_in(rt.alloc(), &mut rt.stdin())?
-    } else {
-        text_of(rt, path)?
-    };
-    if work.task.is_dry() {
-        preview(rt, work, settings, path, text.as_str())
-    } else {
-        format_file(rt, settings, path, text.as_str())
+    Ok(Passed {
+        outcome: Outcome::UNCHANGED,
+        left: Vec::new(rt.alloc()),
+    })
+}
+
+/// Does one file, or standard input.
+fn done(rt: &HostRuntime, work: Work, target: &Target) -> Result<Passed, Fault> {
+    let (path, settings) = (target.path.as_str(), target.settings);
+    let is_dry = work.task.is_dry();
+    match target.origin {
+        Origin::ExcludedInput => copy_through(rt, work),
+        Origin::Input if is_dry => {
+            let text = text_in(rt.alloc(), &mut rt.stdin())?;
+            preview(rt, work, settings, path, text)
+        }
+        Origin::Input => pass_through(rt, settings),
+        Origin::File => {
+            let text = text_of(rt, path)?;
+            if is_dry {
+                preview(rt, work, settings, path, text)
+            } else {
+                format_file(rt, work, settings, path, text)
+            }
+        }
     }
 }
 
-/// Does all files, and says what became of them.
+/// Says what became of a text.
+fn outcome_said(
+    report: &mut Report<BufWriter<Stderr>>,
+    path: &str,
+    done: &Result<Passed, Fault>,
+) -> Outcome {
+    match done {
+        Ok(Passed { outcome, left }) => {
+            report.left(path, left);
+            if outcome.is_changed {
+                report.changed(path);
+            }
+            *outcome
+        }
+        Err(fault) => {
+            report.failed(path, fault);
+            Outcome::FAILED
+        }
+    }
+}
+
+/// Does all texts, unless standard output can't be written any more, and says what became of them.
 fn do_all(
     rt: &HostRuntime,
     work: Work,
-    files: &[String],
-    settings: &[Settings],
-    report: &mut Report<Stderr>,
-) {
-    for (path, settings) in files.iter().zip(settings) {
-        let path = path.as_str();
-        match done(rt, work, *settings, path) {
-            Ok(passed) => report.passed(path, &passed),
-            Err(fault) => report.failed(path, &fault),
+    targets: &[Target],
+    report: &mut Report<BufWriter<Stderr>>,
+    outcomes: &mut Vec<Outcome>,
+) -> Result<(), AllocError> {
+    for target in targets {
+        if work.task.is_dry() {
+            report.clear();
         }
-        report.done(files.len());
+        let done = done(rt, work, target);
+        let is_last = match &done {
+            Ok(_) => false,
+            Err(fault) => fault.is_of_output(),
+        };
+        outcomes.push(outcome_said(report, target.path.as_str(), &done))?;
+        if is_last {
+            break;
+        }
+        report.progress(outcomes.len(), targets.len());
     }
+    Ok(())
 }
 
 /// Whether a diff is coloured: on a terminal, unless the environment has `NO_COLOR`, or as is asked for.
@@ -194,51 +243,147 @@ fn is_colored(rt: &HostRuntime, color: Color) -> bool {
     }
 }
 
-/// Whether there is anything but standard input.
-fn has_files(files: &[String]) -> bool {
-    for file in files {
-        if file.as_str() != "-" {
-            return true;
-        }
+/// Whether standard input is all that is meant.
+fn is_only_input(found: &Found) -> bool {
+    match found.targets.as_slice() {
+        [] => false,
+        [only] => match only.origin {
+            Origin::File => false,
+            _ => found.failures.is_empty(),
+        },
+        _ => false,
     }
-    false
 }
 
-/// Does what right arguments ask for, and says the status.
-fn perform(rt: &HostRuntime, matches: &ArgMatches<'_>, work: Work) -> ExitCode {
+/// Refuses options that don't go together.
+fn check_input(paths: &[&str], list: Option<&str>, name: Option<&str>) -> Result<(), Refused> {
+    let mut has_input = false;
+    let mut has_files = list.is_some();
+    for path in paths {
+        if *path == "-" {
+            has_input = true;
+        } else {
+            has_files = true;
+        }
+    }
+    if name.is_some() && has_files {
+        return Err(Refused::Usage("--stdin-filepath takes no other files"));
+    }
+    if has_input && list == Some("-") {
+        return Err(Refused::Usage("standard input cannot be a list and a text at once"));
+    }
+    Ok(())
+}
+
+/// Adds what an argument names.
+fn add_path(
+    rt: &HostRuntime,
+    search: &mut Search,
+    broken: &[String],
+    path: &str,
+) -> Result<(), Refused> {
+    for word in broken {
+        if word.as_str() == path {
+            return search.fail(rt, path, Fault::Name);
+        }
+    }
+    if path == "-" {
+        search.add_input(rt)
+    } else {
+        search.add(rt, path)
+    }
+}
+
+/// What a call means.
+fn found_of(
+    rt: &HostRuntime,
+    matches: &ArgMatches<'_>,
+    broken: &[String],
+) -> Result<Found, Refused> {
     let paths = matches.get_strs("path").unwrap_or(&[]);
-    let Ok(Found { files, unseen }) = files_of(rt, paths) else {
-        return FORMAT.refuse(&mut rt.stderr(), "out of memory");
-    };
-    let settings = match settings_of_files(rt, matches, &files) {
-        Ok(settings) => settings,
-        Err(refused) => return refuse_call(rt, &refused),
-    };
-    let voice = voice_of(matches);
-    let is_long = files.len() >= MANY && !voice.is_quiet;
-    let shows_progress = is_long && rt.stderr().is_terminal();
-    let mut report = Report::new(rt.stderr(), voice, shows_progress, work.task.is_dry());
-    for path in unseen {
-        report.failed(path.path.as_str(), &Fault::Read(path.error));
+    let list = matches.get_str("files-from");
+    let name = matches.get_str("stdin-filepath");
+    check_input(paths, list, name)?;
+    let choice = choice_of(rt, matches)?;
+    let mut search = Search::new(rt, choice, matches.get_str("config"))?;
+    if let Some(name) = name {
+        search.add_input_as(rt, name)?;
+        return Ok(search.end());
     }
-    do_all(rt, work, &files, &settings, &mut report);
-    if has_files(&files) {
-        report.end();
+    if let Some(list) = list {
+        let end = if matches.get_flag("null") { 0 } else { b'\n' };
+        add_list(rt, &mut search, list, end)?;
     }
-    ExitCode::from(report.status(work.task.checks))
+    for path in paths {
+        add_path(rt, &mut search, broken, path)?;
+    }
+    if paths.is_empty() && list.is_none() {
+        search.add_input(rt)?;
+    }
+    Ok(search.end())
+}
+
+/// Does what is found, and says the status.
+fn perform(
+    rt: &HostRuntime,
+    work: Work,
+    found: &Found,
+    report: &mut Report<BufWriter<Stderr>>,
+) -> Result<u8, AllocError> {
+    let mut outcomes = Vec::new(rt.alloc());
+    outcomes.reserve(found.targets.len().saturating_add(found.failures.len()))?;
+    for failure in &found.failures {
+        report.failed(failure.path.as_str(), &failure.fault);
+        outcomes.push(Outcome::FAILED)?;
+    }
+    for path in &found.excluded {
+        report.note(path.as_str(), "excluded");
+    }
+    do_all(rt, work, &found.targets, report, &mut outcomes)?;
+    if !work.task.is_dry() {
+        for path in &found.left_behind {
+            remove_left(rt, path.as_str());
+        }
+    }
+    if is_only_input(found) {
+        report.clear();
+    } else {
+        report.end(&outcomes);
+    }
+    Ok(status_of(&outcomes, work.task.terms))
 }
 
 /// Does what right arguments ask for.
-fn start(rt: &HostRuntime, matches: &ArgMatches<'_>) -> ExitCode {
+fn start(rt: &HostRuntime, matches: &ArgMatches<'_>, broken: &[String]) -> ExitCode {
     let color = match color_of(matches) {
         Ok(color) => color,
-        Err(refusal) => return refuse_call(rt, &Refused::from(refusal)),
+        Err(refused) => return refuse_call(rt, &refused),
     };
     let work = Work {
         task: task_of(matches),
         is_colored: is_colored(rt, color),
     };
-    perform(rt, matches, work)
+    let found = match found_of(rt, matches, broken) {
+        Ok(found) => found,
+        Err(refused) => return refuse_call(rt, &refused),
+    };
+    let voice = voice_of(matches);
+    let is_long = found.targets.len() >= MANY && !voice.is_quiet;
+    let shows_progress = is_long && rt.stderr().is_terminal();
+    let Ok(out) = BufWriter::new(rt.alloc(), rt.stderr()) else {
+        return refuse_call(rt, &Refused::OutOfMemory);
+    };
+    let mut report = Report::new(out, voice, work.task.is_dry());
+    if shows_progress {
+        report.show_progress();
+    }
+    match perform(rt, work, &found, &mut report) {
+        Ok(status) => ExitCode::from(status),
+        Err(_) => {
+            FORMAT.complain(&mut rt.stderr(), &Fault::OutOfMemory);
+            ExitCode::from(1)
+        }
+    }
 }
 
 /// Shows the help or the version, or says what is wrong with the arguments.
@@ -246,7 +391,10 @@ fn show(rt: &HostRuntime, error: &clap::Error) -> ExitCode {
     match FORMAT.show(rt, error) {
         Ok(status) => status,
         Err(error) => {
-            FORMAT.complain(&mut rt.stderr(), &Fault::Output(error));
+            let fault = Fault::Output(error);
+            if !fault.is_broken_pipe() {
+                FORMAT.complain(&mut rt.stderr(), &fault);
+            }
             ExitCode::from(1)
         }
     }
@@ -259,17 +407,17 @@ fn refuse_call(rt: &HostRuntime, refused: &Refused) -> ExitCode {
 }
 
 fn main(rt: HostRuntime) -> ExitCode {
-    let Ok(words) = words_of(&rt) else {
-        return FORMAT.refuse(&mut rt.stderr(), "the arguments cannot be read");
+    let Ok(Words { words, broken }) = words_of(&rt) else {
+        return FORMAT.refuse(&mut rt.stderr(), "out of memory");
     };
-    let Ok(syntax_help) = syntax_help(rt.alloc(), SYNTAX, DOCUMENTS) else {
+    let Ok(syntax_help) = syntax_help(rt.alloc(), SYNTAX) else {
         return FORMAT.refuse(&mut rt.stderr(), "out of memory");
     };
     let Ok(command) = command(rt.alloc(), syntax_help.as_str()) else {
         return FORMAT.refuse(&mut rt.stderr(), "out of memory");
     };
     match command.try_get_matches_from(words.as_slice()) {
-        Ok(matches) => start(&rt, &matches),
+        Ok(matches) => start(&rt, &matches, &broken),
         Err(error) => show(&rt, &error),
     }
 }

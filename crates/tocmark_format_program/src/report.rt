@@ -1,31 +1,50 @@
-//! What is said on standard error.
+//! What is said on standard error. Each line is flushed, and not its parts, so that the lines of calls side by side don't mix
+//! if the output is buffered.
 
 use crate::arguments::Voice;
 use crate::fault::Fault;
-use crate::stream::Passed;
+use crate::outcome::Outcome;
+use crate::quoted::Quoted;
 use std::fmt;
 use std::io::Write;
-use tocmark_format::Left;
+use tocmark_format::{Left, Reason};
 
-/// How many files there were, and what became of them.
+/// How many texts there were, and what became of them.
 #[derive(Clone, Copy, Drop)]
 struct Totals {
-    files: usize,
+    texts: usize,
     /// Those that were changed, or would be.
     changed: usize,
     failed: usize,
-    /// Blocks that were left as they stand.
-    left: usize,
+    warnings: usize,
 }
 
 impl Totals {
-    fn new() -> Totals {
-        Totals {
-            files: 0,
+    fn of(outcomes: &[Outcome]) -> Totals {
+        let mut totals = Totals {
+            texts: outcomes.len(),
             changed: 0,
             failed: 0,
-            left: 0,
+            warnings: 0,
+        };
+        for outcome in outcomes {
+            if outcome.is_changed {
+                totals.changed = totals.changed.saturating_add(1);
+            }
+            if outcome.has_failed {
+                totals.failed = totals.failed.saturating_add(1);
+            }
+            totals.warnings = totals.warnings.saturating_add(outcome.warnings);
         }
+        totals
+    }
+}
+
+/// Why a block keeps its lines.
+fn why(reason: Reason) -> &'static str {
+    match reason {
+        Reason::ReadOtherwise => "in this style it would parse differently",
+        Reason::Outgrown => "the markers of its quotes and lists would make it four times as long",
     }
 }
 
@@ -44,7 +63,93 @@ impl fmt::Display for Count {
     }
 }
 
-/// What writes lines on standard error, and counts. A line that can't be written changes nothing.
+/// Totals, and whether files would be changed or were.
+#[derive(Clone, Copy)]
+struct Summary {
+    totals: Totals,
+    is_dry: bool,
+}
+
+impl fmt::Display for Summary {
+    fn fmt<W: fmt::Write>(&self, f: &mut fmt::Formatter<W>) -> fmt::Result {
+        let Totals {
+            texts,
+            changed,
+            failed,
+            warnings,
+        } = self.totals;
+        let files = Count {
+            number: texts,
+            noun: "file",
+        };
+        let unchanged = texts.saturating_sub(changed).saturating_sub(failed);
+        let would = if self.is_dry { "would be " } else { "" };
+        write!(f, "{files}: ")?;
+        if changed > 0 {
+            write!(f, "{changed} {would}formatted, ")?;
+        }
+        write!(f, "{unchanged} unchanged")?;
+        if failed > 0 {
+            write!(f, ", {failed} failed")?;
+        }
+        if warnings > 0 {
+            let warnings = Count {
+                number: warnings,
+                noun: "warning",
+            };
+            write!(f, ", {warnings}")?;
+        }
+        Ok(())
+    }
+}
+
+/// Why a file can't be done.
+#[derive(Clone, Copy)]
+struct Failed<'m> {
+    path: Quoted<'m>,
+    fault: &'m Fault,
+}
+
+impl fmt::Display for Failed<'_> {
+    fn fmt<W: fmt::Write>(&self, f: &mut fmt::Formatter<W>) -> fmt::Result {
+        let (path, fault) = (self.path, self.fault);
+        write!(f, "{path}: {fault}")
+    }
+}
+
+/// What became of a file.
+#[derive(Clone, Copy)]
+struct Note<'m> {
+    path: Quoted<'m>,
+    what: &'static str,
+}
+
+impl fmt::Display for Note<'_> {
+    fn fmt<W: fmt::Write>(&self, f: &mut fmt::Formatter<W>) -> fmt::Result {
+        let (path, what) = (self.path, self.what);
+        write!(f, "{path}: {what}")
+    }
+}
+
+/// A block that keeps its lines, by the first of them.
+#[derive(Clone, Copy)]
+struct Warning<'m> {
+    path: Quoted<'m>,
+    line: usize,
+    reason: Reason,
+}
+
+impl fmt::Display for Warning<'_> {
+    fn fmt<W: fmt::Write>(&self, f: &mut fmt::Formatter<W>) -> fmt::Result {
+        let (path, line, why) = (self.path, self.line, why(self.reason));
+        write!(
+            f,
+            "{path}:{line}: warning: this block keeps its lines: {why}"
+        )
+    }
+}
+
+/// What writes lines on standard error. A line that can't be written changes nothing.
 #[derive(Drop)]
 pub struct Report<E: Write + Drop> {
     out: E,
@@ -53,114 +158,96 @@ pub struct Report<E: Write + Drop> {
     shows_progress: bool,
     /// Whether nothing is written, so that files would change.
     is_dry: bool,
-    totals: Totals,
 }
 
 impl<E: Write + Drop> Report<E> {
-    pub fn new(out: E, voice: Voice, shows_progress: bool, is_dry: bool) -> Report<E> {
+    pub fn new(out: E, voice: Voice, is_dry: bool) -> Report<E> {
         Report {
             out,
             voice,
-            shows_progress,
+            shows_progress: false,
             is_dry,
-            totals: Totals::new(),
         }
+    }
+
+    /// From now on a line shows how far the call is.
+    pub fn show_progress(&mut self) {
+        self.shows_progress = true;
     }
 
     /// Takes away the line that shows how far the call is.
-    fn clear(&mut self) {
+    pub fn clear(&mut self) {
         if self.shows_progress {
             let _ = self.out.write_all(b"\r\x1b[K");
+            let _ = self.out.flush();
         }
     }
 
-    /// A file that can't be done.
-    pub fn failed(&mut self, path: &str, fault: &Fault) {
+    /// Writes a line.
+    fn say<L: fmt::Display>(&mut self, line: &L) {
         self.clear();
-        let _ = writeln!(self.out, "{path}: {fault}");
-        self.totals.failed = self.totals.failed.saturating_add(1);
+        let _ = writeln!(self.out, "{line}");
+        let _ = self.out.flush();
+    }
+
+    /// A file that can't be done. Nothing is said if nobody reads standard output any more.
+    pub fn failed<'m>(&mut self, path: &'m str, fault: &'m Fault) {
+        if !fault.is_broken_pipe() {
+            self.say(&Failed {
+                path: Quoted(path),
+                fault,
+            });
+        }
+    }
+
+    /// A line on a file, if each is named.
+    pub fn note(&mut self, path: &str, what: &'static str) {
+        if self.voice.is_verbose {
+            self.say(&Note {
+                path: Quoted(path),
+                what,
+            });
+        }
     }
 
     /// A file that was changed, or would be.
-    fn changed(&mut self, path: &str) {
-        self.totals.changed = self.totals.changed.saturating_add(1);
-        if self.voice.is_verbose {
-            self.clear();
-            let what = if self.is_dry {
-                "would be formatted"
-            } else {
-                "formatted"
-            };
-            let _ = writeln!(self.out, "{path}: {what}");
-        }
+    pub fn changed(&mut self, path: &str) {
+        let what = if self.is_dry {
+            "would be formatted"
+        } else {
+            "formatted"
+        };
+        self.note(path, what);
     }
 
-    /// A file that is done.
-    pub fn passed(&mut self, path: &str, passed: &Passed) {
-        self.left(path, &passed.left);
-        if passed.is_changed {
-            self.changed(path);
-        }
-    }
-
-    /// The blocks of a file that were left as they stand.
-    fn left(&mut self, path: &str, left: &[Left]) {
+    /// The blocks of a file that keep their lines.
+    pub fn left(&mut self, path: &str, left: &[Left]) {
         for Left { lines, reason } in left {
-            self.clear();
-            let line = lines.0;
-            let _ = writeln!(self.out, "{path}:{line}: left as it stands: {reason}");
-            self.totals.left = self.totals.left.saturating_add(1);
+            self.say(&Warning {
+                path: Quoted(path),
+                line: lines.0,
+                reason: *reason,
+            });
         }
     }
 
-    /// One more file is done, of so many.
-    pub fn done(&mut self, all: usize) {
-        self.totals.files = self.totals.files.saturating_add(1);
+    /// How many of all texts are done.
+    pub fn progress(&mut self, done: usize, all: usize) {
         if self.shows_progress {
-            let files = self.totals.files;
-            let _ = write!(self.out, "\r{files} of {all}");
+            let _ = write!(self.out, "\r{done} of {all}");
+            let _ = self.out.flush();
         }
     }
 
     /// The count at the end.
-    pub fn end(&mut self) {
-        self.clear();
+    pub fn end(&mut self, outcomes: &[Outcome]) {
         if self.voice.is_quiet {
+            self.clear();
             return;
         }
-        let Totals {
-            files,
-            changed,
-            failed,
-            left,
-        } = self.totals;
-        let files = Count {
-            number: files,
-            noun: "file",
-        };
-        let left = Count {
-            number: left,
-            noun: "block",
-        };
-        let would = if self.is_dry { "would be " } else { "" };
-        let _ = writeln!(
-            self.out,
-            "{files}: {changed} {would}formatted, {failed} failed, {left} left as they stand"
-        );
-    }
-
-    /// The status of the call: 1 where a file failed or a block was left, and where files are checked and one would change.
-    pub fn status(&self, checks: bool) -> u8 {
-        let Totals {
-            changed,
-            failed,
-            left,
-            ..
-        } = self.totals;
-        if failed > 0 || left > 0 || (checks && changed > 0) {
-            1
-        } else {
-            0
-        }
+        self.say(&Summary {
+            totals: Totals::of(outcomes),
+            is_dry: self.is_dry,
+        });
     }
 }

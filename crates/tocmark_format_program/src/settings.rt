@@ -1,9 +1,9 @@
 //! What the options of formatting name, on the command line and in configuration files.
 
-use tocmark_command::syntax::{GFM, extension_named, syntax_named};
+use tocmark_command::syntax::{extension_named, syntax_named};
 use tocmark_event::event::ParserOptions;
-use tocmark_format::{Bullet, Delimiter, Fence, HardBreak, Marker, Numbering, Rule, Style};
-use tocmark_reader::EXTENSIONS;
+use tocmark_format::{Bullet, Delimiter, Fence, HardBreak, Marker, Numbering, Rule, Style, Wrap};
+use tocmark_reader::GFM;
 
 /// What a text is read as, and how it is to look.
 #[derive(Clone, Copy)]
@@ -29,10 +29,18 @@ pub(crate) enum Key {
     HardBreak,
     Rule,
     TableWidth,
+    Wrap,
+}
+
+/// An option with its value.
+#[derive(Drop)]
+pub(crate) struct Setting {
+    pub(crate) key: Key,
+    pub(crate) word: String,
 }
 
 /// The options by their names, with what each takes.
-pub(crate) const KEYS: [(&str, Key, &str); 12] = [
+pub(crate) const KEYS: [(&str, Key, &str); 13] = [
     ("syntax", Key::Syntax, "commonmark, gfm or all"),
     (
         "extension",
@@ -49,15 +57,8 @@ pub(crate) const KEYS: [(&str, Key, &str); 12] = [
     ("hard-break", Key::HardBreak, "source, backslash or spaces"),
     ("rule", Key::Rule, "--- or source"),
     ("table-width", Key::TableWidth, "a number from 1 to 1000"),
+    ("wrap", Key::Wrap, "keep, no or a number from 1 to 1000"),
 ];
-
-/// What documents on GitHub have beside CommonMark, front matter among it, so far as the reader reads it.
-pub(crate) const DOCUMENTS: ParserOptions = ParserOptions(
-    GFM.0
-        | ((ParserOptions::ENABLE_YAML_STYLE_METADATA_BLOCKS.0
-            | ParserOptions::ENABLE_PLUSES_DELIMITED_METADATA_BLOCKS.0)
-            & EXTENSIONS.0),
-);
 
 const BULLETS: [(&str, Option<Bullet>); 4] = [
     ("*", Some(Bullet::Asterisk)),
@@ -100,7 +101,7 @@ impl Settings {
     /// GFM with front matter, in the style that changes least.
     pub(crate) fn new() -> Settings {
         Settings {
-            flags: DOCUMENTS,
+            flags: GFM,
             style: Style::new(),
         }
     }
@@ -160,7 +161,7 @@ fn length_of(word: &str) -> Option<usize> {
     Some(length)
 }
 
-/// The width of a table that a word says.
+/// The columns that a word says.
 fn width_of(word: &str) -> Option<usize> {
     let width: usize = word.parse().ok()?;
     if width < 1 || width > 1000 {
@@ -169,11 +170,35 @@ fn width_of(word: &str) -> Option<usize> {
     Some(width)
 }
 
+/// Where lines break that a word says.
+fn wrap_of(word: &str) -> Option<Wrap> {
+    if word == "keep" {
+        return Some(Wrap::Keep);
+    }
+    if word == "no" {
+        return Some(Wrap::No);
+    }
+    match width_of(word) {
+        Some(width) => Some(Wrap::At(width)),
+        None => None,
+    }
+}
+
+/// Sets each option to what its word says. `Err`: the first that takes no such word.
+pub(crate) fn set_all(settings: &mut Settings, values: &[Setting]) -> Result<(), Key> {
+    for Setting { key, word } in values {
+        if !set(settings, *key, word.as_str()) {
+            return Err(*key);
+        }
+    }
+    Ok(())
+}
+
 /// Sets an option to what a word says. `false`: it takes no such word, and nothing is changed.
 pub(crate) fn set(settings: &mut Settings, key: Key, word: &str) -> bool {
     let Settings { flags, style } = settings;
     match key {
-        Key::Syntax => put(flags, syntax_named(word, DOCUMENTS)),
+        Key::Syntax => put(flags, syntax_named(word)),
         Key::Extension => {
             let extended = extended(*flags, word);
             put(flags, extended)
@@ -188,5 +213,6 @@ pub(crate) fn set(settings: &mut Settings, key: Key, word: &str) -> bool {
         Key::HardBreak => put(&mut style.hard_break, named(&HARD_BREAKS, word)),
         Key::Rule => put(&mut style.rule, named(&RULES, word)),
         Key::TableWidth => put(&mut style.table_width, width_of(word)),
+        Key::Wrap => put(&mut style.wrap, wrap_of(word)),
     }
 }

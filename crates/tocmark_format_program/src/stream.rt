@@ -6,10 +6,12 @@ ghost use Rattle.tocmark_format_program.specs.Formats.{IsFormatted, IsOutputFaul
 
 use crate::decide::{Decision, decided};
 use crate::fault::Fault;
+use crate::outcome::{Outcome, outcome_of};
 use crate::settings::Settings;
+use crate::text::text_in;
 use std::alloc::Global;
 use std::io::{Read, Write};
-use tocmark_command::streams::{text_in, write_out};
+use tocmark_command::streams::write_out;
 use tocmark_format::{Left, PartReader};
 use tocmark_reader::{ExtendedReader, Names};
 
@@ -19,8 +21,8 @@ pub const READER: ExtendedReader = ExtendedReader { names: Names::All };
 /// What became of a text.
 #[derive(Drop)]
 pub struct Passed {
-    pub is_changed: bool,
-    /// The blocks of it that were left as they stand.
+    pub outcome: Outcome,
+    /// The blocks of it that keep their lines.
     pub left: Vec<Left>,
 }
 
@@ -29,34 +31,20 @@ fn formatted_text<R: PartReader>(
     alloc: Global,
     reader: &R,
     settings: Settings,
-    text: &str,
+    text: String,
 ) -> Result<(String, Passed), Fault>
     ensures same { IfOk result (λ done. SaysTheSame
-        (λ t. R.reading reader.now t settings.flags) text.now (string_bytes done.0)) }
+        settings.style.wrap (λ t. R.reading reader.now t settings.flags)
+        (string_bytes text) (string_bytes done.0)) }
     ensures fault { IfErr result (λ fault. ¬ (IsOutputFault fault)) }
 {
-    let Decision {
-        text: written,
-        left,
-    } = decided(alloc, text, reader, settings)?;
-    match written {
-        Some(written) => Ok((
-            written,
-            Passed {
-                is_changed: true,
-                left,
-            },
-        )),
-        None => {
-            let same = String::from_str(alloc, text)?;
-            Ok((
-                same,
-                Passed {
-                    is_changed: false,
-                    left,
-                },
-            ))
-        }
+    let decision = decided(alloc, text, reader, settings)?;
+    let outcome = outcome_of(&decision);
+    let Decision { old, new, left, .. } = decision;
+    let passed = Passed { outcome, left };
+    match new {
+        Some(new) => Ok((new, passed)),
+        None => Ok((old, passed)),
     }
 }
 
@@ -68,11 +56,12 @@ fn formatted_input<R: PartReader, I: Read>(
     input: &mut I,
 ) -> Result<(String, Passed), Fault>
     ensures same { IfSome (I.remaining input.old) (λ bytes. IfOk result (λ done. SaysTheSame
-        (λ t. R.reading reader.now t settings.flags) bytes (string_bytes done.0))) }
+        settings.style.wrap (λ t. R.reading reader.now t settings.flags)
+        bytes (string_bytes done.0))) }
     ensures fault { IfErr result (λ fault. ¬ (IsOutputFault fault)) }
 {
     let text = text_in(alloc, input)?;
-    formatted_text(alloc, reader, settings, text.as_str())
+    formatted_text(alloc, reader, settings, text)
 }
 
 /// Writes all that an input has, as it is formatted. What is written says the same as the input. After an `Err` that
@@ -85,7 +74,7 @@ pub fn format_stream<R: PartReader, I: Read, O: Write>(
     output: &mut O,
 ) -> Result<Passed, Fault>
     ensures same { IfSome (I.remaining input.old) (λ bytes. OnOk result (IsFormatted
-        (λ t. R.reading reader.now t settings.flags) bytes
+        settings.style.wrap (λ t. R.reading reader.now t settings.flags) bytes
         (O.contents output.old) (O.contents output.new))) }
     ensures unwritten { IfErr result (λ fault.
         ¬ (IsOutputFault fault) → output.new ≡ output.old) }

@@ -1,141 +1,196 @@
-//! Which files the paths of a call mean.
+//! The files below a folder.
 
+use crate::fault::Fault;
+use crate::lookup::{Refused, joined, whole_path};
+use crate::replace::replaced_by;
+use crate::rules::Entry;
+use crate::search::{Search, Target, is_markdown};
 use std::fs::DirEntry;
-use std::path::Path;
 use std::{fs, io};
 
-/// A path below a folder that can't be looked at, and why.
+/// A folder that is still to be looked at.
 #[derive(Drop)]
-pub struct Unseen {
-    pub path: String,
-    pub error: io::Error,
+struct Folder {
+    /// The path as it is shown.
+    path: String,
+    /// The path from the root on, without links.
+    whole: String,
+    /// What is ignored in it by the folders above.
+    ignores: Option<usize>,
 }
 
-/// The files that are meant, in order, and what couldn't be looked at.
+/// What holds in a folder.
+#[derive(Clone, Copy)]
+struct Scope<'f> {
+    whole: &'f str,
+    configuration: usize,
+    ignores: Option<usize>,
+}
+
+/// The files that are found below a folder, and the folders that are still to be looked at.
 #[derive(Drop)]
-pub struct Found {
-    pub files: Vec<String>,
-    pub unseen: Vec<Unseen>,
+struct Walk {
+    folders: Vec<Folder>,
+    targets: Vec<Target>,
 }
 
-/// What stands in a folder.
-#[derive(Clone, Copy, Drop)]
-enum Kind {
-    Folder,
-    Document,
-    Other,
-}
-
-/// Whether a file of this name is formatted where its folder is.
-fn is_document(name: &str) -> bool {
-    name.ends_with(".md") || name.ends_with(".markdown")
-}
-
-/// What an entry of a folder is. Hidden ones are left out, and links, so that no path goes in a circle or leaves the folder.
-fn kind_of(entry: &DirEntry) -> io::Result<Kind> {
-    if entry.file_name().starts_with('.') {
-        return Ok(Kind::Other);
-    }
-    let kind = entry.file_type()?;
-    if kind.is_dir() {
-        Ok(Kind::Folder)
-    } else if kind.is_file() && is_document(entry.file_name()) {
-        Ok(Kind::Document)
+/// Why a folder's entry can't be looked at. Only a name that isn't UTF-8 is no valid one here.
+fn entry_fault(error: io::Error) -> Fault {
+    if error.kind() == io::ErrorKind::InvalidFilename {
+        Fault::NameWithin
     } else {
-        Ok(Kind::Other)
+        Fault::Read(error)
     }
 }
 
-/// Adds what an entry of a folder is.
-fn add_entry(
-    rt: &HostRuntime,
-    found: &mut Found,
-    folders: &mut Vec<String>,
-    entry: &DirEntry,
-) -> io::Result<()> {
-    let path = String::from_str(rt.alloc(), entry.path().as_str())?;
-    match kind_of(entry) {
-        Ok(Kind::Folder) => folders.push(path)?,
-        Ok(Kind::Document) => found.files.push(path)?,
-        Ok(Kind::Other) => drop(path),
-        Err(error) => found.unseen.push(Unseen { path, error })?,
-    }
-    Ok(())
-}
-
-/// Adds what stands in a folder; its folders are added to those that are still to be looked at.
-fn add_folder(
-    rt: &HostRuntime,
-    found: &mut Found,
-    folders: &mut Vec<String>,
-    folder: String,
-) -> io::Result<()> {
-    let entries = match fs::read_dir(rt, folder.as_str()) {
-        Ok(entries) => entries,
-        Err(error) => {
-            found.unseen.push(Unseen {
-                path: folder,
-                error,
-            })?;
-            return Ok(());
+impl Search {
+    /// Adds the files below a folder, in the order of their paths' bytes.
+    pub(crate) fn add_below(&mut self, rt: &HostRuntime, path: &str) -> Result<(), Refused> {
+        let whole = whole_path(rt, path)?;
+        if self.is_excluded_folder(rt, whole.as_str())? {
+            return self.exclude(rt, path);
         }
-    };
-    for entry in entries {
-        match entry {
-            Ok(entry) => add_entry(rt, found, folders, &entry)?,
+        let ignores = self.ignores_above(rt, path, whole.as_str())?;
+        let mut walk = Walk {
+            folders: Vec::new(rt.alloc()),
+            targets: Vec::new(rt.alloc()),
+        };
+        walk.folders.push(Folder {
+            path: String::from_str(rt.alloc(), path)?,
+            whole,
+            ignores,
+        })?;
+        for _ in 0..u64::MAX {
+            let Some(folder) = walk.folders.pop() else {
+                break;
+            };
+            self.look_into(rt, &mut walk, &folder)?;
+        }
+        let Walk { mut targets, .. } = walk;
+        targets.sort_by(|one, other| one.path.cmp(&other.path))?;
+        for target in targets {
+            self.found.targets.push(target)?;
+        }
+        Ok(())
+    }
+
+    /// What is ignored in a folder by those above it.
+    fn ignores_above(
+        &mut self,
+        rt: &HostRuntime,
+        path: &str,
+        whole: &str,
+    ) -> Result<Option<usize>, Refused> {
+        if !self.respects_ignores() {
+            return Ok(None);
+        }
+        match self.ignores.enter_above(rt, whole) {
+            Ok(ignores) => Ok(ignores),
             Err(error) => {
-                let path = folder.clone()?;
-                found.unseen.push(Unseen { path, error })?;
+                self.fail(rt, path, Fault::Ignores(error))?;
+                Ok(None)
             }
         }
     }
-    Ok(())
-}
 
-/// Adds the documents below a folder, in the order of their paths' bytes.
-fn add_below(rt: &HostRuntime, found: &mut Found, folder: &str) -> io::Result<()> {
-    let mut below = Found {
-        files: Vec::new(rt.alloc()),
-        unseen: Vec::new(rt.alloc()),
-    };
-    let mut folders = Vec::new(rt.alloc());
-    folders.push(String::from_str(rt.alloc(), folder)?)?;
-    for _ in 0..u64::MAX {
-        let Some(folder) = folders.pop() else {
-            break;
-        };
-        add_folder(rt, &mut below, &mut folders, folder)?;
-    }
-    let Found { mut files, unseen } = below;
-    files.sort()?;
-    for file in files {
-        found.files.push(file)?;
-    }
-    for path in unseen {
-        found.unseen.push(path)?;
-    }
-    Ok(())
-}
-
-fn is_folder(rt: &HostRuntime, path: &str) -> bool {
-    Path::new(path).is_dir(rt)
-}
-
-/// The files that these paths mean. `-` stands for standard input, and is meant where there is no path.
-pub fn files_of(rt: &HostRuntime, paths: &[&str]) -> io::Result<Found> {
-    let mut found = Found {
-        files: Vec::new(rt.alloc()),
-        unseen: Vec::new(rt.alloc()),
-    };
-    for path in paths {
-        if *path != "-" && is_folder(rt, path) {
-            add_below(rt, &mut found, path)?;
-        } else {
-            found.files.push(String::from_str(rt.alloc(), path)?)?;
+    /// What is ignored in a folder.
+    fn ignores_in(&mut self, rt: &HostRuntime, folder: &Folder) -> Result<Option<usize>, Refused> {
+        if !self.respects_ignores() {
+            return Ok(None);
+        }
+        match self
+            .ignores
+            .enter(rt, folder.whole.as_str(), folder.ignores)
+        {
+            Ok(ignores) => Ok(ignores),
+            Err(error) => {
+                self.fail(rt, folder.path.as_str(), Fault::Ignores(error))?;
+                Ok(folder.ignores)
+            }
         }
     }
-    if paths.is_empty() {
-        found.files.push(String::from_str(rt.alloc(), "-")?)?;
+
+    /// Adds what stands in a folder.
+    fn look_into(
+        &mut self,
+        rt: &HostRuntime,
+        walk: &mut Walk,
+        folder: &Folder,
+    ) -> Result<(), Refused> {
+        let path = folder.path.as_str();
+        let entries = match fs::read_dir(rt, path) {
+            Ok(entries) => entries,
+            Err(error) => return self.fail(rt, path, Fault::Read(error)),
+        };
+        let whole = folder.whole.as_str();
+        let ignores = self.ignores_in(rt, folder)?;
+        let configuration = self.nearest(rt, whole)?;
+        let scope = Scope {
+            whole,
+            configuration,
+            ignores,
+        };
+        for entry in entries {
+            match entry {
+                Ok(entry) => self.look_at(rt, walk, scope, &entry)?,
+                Err(error) => self.fail(rt, path, entry_fault(error))?,
+            }
+        }
+        Ok(())
     }
-    Ok(found)
+
+    /// Adds an entry of a folder. Links are left out, so that no path goes in a circle or leaves the folder.
+    fn look_at(
+        &mut self,
+        rt: &HostRuntime,
+        walk: &mut Walk,
+        scope: Scope<'_>,
+        entry: &DirEntry,
+    ) -> Result<(), Refused> {
+        if replaced_by(entry.file_name()).is_some_and(is_markdown) {
+            let path = String::from_str(rt.alloc(), entry.path().as_str())?;
+            self.found.left_behind.push(path)?;
+            return Ok(());
+        }
+        if self.passes_by(scope.configuration, entry.file_name()) {
+            return Ok(());
+        }
+        let whole = joined(rt.alloc(), scope.whole, entry.file_name())?;
+        let path = entry.path();
+        let kind = match entry.file_type() {
+            Ok(kind) => kind,
+            Err(error) => return self.fail(rt, path.as_str(), Fault::Read(error)),
+        };
+        if kind.is_dir() {
+            if self.is_walked(rt, scope, whole.as_str(), true)? {
+                walk.folders.push(Folder {
+                    path: String::from_str(rt.alloc(), path.as_str())?,
+                    whole,
+                    ignores: scope.ignores,
+                })?;
+            }
+        } else if kind.is_file()
+            && self.includes(rt, scope.configuration, whole.as_str())?
+            && self.is_walked(rt, scope, whole.as_str(), false)?
+            && let Some(target) = self.target(rt, scope.configuration, path.as_str(), whole)?
+        {
+            walk.targets.push(target)?;
+        }
+        Ok(())
+    }
+
+    /// Whether something in a folder is neither excluded nor ignored.
+    fn is_walked(
+        &self,
+        rt: &HostRuntime,
+        scope: Scope<'_>,
+        path: &str,
+        is_folder: bool,
+    ) -> Result<bool, Refused> {
+        let entry = Entry { path, is_folder };
+        if self.excludes(rt, scope.configuration, entry)? {
+            return Ok(false);
+        }
+        Ok(!self.ignores.ignore(rt.alloc(), scope.ignores, entry)?)
+    }
 }

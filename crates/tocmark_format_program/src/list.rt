@@ -1,0 +1,47 @@
+//! Lists of files, as `--files-from` reads them.
+
+use crate::fault::Fault;
+use crate::lookup::Refused;
+use crate::search::Search;
+use std::io::Read;
+use std::{fs, io, str};
+
+/// What a list has, or standard input.
+fn bytes_of(rt: &HostRuntime, path: &str) -> io::Result<Vec<u8>> {
+    if path != "-" {
+        return fs::read(rt, path);
+    }
+    let mut bytes = Vec::new(rt.alloc());
+    rt.stdin().read_to_end(&mut bytes)?;
+    Ok(bytes)
+}
+
+fn add_name(rt: &HostRuntime, search: &mut Search, name: &[u8]) -> Result<(), Refused> {
+    match str::from_utf8(name) {
+        Ok(name) => search.add_listed(rt, name),
+        Err(_) => {
+            let name = String::from_utf8_lossy(rt.alloc(), name)?;
+            search.fail(rt, name.as_str(), Fault::Name)
+        }
+    }
+}
+
+/// Adds what the names in a list mean, which end with this byte.
+pub fn add_list(rt: &HostRuntime, search: &mut Search, path: &str, end: u8) -> Result<(), Refused> {
+    let bytes = match bytes_of(rt, path) {
+        Ok(bytes) => bytes,
+        Err(error) => {
+            let path = String::from_str(rt.alloc(), path)?;
+            if error.kind() == io::ErrorKind::NotFound {
+                return Err(Refused::Missing(path));
+            }
+            return Err(Refused::Unreadable(path, error));
+        }
+    };
+    for name in bytes.split(|byte| *byte == end) {
+        if !name.is_empty() {
+            add_name(rt, search, name)?;
+        }
+    }
+    Ok(())
+}

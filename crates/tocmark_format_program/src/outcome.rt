@@ -1,0 +1,76 @@
+//! What became of texts, and the status of a call.
+
+ghost use Rattle.std.specs.Prelude.{◌≡◌, ◌≤◌, ◌↔◌, All, IsSome, IsTrue, false, vec_len};
+ghost use Rattle.tocmark_format_program.specs.Outcomes.{IsFine};
+
+use crate::decide::Decision;
+
+/// What became of a text.
+#[derive(Clone, Copy, Drop)]
+pub struct Outcome {
+    /// It was changed, or would be.
+    pub is_changed: bool,
+    pub has_failed: bool,
+    /// How many blocks keep their lines.
+    pub warnings: usize,
+}
+
+/// For what a call ends with status 1, beside a failure.
+#[derive(Clone, Copy, Drop)]
+pub struct Terms {
+    /// A text that would change.
+    pub checks: bool,
+    /// A warning.
+    pub is_strict: bool,
+}
+
+impl Outcome {
+    /// A text that couldn't be done.
+    pub const FAILED: Outcome = Outcome {
+        is_changed: false,
+        has_failed: true,
+        warnings: 0,
+    };
+
+    /// A text that stays as it is.
+    pub const UNCHANGED: Outcome = Outcome {
+        is_changed: false,
+        has_failed: false,
+        warnings: 0,
+    };
+
+    /// Whether nothing in it is a reason for status 1.
+    fn is_fine(&self, terms: Terms) -> bool
+        ensures { IsTrue result ↔ IsFine terms self.now }
+    {
+        let is_change = terms.checks && self.is_changed;
+        let is_warning = terms.is_strict && self.warnings > 0;
+        !self.has_failed && !is_change && !is_warning
+    }
+}
+
+/// What a decision is to its text, once it is carried out.
+pub fn outcome_of(decision: &Decision) -> Outcome
+    ensures changed { IsTrue result.is_changed ↔ IsSome decision.now.new }
+    ensures done { result.has_failed ≡ false }
+    ensures warned { result.warnings ≡ vec_len decision.now.left }
+{
+    Outcome {
+        is_changed: decision.new.is_some(),
+        has_failed: false,
+        warnings: decision.left.len(),
+    }
+}
+
+/// The status of a call: 0 if nothing failed, nothing that is checked would change, and no strict call has a warning, else 1.
+pub fn status_of(outcomes: &[Outcome], terms: Terms) -> u8
+    ensures fine { result ≡ 0 ↔ All (IsFine terms) outcomes.now }
+    ensures known { result ≤ 1 }
+{
+    for outcome in outcomes {
+        if !outcome.is_fine(terms) {
+            return 1;
+        }
+    }
+    0
+}

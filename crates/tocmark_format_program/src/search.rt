@@ -1,0 +1,335 @@
+//! Which texts a call means, and with which settings.
+
+use crate::arguments::Choice;
+use crate::fault::Fault;
+use crate::ignores::Ignores;
+use crate::lookup::{Configurations, Refused, folder_of, joined, whole_path};
+use crate::rules::{Entry, Rules, name_of};
+use crate::settings::{Settings, set_all};
+use std::collections::{HashMap, HashSet};
+use std::fs;
+
+/// Where a text comes from, and what becomes of it.
+#[derive(Clone, Copy, Drop)]
+pub enum Origin {
+    File,
+    Input,
+    /// Standard input that is excluded, by the name that it has.
+    ExcludedInput,
+}
+
+/// A text that is meant.
+#[derive(Drop)]
+pub struct Target {
+    /// The path as it is named, or `-`.
+    pub path: String,
+    pub origin: Origin,
+    pub settings: Settings,
+}
+
+/// A path that gives no text, and why.
+#[derive(Drop)]
+pub struct Failure {
+    pub path: String,
+    pub fault: Fault,
+}
+
+/// What a call means.
+#[derive(Drop)]
+pub struct Found {
+    pub targets: Vec<Target>,
+    pub failures: Vec<Failure>,
+    /// Files that are named and excluded.
+    pub excluded: Vec<String>,
+    /// Files below folders that calls seem to have left behind which were interrupted.
+    pub left_behind: Vec<String>,
+}
+
+/// The search for what a call means.
+#[derive(Drop)]
+pub struct Search {
+    choice: Choice,
+    configurations: Configurations,
+    pub(crate) ignores: Ignores,
+    /// The whole paths of folders, by the names that files have them.
+    folders: HashMap<String, String>,
+    /// The whole paths of what is found.
+    seen: HashSet<String>,
+    pub(crate) found: Found,
+}
+
+/// Folders that have files of others.
+const FOREIGN: [&str; 4] = ["node_modules", "target", "vendor", "venv"];
+
+/// What ends names of Markdown files, in any case.
+const ENDINGS: [&str; 4] = ["md", "markdown", "mdown", "mkd"];
+
+/// Whether a file has a name of Markdown.
+pub(crate) fn is_markdown(name: &str) -> bool {
+    let Some((_, ending)) = name.rsplit_once('.') else {
+        return false;
+    };
+    for known in &ENDINGS {
+        if ending.eq_ignore_ascii_case(known) {
+            return true;
+        }
+    }
+    false
+}
+
+/// Whether something of this name is passed by below a folder.
+fn is_passed_by(name: &str) -> bool {
+    for folder in &FOREIGN {
+        if *folder == name {
+            return true;
+        }
+    }
+    name.starts_with('.') && name != ".github"
+}
+
+impl Search {
+    /// A search that has found nothing, with the configuration of this file for all texts, if one is given.
+    pub fn new(
+        rt: &HostRuntime,
+        choice: Choice,
+        configuration: Option<&str>,
+    ) -> Result<Search, Refused> {
+        let configurations = Configurations::new(rt, configuration)?;
+        Ok(Search {
+            choice,
+            configurations,
+            ignores: Ignores::new(rt.alloc()),
+            folders: HashMap::new(rt.alloc()),
+            seen: HashSet::new(rt.alloc()),
+            found: Found {
+                targets: Vec::new(rt.alloc()),
+                failures: Vec::new(rt.alloc()),
+                excluded: Vec::new(rt.alloc()),
+                left_behind: Vec::new(rt.alloc()),
+            },
+        })
+    }
+
+    /// Notes a path that gives no text.
+    pub fn fail(&mut self, rt: &HostRuntime, path: &str, fault: Fault) -> Result<(), Refused> {
+        let path = String::from_str(rt.alloc(), path)?;
+        self.found.failures.push(Failure { path, fault })?;
+        Ok(())
+    }
+
+    pub(crate) fn respects_ignores(&self) -> bool {
+        self.choice.respects_ignores
+    }
+
+    /// Which configuration the files of a folder have.
+    pub(crate) fn nearest(&mut self, rt: &HostRuntime, folder: &str) -> Result<usize, Refused> {
+        self.configurations.nearest(rt, folder)
+    }
+
+    fn include(&self, configuration: usize) -> Option<&Rules> {
+        if let Some(rules) = &self.choice.include {
+            return Some(rules);
+        }
+        self.configurations.get(configuration)?.include.as_ref()
+    }
+
+    /// Whether something below a folder is passed by for its name.
+    pub(crate) fn passes_by(&self, configuration: usize, name: &str) -> bool {
+        if !is_passed_by(name) {
+            return false;
+        }
+        match self.include(configuration) {
+            Some(rules) => !rules.name(name),
+            None => true,
+        }
+    }
+
+    /// Whether something below a folder is excluded.
+    pub(crate) fn excludes(
+        &self,
+        rt: &HostRuntime,
+        configuration: usize,
+        entry: Entry<'_>,
+    ) -> Result<bool, Refused> {
+        if self.choice.exclude.mean(rt.alloc(), entry)? {
+            return Ok(true);
+        }
+        match self.configurations.get(configuration) {
+            Some(configuration) => Ok(configuration.exclude.mean(rt.alloc(), entry)?),
+            None => Ok(false),
+        }
+    }
+
+    /// Whether something or a folder above it is excluded.
+    fn covers(
+        &self,
+        rt: &HostRuntime,
+        configuration: usize,
+        entry: Entry<'_>,
+    ) -> Result<bool, Refused> {
+        if self.choice.exclude.cover(rt.alloc(), entry)? {
+            return Ok(true);
+        }
+        match self.configurations.get(configuration) {
+            Some(configuration) => Ok(configuration.exclude.cover(rt.alloc(), entry)?),
+            None => Ok(false),
+        }
+    }
+
+    /// Whether a folder that is named, or one above it, is excluded.
+    pub(crate) fn is_excluded_folder(
+        &mut self,
+        rt: &HostRuntime,
+        path: &str,
+    ) -> Result<bool, Refused> {
+        let configuration = self.nearest(rt, path)?;
+        let entry = Entry {
+            path,
+            is_folder: true,
+        };
+        self.covers(rt, configuration, entry)
+    }
+
+    /// Notes that something that is named is excluded.
+    pub(crate) fn exclude(&mut self, rt: &HostRuntime, path: &str) -> Result<(), Refused> {
+        let path = String::from_str(rt.alloc(), path)?;
+        self.found.excluded.push(path)?;
+        Ok(())
+    }
+
+    /// Whether a file below a folder is one of those that are formatted.
+    pub(crate) fn includes(
+        &self,
+        rt: &HostRuntime,
+        configuration: usize,
+        path: &str,
+    ) -> Result<bool, Refused> {
+        let Some(rules) = self.include(configuration) else {
+            return Ok(is_markdown(name_of(path)));
+        };
+        Ok(rules.mean(rt.alloc(), Entry::file(path))?)
+    }
+
+    /// The settings of a file, or of a text without a name.
+    fn settings(
+        &self,
+        rt: &HostRuntime,
+        configuration: usize,
+        path: Option<&str>,
+    ) -> Result<Settings, Refused> {
+        let mut settings = self.configurations.settings(rt, configuration, path)?;
+        let _ = set_all(&mut settings, &self.choice.values);
+        Ok(settings)
+    }
+
+    /// The file of this path and this whole path, unless it is there already.
+    pub(crate) fn target(
+        &mut self,
+        rt: &HostRuntime,
+        configuration: usize,
+        path: &str,
+        whole: String,
+    ) -> Result<Option<Target>, Refused> {
+        let settings = self.settings(rt, configuration, Some(whole.as_str()))?;
+        let path = String::from_str(rt.alloc(), path)?;
+        if !self.seen.insert(whole)? {
+            return Ok(None);
+        }
+        Ok(Some(Target {
+            path,
+            origin: Origin::File,
+            settings,
+        }))
+    }
+
+    /// The whole path of a file, whose folder's links are followed.
+    fn whole(&mut self, rt: &HostRuntime, path: &str) -> Result<String, Refused> {
+        let folder = folder_of(path);
+        if !self.folders.contains_key(folder) {
+            let known = String::from_str(rt.alloc(), folder)?;
+            self.folders.insert(known, whole_path(rt, folder)?)?;
+        }
+        match self.folders.get(folder) {
+            Some(folder) => Ok(joined(rt.alloc(), folder.as_str(), name_of(path))?),
+            None => Ok(String::from_str(rt.alloc(), path)?),
+        }
+    }
+
+    /// Adds a file that is named.
+    fn add_file(&mut self, rt: &HostRuntime, path: &str) -> Result<(), Refused> {
+        let whole = self.whole(rt, path)?;
+        let configuration = self.nearest(rt, folder_of(whole.as_str()))?;
+        if self.covers(rt, configuration, Entry::file(whole.as_str()))? {
+            return self.exclude(rt, path);
+        }
+        if let Some(target) = self.target(rt, configuration, path, whole)? {
+            self.found.targets.push(target)?;
+        }
+        Ok(())
+    }
+
+    /// Adds what an argument names: a file, or the files below a folder.
+    pub fn add(&mut self, rt: &HostRuntime, path: &str) -> Result<(), Refused> {
+        match fs::metadata(rt, path) {
+            Ok(metadata) if metadata.is_dir() => self.add_below(rt, path),
+            Ok(metadata) if metadata.is_file() => self.add_file(rt, path),
+            Ok(_) => self.fail(rt, path, Fault::NotRegular),
+            Err(error) => self.fail(rt, path, Fault::Read(error)),
+        }
+    }
+
+    /// Adds what a line of a list names, if it is one of the files that are formatted below a folder.
+    pub fn add_listed(&mut self, rt: &HostRuntime, path: &str) -> Result<(), Refused> {
+        let whole = self.whole(rt, path)?;
+        let configuration = self.nearest(rt, folder_of(whole.as_str()))?;
+        for name in path.split('/') {
+            if name != "." && name != ".." && self.passes_by(configuration, name) {
+                return Ok(());
+            }
+        }
+        if !self.includes(rt, configuration, whole.as_str())? {
+            return Ok(());
+        }
+        self.add(rt, path)
+    }
+
+    /// Adds standard input, by the configuration of the working folder.
+    pub fn add_input(&mut self, rt: &HostRuntime) -> Result<(), Refused> {
+        if !self.seen.insert(String::from_str(rt.alloc(), "-")?)? {
+            return Ok(());
+        }
+        let folder = whole_path(rt, ".")?;
+        let configuration = self.nearest(rt, folder.as_str())?;
+        let settings = self.settings(rt, configuration, None)?;
+        self.found.targets.push(Target {
+            path: String::from_str(rt.alloc(), "-")?,
+            origin: Origin::Input,
+            settings,
+        })?;
+        Ok(())
+    }
+
+    /// Adds standard input as the text of this file, which need not be there.
+    pub fn add_input_as(&mut self, rt: &HostRuntime, path: &str) -> Result<(), Refused> {
+        let whole = self.whole(rt, path)?;
+        let configuration = self.nearest(rt, folder_of(whole.as_str()))?;
+        let origin = if self.covers(rt, configuration, Entry::file(whole.as_str()))? {
+            Origin::ExcludedInput
+        } else {
+            Origin::Input
+        };
+        let settings = self.settings(rt, configuration, Some(whole.as_str()))?;
+        self.found.targets.push(Target {
+            path: String::from_str(rt.alloc(), path)?,
+            origin,
+            settings,
+        })?;
+        Ok(())
+    }
+
+    /// What was found.
+    pub fn end(self) -> Found {
+        let Search { found, .. } = self;
+        found
+    }
+}

@@ -1,0 +1,47 @@
+//! A text that is read whole.
+
+ghost use Rattle.std.specs.Prelude.{◌≡◌, IfErr, IfOk, IfSome, string_bytes};
+ghost use Rattle.tocmark_format_program.specs.Formats.{IsOutputFault};
+
+use crate::fault::Fault;
+use std::alloc::Global;
+use std::io::Read;
+
+/// The line, counted from 1, in which the byte behind these stands.
+fn line_behind(bytes: &[u8]) -> usize {
+    let mut line = 1usize;
+    for byte in bytes {
+        if *byte == b'\n' {
+            line = line.saturating_add(1);
+        }
+    }
+    line
+}
+
+/// Bytes as text, or the line that isn't UTF-8.
+fn text_of(bytes: Vec<u8>) -> Result<String, Fault>
+    ensures text { IfOk result (λ text. string_bytes text ≡ bytes.items) }
+    ensures fault { IfErr result (λ fault. ¬ (IsOutputFault fault)) }
+{
+    match String::from_utf8(bytes) {
+        Ok(text) => Ok(text),
+        Err(error) => {
+            let end = error.utf8_error().valid_up_to();
+            let valid = error.as_bytes().get(..end).unwrap_or(&[]);
+            Err(Fault::NotUtf8(line_behind(valid)))
+        }
+    }
+}
+
+/// All that an input has, as text.
+pub fn text_in<I: Read>(alloc: Global, input: &mut I) -> Result<String, Fault>
+    ensures text { IfSome (I.remaining input.old) (λ bytes.
+        IfOk result (λ text. string_bytes text ≡ bytes)) }
+    ensures fault { IfErr result (λ fault. ¬ (IsOutputFault fault)) }
+{
+    let mut bytes = Vec::new(alloc);
+    if let Err(error) = input.read_to_end(&mut bytes) {
+        return Err(Fault::Read(error));
+    }
+    text_of(bytes)
+}
