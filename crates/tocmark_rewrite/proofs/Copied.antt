@@ -1,5 +1,5 @@
 -- Trees that are kept in the first part.
-use Rattle.std.proofs.Common.{◌≡◌, ◌≤◌, ◌∙◌, sym, subst, ap, arith, refl, true≢false, ℕ, zero, List, [], ◌∷◌, length, Option, Some, None, IsSome, IsTrue, get_or, slice_get}
+use Rattle.std.proofs.Common.{◌≡◌, sym, subst, ap, arith, refl, true≢false, ℕ, List, [], ◌∷◌, length, Option, Some, None, IsSome, IsTrue, get_or, slice_get}
 use Rattle.std.specs.List.{All}
 use Rattle.std.specs.Prelude.{IfSome}
 use Rattle.tocmark_event.specs.View.{EventView}

@@ -5,7 +5,7 @@ use Rattle.std.specs.Prelude.{IfSome}
 use Rattle.tocmark_event.specs.View.{EventView}
 use Rattle.tocmark_rewrite.specs.Kept.{AreItsLines, HasEventsOf, IsFrom, IsHonest, ReadSource}
 use Rattle.tocmark_rewrite.specs.Lines.{AreLinesOf, HasItsLines}
-use Rattle.tocmark_rewrite.specs.Trees.{range_at, tree_at, trees_of}
+use Rattle.tocmark_rewrite.specs.Trees.{range_at, tree_at}
 use Rattle.tocmark_rewrite.specs.declared.plan.Plan.{Plan}
 use Rattle.tocmark_rewrite.specs.declared.trees.Block.{Block}
 use Rattle.tocmark_rewrite.specs.declared.trees.Tree.{Tree}

@@ -1,5 +1,5 @@
 -- Stretches of events.
-use Rattle.std.proofs.Common.{◌≡◌, ◌∙◌, ℕ, List, ap, map, slice_range, sym}
+use Rattle.std.proofs.Common.{◌≡◌, ◌∙◌, ℕ, List, ap, slice_range, sym}
 use mathlib.Core.List.{map-map}
 use Rattle.tocmark_event.specs.Reading.{ReadingView, reading_view}
 use Rattle.tocmark_event.specs.Text.{ParserEvent, text_of}

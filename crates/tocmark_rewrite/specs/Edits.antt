@@ -1,5 +1,5 @@
 -- What edits make of an event.
-use Rattle.std.specs.Prelude.{ℕ, ◌+◌, ◌-◌, ◌∷◌, [], Bool, true, false, not, List, bytes_eq, if◌then◌else◌, nat_le}
+use Rattle.std.specs.Prelude.{ℕ, ◌+◌, ◌-◌, ◌∷◌, [], Bool, false, not, List, bytes_eq, if◌then◌else◌, nat_le}
 use Rattle.tocmark_event.specs.View.{EventView, TagView, Start, End, Leaf, Heading, Link, Image, Text, Code, SoftBreak, HardBreak}
 use Rattle.tocmark_event.specs.declared.event.HeadingLevel.{HeadingLevel}
 use Rattle.tocmark_event.specs.declared.event.HeadingLevel.TheVariants.{H1, H2, H3, H4, H5, H6}

@@ -1,6 +1,6 @@
 -- The lines of a source on which a block stands.
 use Rattle.std.specs.Option.{option_map_or}
-use Rattle.std.specs.Prelude.{◌≤◌, ◌<◌, ◌||◌, ℕ, Bool, true, IsTrue, List, Option, length, nat_eq, slice_get}
+use Rattle.std.specs.Prelude.{◌≤◌, ◌<◌, ◌||◌, ℕ, Bool, true, IsTrue, List, length, nat_eq, slice_get}
 use Rattle.tocmark_rewrite.specs.declared.trees.Block.{Block}
 
 -- whether a byte is a space, a tab, or of a line's end

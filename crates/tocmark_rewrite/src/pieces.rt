@@ -1,5 +1,10 @@
 //! The trees that were changed, each written by itself.
 
+ghost use Rattle.std.specs.Prelude.{ℕ, IfErr, List};
+ghost use Rattle.tocmark_event.specs.Reading.{ReadingView};
+ghost use Rattle.tocmark_event.specs.View.{EventView};
+ghost use Rattle.tocmark_rewrite.specs.Edited.{IsVain};
+
 use crate::destination::definition_line;
 use crate::fault::Fault;
 use crate::given::{GivenEvents, GivenPairs};
@@ -153,7 +158,11 @@ fn piece_of<'a, R: Reader>(
     blocks: &[Block],
     joint: &Joint,
     events: &'a [(Event<'a>, (usize, usize))],
-) -> Result<Piece, Fault> {
+) -> Result<Piece, Fault>
+    ensures { IfErr result (λ fault. (reading : List ℕ → ReadingView)
+        → (labels : List (List ℕ)) → (text : List ℕ) → (given : List EventView)
+        → IsVain reading labels text given fault) }
+{
     let plan = &joint.plan;
     if plan.kept.is_some() {
         return Ok(Piece {
@@ -176,7 +185,11 @@ pub(crate) fn make_pieces<'a, R: Reader>(
     blocks: &[Block],
     joints: &[Joint],
     events: &'a [(Event<'a>, (usize, usize))],
-) -> Result<Vec<Piece>, Fault> {
+) -> Result<Vec<Piece>, Fault>
+    ensures { IfErr result (λ fault. (reading : List ℕ → ReadingView)
+        → (labels : List (List ℕ)) → (text : List ℕ) → (given : List EventView)
+        → IsVain reading labels text given fault) }
+{
     let mut all = Vec::new(tools.alloc);
     for joint in joints {
         let piece = piece_of(tools, source, blocks, joint, events)?;

@@ -1,7 +1,7 @@
 use Rattle.std.proofs.Common.{◌∙◌, ℕ, arith, subst, sym}
 use Rattle.std.specs.List.{All}
 use Rattle.std.proofs.lemmas.List.Elements.{All-push}
-use Rattle.tocmark_rewrite.specs.Kept.{IsCopied, IsCopiedFirst, IsTold, WasKept, planned_span, span_of}
+use Rattle.tocmark_rewrite.specs.Kept.{IsCopied, IsTold, WasKept, planned_span, span_of}
 use Rattle.tocmark_rewrite.proofs.Copied.{was-kept}
 use Rattle.tocmark_rewrite.proofs.Plans.{seen-more}
 use Rattle.tocmark_rewrite.proofs.answer.told.Goals as goal

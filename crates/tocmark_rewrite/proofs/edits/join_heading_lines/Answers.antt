@@ -1,4 +1,4 @@
-use Rattle.std.proofs.Common.{◌∙◌, arith, add-one, false, map}
+use Rattle.std.proofs.Common.{◌∙◌, arith, add-one, false}
 use Rattle.std.proofs.lemmas.List.{length-map}
 use Rattle.tocmark_event.specs.Text.{text_of}
 use Rattle.tocmark_event.specs.View.{event_view}

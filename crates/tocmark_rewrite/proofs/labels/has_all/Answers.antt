@@ -1,4 +1,4 @@
-use Rattle.std.proofs.Common.{rules, ◌≡◌, ◌∙◌, ◌||◌, ap, arith, bytes_eq, get_or, map, refl, string_bytes, subst, sym, take, true≢false, IsTrue, List, ℕ, Bool, true, false}
+use Rattle.std.proofs.Common.{rules, ◌≡◌, ◌∙◌, ◌||◌, ap, arith, bytes_eq, get_or, refl, string_bytes, subst, sym, take, true≢false, List, ℕ, Bool, true, false}
 use Rattle.std.specs.HashSet.{contains_text}
 use Rattle.std.specs.List.{list_any}
 use Rattle.std.proofs.lemmas.List.{take_all}

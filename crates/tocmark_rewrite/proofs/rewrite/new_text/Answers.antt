@@ -1,6 +1,6 @@
 use Rattle.std.proofs.Common.{◌≡◌, ◌∙◌, ap, sym, true≢false, List, ℕ}
 use Rattle.tocmark_event.specs.Merged.{merged}
-use Rattle.tocmark_compare.specs.Given.{found_events, given_events}
+use Rattle.tocmark_compare.specs.Given.{given_events}
 use Rattle.tocmark_compare.proofs.Apart.{apart_differ}
 use Rattle.tocmark_rewrite.proofs.Causes.{if-err, caused}
 use Rattle.tocmark_rewrite.proofs.rewrite.new_text.Goals as goal

@@ -1,7 +1,7 @@
-use Rattle.std.proofs.Common.{◌≡◌, ◌∙◌, ap, map, string_bytes, sym, subst, true≢false}
+use Rattle.std.proofs.Common.{◌∙◌, ap, map, string_bytes, sym, subst, true≢false}
 use Rattle.tocmark_event.specs.Merged.{merged}
 use Rattle.tocmark_event.specs.Reading.{ReadingView}
-use Rattle.tocmark_compare.specs.Given.{found_events, given_events}
+use Rattle.tocmark_compare.specs.Given.{found_events}
 use Rattle.tocmark_rewrite.specs.Labels.{AreAmong}
 use Rattle.tocmark_rewrite.proofs.rewrite.refusal.Goals as goal
 

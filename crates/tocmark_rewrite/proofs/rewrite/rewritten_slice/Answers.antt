@@ -4,13 +4,12 @@ use Rattle.tocmark_event.specs.Merged.{merged}
 use Rattle.tocmark_event.specs.Reading.{ReadingView}
 use Rattle.tocmark_event.specs.Text.{ParserEvent}
 use Rattle.tocmark_event.specs.View.{EventView}
-use Rattle.tocmark_compare.specs.Given.{found_events, given_events}
+use Rattle.tocmark_compare.specs.Given.{given_events}
 use Rattle.tocmark_rewrite.specs.Edited.{read_source}
 use Rattle.tocmark_rewrite.specs.Kept.{AreCopied, IsFrom, IsHonest, IsTold, ReadSource, planned_span}
 use Rattle.tocmark_rewrite.specs.Trees.{ranges_of, spans_of, trees_of}
 use Rattle.tocmark_rewrite.specs.declared.plan.Plan.{Plan}
 use Rattle.tocmark_rewrite.specs.declared.trees.Block.{Block}
-use Rattle.tocmark_compare.proofs.Found.{found-given}
 use Rattle.tocmark_rewrite.proofs.Copied.{all-copied}
 use Rattle.tocmark_rewrite.proofs.Honest.{all-honest}
 use Rattle.tocmark_rewrite.proofs.Readings.{found-alike, ranges-alike}

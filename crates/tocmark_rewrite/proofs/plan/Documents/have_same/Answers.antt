@@ -1,4 +1,4 @@
-use Rattle.std.proofs.Common.{◌≡◌, ◌∙◌, ap, sym, true≢false}
+use Rattle.std.proofs.Common.{◌∙◌, ap, sym, true≢false}
 use Rattle.tocmark_event.specs.Merged.{merged}
 use Rattle.tocmark_compare.specs.Given.{given_events}
 use Rattle.tocmark_compare.proofs.Apart.{apart_differ}

@@ -1,4 +1,4 @@
-use Rattle.std.proofs.Common.{rules, ◌≡◌, ◌∙◌, ◌+◌, ◌<◌, ◌^◌, ap, ap₂, arith, length, map, slice_get, slice_index_or, subst, sym, take, IsSome, List, ℕ, Some}
+use Rattle.std.proofs.Common.{rules, ◌≡◌, ◌∙◌, ◌+◌, ◌<◌, ◌^◌, ap, ap₂, length, map, slice_get, slice_index_or, subst, sym, IsSome, List, ℕ, Some}
 use Rattle.std.specs.List.{All}
 use Rattle.std.proofs.lemmas.List.Elements.{All-push}
 use Rattle.tocmark_event.specs.Merged.{merged}
