@@ -123,18 +123,26 @@ fn with_fences<'a>(alloc: Global, command: Command<'a>) -> Result<Command<'a>, A
         .value_name("RULE")
         .allow_hyphen_values(true)
         .help("Thematic break: --- (default) or source");
+    let command = command.arg(fence)?.arg(length)?;
+    with_widths(alloc, command.arg(hard_break)?.arg(rule)?)
+}
+
+fn with_widths<'a>(alloc: Global, command: Command<'a>) -> Result<Command<'a>, AllocError> {
     let width = Arg::new(alloc, "table-width")
         .long("table-width")
         .value_name("N")
         .help("Pad tables up to this many columns (default 120)");
+    let indent = Arg::new(alloc, "list-indent")
+        .long("list-indent")
+        .value_name("WIDTH")
+        .help("Indentation of items: that of the marker (default),\nor 4 columns");
     let wrap = Arg::new(alloc, "wrap")
         .long("wrap")
         .value_name("WHERE")
         .help(
             "Lines of paragraphs: keep (default), no (join them)\nor N (fill them up to N columns)",
         );
-    let command = command.arg(fence)?.arg(length)?;
-    command.arg(hard_break)?.arg(rule)?.arg(width)?.arg(wrap)
+    command.arg(width)?.arg(indent)?.arg(wrap)
 }
 
 /// The options that say what is done.

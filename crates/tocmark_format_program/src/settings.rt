@@ -2,7 +2,9 @@
 
 use tocmark_command::syntax::{extension_named, syntax_named};
 use tocmark_event::event::ParserOptions;
-use tocmark_format::{Bullet, Delimiter, Fence, HardBreak, Marker, Numbering, Rule, Style, Wrap};
+use tocmark_format::{
+    Bullet, Delimiter, Fence, HardBreak, ListIndent, Marker, Numbering, Rule, Style, Wrap,
+};
 use tocmark_reader::GFM;
 
 /// What a text is read as, and how it is to look.
@@ -29,6 +31,7 @@ pub(crate) enum Key {
     HardBreak,
     Rule,
     TableWidth,
+    ListIndent,
     Wrap,
 }
 
@@ -40,7 +43,7 @@ pub(crate) struct Setting {
 }
 
 /// The options by their names, with what each takes.
-pub(crate) const KEYS: [(&str, Key, &str); 13] = [
+pub(crate) const KEYS: [(&str, Key, &str); 14] = [
     ("syntax", Key::Syntax, "commonmark, gfm or all"),
     (
         "extension",
@@ -57,6 +60,7 @@ pub(crate) const KEYS: [(&str, Key, &str); 13] = [
     ("hard-break", Key::HardBreak, "source, backslash or spaces"),
     ("rule", Key::Rule, "--- or source"),
     ("table-width", Key::TableWidth, "a number from 1 to 1000"),
+    ("list-indent", Key::ListIndent, "marker or 4"),
     ("wrap", Key::Wrap, "keep, no or a number from 1 to 1000"),
 ];
 
@@ -96,6 +100,11 @@ const HARD_BREAKS: [(&str, HardBreak); 3] = [
 ];
 
 const RULES: [(&str, Rule); 2] = [("---", Rule::Dashes), ("source", Rule::Source)];
+
+const LIST_INDENTS: [(&str, ListIndent); 2] = [
+    ("marker", ListIndent::Marker),
+    ("4", ListIndent::Four),
+];
 
 impl Settings {
     /// GFM with front matter, in the style that changes least.
@@ -213,6 +222,7 @@ pub(crate) fn set(settings: &mut Settings, key: Key, word: &str) -> bool {
         Key::HardBreak => put(&mut style.hard_break, named(&HARD_BREAKS, word)),
         Key::Rule => put(&mut style.rule, named(&RULES, word)),
         Key::TableWidth => put(&mut style.table_width, width_of(word)),
+        Key::ListIndent => put(&mut style.list_indent, named(&LIST_INDENTS, word)),
         Key::Wrap => put(&mut style.wrap, wrap_of(word)),
     }
 }
