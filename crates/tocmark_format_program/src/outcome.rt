@@ -1,7 +1,8 @@
 //! What became of texts, and the status of a call.
 
-ghost use Rattle.std.specs.Prelude.{◌≡◌, ◌≤◌, ◌↔◌, All, IsSome, IsTrue, false, vec_len};
-ghost use Rattle.tocmark_format_program.specs.Outcomes.{IsFine};
+ghost use Rattle.std.specs.Prelude.{◌≡◌, ◌↔◌, IsSome, IsTrue, false, vec_len};
+ghost use Rattle.std.specs.List.{list_any};
+ghost use Rattle.tocmark_format_program.specs.Outcomes.{is_reason, status};
 
 use crate::decide::Decision;
 
@@ -39,13 +40,13 @@ impl Outcome {
         warnings: 0,
     };
 
-    /// Whether nothing in it is a reason for status 1.
-    fn is_fine(&self, terms: Terms) -> bool
-        ensures { IsTrue result ↔ IsFine terms self.now }
+    /// Whether something in it is a reason for status 1.
+    fn is_reason(&self, terms: Terms) -> bool
+        ensures { result ≡ is_reason terms self.now }
     {
-        let is_change = terms.checks && self.is_changed;
-        let is_warning = terms.is_strict && self.warnings > 0;
-        !self.has_failed && !is_change && !is_warning
+        self.has_failed
+            || (terms.checks && self.is_changed)
+            || (terms.is_strict && self.warnings != 0)
     }
 }
 
@@ -64,13 +65,19 @@ pub fn outcome_of(decision: &Decision) -> Outcome
 
 /// The status of a call: 0 if nothing failed, nothing that is checked would change, and no strict call has a warning, else 1.
 pub fn status_of(outcomes: &[Outcome], terms: Terms) -> u8
-    ensures fine { result ≡ 0 ↔ All (IsFine terms) outcomes.now }
-    ensures known { result ≤ 1 }
+    ensures { result ≡ status (list_any (is_reason terms) outcomes.now) }
+{
+    if has_reason(outcomes, terms) { 1 } else { 0 }
+}
+
+/// Whether an outcome is a reason for status 1.
+fn has_reason(outcomes: &[Outcome], terms: Terms) -> bool
+    ensures { result ≡ list_any (is_reason terms) outcomes.now }
 {
     for outcome in outcomes {
-        if !outcome.is_fine(terms) {
-            return 1;
+        if outcome.is_reason(terms) {
+            return true;
         }
     }
-    0
+    false
 }
