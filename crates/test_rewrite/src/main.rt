@@ -190,18 +190,6 @@ fn block_places(
     Ok(all)
 }
 
-/// Adds copies of events.
-fn add_copies(
-    alloc: Global,
-    all: &mut Vec<(Event<'static>, (usize, usize))>,
-    events: &[(Event<'static>, (usize, usize))],
-) -> Result<(), AllocError> {
-    for (event, range) in events {
-        all.push((event.to_static(alloc)?, *range))?;
-    }
-    Ok(())
-}
-
 /// The events with a paragraph in front of the one at a place, which has an empty range.
 fn with_paragraph(
     alloc: Global,
@@ -209,13 +197,34 @@ fn with_paragraph(
     at: usize,
     byte: usize,
 ) -> Result<Vec<(Event<'static>, (usize, usize))>, AllocError> {
-    let mut all = Vec::new(alloc);
-    add_copies(alloc, &mut all, events.get(..at).unwrap_or(&[]))?;
     let here = (byte, byte);
-    all.push((Event::Start(Tag::Paragraph), here))?;
-    all.push((Event::Text(CowStr::Borrowed("New.")), here))?;
-    all.push((Event::End(TagEnd::Paragraph), here))?;
-    add_copies(alloc, &mut all, events.get(at..).unwrap_or(&[]))?;
+    let mut all = Vec::new(alloc);
+    for place in 0..events.len().saturating_add(1) {
+        if place == at {
+            all.push((Event::Start(Tag::Paragraph), here))?;
+            all.push((Event::Text(CowStr::Borrowed("New.")), here))?;
+            all.push((Event::End(TagEnd::Paragraph), here))?;
+        }
+        if let Some((event, range)) = events.get(place) {
+            all.push((event.to_static(alloc)?, *range))?;
+        }
+    }
+    Ok(all)
+}
+
+/// The events but for those from one place to before another.
+fn without(
+    alloc: Global,
+    events: &[(Event<'static>, (usize, usize))],
+    first: usize,
+    past: usize,
+) -> Result<Vec<(Event<'static>, (usize, usize))>, AllocError> {
+    let mut all = Vec::new(alloc);
+    for (place, pair) in events.iter().enumerate() {
+        if place < first || place >= past {
+            all.push((pair.0.to_static(alloc)?, pair.1))?;
+        }
+    }
     Ok(all)
 }
 
@@ -243,12 +252,7 @@ fn with_block_edit(
     match edit {
         Edit::Behind(_) => with_paragraph(alloc, events, past, ends),
         Edit::Before(_) => with_paragraph(alloc, events, first, begins),
-        _ => {
-            let mut all = Vec::new(alloc);
-            add_copies(alloc, &mut all, events.get(..first).unwrap_or(&[]))?;
-            add_copies(alloc, &mut all, events.get(past..).unwrap_or(&[]))?;
-            Ok(all)
-        }
+        _ => without(alloc, events, first, past),
     }
 }
 
