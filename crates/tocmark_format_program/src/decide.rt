@@ -38,7 +38,7 @@ pub fn decided<R: PartReader>(
         ≡ R.definitions reader.now (string_bytes decision.old) settings.flags)) }
 {
     let Settings { flags, style } = settings;
-    let Formatted { text: new, left } = formatted(alloc, text.as_str(), reader, flags, style)?;
+    let Formatted { text: new, left } = formatted(alloc, text.as_str(), reader, flags, style, &[])?;
     if new.as_str() == text.as_str() {
         drop(new);
         return Ok(Decision {
