@@ -3,11 +3,12 @@
 //!
 //! Below it stand the reader of extensions, whose flags the names stand for, and the kit's `clap`; above it stand
 //! `tocmark_events_program` and `tocmark_format_program`. Start at `Program` (`program`), which refuses wrong calls.
-//! `options` adds the rows of a table to a command, `syntax` has `--syntax` and `--extension` with their help, and `streams`
-//! reads and writes whole texts.
+//! `options` adds the rows of a table to a command, `syntax` has `--syntax` and `--extension` with their help, `streams`
+//! reads and writes whole texts, and `release` says which release a program is from.
 #![tactic(auto)]
 
 pub mod options;
 pub mod program;
+pub mod release;
 pub mod streams;
 pub mod syntax;
