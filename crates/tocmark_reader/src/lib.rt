@@ -42,6 +42,6 @@ pub use block_reading::BlockReading;
 pub use definitions::{DefinitionPlace, ReferenceDefinition, find_definitions};
 pub use extended::{EXTENSIONS, ExtendedReader, GFM, NAMED_EXTENSIONS};
 pub use plain::is_plain;
-pub use reader::{CoreReader, find, find_blocks};
+pub use reader::{CoreReader, find, find_blocks, find_blocks_and_definitions};
 pub use tocmark_read_scan::syntax::Names;
 pub use unit_reader::UnitReader;
