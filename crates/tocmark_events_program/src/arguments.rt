@@ -245,6 +245,14 @@ pub fn options_file<'a>(matches: &ArgMatches<'a>) -> Option<&'a str> {
     }
 }
 
+/// The file that is rewritten in place, if the call asks for that.
+pub fn file_in_place<'a>(matches: &ArgMatches<'a>) -> Option<&'a str> {
+    match matches.subcommand() {
+        Some(("rewrite", matches)) if matches.get_flag("in-place") => matches.get_str("source"),
+        _ => None,
+    }
+}
+
 /// What the arguments ask for, beginning with these options, or why they are wrong.
 pub fn asked<'a>(
     alloc: Global,
