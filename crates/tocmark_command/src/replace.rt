@@ -1,4 +1,4 @@
-//! A file's text replaced in place: all of it or nothing.
+//! Replaces a file's text: all of it or nothing.
 //!
 //! The new text is written to a new file in the same folder, which gets the owner and the permissions of the old one, is
 //! synced, and is renamed over it. Until then the old file stays as it is. After an error the new file is removed.

@@ -1,4 +1,4 @@
-//! A file's text replaced by another one that says the same.
+//! Replaces a file's text by another one that says the same.
 
 ghost use Rattle.tocmark_format_program.specs.Formats.{KeepsWhatItSays};
 
@@ -6,7 +6,7 @@ use crate::decide::Decision;
 use tocmark_command::replace::{ReplaceError, Replacement};
 use tocmark_event::reader::Reader;
 
-/// A decision that is carried out, and by whom its texts are read.
+/// A decision that is carried out, and the reader of its texts.
 #[derive(Drop)]
 pub struct Change<'c, R> {
     pub reader: &'c R,
@@ -15,8 +15,8 @@ pub struct Change<'c, R> {
     pub syncs: bool,
 }
 
-/// Puts the new text of a decision, which says the same, in the place of a file's old one, if there is a new one. A link is
-/// followed. After an `Err` the file stays as it was.
+/// Replaces a file's text by the new text of a decision, if there is one. Both say the same. A link is followed. After an
+/// `Err` the file is as it was.
 pub fn replace_text<R: Reader>(
     rt: &HostRuntime,
     path: &str,
