@@ -257,7 +257,7 @@ impl<R: PartReader> Formatter<'_, R> {
                 Look::of(self.style),
                 &ladder.steps,
                 ladder.keeps_definitions,
-            )?,
+            ),
             said: Summary::new(self.alloc, self.style.wrap),
         };
         let text = source.text;

@@ -233,16 +233,16 @@ pub(crate) struct Page {
 }
 
 impl Page {
-    /// The page of a document that ends here, with room for a text that is a little longer.
-    pub(crate) fn new(alloc: Global, end: usize) -> Result<Page, AllocError> {
-        Ok(Page {
+    /// The page of a document that ends here.
+    pub(crate) fn new(alloc: Global, end: usize) -> Page {
+        Page {
             alloc,
-            text: String::with_capacity(alloc, end.saturating_add(end / 16))?,
+            text: String::new(alloc),
             outer: Vec::new(alloc),
             top: Frame::new(alloc, Kind::Document, 0, end),
             budget: usize::MAX,
             is_over: false,
-        })
+        }
     }
 
     /// What is printed.

@@ -70,11 +70,11 @@ impl<'d> Printer<'d> {
         wanted: Look,
         steps: &'d [Step],
         keeps_definitions: bool,
-    ) -> Result<Printer<'d>, AllocError> {
-        Ok(Printer {
+    ) -> Printer<'d> {
+        Printer {
             alloc,
             source,
-            page: Page::new(alloc, source.text.len())?,
+            page: Page::new(alloc, source.text.len()),
             wanted,
             look: wanted,
             steps,
@@ -85,7 +85,7 @@ impl<'d> Printer<'d> {
             is_cut: false,
             kept: None,
             foreign: None,
-        })
+        }
     }
 
     fn step(&self, tree: usize) -> Step {
