@@ -52,3 +52,7 @@ pub mod ScriptReading
 pub mod AttributedHeadings
 pub mod TaskItems
 mod ExtensionExamples
+pub mod TableRows
+pub mod TableBlocks
+pub mod TableNodes
+pub mod TableReading

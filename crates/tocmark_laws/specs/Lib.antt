@@ -14,3 +14,4 @@ pub mod Written
 pub mod LineFeeds
 pub mod Documents
 pub mod Extensions
+pub mod PlainTables
