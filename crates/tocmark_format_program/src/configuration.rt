@@ -11,9 +11,9 @@ use toml::{Table, Value};
 #[derive(Drop)]
 pub(crate) struct Configuration {
     settings: Settings,
-    /// What isn't formatted.
+    /// Which files aren't formatted.
     pub(crate) exclude: Rules,
-    /// What is formatted below a folder. `None`: files with names of Markdown.
+    /// Which files are formatted below a folder. `None`: those with names of Markdown.
     pub(crate) include: Option<Rules>,
     overrides: Vec<Override>,
 }
@@ -44,7 +44,7 @@ struct Source<'t> {
     text: &'t str,
     /// The folder of the file.
     folder: &'t str,
-    /// How many lines are passed by.
+    /// How many lines are skipped.
     passed: usize,
 }
 
@@ -275,7 +275,7 @@ impl<'t> Source<'t> {
 }
 
 impl Configuration {
-    /// What holds where there is no configuration file.
+    /// The configuration of a folder that has no configuration file.
     pub(crate) fn new(alloc: Global) -> Result<Configuration, AllocError> {
         Ok(Configuration {
             settings: Settings::new(),

@@ -1,4 +1,4 @@
-//! Why a file or a call isn't done.
+//! Why a file fails.
 
 ghost use Rattle.std.specs.Prelude.{◌≡◌};
 ghost use Rattle.tocmark_format_program.specs.Formats.{IsOutputFault};
@@ -7,8 +7,9 @@ ghost use Rattle.tocmark_format_program.specs.declared.fault.Fault.TheVariants.{
 use std::alloc::{AllocError, AllocFailed};
 use std::io;
 use thiserror::Error;
+use tocmark_command::replace::ReplaceError;
 
-/// What is wrong with one file, said behind its name.
+/// What is wrong with one file. The message stands behind its name.
 #[derive(Debug, Drop, Error)]
 pub enum Fault {
     #[error("cannot be read: {0}")]
@@ -17,20 +18,14 @@ pub enum Fault {
     NotUtf8(usize),
     #[error("is not formatted: the name is not UTF-8")]
     Name,
-    #[error("has a name that is not UTF-8, which is passed by")]
+    #[error("contains a name that is not UTF-8, which is skipped")]
     NameWithin,
     #[error("is no regular file")]
     NotRegular,
-    #[error("is read-only")]
-    ReadOnly,
     #[error("a .gitignore that holds in it cannot be read: {0}")]
     Ignores(io::Error),
-    #[error("cannot be written: {0}")]
-    Write(io::Error),
-    #[error("its owner and permissions cannot be kept: {0}")]
-    Attributes(io::Error),
-    #[error("was changed while it was formatted")]
-    Changed,
+    #[error("{0}")]
+    Replace(ReplaceError),
     #[error("standard output cannot be written: {0}")]
     Output(io::Error),
     #[error("out of memory")]
