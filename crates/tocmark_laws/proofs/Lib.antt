@@ -56,3 +56,4 @@ pub mod TableRows
 pub mod TableBlocks
 pub mod TableNodes
 pub mod TableReading
+pub mod LiteralLabels

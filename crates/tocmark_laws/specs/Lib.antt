@@ -15,3 +15,4 @@ pub mod LineFeeds
 pub mod Documents
 pub mod Extensions
 pub mod PlainTables
+pub mod LiteralLabels
