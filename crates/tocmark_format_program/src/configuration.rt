@@ -127,7 +127,7 @@ fn is_among(names: &[&str], name: &str) -> bool {
 
 fn is_list(key: Key) -> bool {
     match key {
-        Key::Extension => true,
+        Key::Extension | Key::AlsoRead => true,
         _ => false,
     }
 }
