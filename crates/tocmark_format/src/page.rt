@@ -233,16 +233,16 @@ pub(crate) struct Page {
 }
 
 impl Page {
-    /// The page of a document that ends here.
-    pub(crate) fn new(alloc: Global, end: usize) -> Page {
-        Page {
+    /// The page of a document that ends here, with room for a text that is a little longer.
+    pub(crate) fn new(alloc: Global, end: usize) -> Result<Page, AllocError> {
+        Ok(Page {
             alloc,
-            text: String::new(alloc),
+            text: String::with_capacity(alloc, end.saturating_add(end / 16))?,
             outer: Vec::new(alloc),
             top: Frame::new(alloc, Kind::Document, 0, end),
             budget: usize::MAX,
             is_over: false,
-        }
+        })
     }
 
     /// What is printed.
@@ -321,6 +321,11 @@ impl Page {
 
     /// Prints a line behind what the containers have before it; no blanks stand at the end of one without a text.
     pub(crate) fn line(&mut self, line: &str) -> Result<(), AllocError> {
+        self.line_with(line, "")
+    }
+
+    /// Prints a line as `line` does, with a tail.
+    pub(crate) fn line_with(&mut self, line: &str, tail: &str) -> Result<(), AllocError> {
         if self.is_over {
             return Ok(());
         }
@@ -329,10 +334,11 @@ impl Page {
         let prefix = self.text.len().saturating_sub(start);
         self.is_over = prefix > self.budget;
         self.budget = self.budget.saturating_sub(prefix);
-        if line.is_empty() {
+        if line.is_empty() && tail.is_empty() {
             cut_blanks(&mut self.text, prefix);
         }
         self.text.push_str(line)?;
+        self.text.push_str(tail)?;
         self.text.push('\n')
     }
 
