@@ -450,7 +450,10 @@ fn write_blocks<W: Write>(alloc: Global, output: &mut W, text: &str) -> io::Resu
 /// A text in a style.
 fn formatted_as(alloc: Global, text: &str, looks: Looks) -> Result<Formatted, AllocError> {
     let reader = ExtendedReader::new();
-    formatted(alloc, text, &reader, looks.flags, looks.style)
+    match looks.also {
+        Some(also) => formatted(alloc, text, &reader, looks.flags, looks.style, &[also]),
+        None => formatted(alloc, text, &reader, looks.flags, looks.style, &[]),
+    }
 }
 
 /// What a text becomes in a style, and how many of its blocks keep their lines.

@@ -12,6 +12,8 @@ use tocmark_reader::EXTENSIONS;
 pub(crate) struct Looks {
     pub(crate) flags: ParserOptions,
     pub(crate) style: Style,
+    /// Under which flags the blocks stay, too.
+    pub(crate) also: Option<ParserOptions>,
 }
 
 /// What documents on GitHub have, front matter among it.
@@ -113,6 +115,8 @@ impl Looks {
         let style = &mut self.style;
         if name == "syntax" {
             self.flags = flags_of(word);
+        } else if name == "also-read" {
+            self.also = Some(flags_of(word));
         } else if name == "bullet" {
             style.bullet = bullet_of(word);
         } else if name == "ordered" {
@@ -145,6 +149,7 @@ pub(crate) fn looks_of(words: &str) -> io::Result<Looks> {
     let mut looks = Looks {
         flags: GFM,
         style: Style::new(),
+        also: None,
     };
     for word in words.split(' ') {
         if word.is_empty() {

@@ -151,7 +151,7 @@ fn format(alloc: Global, text: &[u8], flags: u32, style: &TocmarkStyle) -> Resul
         None => return Err(Cause::InvalidStyle),
     };
     let reader = ExtendedReader { names: Names::All };
-    match formatted(alloc, text, &reader, ParserOptions(flags), style) {
+    match formatted(alloc, text, &reader, ParserOptions(flags), style, &[]) {
         Ok(answer) => Ok(answer.text),
         Err(_) => Err(Cause::OutOfMemory),
     }

@@ -1,2 +1,3 @@
 pub mod Folding
 pub mod Handing
+pub mod Shapes

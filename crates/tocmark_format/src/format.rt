@@ -1,9 +1,13 @@
 //! Formats a document: all of it is printed in one pass and read back; what is read otherwise is printed nearer to the source.
 
 ghost use Rattle.std.specs.Prelude.{◌≡◌, IfOk, IfSome, IsTrue, map, string_bytes};
+ghost use Rattle.std.specs.List.{All};
 ghost use Rattle.tocmark_compare.specs.Given.{found_events};
-ghost use Rattle.tocmark_format.specs.LinkDefinitions.{AreAlike, link_defined};
+ghost use Rattle.tocmark_event.specs.declared.event.flags.ParserOptions.{ParserOptions};
+ghost use Rattle.tocmark_format.specs.Alike.{AreAlike};
+ghost use Rattle.tocmark_format.specs.LinkDefinitions.{link_defined};
 ghost use Rattle.tocmark_format.specs.Same.{SaySame};
+ghost use Rattle.tocmark_format.specs.Shape.{HaveSameShapes, has_same_shape, Outlines};
 ghost use Rattle.tocmark_format.specs.Summaries.{Sums, SumsFirst};
 
 use crate::answer::{Formatted, Left, Reason};
@@ -11,6 +15,7 @@ use crate::look::Look;
 use crate::part::Part;
 use crate::parts::{PartReader, PartTaker};
 use crate::printer::{Block, Printer, Step};
+use crate::shape::{Outline, add_apart};
 use crate::source::Source;
 use crate::style::Style;
 use crate::summary::{Summary, same_definitions};
@@ -32,6 +37,8 @@ struct Formatter<'f, R> {
     reader: &'f R,
     flags: ParserOptions,
     style: Style,
+    /// Under these flags a document keeps its blocks, too.
+    also: &'f [ParserOptions],
 }
 
 /// How near to the source each tree at the top is printed.
@@ -135,8 +142,8 @@ impl Ladder {
         })
     }
 
-    /// Takes a tree one step nearer to the source; false if it has its lines already.
-    fn fall(&mut self, tree: usize) -> bool {
+    /// Takes a tree one step nearer to the source; false if there is none. One that is apart can also be attached.
+    fn fall(&mut self, tree: usize, is_apart: bool) -> bool {
         match self.steps.get_mut(tree) {
             Some(step) if *step == Step::Styled => {
                 *step = Step::Spelled;
@@ -146,16 +153,22 @@ impl Ladder {
                 *step = Step::Lines;
                 true
             }
+            Some(step) if *step == Step::Lines && is_apart => {
+                *step = Step::Attached;
+                true
+            }
             _ => false,
         }
     }
 
-    /// Takes what is read otherwise one step nearer to the source; false if there is no such step left.
+    /// Takes what is read otherwise, and the blocks that are apart, one step nearer to the source; false if there is no such
+    /// step left.
     fn fall_all(
         &mut self,
         alloc: Global,
         printed: &Printed,
         back: &ReadBack,
+        apart: &[bool],
     ) -> Result<bool, AllocError> {
         let old = printed.said.tree_ends(alloc)?;
         let new = back.says.tree_ends(alloc)?;
@@ -166,7 +179,10 @@ impl Ladder {
         self.keeps_definitions = true;
         let mut tree_end = old.len();
         let mut read_end = new.len();
+        let mut at = printed.blocks.len();
         for block in printed.blocks.iter().rev() {
+            at = at.saturating_sub(1);
+            let is_apart = apart.get(at) == Some(&true);
             let read_from = back.tree_from(block.start);
             let Some(tree) = block.tree else {
                 read_end = read_from;
@@ -174,11 +190,10 @@ impl Ladder {
             };
             let said = (tree, tree_end);
             let read = (read_from, read_end);
-            if !printed
+            let is_same = printed
                 .said
-                .has_same_trees(&old, said, &back.says, &new, read)
-                && self.fall(tree)
-            {
+                .has_same_trees(&old, said, &back.says, &new, read);
+            if (is_apart || !is_same) && self.fall(tree, is_apart) {
                 has_fallen = true;
             }
             tree_end = tree;
@@ -201,7 +216,7 @@ impl Ladder {
             };
             let reason = if block.is_outgrown {
                 Reason::Outgrown
-            } else if self.steps.get(tree) == Some(&Step::Lines) {
+            } else if self.steps.get(tree).is_some_and(|step| step.keeps_lines()) {
                 Reason::ReadOtherwise
             } else {
                 continue;
@@ -216,11 +231,12 @@ impl Ladder {
     }
 }
 
-/// Whether the first line of a text ends with a carriage return and a line feed.
-fn has_returns(text: &str) -> bool {
+/// What the lines of a text end with: what its first line feed ends with, or a carriage return if it has no line feed.
+fn line_ending(text: &str) -> &'static str {
     match text.find('\n') {
-        Some(at) => text.as_bytes().get(at.saturating_sub(1)) == Some(&b'\r') && at > 0,
-        None => false,
+        None => "\r",
+        Some(at) if text.get(..at).unwrap_or("").ends_with('\r') => "\r\n",
+        Some(_) => "\n",
     }
 }
 
@@ -307,23 +323,86 @@ impl<R: PartReader> Formatter<'_, R> {
         Ok(Found { says, definitions })
     }
 
+    /// Which blocks the reader finds in a text under other flags.
+    fn outline_of(&self, text: &str, flags: ParserOptions) -> Result<Outline, AllocError>
+        ensures { IfOk result (λ outline. Outlines outline
+            (found_events (R.reading self.now.reader.now text.now flags))) }
+    {
+        let mut outline = Outline::new(self.alloc);
+        self.reader
+            .read_parts(self.alloc, text, flags, &mut outline)?;
+        Ok(outline)
+    }
+
+    /// Whether two texts have the same blocks under other flags.
+    fn have_same_shape(
+        &self,
+        one: &str,
+        other: &str,
+        flags: ParserOptions,
+    ) -> Result<bool, AllocError>
+        ensures { IfOk result (λ same. IsTrue same → has_same_shape
+            (R.reading self.now.reader.now one.now flags)
+            (R.reading self.now.reader.now other.now flags)) }
+    {
+        let first = self.outline_of(one, flags)?;
+        let second = self.outline_of(other, flags)?;
+        Ok(first.is_same(&second))
+    }
+
+    /// Whether two texts have the same blocks under all other flags that are asked for.
+    fn have_same_shapes(&self, one: &str, other: &str) -> Result<bool, AllocError>
+        ensures { IfOk result (λ same. IsTrue same → HaveSameShapes
+            (R.reading self.now.reader.now) self.now.also.now one.now other.now) }
+    {
+        for flags in self.also {
+            if !self.have_same_shape(one, other, *flags)? {
+                return Ok(false);
+            }
+        }
+        Ok(true)
+    }
+
+    /// The blocks of a printed document that are others than in its source under other flags.
+    fn blocks_apart(
+        &self,
+        source: &Source<'_>,
+        printed: &Printed,
+    ) -> Result<Vec<bool>, AllocError> {
+        let mut apart = Vec::new(self.alloc);
+        for flags in self.also {
+            let old = self.outline_of(source.text, *flags)?;
+            let new = self.outline_of(printed.text.as_str(), *flags)?;
+            add_apart(&mut apart, &printed.blocks, &old, &new)?;
+        }
+        Ok(apart)
+    }
+
     /// Whether the reader finds the same in two texts.
     fn are_alike(&self, one: &str, other: &str) -> Result<bool, AllocError>
-        ensures { IfOk result (λ same. IsTrue same → AreAlike self.now.style.wrap
-            (λ t. R.reading self.now.reader.now t self.now.flags)
-            (λ t. R.definitions self.now.reader.now t self.now.flags) one.now other.now) }
+        ensures { IfOk result (λ same. IsTrue same → AreAlike
+            self.now.style.wrap self.now.flags self.now.also.now
+            (R.reading self.now.reader.now) (R.definitions self.now.reader.now) one.now other.now) }
     {
         let first = self.found_in(one)?;
         let second = self.found_in(other)?;
-        Ok(
-            first.says.is_same(&second.says, self.style.wrap)
-                && same_definitions(&first.definitions, &second.definitions),
-        )
+        if first.says.is_same(&second.says, self.style.wrap)
+            && same_definitions(&first.definitions, &second.definitions)
+        {
+            self.have_same_shapes(one, other)
+        } else {
+            Ok(false)
+        }
     }
 
     /// Whether a printed document reads as its source.
-    fn reads_as_source(&self, source: &Source<'_>, printed: &Printed, back: &ReadBack) -> bool
-        ensures { IsTrue result
+    fn reads_as_source(
+        &self,
+        source: &Source<'_>,
+        printed: &Printed,
+        back: &ReadBack,
+    ) -> Result<bool, AllocError>
+        ensures { IfOk result (λ same. IsTrue same
             → Sums printed.now.said (found_events
             (R.reading self.now.reader.now source.now.text.now self.now.flags))
             → map link_defined printed.now.definitions.items
@@ -332,43 +411,49 @@ impl<R: PartReader> Formatter<'_, R> {
             (R.reading self.now.reader.now (string_bytes printed.now.text) self.now.flags))
             → map link_defined back.now.definitions.items
             ≡ R.definitions self.now.reader.now (string_bytes printed.now.text) self.now.flags
-            → AreAlike self.now.style.wrap
-            (λ t. R.reading self.now.reader.now t self.now.flags)
-            (λ t. R.definitions self.now.reader.now t self.now.flags)
-            (string_bytes printed.now.text) source.now.text.now }
+            → AreAlike
+            self.now.style.wrap self.now.flags self.now.also.now
+            (R.reading self.now.reader.now) (R.definitions self.now.reader.now)
+            (string_bytes printed.now.text) source.now.text.now) }
     {
-        back.says.is_same(&printed.said, self.style.wrap)
+        if back.says.is_same(&printed.said, self.style.wrap)
             && same_definitions(&back.definitions, &printed.definitions)
+        {
+            self.have_same_shapes(printed.text.as_str(), source.text)
+        } else {
+            Ok(false)
+        }
     }
 
     /// The document that reads as its source, if some round leads there.
     fn rounds(&self, source: &Source<'_>) -> Result<Option<Formatted>, AllocError>
-        ensures { IfOk result (λ answer. IfSome answer (λ answer. AreAlike self.now.style.wrap
-            (λ t. R.reading self.now.reader.now t self.now.flags)
-            (λ t. R.definitions self.now.reader.now t self.now.flags)
+        ensures { IfOk result (λ answer. IfSome answer (λ answer. AreAlike
+            self.now.style.wrap self.now.flags self.now.also.now
+            (R.reading self.now.reader.now) (R.definitions self.now.reader.now)
             (string_bytes answer.text) source.now.text.now)) }
     {
         let mut ladder = Ladder::new(self.alloc, source.text)?;
         for _ in 0..ROUNDS {
             let printed = self.print(source, &ladder)?;
             let back = self.read_back(printed.text.as_str())?;
-            if self.reads_as_source(source, &printed, &back) {
+            if self.reads_as_source(source, &printed, &back)? {
                 let left = ladder.left(self.alloc, source, &printed.blocks)?;
                 let Printed { text, .. } = printed;
                 return Ok(Some(Formatted { text, left }));
             }
-            if !ladder.fall_all(self.alloc, &printed, &back)? {
+            let apart = self.blocks_apart(source, &printed)?;
+            if !ladder.fall_all(self.alloc, &printed, &back, &apart)? {
                 return Ok(None);
             }
         }
         Ok(None)
     }
 
-    /// Formats a text whose lines end with line feeds. Carriage returns and a byte order mark are ordinary characters.
+    /// Formats a text whose lines end with line feeds. A byte order mark is an ordinary character.
     fn format_lines(&self, text: &str) -> Result<Formatted, AllocError>
-        ensures { IfOk result (λ answer. AreAlike self.now.style.wrap
-            (λ t. R.reading self.now.reader.now t self.now.flags)
-            (λ t. R.definitions self.now.reader.now t self.now.flags)
+        ensures { IfOk result (λ answer. AreAlike
+            self.now.style.wrap self.now.flags self.now.also.now
+            (R.reading self.now.reader.now) (R.definitions self.now.reader.now)
             (string_bytes answer.text) text.now) }
     {
         let source = Source::new(self.alloc, text)?;
@@ -378,16 +463,17 @@ impl<R: PartReader> Formatter<'_, R> {
         }
     }
 
-    /// Formats a text whose lines end with a carriage return and a line feed, as they do in the answer.
+    /// Formats a text with carriage returns. In the answer all lines end alike.
     fn format_with_returns(&self, text: &str) -> Result<Formatted, AllocError>
-        ensures { IfOk result (λ answer. AreAlike self.now.style.wrap
-            (λ t. R.reading self.now.reader.now t self.now.flags)
-            (λ t. R.definitions self.now.reader.now t self.now.flags)
+        ensures { IfOk result (λ answer. AreAlike
+            self.now.style.wrap self.now.flags self.now.also.now
+            (R.reading self.now.reader.now) (R.definitions self.now.reader.now)
             (string_bytes answer.text) text.now) }
     {
-        let bare = text.replace(self.alloc, "\r\n", "\n")?;
+        let pairless = text.replace(self.alloc, "\r\n", "\n")?;
+        let bare = pairless.as_str().replace(self.alloc, "\r", "\n")?;
         let Formatted { text: lines, left } = self.format_lines(bare.as_str())?;
-        let whole = lines.as_str().replace(self.alloc, "\n", "\r\n")?;
+        let whole = lines.as_str().replace(self.alloc, "\n", line_ending(text))?;
         if self.are_alike(whole.as_str(), text)? {
             Ok(Formatted { text: whole, left })
         } else {
@@ -397,12 +483,12 @@ impl<R: PartReader> Formatter<'_, R> {
 
     /// Formats a text. A byte order mark is an ordinary character.
     fn format_text(&self, text: &str) -> Result<Formatted, AllocError>
-        ensures { IfOk result (λ answer. AreAlike self.now.style.wrap
-            (λ t. R.reading self.now.reader.now t self.now.flags)
-            (λ t. R.definitions self.now.reader.now t self.now.flags)
+        ensures { IfOk result (λ answer. AreAlike
+            self.now.style.wrap self.now.flags self.now.also.now
+            (R.reading self.now.reader.now) (R.definitions self.now.reader.now)
             (string_bytes answer.text) text.now) }
     {
-        if has_returns(text) {
+        if text.contains('\r') {
             self.format_with_returns(text)
         } else {
             self.format_lines(text)
@@ -411,9 +497,9 @@ impl<R: PartReader> Formatter<'_, R> {
 
     /// Formats the text behind a byte order mark by itself; `None` if the whole reads otherwise then.
     fn format_behind_mark(&self, text: &str) -> Result<Option<Formatted>, AllocError>
-        ensures { IfOk result (λ answer. IfSome answer (λ answer. AreAlike self.now.style.wrap
-            (λ t. R.reading self.now.reader.now t self.now.flags)
-            (λ t. R.definitions self.now.reader.now t self.now.flags)
+        ensures { IfOk result (λ answer. IfSome answer (λ answer. AreAlike
+            self.now.style.wrap self.now.flags self.now.also.now
+            (R.reading self.now.reader.now) (R.definitions self.now.reader.now)
             (string_bytes answer.text) text.now)) }
     {
         let rest = self.format_text(behind_mark(text))?;
@@ -428,9 +514,9 @@ impl<R: PartReader> Formatter<'_, R> {
 
     /// Formats a text with a byte order mark.
     fn format_with_mark(&self, text: &str) -> Result<Formatted, AllocError>
-        ensures { IfOk result (λ answer. AreAlike self.now.style.wrap
-            (λ t. R.reading self.now.reader.now t self.now.flags)
-            (λ t. R.definitions self.now.reader.now t self.now.flags)
+        ensures { IfOk result (λ answer. AreAlike
+            self.now.style.wrap self.now.flags self.now.also.now
+            (R.reading self.now.reader.now) (R.definitions self.now.reader.now)
             (string_bytes answer.text) text.now) }
     {
         if let Some(answer) = self.format_behind_mark(text)? {
@@ -447,16 +533,17 @@ impl<R: PartReader> Formatter<'_, R> {
 }
 
 /// Formats a document: one blank line between blocks, and one line feed at its end. HTML and metadata are copied, texts stay as
-/// they are spelled, and lines end as the first one does. If a block would read otherwise, it is printed in its own spelling;
+/// they are spelled, and all lines end alike: as the first line feed does, or with a carriage return if there is none. If a block would read otherwise, it is printed in its own spelling;
 /// if that doesn't help, it keeps its lines, and the answer names these and the reason.
 ///
 /// Under these flags the reader finds the same events in the new text as in the old one, if each longest stretch of texts
 /// counts as one (`same`). If the style fills lines, soft breaks count as blanks, and so does each run of white space in a
-/// text. The text also defines the same links, in the same order, used or not (`definitions`). A byte order mark stays in
-/// front, and what stands behind it reads as before also without it.
+/// text. The text also defines the same links, in the same order, used or not (`definitions`). Under each of the flags in
+/// `also` it has the same blocks as before (`also`): what they say is compared under `flags` alone. A byte order mark stays
+/// in front, and what stands behind it reads as before also without it.
 ///
 /// ```
-/// let answer = formatted(alloc, "a\n=\n -  b\n", &CoreReader, ParserOptions::empty(), Style::new())?;
+/// let answer = formatted(alloc, "a\n=\n -  b\n", &CoreReader, ParserOptions::empty(), Style::new(), &[])?;
 /// assert_eq!(rt; answer.text.as_str(), "# a\n\n- b\n");
 /// ```
 pub fn formatted<R: PartReader>(
@@ -465,6 +552,7 @@ pub fn formatted<R: PartReader>(
     reader: &R,
     flags: ParserOptions,
     style: Style,
+    also: &[ParserOptions],
 ) -> Result<Formatted, AllocError>
     ensures same { IfOk result (λ answer. SaySame style.wrap
         (R.reading reader.now (string_bytes answer.text) flags)
@@ -472,12 +560,16 @@ pub fn formatted<R: PartReader>(
     ensures definitions { IfOk result (λ answer.
         R.definitions reader.now (string_bytes answer.text) flags
         ≡ R.definitions reader.now text.now flags) }
+    ensures also { IfOk result (λ answer. All (λ flags. has_same_shape
+        (R.reading reader.now (string_bytes answer.text) flags)
+        (R.reading reader.now text.now flags)) also.now) }
 {
     let formatter = Formatter {
         alloc,
         reader,
         flags,
         style,
+        also,
     };
     if text.starts_with(MARK) {
         formatter.format_with_mark(text)

@@ -88,7 +88,7 @@ impl Printer<'_> {
         let base = source.line_start(start);
         let top = self.page.top();
         let first_end = end.min(source.line_end(start));
-        if top.content <= base {
+        if top.content <= base && !top.owes_sign() {
             let place = self.page.stripped(source, base);
             self.print_rest(place.spare, place.at, first_end.max(place.at))?;
         } else {

@@ -5,7 +5,7 @@
 //! otherwise. `style` says how things look, `answer` what comes out, and `parts` which readers hand out a text's events part
 //! by part. `printer` walks over the events; `page` has what is printed and the containers that are open; `leaf`, `table`,
 //! `container` and `definitions` print the blocks; `kept` and `dialect` say which keep their lines. `inline` makes `piece`s of
-//! events, and `lines` and `fill` make lines of these. `summary` compares two texts.
+//! events, and `lines` and `fill` make lines of these. `summary` and `shape` compare two texts.
 //!
 //! What is printed is read again and compared, so all that stands between can be changed freely.
 #![tactic(auto)]
@@ -28,6 +28,7 @@ mod part;
 mod parts;
 mod piece;
 mod printer;
+mod shape;
 mod source;
 mod style;
 mod summary;

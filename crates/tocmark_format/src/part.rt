@@ -1,5 +1,10 @@
 //! Trees at the top of a document: where each container ends, and which lists are loose.
 
+ghost use Rattle.std.specs.Prelude.{◌≡◌};
+ghost use Rattle.tocmark_event.specs.Text.{text_of};
+ghost use Rattle.tocmark_event.specs.View.{tag_view};
+ghost use Rattle.tocmark_spelling.specs.Kinds.{is_inline_end, is_inline_tag};
+
 use crate::source::Source;
 use std::alloc::{AllocError, Global};
 use tocmark_event::event::{Event, Tag, TagEnd};
@@ -36,7 +41,9 @@ pub(crate) struct Part<'p> {
 }
 
 /// Whether a tag stands within a line.
-pub(crate) fn is_inline_tag(tag: &Tag<'_>) -> bool {
+pub(crate) fn is_inline_tag(tag: &Tag<'_>) -> bool
+    ensures { result ≡ is_inline_tag (tag_view text_of tag.now) }
+{
     match tag {
         Tag::Emphasis | Tag::Strong | Tag::Strikethrough | Tag::Superscript | Tag::Subscript =>
             true,
@@ -45,7 +52,9 @@ pub(crate) fn is_inline_tag(tag: &Tag<'_>) -> bool {
     }
 }
 
-fn is_inline_end(end: TagEnd) -> bool {
+pub(crate) fn is_inline_end(end: TagEnd) -> bool
+    ensures { result ≡ is_inline_end end }
+{
     match end {
         TagEnd::Emphasis | TagEnd::Strong | TagEnd::Strikethrough => true,
         TagEnd::Superscript | TagEnd::Subscript | TagEnd::Link | TagEnd::Image => true,

@@ -19,6 +19,14 @@ pub(crate) enum Step {
     Spelled,
     /// By its lines of the source.
     Lines,
+    /// By its lines of the source, directly below the block before it if they are neighbours there.
+    Attached,
+}
+
+impl Step {
+    pub(crate) fn keeps_lines(self) -> bool {
+        matches!(self, Step::Lines | Step::Attached)
+    }
 }
 
 /// What stands at the top of a document: a tree, some that are kept together, or definitions of links.
@@ -131,12 +139,12 @@ impl<'d> Printer<'d> {
     ) -> Result<(), AllocError> {
         let (tree, range) = block;
         let is_top = self.page.depth() == 0;
+        let step = match tree {
+            Some(tree) => self.step(tree),
+            None if self.keeps_definitions => Step::Spelled,
+            None => Step::Styled,
+        };
         if is_top {
-            let step = match tree {
-                Some(tree) => self.step(tree),
-                None if self.keeps_definitions => Step::Spelled,
-                None => Step::Styled,
-            };
             self.look = if step == Step::Styled {
                 self.wanted
             } else {
@@ -146,7 +154,10 @@ impl<'d> Printer<'d> {
             self.page
                 .limit(size.saturating_mul(4).saturating_add(FREE_PREFIXES));
         }
-        self.separate(kind, is_apart)?;
+        let is_attached = is_top && step == Step::Attached && !is_apart;
+        if !is_attached {
+            self.separate(kind, is_apart)?;
+        }
         if is_top {
             self.blocks.push(Block {
                 tree,
@@ -275,7 +286,7 @@ impl<'d> Printer<'d> {
         }
         let tree = self.trees.saturating_sub(1);
         let is_top = self.page.depth() == 0;
-        if is_top && self.step(tree) == Step::Lines {
+        if is_top && self.step(tree).keeps_lines() {
             self.print_lines(start, end)?;
         } else if self.print_block(part, at)? {
             return Ok(at.saturating_add(1));

@@ -1,2 +1,3 @@
+pub mod AlsoRead
 pub mod Formats
 pub mod Outcomes

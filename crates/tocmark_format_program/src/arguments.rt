@@ -75,7 +75,13 @@ const COLORS: [(&str, Color); 3] = [
 ];
 
 /// The options that say how a document looks.
-const STYLE: [CommandOption<'static>; 12] = [
+const STYLE: [CommandOption<'static>; 13] = [
+    CommandOption {
+        name: "also-read",
+        letter: None,
+        takes: Takes::Values("NAME"),
+        help: "Keep the blocks that this syntax has, too:\ncommonmark, gfm, all or none; repeatable",
+    },
     CommandOption {
         name: "bullet",
         letter: None,

@@ -1,6 +1,8 @@
 //! What is written for a text.
 
 ghost use Rattle.std.specs.Prelude.{◌≡◌, ◌≢◌, IfOk, IfSome, string_bytes};
+ghost use Rattle.tocmark_format.specs.Shape.{HaveSameShapes};
+ghost use Rattle.tocmark_format_program.specs.AlsoRead.{also_flags};
 ghost use Rattle.tocmark_format_program.specs.Formats.{KeepsWhatItSays};
 
 use crate::settings::Settings;
@@ -21,7 +23,7 @@ pub struct Decision {
 }
 
 /// What becomes of a text that was read. The reader finds in what is written what counts as the same as in the text, and the
-/// same link definitions.
+/// same link definitions. Under the flags of `also` it finds the same blocks.
 pub fn decided<R: PartReader>(
     alloc: Global,
     text: String,
@@ -36,9 +38,20 @@ pub fn decided<R: PartReader>(
     ensures definitions { IfOk result (λ decision. IfSome decision.new (λ new.
         R.definitions reader.now (string_bytes new) settings.flags
         ≡ R.definitions reader.now (string_bytes decision.old) settings.flags)) }
+    ensures also { IfOk result (λ decision. IfSome decision.new (λ new. HaveSameShapes
+        (R.reading reader.now) (also_flags settings.also)
+        (string_bytes new) (string_bytes decision.old))) }
 {
-    let Settings { flags, style } = settings;
-    let Formatted { text: new, left } = formatted(alloc, text.as_str(), reader, flags, style)?;
+    let Settings { flags, style, also } = settings;
+    let also = also.flags(alloc)?;
+    let Formatted { text: new, left } = formatted(
+        alloc,
+        text.as_str(),
+        reader,
+        flags,
+        style,
+        &also,
+    )?;
     if new.as_str() == text.as_str() {
         drop(new);
         return Ok(Decision {

@@ -295,32 +295,42 @@ fn add_path(
     }
 }
 
+/// Adds the texts that a call names.
+fn add_all(
+    rt: &HostRuntime,
+    search: &mut Search,
+    matches: &ArgMatches<'_>,
+    broken: &[String],
+) -> Result<(), Refused> {
+    let paths = matches.get_strs("path").unwrap_or(&[]);
+    let list = matches.get_str("files-from");
+    let name = matches.get_str("stdin-filepath");
+    check_input(paths, list, name)?;
+    if let Some(name) = name {
+        return search.add_input_as(rt, name);
+    }
+    if let Some(list) = list {
+        let end = if matches.get_flag("null") { 0 } else { b'\n' };
+        add_list(rt, search, list, end)?;
+    }
+    for path in paths {
+        add_path(rt, search, broken, path)?;
+    }
+    if paths.is_empty() && list.is_none() {
+        return search.add_input(rt);
+    }
+    Ok(())
+}
+
 /// The texts that a call names.
 fn found_of(
     rt: &HostRuntime,
     matches: &ArgMatches<'_>,
     broken: &[String],
 ) -> Result<Found, Refused> {
-    let paths = matches.get_strs("path").unwrap_or(&[]);
-    let list = matches.get_str("files-from");
-    let name = matches.get_str("stdin-filepath");
-    check_input(paths, list, name)?;
     let choice = choice_of(rt, matches)?;
     let mut search = Search::new(rt, choice, matches.get_str("config"))?;
-    if let Some(name) = name {
-        search.add_input_as(rt, name)?;
-        return Ok(search.end());
-    }
-    if let Some(list) = list {
-        let end = if matches.get_flag("null") { 0 } else { b'\n' };
-        add_list(rt, &mut search, list, end)?;
-    }
-    for path in paths {
-        add_path(rt, &mut search, broken, path)?;
-    }
-    if paths.is_empty() && list.is_none() {
-        search.add_input(rt)?;
-    }
+    add_all(rt, &mut search, matches, broken)?;
     Ok(search.end())
 }
 

@@ -1,11 +1,26 @@
 //! What the options of formatting name, on the command line and in configuration files.
 
+ghost use Rattle.std.specs.Prelude.{◌≡◌, ◌++◌, IfOk, OnOk};
+ghost use Rattle.tocmark_format_program.specs.AlsoRead.{also_flags, asked_flags};
+
+use std::alloc::{AllocError, Global};
 use tocmark_command::syntax::{extension_named, syntax_named};
 use tocmark_event::event::ParserOptions;
 use tocmark_format::{
     Bullet, Delimiter, Fence, HardBreak, ListIndent, Marker, Numbering, Rule, Style, Wrap,
 };
-use tocmark_reader::GFM;
+use tocmark_reader::{EXTENSIONS, GFM};
+
+/// The flags of CommonMark.
+pub const COMMONMARK: ParserOptions = ParserOptions(0);
+
+/// The syntaxes as which a text keeps its blocks, beside its own.
+#[derive(Clone, Copy)]
+pub struct AlsoRead {
+    pub commonmark: bool,
+    pub gfm: bool,
+    pub all: bool,
+}
 
 /// What a text is read as, and how it is to look.
 #[derive(Clone, Copy)]
@@ -14,6 +29,7 @@ pub struct Settings {
     pub flags: ParserOptions,
     /// How it is to look.
     pub style: Style,
+    pub also: AlsoRead,
 }
 
 /// An option of formatting.
@@ -21,6 +37,7 @@ pub struct Settings {
 pub(crate) enum Key {
     Syntax,
     Extension,
+    AlsoRead,
     Bullet,
     Ordered,
     Numbering,
@@ -43,13 +60,14 @@ pub(crate) struct Setting {
 }
 
 /// The options by their names, with what each takes.
-pub(crate) const KEYS: [(&str, Key, &str); 14] = [
+pub(crate) const KEYS: [(&str, Key, &str); 15] = [
     ("syntax", Key::Syntax, "commonmark, gfm or all"),
     (
         "extension",
         Key::Extension,
         "a name that --help lists, or no- before one",
     ),
+    ("also-read", Key::AlsoRead, "commonmark, gfm, all or none"),
     ("bullet", Key::Bullet, "*, -, + or source"),
     ("ordered", Key::Ordered, "., ) or source"),
     ("numbering", Key::Numbering, "source, first or increment"),
@@ -112,8 +130,53 @@ impl Settings {
         Settings {
             flags: GFM,
             style: Style::new(),
+            also: AlsoRead::NONE,
         }
     }
+}
+
+impl AlsoRead {
+    const NONE: AlsoRead = AlsoRead {
+        commonmark: false,
+        gfm: false,
+        all: false,
+    };
+
+    /// These syntaxes and the one with this name; none for `none`.
+    fn with(self, name: &str) -> Option<AlsoRead> {
+        match name {
+            "commonmark" => Some(AlsoRead { commonmark: true, ..self }),
+            "gfm" => Some(AlsoRead { gfm: true, ..self }),
+            "all" => Some(AlsoRead { all: true, ..self }),
+            "none" => Some(AlsoRead::NONE),
+            _ => None,
+        }
+    }
+
+    /// Their flags.
+    pub(crate) fn flags(self, alloc: Global) -> Result<Vec<ParserOptions>, AllocError>
+        ensures { IfOk result (λ list. list.items ≡ also_flags self) }
+    {
+        let mut list = Vec::new(alloc);
+        push_asked(&mut list, self.commonmark, COMMONMARK)?;
+        push_asked(&mut list, self.gfm, GFM)?;
+        push_asked(&mut list, self.all, EXTENSIONS)?;
+        Ok(list)
+    }
+}
+
+/// Adds flags if they are asked for.
+fn push_asked(
+    list: &mut Vec<ParserOptions>,
+    is_asked: bool,
+    flags: ParserOptions,
+) -> Result<(), AllocError>
+    ensures { OnOk result (list.new.items ≡ list.old.items ++ asked_flags is_asked flags) }
+{
+    if is_asked {
+        list.push(flags)?;
+    }
+    Ok(())
 }
 
 /// The value that a name stands for.
@@ -205,12 +268,16 @@ pub(crate) fn set_all(settings: &mut Settings, values: &[Setting]) -> Result<(),
 
 /// Sets an option to what a word says. `false`: it takes no such word, and nothing is changed.
 pub(crate) fn set(settings: &mut Settings, key: Key, word: &str) -> bool {
-    let Settings { flags, style } = settings;
+    let Settings { flags, style, also } = settings;
     match key {
         Key::Syntax => put(flags, syntax_named(word)),
         Key::Extension => {
             let extended = extended(*flags, word);
             put(flags, extended)
+        }
+        Key::AlsoRead => {
+            let with = also.with(word);
+            put(also, with)
         }
         Key::Bullet => put(&mut style.bullet, named(&BULLETS, word)),
         Key::Ordered => put(&mut style.delimiter, named(&DELIMITERS, word)),

@@ -235,7 +235,7 @@ next_passed known header text cells l p0 pieces start end number h = by_tables k
     by_tables false = goes_on
 
 -- the first line begins a paragraph
-line_begins : (known : Known) (text : List ℕ) (cells : List Cell) (l : Line) → IsFreeLine text cells l → line_taken_in known text first_page l ≡ paragraph (header_behind known.syntax.tables cells Never) (line_piece l ∷ []) l.start l.end l.number
+pub line_begins : (known : Known) (text : List ℕ) (cells : List Cell) (l : Line) → IsFreeLine text cells l → line_taken_in known text first_page l ≡ paragraph (header_behind known.syntax.tables cells Never) (line_piece l ∷ []) l.start l.end l.number
 unfolding line_taken_in cells_taken_in touched leaf_turn is_table
 line_begins known text cells l h =
     ap (λ c. cells_taken_in known text c l first_page) h.columns
@@ -348,7 +348,7 @@ first_byte text pre l rest start h e at =
     ap (λ (xs : List ℕ). byte_at xs start) (e ∙ ap (λ (xs : List ℕ). pre ++ (xs ++ rest)) h.shape)
     ∙ byte_behind pre (h.rest ++ rest) h.first start at
 
-line_free : (text pre l rest : List ℕ) (start end next number : ℕ) → text ≡ pre ++ (l ++ rest) → start ≡ length pre → end ≡ start + length l → IsFreeText l → end < 2 ^ 64 → start < next → IsFreeLine text (numbered start l) (record { number = number; start = start; end = end; next = next })
+pub line_free : (text pre l rest : List ℕ) (start end next number : ℕ) → text ≡ pre ++ (l ++ rest) → start ≡ length pre → end ≡ start + length l → IsFreeText l → end < 2 ^ 64 → start < next → IsFreeLine text (numbered start l) (record { number = number; start = start; end = end; next = next })
 line_free text pre l rest start end next number e at to h fits order =
     let stands : bytes_between text start end ≡ l = piece_between text pre l rest start end e at (to ∙ ap (λ n. n + length l) at) in
     let byte : byte_at text start ≡ h.first = first_byte text pre l rest start h e at in
