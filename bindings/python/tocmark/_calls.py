@@ -28,6 +28,17 @@ def _text(code: int, text: bytes) -> str:
     return text.decode()
 
 
+def _placed(function: Any, data: bytes, source: bytes, flags: int, options: bytes, guess: int) -> str:
+    """Returns the text of a call that says where an error is, or raises the exception of its code."""
+    place = _library.Place(size=_library.ctypes.sizeof(_library.Place))
+    code, text = _library.answer(function, data, len(data), source, len(source), flags, options, len(options), place,
+                                 guess=guess)
+    if code >= 0:
+        return text.decode()
+    lines = (place.first_line, place.last_line) if place.first_line else None
+    raise error_of(code, place.event if place.event <= len(data) else None, lines)
+
+
 def _is_pair(item: Any) -> bool:
     return isinstance(item, (tuple, list))
 
@@ -78,16 +89,16 @@ def write(events: Iterable[Given], source: str = "", *, syntax: str = "gfm", ext
     '- a\\n- b'
     >>> tocmark.write([{"End": "Paragraph"}])
     Traceback (most recent call last):
-    tocmark.UnexpectedEvent: an event stands where it cannot
+    tocmark.UnexpectedEvent: event 0: an event stands where it cannot
 
     Raises `NotEvents`, `InvalidOptions`, `UnexpectedEvent`, `Unrepresentable`, `InvalidSourceRange`, `Changed`, and `Error`
-    for any other error of the library; `TypeError` if JSON has no such value; `MemoryError`.
+    for any other error of the library; `TypeError` if JSON has no such value; `MemoryError`. `Error.event` is the number of the
+    refused block's first event, and `Error.lines` has its lines in the source.
     """
     data, over = _json_of(events), encoded("source", source)
     chosen, flags = options_of(options), flags_of(syntax, extensions)
     function = _library.write_checked if check_document else _library.write_json
-    return _text(*_library.answer(function, data, len(data), over, len(over), flags, chosen, len(chosen),
-                                  guess=len(data) + 256))
+    return _placed(function, data, over, flags, chosen, len(data) + 256)
 
 
 def rewrite(source: str, events: Iterable[Given], *, syntax: str = "gfm", extensions: Iterable[str] = (),
@@ -110,17 +121,11 @@ def rewrite(source: str, events: Iterable[Given], *, syntax: str = "gfm", extens
     |a|
     |-|
 
-    Raises what `write` does, with the number of the event and the lines of the source (`Error.event`, `Error.lines`).
+    Raises what `write` does.
     """
     over, data = encoded("source", source), _json_of(events)
     chosen, flags = options_of(options), flags_of(syntax, extensions)
-    place = _library.Place(size=_library.ctypes.sizeof(_library.Place))
-    code, text = _library.answer(_library.rewrite, data, len(data), over, len(over), flags, chosen, len(chosen), place,
-                                 guess=len(over) + 4096)
-    if code >= 0:
-        return text.decode()
-    lines = (place.first_line, place.last_line) if place.first_line else None
-    raise error_of(code, place.event if place.event < len(data) else None, lines)
+    return _placed(_library.rewrite, data, over, flags, chosen, len(over) + 4096)
 
 
 def end_of(tag: Any) -> Any:

@@ -61,8 +61,8 @@ error_text = _function("tocmark_error_text", ctypes.c_ssize_t, *_room)
 format_text = _function("tocmark_format", *_text, ctypes.c_uint32, ctypes.POINTER(Style), *_room)
 read_json = _function("tocmark_read_json", *_text, ctypes.c_uint32, *_room)
 rewrite = _function("tocmark_rewrite", *_text, *_text, ctypes.c_uint32, *_text, ctypes.POINTER(Place), *_room)
-write_checked = _function("tocmark_write_checked", *_text, *_text, ctypes.c_uint32, *_text, *_room)
-write_json = _function("tocmark_write_json", *_text, *_text, ctypes.c_uint32, *_text, *_room)
+write_checked = _function("tocmark_write_checked_at", *_text, *_text, ctypes.c_uint32, *_text, ctypes.POINTER(Place), *_room)
+write_json = _function("tocmark_write_json_at", *_text, *_text, ctypes.c_uint32, *_text, ctypes.POINTER(Place), *_room)
 
 
 def answer(function: Any, *arguments: Any, guess: int) -> Tuple[int, bytes]:
