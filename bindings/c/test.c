@@ -280,7 +280,7 @@ typedef ptrdiff_t writer(const uint8_t *, size_t, const uint8_t *, size_t, uint3
                          struct tocmark_place *, uint8_t *, size_t);
 
 /* Writes events over a source, where what is wanted is a length, or an error's code. */
-static void writes(writer *write, const char *json, const char *source, ptrdiff_t wanted) {
+static void writes_at(writer *write, const char *json, const char *source, ptrdiff_t wanted) {
   uint8_t out[100];
   place = (struct tocmark_place){sizeof place, 7, 8, 9};
   ptrdiff_t size = write((const uint8_t *)json, strlen(json), (const uint8_t *)source, strlen(source), 0, NULL, 0, &place, out,
@@ -293,17 +293,17 @@ static void writes(writer *write, const char *json, const char *source, ptrdiff_
 static void places(void) {
   writer *const writers[] = {tocmark_write_json_at_, tocmark_write_checked_at_};
   for (size_t i = 0; i < 2; i++) {
-    writes(writers[i], "[\"Rule\"]", "", 3);
-    writes(writers[i], "[\"Rule\", 1]", "", TOCMARK_NOT_EVENTS);
+    writes_at(writers[i], "[\"Rule\"]", "", 3);
+    writes_at(writers[i], "[\"Rule\", 1]", "", TOCMARK_NOT_EVENTS);
     is_at(1, 0, 0);
-    writes(writers[i], "[\"Rule\", {\"Start\": \"Paragraph\"}]", "", TOCMARK_UNEXPECTED_EVENT);
+    writes_at(writers[i], "[\"Rule\", {\"Start\": \"Paragraph\"}]", "", TOCMARK_UNEXPECTED_EVENT);
     is_at(1, 0, 0);
-    writes(writers[i], "[\"Rule\", {\"Start\": \"Strikethrough\"}, {\"End\": \"Strikethrough\"}, \"Rule\"]", "",
+    writes_at(writers[i], "[\"Rule\", {\"Start\": \"Strikethrough\"}, {\"End\": \"Strikethrough\"}, \"Rule\"]", "",
            TOCMARK_UNREPRESENTABLE);
     is_at(1, 0, 0);
-    writes(writers[i], "[[\"Rule\", null], [\"Rule\", {\"start\": 2, \"end\": 9}]]", "a\nb\n", TOCMARK_INVALID_SOURCE_RANGE);
+    writes_at(writers[i], "[[\"Rule\", null], [\"Rule\", {\"start\": 2, \"end\": 9}]]", "a\nb\n", TOCMARK_INVALID_SOURCE_RANGE);
     is_at(1, 2, 3);
-    writes(writers[i], "[\"Rule\"", "", TOCMARK_NOT_JSON);
+    writes_at(writers[i], "[\"Rule\"", "", TOCMARK_NOT_JSON);
     is_at(SIZE_MAX, 0, 0);
     struct tocmark_place other = {sizeof other + 1, 7, 8, 9};
     expect(writers[i](NULL, 0, NULL, 0, 0, NULL, 0, &other, NULL, 0), TOCMARK_NOT_JSON, "no JSON");
@@ -312,7 +312,7 @@ static void places(void) {
     expect(writers[i](NULL, 0, NULL, 0, 0, (const uint8_t *)"\xFF", 1, NULL, NULL, 0), TOCMARK_OPTIONS_NOT_UTF8,
            "options and no place");
   }
-  writes(tocmark_write_checked_at_, "[{\"Start\": {\"FootnoteDefinition\": \"1\"}}, {\"End\": \"FootnoteDefinition\"}]", "",
+  writes_at(tocmark_write_checked_at_, "[{\"Start\": {\"FootnoteDefinition\": \"1\"}}, {\"End\": \"FootnoteDefinition\"}]", "",
          TOCMARK_CHANGED);
   is_at(0, 0, 0);
 }

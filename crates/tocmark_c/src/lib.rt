@@ -96,7 +96,7 @@ pub extern "C" fn tocmark_write_json_at(
     ensures told { IsTold result place.old place.new }
 {
     match write(alloc, json, source, flags, options, false) {
-        Ok(text) => lay(text.as_str(), out),
+        Ok(markdown) => lay(markdown.as_str(), out),
         Err(refusal) => refusal.told(place),
     }
 }
@@ -138,7 +138,7 @@ pub extern "C" fn tocmark_write_checked_at(
     ensures told { IsTold result place.old place.new }
 {
     match write(alloc, json, source, flags, options, true) {
-        Ok(text) => lay(text.as_str(), out),
+        Ok(document) => lay(document.as_str(), out),
         Err(refusal) => refusal.told(place),
     }
 }
@@ -161,7 +161,7 @@ pub extern "C" fn tocmark_rewrite(
     ensures told { IsTold result place.old place.new }
 {
     match rewrite(alloc, json, source, flags, options) {
-        Ok(text) => lay(text.as_str(), out),
+        Ok(rewritten) => lay(rewritten.as_str(), out),
         Err(refusal) => refusal.told(place),
     }
 }

@@ -17,6 +17,8 @@ pub enum Job<'a> {
         flags: ParserOptions,
         /// Whether each event stands on a line of its own.
         lines: bool,
+        /// Whether ranges have lines and columns.
+        positions: bool,
     },
     /// Events to the one form of their JSON.
     Check,
@@ -100,6 +102,8 @@ const REWRITE: &str =
     "Edit a document: keep all that isn't changed in its\nevents, which come as JSON on standard input";
 
 const LINES: &str = "One line of JSON for each event, and no array";
+
+const POSITIONS: &str = "Give each range the lines and columns of its ends";
 
 const CHECK: &str = "Print the JSON of events without spaces, and with keys in one order";
 
@@ -188,7 +192,9 @@ fn rewrite_command<'a>(alloc: Global, syntax_help: &'a str) -> Result<Command<'a
 /// The command line, with this help of `--syntax`. `docs/JSON.md` says what its parts mean.
 pub fn command<'a>(alloc: Global, syntax_help: &'a str) -> Result<Command<'a>, AllocError> {
     let lines = switch(alloc, "lines", LINES);
-    let read = Command::new(alloc, "read").about(READ).arg(lines)?;
+    let positions = switch(alloc, "positions", POSITIONS);
+    let read = Command::new(alloc, "read").about(READ);
+    let read = read.arg(lines)?.arg(positions)?;
     let check = Command::new(alloc, "check").about(CHECK);
     Command::new(alloc, NAME)
         .bin_name(NAME)?
@@ -260,7 +266,11 @@ pub fn asked<'a>(
     let flags = flags_of(matches)?;
     let lines = matches.get_flag("lines");
     if name == "read" {
-        return Ok(Job::Read { flags, lines });
+        return Ok(Job::Read {
+            flags,
+            lines,
+            positions: matches.get_flag("positions"),
+        });
     }
     let mut options = options_of(alloc, matches, given)?;
     if name == "write" && matches.get_flag("check-plain-blocks") {
