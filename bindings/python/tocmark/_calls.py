@@ -39,8 +39,15 @@ def _placed(function: Any, data: bytes, source: bytes, flags: int, options: byte
     raise error_of(code, place.event if place.event <= len(data) else None, lines)
 
 
-def _is_pair(item: Any) -> bool:
-    return isinstance(item, (tuple, list))
+_ENCODER = json.JSONEncoder(ensure_ascii=False, separators=(",", ":"))
+
+
+def _pair_of(item: Any) -> List[Any]:
+    """Returns an event with its range as JSON has it."""
+    if not isinstance(item, (tuple, list)):
+        return [item, None]
+    event, place = item
+    return [event, {"start": place.start, "end": place.stop} if isinstance(place, range) else place]
 
 
 def _json_of(events: Iterable[Given]) -> bytes:
@@ -48,11 +55,9 @@ def _json_of(events: Iterable[Given]) -> bytes:
     if isinstance(events, (str, bytes, dict)):
         raise TypeError(f"events must be a list of events, and not {type(events).__name__}")
     items: List[Any] = list(events)
-    if any(_is_pair(item) for item in items):
-        pairs = [item if _is_pair(item) else (item, None) for item in items]
-        items = [[event, {"start": place.start, "end": place.stop} if isinstance(place, range) else place]
-                 for event, place in pairs]
-    return json.dumps(items, ensure_ascii=False).encode()
+    if any(isinstance(item, (tuple, list)) for item in items):
+        items = [_pair_of(item) for item in items]
+    return _ENCODER.encode(items).encode()
 
 
 def read(text: str, *, syntax: str = "gfm", extensions: Iterable[str] = ()) -> List[Placed]:
