@@ -1,6 +1,8 @@
-//! A program as its user meets it: the words of a call, and what is said of them.
+//! The words of a call, and the messages about them.
 
+use crate::release::release_line;
 use crate::streams::write_out;
+use clap::error::ErrorKind;
 use std::io::Write;
 use std::process::ExitCode;
 use std::{env, fmt, io};
@@ -19,17 +21,17 @@ impl Program {
         let _ = writeln!(faults, "{name}: {fault}");
     }
 
-    /// Writes the first line of what is wrong with a call, and gives the status of wrong arguments: 2.
+    /// Writes the first line of a message about a wrong call, and returns the status of wrong arguments: 2.
     pub fn refuse<F: Write>(self, faults: &mut F, why: &str) -> ExitCode {
         let line = why.lines().next().unwrap_or("");
         self.complain(faults, &line);
         ExitCode::from(2)
     }
 
-    /// Shows the help or the version that a call asks for, and gives status 0, or says what is wrong with its arguments, and
-    /// gives status 2.
+    /// Writes the help or the version that a call asks for, and returns status 0. If the arguments are wrong, it writes why to
+    /// standard error, and returns status 2. The version has a second line about the program's release, if that is known.
     ///
-    /// The error is that of standard output, which can't be written.
+    /// It fails if standard output can't be written.
     pub fn show(self, rt: &HostRuntime, error: &clap::Error) -> io::Result<ExitCode> {
         let mut faults = rt.stderr();
         let Ok(text) = format!(in rt.alloc(); "{error}") else {
@@ -38,7 +40,13 @@ impl Program {
         if error.use_stderr() {
             return Ok(self.refuse(&mut faults, text.as_str()));
         }
-        write_out(&mut rt.stdout(), text.as_str())?;
+        let mut output = rt.stdout();
+        write_out(&mut output, text.as_str())?;
+        if error.kind() == ErrorKind::DisplayVersion
+            && let Ok(line) = release_line(rt)
+        {
+            write_out(&mut output, line.as_str())?;
+        }
         Ok(ExitCode::from(0))
     }
 }

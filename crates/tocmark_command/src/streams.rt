@@ -1,4 +1,4 @@
-//! Texts that are read and written whole.
+//! Reads and writes whole texts.
 
 ghost use Rattle.std.specs.Prelude.{◌≡◌, IfOk, IfSome, OnOk, string_bytes};
 ghost use Rattle.std.specs.Io.KnownBytes.{Appends};

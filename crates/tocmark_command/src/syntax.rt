@@ -1,15 +1,12 @@
 //! What `--syntax` and `--extension` name.
 
-use clap::{Arg, ArgAction, Command};
+use crate::options::{CommandOption, Takes, with_options};
+use clap::Command;
 use std::alloc::{AllocError, Global};
 use std::fmt;
 use std::fmt::Write;
 use tocmark_event::event::ParserOptions;
 use tocmark_reader::{EXTENSIONS, GFM, NAMED_EXTENSIONS};
-
-/// What `--help` says of `--extension`.
-pub const EXTENSION_HELP: &str =
-    "Add one of these extensions, or remove it by\nno-NAME; repeatable";
 
 /// How wide a line of an option's help may be. The names of options stand before it, and 80 columns are all.
 const HELP_WIDTH: usize = 51;
@@ -50,23 +47,29 @@ pub fn extended(flags: ParserOptions, name: &str) -> Option<ParserOptions> {
     }
 }
 
-/// The command with `--syntax` and `--extension`, which have these helps.
+/// Adds `--syntax`, which has this help, and `--extension` to a command.
+///
+/// It fails if memory runs out.
 pub fn with_syntax<'a>(
     alloc: Global,
     command: Command<'a>,
     syntax_help: &'a str,
-    extension_help: &'a str,
 ) -> Result<Command<'a>, AllocError> {
-    let syntax = Arg::new(alloc, "syntax")
-        .long("syntax")
-        .value_name("NAME")
-        .help(syntax_help);
-    let extension = Arg::new(alloc, "extension")
-        .long("extension")
-        .value_name("NAME")
-        .action(ArgAction::Append)
-        .help(extension_help);
-    command.arg(syntax)?.arg(extension)
+    let options = [
+        CommandOption {
+            name: "syntax",
+            letter: None,
+            takes: Takes::Value("NAME"),
+            help: syntax_help,
+        },
+        CommandOption {
+            name: "extension",
+            letter: None,
+            takes: Takes::Values("NAME"),
+            help: "Add one of these extensions, or remove it by\nno-NAME; repeatable",
+        },
+    ];
+    with_options(alloc, command, &options)
 }
 
 /// Writes a line of help that begins with these words and goes on with the names of the extensions among these flags. It is

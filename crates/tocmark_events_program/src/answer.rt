@@ -1,4 +1,4 @@
-//! What a call is answered.
+//! The answers to calls.
 
 ghost use Rattle.std.specs.Prelude.{◌≡◌, IfErr, IfOk, string_bytes};
 ghost use Rattle.serde_json.specs.Written.{IsInOrder};
@@ -20,12 +20,12 @@ use tocmark_interchange::{
 };
 use tocmark_rewrite::RewrittenTree;
 
-/// What a call is answered.
+/// The answer to a call.
 #[derive(Drop)]
 pub struct Answer {
-    /// What is written on standard output.
+    /// The text for standard output.
     pub text: String,
-    /// The blocks of a document that was rewritten.
+    /// The blocks of a rewritten document.
     pub blocks: Vec<RewrittenTree>,
 }
 

@@ -1,12 +1,13 @@
 //! What a call asks for.
 
 use crate::settings::{Unset, set};
-use clap::{Arg, ArgAction, ArgMatches, Command};
+use clap::{ArgMatches, Command};
 use std::alloc::{AllocError, Global};
 use std::fmt;
 use tocmark::event::ParserOptions;
 use tocmark::{Options, OptionsError};
-use tocmark_command::syntax::{EXTENSION_HELP, extended, syntax_named, with_syntax};
+use tocmark_command::options::{CommandOption, Takes, with_options};
+use tocmark_command::syntax::{extended, syntax_named, with_syntax};
 use tocmark_interchange::OptionFault;
 
 /// What is to be done.
@@ -27,7 +28,7 @@ pub enum Job<'a> {
         flags: ParserOptions,
         options: Options<'static>,
         source: Option<&'a str>,
-        /// Whether just these events have to be found in it again.
+        /// Whether the output must parse to just these events.
         is_document: bool,
         /// Whether each event stands on a line of its own.
         lines: bool,
@@ -37,7 +38,7 @@ pub enum Job<'a> {
         flags: ParserOptions,
         options: Options<'static>,
         source: &'a str,
-        /// Whether a line is to say what became of each block.
+        /// Whether standard error gets a line about each block.
         reports: bool,
         /// Whether each event stands on a line of its own.
         lines: bool,
@@ -94,117 +95,124 @@ impl<'a> fmt::Display for Refusal<'a> {
 /// The command's name.
 pub const NAME: &str = "tocmark-events";
 
+/// What `--help` says of `read`.
 const READ: &str = "Turn Markdown on standard input into events as JSON";
 
+/// What `--help` says of `write`.
 const WRITE: &str = "Turn events as JSON on standard input into Markdown";
 
+/// What `--help` says of `rewrite`.
 const REWRITE: &str =
     "Edit a document: keep all that isn't changed in its\nevents, which come as JSON on standard input";
 
-const LINES: &str = "One line of JSON for each event, and no array";
-
-const POSITIONS: &str = "Give each range the lines and columns of its ends";
-
+/// What `--help` says of `check`.
 const CHECK: &str = "Print the JSON of events without spaces, and with keys in one order";
 
-/// An option that takes the name of a file.
-fn file<'a>(alloc: Global, name: &'a str, help: &'a str) -> Arg<'a> {
-    Arg::new(alloc, name)
-        .long(name)
-        .value_name("FILE")
-        .help(help)
+/// The option of each command that reads or writes events.
+const LINES: CommandOption<'static> = CommandOption {
+    name: "lines",
+    letter: None,
+    takes: Takes::Nothing,
+    help: "One line of JSON for each event, and no array",
+};
+
+/// The options of `read`.
+const READ_OPTIONS: [CommandOption<'static>; 2] = [
+    LINES,
+    CommandOption {
+        name: "positions",
+        letter: None,
+        takes: Takes::Nothing,
+        help: "Give each range the lines and columns of its ends",
+    },
+];
+
+/// The options that only `write` has.
+const WRITE_OPTIONS: [CommandOption<'static>; 3] = [
+    CommandOption {
+        name: "source",
+        letter: None,
+        takes: Takes::Value("FILE"),
+        help: "Text that the ranges refer to; keep its spelling\nif that parses back",
+    },
+    CommandOption {
+        name: "check-plain-blocks",
+        letter: None,
+        takes: Takes::Nothing,
+        help: "Parse each block back before it is written",
+    },
+    CommandOption {
+        name: "check-document",
+        letter: None,
+        takes: Takes::Nothing,
+        help: "Parse the whole output, and refuse it unless it\nhas just these events",
+    },
+];
+
+/// The options that only `rewrite` has.
+const REWRITE_OPTIONS: [CommandOption<'static>; 2] = [
+    CommandOption {
+        name: "source",
+        letter: None,
+        takes: Takes::Value("FILE"),
+        help: "The document that the events were read from",
+    },
+    CommandOption {
+        name: "report",
+        letter: None,
+        takes: Takes::Nothing,
+        help: "Tell on standard error what became of each block",
+    },
+];
+
+/// The options of each command that writes Markdown.
+const MARKDOWN_OPTIONS: [CommandOption<'static>; 3] = [
+    LINES,
+    CommandOption {
+        name: "options",
+        letter: None,
+        takes: Takes::Value("FILE"),
+        help: "Options of the writer, as a JSON object",
+    },
+    CommandOption {
+        name: "option",
+        letter: None,
+        takes: Takes::Values("KEY=VALUE"),
+        help: "One option of the writer, such as list_token=-;\nrepeatable, and overrides the file",
+    },
+];
+
+/// The command with these options, those of each command that writes Markdown, and those of the syntax.
+fn writing_command<'a>(
+    alloc: Global,
+    command: Command<'a>,
+    options: &[CommandOption<'a>],
+    syntax_help: &'a str,
+) -> Result<Command<'a>, AllocError> {
+    let command = with_options(alloc, command, options)?;
+    let command = with_options(alloc, command, &MARKDOWN_OPTIONS)?;
+    with_syntax(alloc, command, syntax_help)
 }
 
-/// An option that takes nothing.
-fn switch<'a>(alloc: Global, name: &'a str, help: &'a str) -> Arg<'a> {
-    Arg::new(alloc, name)
-        .long(name)
-        .action(ArgAction::SetTrue)
-        .help(help)
-}
-
-/// The command with what the writer can be told.
-fn with_options<'a>(alloc: Global, command: Command<'a>) -> Result<Command<'a>, AllocError> {
-    let option = Arg::new(alloc, "option")
-        .long("option")
-        .value_name("KEY=VALUE")
-        .action(ArgAction::Append)
-        .help(
-            "One option of the writer, such as list_token=-;\nrepeatable, and overrides the file",
-        );
-    let options = file(alloc, "options", "Options of the writer, as a JSON object");
-    command.arg(options)?.arg(option)
-}
-
-fn write_command<'a>(alloc: Global, syntax_help: &'a str) -> Result<Command<'a>, AllocError> {
-    let source = file(
-        alloc,
-        "source",
-        "Text that the ranges refer to; keep its spelling\nif that parses back",
-    );
-    let reads_back = switch(
-        alloc,
-        "check-plain-blocks",
-        "Parse each block back before it is written",
-    );
-    let document = switch(
-        alloc,
-        "check-document",
-        "Parse the whole output, and refuse it unless it\nhas just these events",
-    );
-    let lines = switch(alloc, "lines", LINES);
-    let write = Command::new(alloc, "write").about(WRITE);
-    let write = write
-        .arg(source)?
-        .arg(reads_back)?
-        .arg(document)?
-        .arg(lines)?;
-    with_syntax(
-        alloc,
-        with_options(alloc, write)?,
-        syntax_help,
-        EXTENSION_HELP,
-    )
-}
-
-fn rewrite_command<'a>(alloc: Global, syntax_help: &'a str) -> Result<Command<'a>, AllocError> {
-    let source = file(
-        alloc,
-        "source",
-        "The document, of which read gave the events",
-    );
-    let report = switch(
-        alloc,
-        "report",
-        "Tell on standard error what became of each block",
-    );
-    let lines = switch(alloc, "lines", LINES);
-    let rewrite = Command::new(alloc, "rewrite").about(REWRITE);
-    let rewrite = rewrite.arg(source)?.arg(report)?.arg(lines)?;
-    with_syntax(
-        alloc,
-        with_options(alloc, rewrite)?,
-        syntax_help,
-        EXTENSION_HELP,
-    )
+fn read_command<'a>(alloc: Global, syntax_help: &'a str) -> Result<Command<'a>, AllocError> {
+    let read = Command::new(alloc, "read").about(READ);
+    let read = with_options(alloc, read, &READ_OPTIONS)?;
+    with_syntax(alloc, read, syntax_help)
 }
 
 /// The command line, with this help of `--syntax`. `docs/JSON.md` says what its parts mean.
 pub fn command<'a>(alloc: Global, syntax_help: &'a str) -> Result<Command<'a>, AllocError> {
-    let lines = switch(alloc, "lines", LINES);
-    let positions = switch(alloc, "positions", POSITIONS);
-    let read = Command::new(alloc, "read").about(READ);
-    let read = read.arg(lines)?.arg(positions)?;
-    let check = Command::new(alloc, "check").about(CHECK);
+    let rewrite = Command::new(alloc, "rewrite").about(REWRITE);
+    let write = Command::new(alloc, "write").about(WRITE);
     Command::new(alloc, NAME)
         .bin_name(NAME)?
         .version("0.1.0")
         .about("Turn Markdown into events as JSON, and back")
         .subcommand_required(true)
-        .subcommand(with_syntax(alloc, read, syntax_help, EXTENSION_HELP)?)?
-        .subcommand(rewrite_command(alloc, syntax_help)?)?
-        .subcommand(write_command(alloc, syntax_help)?)?
-        .subcommand(check)
+        .subcommand(read_command(alloc, syntax_help)?)?
+        .subcommand(writing_command(alloc, rewrite, &REWRITE_OPTIONS, syntax_help)?)?
+        .subcommand(writing_command(alloc, write, &WRITE_OPTIONS, syntax_help)?)?
+        .subcommand(Command::new(alloc, "check").about(CHECK))
 }
 
 /// The flags of the syntax and the extensions that are named.

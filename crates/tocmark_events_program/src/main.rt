@@ -3,7 +3,7 @@
 //!
 //! It stands on `tocmark_interchange`, which makes its answers, and on `tocmark_command`, which has what it shares with the
 //! formatter. `answer` asks for the answer to a call. `arguments` has the program's options, `settings` sets those of the
-//! writer, and `fault` has what the program says on standard error.
+//! writer, and `fault` has the messages on standard error.
 #![tactic(auto)]
 
 mod answer;
@@ -36,7 +36,7 @@ const EVENTS: Program = Program { name: NAME };
 /// The first line of what `--help` says of `--syntax`.
 const SYNTAX: &str = "Kind of Markdown: commonmark, gfm (default) or all";
 
-/// The answer to a job, of which the input has the text.
+/// The answer to a job, over the text of the input.
 fn converted<I: Read>(
     alloc: Global,
     job: Job<'_>,
@@ -51,8 +51,7 @@ fn converted<I: Read>(
     answered(alloc, job, source, text.as_str())
 }
 
-/// A call with right arguments, and the blocks of a document that was rewritten. Output is written only after all of it is
-/// there.
+/// Writes the answer to a job, once all of it is there. Returns the blocks of a rewritten document.
 fn convert<I: Read, O: Write>(
     alloc: Global,
     job: Job<'_>,
@@ -73,7 +72,7 @@ fn convert<I: Read, O: Write>(
     }
 }
 
-/// Writes a line about each block of a document that was rewritten, if the call asks for that.
+/// Writes a line about each block of a rewritten document, if the call asks for that.
 fn report<F: Write>(faults: &mut F, job: Job<'_>, blocks: &[RewrittenTree]) {
     if let Job::Rewrite { reports: true, .. } = job {
         for block in blocks {
@@ -82,7 +81,7 @@ fn report<F: Write>(faults: &mut F, job: Job<'_>, blocks: &[RewrittenTree]) {
     }
 }
 
-/// Writes what became of a block. A line that can't be written changes nothing.
+/// Writes whether a block was kept, patched or written. A line that can't be written changes nothing.
 fn tell<F: Write>(faults: &mut F, block: &RewrittenTree) {
     let fate = match block.fate {
         Fate::Kept(_) => "kept",
@@ -156,7 +155,7 @@ fn options_of(rt: &HostRuntime, matches: &ArgMatches<'_>) -> Result<Options<'sta
     Ok(options_in_json(rt.alloc(), text.as_str())?)
 }
 
-/// Shows the help or the version, or says what is wrong with the arguments.
+/// Writes the help or the version, or why the arguments are wrong.
 fn show(rt: &HostRuntime, error: &clap::Error) -> ExitCode {
     match EVENTS.show(rt, error) {
         Ok(status) => status,

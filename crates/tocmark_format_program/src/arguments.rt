@@ -6,12 +6,13 @@ use crate::rules::Rules;
 use crate::settings::{KEYS, Key, Setting, Settings, set_all};
 use clap::{Arg, ArgAction, ArgMatches, Command};
 use std::alloc::{AllocError, Global};
+use tocmark_command::options::{CommandOption, Takes, with_options};
 use tocmark_command::syntax::with_syntax;
 
 /// What becomes of formatted texts.
 #[derive(Clone, Copy, Drop)]
 pub struct Task {
-    /// For what the call ends with status 1.
+    /// Why the call ends with status 1.
     pub terms: Terms,
     /// What would change is shown, and nothing is written.
     pub shows: bool,
@@ -26,7 +27,7 @@ impl Task {
     }
 }
 
-/// How much is said.
+/// How much is printed.
 #[derive(Clone, Copy, Drop)]
 pub struct Voice {
     /// The summary isn't printed.
@@ -41,7 +42,7 @@ pub struct Choice {
     /// The options of the style.
     pub(crate) values: Vec<Setting>,
     pub exclude: Rules,
-    /// What is formatted below a folder, if it is said.
+    /// Which files are formatted below a folder. `None`: those with names of Markdown.
     pub include: Option<Rules>,
     /// Whether `.gitignore` files hold.
     pub respects_ignores: bool,
@@ -67,9 +68,6 @@ FOLDER: format the Markdown files below it
 /// The last lines of `--help`.
 const LAST: &str = "The value source keeps what each list, fence, break or rule has.";
 
-/// What `--help` says of `--extension`.
-const EXTENSION: &str = "Add one of these extensions, or remove it by\nno-NAME; repeatable";
-
 const COLORS: [(&str, Color); 3] = [
     ("auto", Color::Auto),
     ("always", Color::Always),
@@ -77,186 +75,208 @@ const COLORS: [(&str, Color); 3] = [
 ];
 
 /// The options that say how a document looks.
-fn with_style<'a>(alloc: Global, command: Command<'a>) -> Result<Command<'a>, AllocError> {
-    let bullet = Arg::new(alloc, "bullet")
-        .long("bullet")
-        .value_name("BULLET")
-        .allow_hyphen_values(true)
-        .help("Bullet of lists: *, -, + or source (default)");
-    let ordered = Arg::new(alloc, "ordered")
-        .long("ordered")
-        .value_name("DELIMITER")
-        .help("Delimiter after a number: ., ) or source (default)");
-    let numbering = Arg::new(alloc, "numbering")
-        .long("numbering")
-        .value_name("NUMBERS")
-        .help(
-            "Numbers of a list: source (default: each has its\nown), first (repeat it) or increment",
-        );
-    let emphasis = Arg::new(alloc, "emphasis")
-        .long("emphasis")
-        .value_name("MARKER")
-        .help("Emphasis marker: * (default) or _");
-    let strong = Arg::new(alloc, "strong")
-        .long("strong")
-        .value_name("MARKER")
-        .help("Strong emphasis marker: ** (default) or __");
-    let command = command.arg(bullet)?.arg(ordered)?.arg(numbering)?;
-    with_fences(alloc, command.arg(emphasis)?.arg(strong)?)
-}
-
-fn with_fences<'a>(alloc: Global, command: Command<'a>) -> Result<Command<'a>, AllocError> {
-    let fence = Arg::new(alloc, "fence")
-        .long("fence")
-        .value_name("CHARACTER")
-        .help("Character of a fence: `, ~ or source (default)");
-    let length = Arg::new(alloc, "fence-length")
-        .long("fence-length")
-        .value_name("N")
-        .help("Minimal length of a fence: 3 (default) to 1000");
-    let hard_break = Arg::new(alloc, "hard-break")
-        .long("hard-break")
-        .value_name("BREAK")
-        .help("Hard line break: backslash, spaces or source\n(default)");
-    let rule = Arg::new(alloc, "rule")
-        .long("rule")
-        .value_name("RULE")
-        .allow_hyphen_values(true)
-        .help("Thematic break: --- (default) or source");
-    let command = command.arg(fence)?.arg(length)?;
-    with_widths(alloc, command.arg(hard_break)?.arg(rule)?)
-}
-
-fn with_widths<'a>(alloc: Global, command: Command<'a>) -> Result<Command<'a>, AllocError> {
-    let width = Arg::new(alloc, "table-width")
-        .long("table-width")
-        .value_name("N")
-        .help("Pad tables up to this many columns (default 120)");
-    let indent = Arg::new(alloc, "list-indent")
-        .long("list-indent")
-        .value_name("WIDTH")
-        .help("Indentation of items: that of the marker (default),\nor 4 columns");
-    let wrap = Arg::new(alloc, "wrap")
-        .long("wrap")
-        .value_name("WHERE")
-        .help(
-            "Lines of paragraphs: keep (default), no (join them)\nor N (fill them up to N columns)",
-        );
-    command.arg(width)?.arg(indent)?.arg(wrap)
-}
+const STYLE: [CommandOption<'static>; 12] = [
+    CommandOption {
+        name: "bullet",
+        letter: None,
+        takes: Takes::Sign("BULLET"),
+        help: "Bullet of lists: *, -, + or source (default)",
+    },
+    CommandOption {
+        name: "ordered",
+        letter: None,
+        takes: Takes::Value("DELIMITER"),
+        help: "Delimiter after a number: ., ) or source (default)",
+    },
+    CommandOption {
+        name: "numbering",
+        letter: None,
+        takes: Takes::Value("NUMBERS"),
+        help: "Numbers of a list: source (default: each has its\nown), first (repeat it) or increment",
+    },
+    CommandOption {
+        name: "emphasis",
+        letter: None,
+        takes: Takes::Value("MARKER"),
+        help: "Emphasis marker: * (default) or _",
+    },
+    CommandOption {
+        name: "strong",
+        letter: None,
+        takes: Takes::Value("MARKER"),
+        help: "Strong emphasis marker: ** (default) or __",
+    },
+    CommandOption {
+        name: "fence",
+        letter: None,
+        takes: Takes::Value("CHARACTER"),
+        help: "Character of a fence: `, ~ or source (default)",
+    },
+    CommandOption {
+        name: "fence-length",
+        letter: None,
+        takes: Takes::Value("N"),
+        help: "Minimal length of a fence: 3 (default) to 1000",
+    },
+    CommandOption {
+        name: "hard-break",
+        letter: None,
+        takes: Takes::Value("BREAK"),
+        help: "Hard line break: backslash, spaces or source\n(default)",
+    },
+    CommandOption {
+        name: "rule",
+        letter: None,
+        takes: Takes::Sign("RULE"),
+        help: "Thematic break: --- (default) or source",
+    },
+    CommandOption {
+        name: "table-width",
+        letter: None,
+        takes: Takes::Value("N"),
+        help: "Pad tables up to this many columns (default 120)",
+    },
+    CommandOption {
+        name: "list-indent",
+        letter: None,
+        takes: Takes::Value("WIDTH"),
+        help: "Indentation of items: that of the marker (default),\nor 4 columns",
+    },
+    CommandOption {
+        name: "wrap",
+        letter: None,
+        takes: Takes::Value("WHERE"),
+        help: "Lines of paragraphs: keep (default), no (join them)\nor N (fill them up to N columns)",
+    },
+];
 
 /// The options that say what is done.
-fn with_task<'a>(alloc: Global, command: Command<'a>) -> Result<Command<'a>, AllocError> {
-    let check = Arg::new(alloc, "check")
-        .long("check")
-        .action(ArgAction::SetTrue)
-        .help(
-            "Write nothing; name each file that would change,\nand end with status 1 if there are any",
-        );
-    let list = Arg::new(alloc, "list-different")
-        .short('l')
-        .long("list-different")
-        .action(ArgAction::SetTrue)
-        .help("As --check, without the summary");
-    let diff = Arg::new(alloc, "diff")
-        .long("diff")
-        .action(ArgAction::SetTrue)
-        .help("Write nothing; show the changes as a unified diff");
-    let strict = Arg::new(alloc, "strict")
-        .long("strict")
-        .action(ArgAction::SetTrue)
-        .help("End with status 1 if a block keeps its lines");
-    let no_sync = Arg::new(alloc, "no-sync")
-        .long("no-sync")
-        .action(ArgAction::SetTrue)
-        .help("Don't sync files; faster, and less safe if the\npower fails");
-    let command = command.arg(check)?.arg(list)?.arg(diff)?;
-    command.arg(strict)?.arg(no_sync)
-}
+const TASK: [CommandOption<'static>; 5] = [
+    CommandOption {
+        name: "check",
+        letter: None,
+        takes: Takes::Nothing,
+        help: "Write nothing; name each file that would change,\nand end with status 1 if there are any",
+    },
+    CommandOption {
+        name: "list-different",
+        letter: Some('l'),
+        takes: Takes::Nothing,
+        help: "As --check, without the summary",
+    },
+    CommandOption {
+        name: "diff",
+        letter: None,
+        takes: Takes::Nothing,
+        help: "Write nothing; show the changes as a unified diff",
+    },
+    CommandOption {
+        name: "strict",
+        letter: None,
+        takes: Takes::Nothing,
+        help: "End with status 1 if a block keeps its lines",
+    },
+    CommandOption {
+        name: "no-sync",
+        letter: None,
+        takes: Takes::Nothing,
+        help: "Don't sync files; faster, and less safe if the\npower fails",
+    },
+];
 
 /// The options that say which files are meant.
-fn with_files<'a>(alloc: Global, command: Command<'a>) -> Result<Command<'a>, AllocError> {
-    let exclude = Arg::new(alloc, "exclude")
-        .long("exclude")
-        .value_name("GLOB")
-        .action(ArgAction::Append)
-        .help("Don't format what matches; repeatable");
-    let include = Arg::new(alloc, "include")
-        .long("include")
-        .value_name("GLOB")
-        .action(ArgAction::Append)
-        .help(
-            "Below folders, format what matches, and not *.md,\n*.markdown, *.mdown and *.mkd; repeatable",
-        );
-    let no_ignore = Arg::new(alloc, "no-ignore")
-        .long("no-ignore")
-        .action(ArgAction::SetTrue)
-        .help("Below folders, format what .gitignore ignores, too");
-    let list = Arg::new(alloc, "files-from")
-        .long("files-from")
-        .value_name("FILE")
-        .help("Format the Markdown files that this file names, a\nline each; - is standard input");
-    let null = Arg::new(alloc, "null")
-        .short('0')
-        .long("null")
-        .action(ArgAction::SetTrue)
-        .help("Names of --files-from end with NUL, and not with\na line feed");
-    let input = Arg::new(alloc, "stdin-filepath")
-        .long("stdin-filepath")
-        .value_name("PATH")
-        .help(
-            "Format standard input as this file, which need not\nexist: by its configuration and under its name",
-        );
-    let command = command.arg(exclude)?.arg(include)?.arg(no_ignore)?;
-    command.arg(list)?.arg(null)?.arg(input)
-}
+const FILES: [CommandOption<'static>; 6] = [
+    CommandOption {
+        name: "exclude",
+        letter: None,
+        takes: Takes::Values("GLOB"),
+        help: "Don't format what matches; repeatable",
+    },
+    CommandOption {
+        name: "include",
+        letter: None,
+        takes: Takes::Values("GLOB"),
+        help: "Below folders, format what matches, and not *.md,\n*.markdown, *.mdown and *.mkd; repeatable",
+    },
+    CommandOption {
+        name: "no-ignore",
+        letter: None,
+        takes: Takes::Nothing,
+        help: "Below folders, format what .gitignore ignores, too",
+    },
+    CommandOption {
+        name: "files-from",
+        letter: None,
+        takes: Takes::Value("FILE"),
+        help: "Format the Markdown files that this file names, a\nline each; - is standard input",
+    },
+    CommandOption {
+        name: "null",
+        letter: Some('0'),
+        takes: Takes::Nothing,
+        help: "Names of --files-from end with NUL, and not with\na line feed",
+    },
+    CommandOption {
+        name: "stdin-filepath",
+        letter: None,
+        takes: Takes::Value("PATH"),
+        help: "Format standard input as this file, which need not\nexist: by its configuration and under its name",
+    },
+];
 
-/// The options that say by what, and how much is said.
-fn with_voice<'a>(alloc: Global, command: Command<'a>) -> Result<Command<'a>, AllocError> {
-    let config = Arg::new(alloc, "config")
-        .long("config")
-        .value_name("FILE")
-        .help(
-            "Use this configuration for all files, and not the\nnearest .tocmark.toml in or above each folder",
-        );
-    let quiet = Arg::new(alloc, "quiet")
-        .long("quiet")
-        .action(ArgAction::SetTrue)
-        .help("Don't print the summary");
-    let verbose = Arg::new(alloc, "verbose")
-        .long("verbose")
-        .action(ArgAction::SetTrue)
-        .help("Name each file that changes or is excluded");
-    let color = Arg::new(alloc, "color")
-        .long("color")
-        .value_name("WHEN")
-        .help(
-            "Colour the diff: auto (default: on a terminal,\nunless NO_COLOR is set), always or never",
-        );
-    let command = command.arg(config)?.arg(quiet)?;
-    command.arg(verbose)?.arg(color)
-}
+/// The options for the configuration and the messages.
+const VOICE: [CommandOption<'static>; 4] = [
+    CommandOption {
+        name: "config",
+        letter: None,
+        takes: Takes::Value("FILE"),
+        help: "Use this configuration for all files, and not the\nnearest .tocmark.toml in or above each folder",
+    },
+    CommandOption {
+        name: "quiet",
+        letter: None,
+        takes: Takes::Nothing,
+        help: "Don't print the summary",
+    },
+    CommandOption {
+        name: "verbose",
+        letter: None,
+        takes: Takes::Nothing,
+        help: "Name each file that changes or is excluded",
+    },
+    CommandOption {
+        name: "color",
+        letter: None,
+        takes: Takes::Value("WHEN"),
+        help: "Colour the diff: auto (default: on a terminal,\nunless NO_COLOR is set), always or never",
+    },
+];
 
-/// The command line, with this help of `--syntax`. `docs/FORMAT.md` says what its parts mean.
-pub fn command<'a>(alloc: Global, syntax_help: &'a str) -> Result<Command<'a>, AllocError> {
+/// The command, and the paths that it takes.
+fn with_paths<'a>(alloc: Global) -> Result<Command<'a>, AllocError> {
+    let command = Command::new(alloc, NAME)
+        .bin_name(NAME)?
+        .version("0.1.0")
+        .about("Give Markdown files one style, and keep what they say")
+        .after_help(LAST);
     let paths = Arg::new(alloc, "path")
         .value_name("FILE|FOLDER|-")
         .action(ArgAction::Append)
         .num_args(0..)
         .help(PATHS);
-    let command = Command::new(alloc, NAME)
-        .bin_name(NAME)?
-        .version("0.1.0")
-        .about("Give Markdown files one style, and keep what they say")
-        .after_help(LAST)
-        .arg(paths)?;
-    let command = with_task(alloc, command)?;
-    let command = with_files(alloc, command)?;
-    let command = with_voice(alloc, command)?;
-    with_style(alloc, with_syntax(alloc, command, syntax_help, EXTENSION)?)
+    command.arg(paths)
 }
 
-/// What is to be done, as a command line says it.
+/// The command line, with this help of `--syntax`. `docs/FORMAT.md` says what its parts mean.
+pub fn command<'a>(alloc: Global, syntax_help: &'a str) -> Result<Command<'a>, AllocError> {
+    let command = with_options(alloc, with_paths(alloc)?, &TASK)?;
+    let command = with_options(alloc, command, &FILES)?;
+    let command = with_options(alloc, command, &VOICE)?;
+    let command = with_syntax(alloc, command, syntax_help)?;
+    with_options(alloc, command, &STYLE)
+}
+
+/// What is done, by a command line.
 pub fn task_of(matches: &ArgMatches<'_>) -> Task {
     Task {
         terms: Terms {
@@ -268,7 +288,7 @@ pub fn task_of(matches: &ArgMatches<'_>) -> Task {
     }
 }
 
-/// How much is to be said, as a command line says it.
+/// How much is printed, by a command line.
 pub fn voice_of(matches: &ArgMatches<'_>) -> Voice {
     Voice {
         is_quiet: matches.get_flag("quiet") || matches.get_flag("list-different"),
@@ -276,7 +296,7 @@ pub fn voice_of(matches: &ArgMatches<'_>) -> Voice {
     }
 }
 
-/// When a diff is coloured, as a command line says it.
+/// When a diff is coloured, by a command line.
 pub fn color_of(matches: &ArgMatches<'_>) -> Result<Color, Refused> {
     let Some(word) = matches.get_str("color") else {
         return Ok(Color::Auto);
@@ -289,7 +309,7 @@ pub fn color_of(matches: &ArgMatches<'_>) -> Result<Color, Refused> {
     Err(Refused::Option("color", "auto, always or never"))
 }
 
-/// The options of the style with their values, as a command line says them.
+/// The options of the style with their values, by a command line.
 fn values_of(alloc: Global, matches: &ArgMatches<'_>) -> Result<Vec<Setting>, Refused> {
     let mut values = Vec::new(alloc);
     for (option, key, wanted) in &KEYS {
@@ -306,7 +326,7 @@ fn values_of(alloc: Global, matches: &ArgMatches<'_>) -> Result<Vec<Setting>, Re
     Ok(values)
 }
 
-/// The globs that an option has, for what is below the working folder. `None`: it isn't there.
+/// The globs of an option, for files below the working folder. `None`: the option isn't given.
 fn globs_of(
     rt: &HostRuntime,
     matches: &ArgMatches<'_>,

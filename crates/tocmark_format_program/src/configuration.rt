@@ -11,9 +11,9 @@ use toml::{Table, Value};
 #[derive(Drop)]
 pub(crate) struct Configuration {
     settings: Settings,
-    /// What isn't formatted.
+    /// Which files aren't formatted.
     pub(crate) exclude: Rules,
-    /// What is formatted below a folder. `None`: files with names of Markdown.
+    /// Which files are formatted below a folder. `None`: those with names of Markdown.
     pub(crate) include: Option<Rules>,
     overrides: Vec<Override>,
 }
@@ -44,7 +44,7 @@ struct Source<'t> {
     text: &'t str,
     /// The folder of the file.
     folder: &'t str,
-    /// How many lines are passed by.
+    /// How many lines are skipped.
     passed: usize,
 }
 
@@ -251,6 +251,35 @@ impl<'t> Source<'t> {
         Source { passed, ..self }
     }
 
+    /// The settings that the keys of a table name.
+    fn settings(self, table: &Table) -> Result<Settings, ConfigError> {
+        let values = self.values(table, &["exclude", "include", "overrides"])?;
+        let mut settings = Settings::new();
+        let _ = set_all(&mut settings, &values);
+        Ok(settings)
+    }
+
+    /// The globs of `exclude`.
+    fn exclude(self, table: &Table) -> Result<Rules, ConfigError> {
+        match self.globs(table, "exclude")? {
+            Some(rules) => Ok(rules),
+            None => Ok(Rules::new(self.alloc, self.folder)?),
+        }
+    }
+
+    fn configuration(self, table: &Table) -> Result<Configuration, ConfigError> {
+        let settings = self.settings(table)?;
+        let exclude = self.exclude(table)?;
+        let include = self.globs(table, "include")?;
+        let overrides = self.overrides(table)?;
+        Ok(Configuration {
+            settings,
+            exclude,
+            include,
+            overrides,
+        })
+    }
+
     fn overrides(self, table: &Table) -> Result<Vec<Override>, ConfigError> {
         let mut overrides = Vec::new(self.alloc);
         let items = match table.get("overrides") {
@@ -275,7 +304,7 @@ impl<'t> Source<'t> {
 }
 
 impl Configuration {
-    /// What holds where there is no configuration file.
+    /// The configuration of a folder that has no configuration file.
     pub(crate) fn new(alloc: Global) -> Result<Configuration, AllocError> {
         Ok(Configuration {
             settings: Settings::new(),
@@ -298,21 +327,7 @@ impl Configuration {
             passed: 0,
         };
         let table = source.table()?;
-        let values = source.values(&table, &["exclude", "include", "overrides"])?;
-        let mut settings = Settings::new();
-        let _ = set_all(&mut settings, &values);
-        let exclude = match source.globs(&table, "exclude")? {
-            Some(rules) => rules,
-            None => Rules::new(alloc, folder)?,
-        };
-        let include = source.globs(&table, "include")?;
-        let overrides = source.overrides(&table)?;
-        Ok(Configuration {
-            settings,
-            exclude,
-            include,
-            overrides,
-        })
+        source.configuration(&table)
     }
 
     /// The settings of the file with this path, and those of a text without a name.

@@ -1,4 +1,4 @@
-//! Why a file or a call isn't done.
+//! Why a file fails.
 
 ghost use Rattle.std.specs.Prelude.{◌≡◌};
 ghost use Rattle.tocmark_format_program.specs.Formats.{IsOutputFault};
@@ -8,7 +8,7 @@ use std::alloc::{AllocError, AllocFailed};
 use std::io;
 use thiserror::Error;
 
-/// What is wrong with one file, said behind its name.
+/// What is wrong with one file. The message stands behind its name.
 #[derive(Debug, Drop, Error)]
 pub enum Fault {
     #[error("cannot be read: {0}")]
@@ -17,7 +17,7 @@ pub enum Fault {
     NotUtf8(usize),
     #[error("is not formatted: the name is not UTF-8")]
     Name,
-    #[error("has a name that is not UTF-8, which is passed by")]
+    #[error("contains a name that is not UTF-8, which is skipped")]
     NameWithin,
     #[error("is no regular file")]
     NotRegular,

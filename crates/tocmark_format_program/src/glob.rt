@@ -321,7 +321,7 @@ impl Parser {
         }
     }
 
-    /// Parses the asterisks of which the first is passed.
+    /// Parses asterisks from the second on.
     fn stars(&mut self) -> Result<(), AllocError> {
         let is_start = self.is_start(self.at.saturating_sub(1));
         let mut is_double = false;
@@ -345,7 +345,7 @@ impl Parser {
         self.push(Token::Folders)
     }
 
-    /// Parses the class whose bracket is passed.
+    /// Parses a class from behind its bracket on.
     fn class(&mut self) -> Result<bool, AllocError> {
         let is_negated = self.skip('!') || self.skip('^');
         let from = self.glob.ranges.len();

@@ -1,4 +1,4 @@
-//! The configuration of each folder: the nearest file upwards from it. Each is read once.
+//! The configuration of each folder: the nearest file in it or above. Each file is read once.
 
 use crate::configuration::{ConfigError, Configuration};
 use crate::quoted::Quoted;

@@ -8,8 +8,8 @@
 //! configuration name, `configuration` reads such a file, and `lookup` finds that of each folder. Which texts are meant:
 //! `search` finds them, `walk` those below a folder, and `list` those of a list; `glob` matches names, `rules` says what globs
 //! mean, and `ignores` has those of `.gitignore`. What is done: `decide` has what is written for a text, `text` reads one,
-//! `stream` answers standard input, `changes` and `diff` show what would change, and `replace` replaces a file. What is said:
-//! `outcome` has what became of a text and the status, `report`, `fault` and `quoted` the messages.
+//! `stream` answers standard input, `changes` and `diff` show what would change, and `replace` replaces a file. What is
+//! printed: `outcome` has what became of a text and the status, `report`, `fault` and `quoted` have the messages.
 #![tactic(auto)]
 
 mod arguments;
@@ -64,7 +64,7 @@ const FORMAT: Program = Program { name: NAME };
 /// The first line of what `--help` says of `--syntax`.
 const SYNTAX: &str = "Markdown to read: commonmark, gfm (default) or all";
 
-/// From how many files on a terminal is shown how far a call is.
+/// How many files a call has at least if a terminal shows how many are done.
 const MANY: usize = 20;
 
 /// What is done with each text.
@@ -116,7 +116,7 @@ fn preview(
     })
 }
 
-/// Formats a file in place, which isn't touched where its text stays.
+/// Formats a file in place. A file whose text stays isn't touched.
 fn format_file(
     rt: &HostRuntime,
     work: Work,
@@ -165,7 +165,7 @@ fn copy_through(rt: &HostRuntime, work: Work) -> Result<Passed, Fault> {
     })
 }
 
-/// Does one file, or standard input.
+/// Formats one file, or standard input.
 fn done(rt: &HostRuntime, work: Work, target: &Target) -> Result<Passed, Fault> {
     let (path, settings) = (target.path.as_str(), target.settings);
     let is_dry = work.task.is_dry();
@@ -187,7 +187,7 @@ fn done(rt: &HostRuntime, work: Work, target: &Target) -> Result<Passed, Fault> 
     }
 }
 
-/// Says what became of a text.
+/// Reports what became of a text.
 fn outcome_said(
     report: &mut Report<BufWriter<Stderr>>,
     path: &str,
@@ -208,7 +208,7 @@ fn outcome_said(
     }
 }
 
-/// Does all texts, unless standard output can't be written any more, and says what became of them.
+/// Formats all texts, or stops once standard output can't be written, and reports what became of them.
 fn do_all(
     rt: &HostRuntime,
     work: Work,
@@ -243,7 +243,7 @@ fn is_colored(rt: &HostRuntime, color: Color) -> bool {
     }
 }
 
-/// Whether standard input is all that is meant.
+/// Whether standard input is the only text.
 fn is_only_input(found: &Found) -> bool {
     match found.targets.as_slice() {
         [] => false,
@@ -294,36 +294,46 @@ fn add_path(
     }
 }
 
-/// What a call means.
+/// Adds the texts that a call names.
+fn add_all(
+    rt: &HostRuntime,
+    search: &mut Search,
+    matches: &ArgMatches<'_>,
+    broken: &[String],
+) -> Result<(), Refused> {
+    let paths = matches.get_strs("path").unwrap_or(&[]);
+    let list = matches.get_str("files-from");
+    let name = matches.get_str("stdin-filepath");
+    check_input(paths, list, name)?;
+    if let Some(name) = name {
+        return search.add_input_as(rt, name);
+    }
+    if let Some(list) = list {
+        let end = if matches.get_flag("null") { 0 } else { b'\n' };
+        add_list(rt, search, list, end)?;
+    }
+    for path in paths {
+        add_path(rt, search, broken, path)?;
+    }
+    if paths.is_empty() && list.is_none() {
+        return search.add_input(rt);
+    }
+    Ok(())
+}
+
+/// The texts that a call names.
 fn found_of(
     rt: &HostRuntime,
     matches: &ArgMatches<'_>,
     broken: &[String],
 ) -> Result<Found, Refused> {
-    let paths = matches.get_strs("path").unwrap_or(&[]);
-    let list = matches.get_str("files-from");
-    let name = matches.get_str("stdin-filepath");
-    check_input(paths, list, name)?;
     let choice = choice_of(rt, matches)?;
     let mut search = Search::new(rt, choice, matches.get_str("config"))?;
-    if let Some(name) = name {
-        search.add_input_as(rt, name)?;
-        return Ok(search.end());
-    }
-    if let Some(list) = list {
-        let end = if matches.get_flag("null") { 0 } else { b'\n' };
-        add_list(rt, &mut search, list, end)?;
-    }
-    for path in paths {
-        add_path(rt, &mut search, broken, path)?;
-    }
-    if paths.is_empty() && list.is_none() {
-        search.add_input(rt)?;
-    }
+    add_all(rt, &mut search, matches, broken)?;
     Ok(search.end())
 }
 
-/// Does what is found, and says the status.
+/// Formats all texts that were found, and returns the status.
 fn perform(
     rt: &HostRuntime,
     work: Work,
@@ -386,7 +396,7 @@ fn start(rt: &HostRuntime, matches: &ArgMatches<'_>, broken: &[String]) -> ExitC
     }
 }
 
-/// Shows the help or the version, or says what is wrong with the arguments.
+/// Writes the help or the version, or why the arguments are wrong.
 fn show(rt: &HostRuntime, error: &clap::Error) -> ExitCode {
     match FORMAT.show(rt, error) {
         Ok(status) => status,
@@ -400,7 +410,7 @@ fn show(rt: &HostRuntime, error: &clap::Error) -> ExitCode {
     }
 }
 
-/// Says why nothing is done.
+/// Writes why nothing is done.
 fn refuse_call(rt: &HostRuntime, refused: &Refused) -> ExitCode {
     FORMAT.complain(&mut rt.stderr(), refused);
     ExitCode::from(2)

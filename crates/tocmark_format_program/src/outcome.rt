@@ -16,7 +16,7 @@ pub struct Outcome {
     pub warnings: usize,
 }
 
-/// For what a call ends with status 1, beside a failure.
+/// Why a call ends with status 1, beside a failure.
 #[derive(Clone, Copy, Drop)]
 pub struct Terms {
     /// A text that would change.
@@ -26,7 +26,7 @@ pub struct Terms {
 }
 
 impl Outcome {
-    /// A text that couldn't be done.
+    /// A text that failed.
     pub const FAILED: Outcome = Outcome {
         is_changed: false,
         has_failed: true,
@@ -50,7 +50,7 @@ impl Outcome {
     }
 }
 
-/// What a decision is to its text, once it is carried out.
+/// The outcome of a decision, once it is carried out.
 pub fn outcome_of(decision: &Decision) -> Outcome
     ensures changed { IsTrue result.is_changed ↔ IsSome decision.now.new }
     ensures done { result.has_failed ≡ false }

@@ -1,4 +1,4 @@
-//! A file's text replaced in place: all of it or nothing.
+//! Replaces a file's text: all of it or nothing.
 //!
 //! The new text is written to a new file in the same folder, which gets the owner and the permissions of the old one, is
 //! synced, and is renamed over it. Until then the old file stands as it is; at a fault the new one is removed.
@@ -27,7 +27,7 @@ const ENDING: &str = ".tocmark-format";
 /// The permission to write that the owner of a file has.
 const OWNER_WRITES: u32 = 0o200;
 
-/// A decision that is carried out, and by whom its texts are read.
+/// A decision that is carried out, and the reader of its texts.
 #[derive(Drop)]
 pub struct Change<'c, R> {
     pub reader: &'c R,
@@ -144,7 +144,7 @@ fn still_has(rt: &HostRuntime, path: &str, text: &str) -> io::Result<bool> {
     Ok(bytes.as_slice() == text.as_bytes())
 }
 
-/// Fills the new file, and puts it into the place of the old one, if that still has its old text.
+/// Fills the new file, and renames it over the old one if that still has its old text.
 fn fill_and_rename<R: Reader>(
     rt: &HostRuntime,
     places: Places<'_>,
@@ -171,8 +171,8 @@ fn target_of(rt: &HostRuntime, path: &str) -> io::Result<String> {
     }
 }
 
-/// Puts the new text of a decision, which says the same, in the place of a file's old one, if there is a new one. A link is
-/// followed. After an `Err` the file stands as it was.
+/// Replaces a file's text by the new text of a decision, if there is one. Both say the same. A link is followed. After an
+/// `Err` the file is as it was.
 pub fn replace_text<R: Reader>(
     rt: &HostRuntime,
     path: &str,

@@ -1,5 +1,4 @@
-//! What is said on standard error. Each line is flushed, and not its parts, so that the lines of calls side by side don't mix
-//! if the output is buffered.
+//! The messages on standard error. Each whole line is flushed at once, so that the lines of parallel calls don't mix.
 
 use crate::arguments::Voice;
 use crate::fault::Fault;
@@ -103,7 +102,7 @@ impl fmt::Display for Summary {
     }
 }
 
-/// Why a file can't be done.
+/// Why a file failed.
 #[derive(Clone, Copy)]
 struct Failed<'m> {
     path: Quoted<'m>,
@@ -154,7 +153,7 @@ impl fmt::Display for Warning<'_> {
 pub struct Report<E: Write + Drop> {
     out: E,
     voice: Voice,
-    /// Whether a line shows how far the call is, which the next line is written over.
+    /// Whether a line shows how many texts are done, until the next line overwrites it.
     shows_progress: bool,
     /// Whether nothing is written, so that files would change.
     is_dry: bool,
@@ -170,12 +169,12 @@ impl<E: Write + Drop> Report<E> {
         }
     }
 
-    /// From now on a line shows how far the call is.
+    /// Shows from now on how many texts are done.
     pub fn show_progress(&mut self) {
         self.shows_progress = true;
     }
 
-    /// Takes away the line that shows how far the call is.
+    /// Removes the line that shows how many texts are done.
     pub fn clear(&mut self) {
         if self.shows_progress {
             let _ = self.out.write_all(b"\r\x1b[K");
@@ -190,7 +189,7 @@ impl<E: Write + Drop> Report<E> {
         let _ = self.out.flush();
     }
 
-    /// A file that can't be done. Nothing is said if nobody reads standard output any more.
+    /// Reports a file that failed, unless it failed because nobody reads standard output any more.
     pub fn failed<'m>(&mut self, path: &'m str, fault: &'m Fault) {
         if !fault.is_broken_pipe() {
             self.say(&Failed {
@@ -200,7 +199,7 @@ impl<E: Write + Drop> Report<E> {
         }
     }
 
-    /// A line on a file, if each is named.
+    /// Writes a line about a file, if each file is named.
     pub fn note(&mut self, path: &str, what: &'static str) {
         if self.voice.is_verbose {
             self.say(&Note {
@@ -210,7 +209,7 @@ impl<E: Write + Drop> Report<E> {
         }
     }
 
-    /// A file that was changed, or would be.
+    /// Reports a file that was changed, or would be.
     pub fn changed(&mut self, path: &str) {
         let what = if self.is_dry {
             "would be formatted"
@@ -220,7 +219,7 @@ impl<E: Write + Drop> Report<E> {
         self.note(path, what);
     }
 
-    /// The blocks of a file that keep their lines.
+    /// Warns of the blocks of a file that keep their lines.
     pub fn left(&mut self, path: &str, left: &[Left]) {
         for Left { lines, reason } in left {
             self.say(&Warning {
@@ -231,7 +230,7 @@ impl<E: Write + Drop> Report<E> {
         }
     }
 
-    /// How many of all texts are done.
+    /// Shows how many of all texts are done.
     pub fn progress(&mut self, done: usize, all: usize) {
         if self.shows_progress {
             let _ = write!(self.out, "\r{done} of {all}");
@@ -239,7 +238,7 @@ impl<E: Write + Drop> Report<E> {
         }
     }
 
-    /// The count at the end.
+    /// Writes the summary.
     pub fn end(&mut self, outcomes: &[Outcome]) {
         if self.voice.is_quiet {
             self.clear();

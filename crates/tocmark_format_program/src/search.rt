@@ -1,4 +1,4 @@
-//! Which texts a call means, and with which settings.
+//! Which texts a call formats, and with which settings.
 
 use crate::arguments::Choice;
 use crate::fault::Fault;
@@ -18,7 +18,7 @@ pub enum Origin {
     ExcludedInput,
 }
 
-/// A text that is meant.
+/// A text that a call formats.
 #[derive(Drop)]
 pub struct Target {
     /// The path as it is named, or `-`.
@@ -34,34 +34,34 @@ pub struct Failure {
     pub fault: Fault,
 }
 
-/// What a call means.
+/// What a search found.
 #[derive(Drop)]
 pub struct Found {
     pub targets: Vec<Target>,
     pub failures: Vec<Failure>,
     /// Files that are named and excluded.
     pub excluded: Vec<String>,
-    /// Files below folders that calls seem to have left behind which were interrupted.
+    /// Files below folders that look as if an interrupted call left them behind.
     pub left_behind: Vec<String>,
 }
 
-/// The search for what a call means.
+/// The search for the texts of a call.
 #[derive(Drop)]
 pub struct Search {
     choice: Choice,
     configurations: Configurations,
     pub(crate) ignores: Ignores,
-    /// The whole paths of folders, by the names that files have them.
+    /// The whole paths of folders, by the paths that files name them by.
     folders: HashMap<String, String>,
     /// The whole paths of what is found.
     seen: HashSet<String>,
     pub(crate) found: Found,
 }
 
-/// Folders that have files of others.
+/// Folders with files of other projects.
 const FOREIGN: [&str; 4] = ["node_modules", "target", "vendor", "venv"];
 
-/// What ends names of Markdown files, in any case.
+/// The endings of Markdown files, in any case.
 const ENDINGS: [&str; 4] = ["md", "markdown", "mdown", "mkd"];
 
 /// Whether a file has a name of Markdown.
@@ -77,7 +77,7 @@ pub(crate) fn is_markdown(name: &str) -> bool {
     false
 }
 
-/// Whether something of this name is passed by below a folder.
+/// Whether something of this name is skipped below a folder.
 fn is_passed_by(name: &str) -> bool {
     for folder in &FOREIGN {
         if *folder == name {
@@ -133,7 +133,7 @@ impl Search {
         self.configurations.get(configuration)?.include.as_ref()
     }
 
-    /// Whether something below a folder is passed by for its name.
+    /// Whether something below a folder is skipped because of its name.
     pub(crate) fn passes_by(&self, configuration: usize, name: &str) -> bool {
         if !is_passed_by(name) {
             return false;

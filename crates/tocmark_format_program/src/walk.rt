@@ -8,7 +8,7 @@ use crate::search::{Search, Target, is_markdown};
 use std::fs::DirEntry;
 use std::{fs, io};
 
-/// A folder that is still to be looked at.
+/// A folder that is still to be searched.
 #[derive(Drop)]
 struct Folder {
     /// The path as it is shown.
@@ -27,7 +27,7 @@ struct Scope<'f> {
     ignores: Option<usize>,
 }
 
-/// The files that are found below a folder, and the folders that are still to be looked at.
+/// The files found below a folder, and the folders that are still to be searched.
 #[derive(Drop)]
 struct Walk {
     folders: Vec<Folder>,
@@ -110,7 +110,7 @@ impl Search {
         }
     }
 
-    /// Adds what stands in a folder.
+    /// Adds the entries of a folder.
     fn look_into(
         &mut self,
         rt: &HostRuntime,
