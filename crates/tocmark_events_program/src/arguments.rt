@@ -137,7 +137,7 @@ const WRITE_OPTIONS: [CommandOption<'static>; 3] = [
 ];
 
 /// The options that only `rewrite` has.
-const REWRITE_OPTIONS: [CommandOption<'static>; 2] = [
+const REWRITE_OPTIONS: [CommandOption<'static>; 3] = [
     CommandOption {
         name: "source",
         letter: None,
@@ -149,6 +149,12 @@ const REWRITE_OPTIONS: [CommandOption<'static>; 2] = [
         letter: None,
         takes: Takes::Nothing,
         help: "Tell on standard error what became of each block",
+    },
+    CommandOption {
+        name: "in-place",
+        letter: None,
+        takes: Takes::Nothing,
+        help: "Replace the document, and write no output",
     },
 ];
 
@@ -242,6 +248,14 @@ fn options_of<'a>(
 pub fn options_file<'a>(matches: &ArgMatches<'a>) -> Option<&'a str> {
     match matches.subcommand() {
         Some((name, matches)) if name == "write" || name == "rewrite" => matches.get_str("options"),
+        _ => None,
+    }
+}
+
+/// The file that is rewritten in place, if the call asks for that.
+pub fn file_in_place<'a>(matches: &ArgMatches<'a>) -> Option<&'a str> {
+    match matches.subcommand() {
+        Some(("rewrite", matches)) if matches.get_flag("in-place") => matches.get_str("source"),
         _ => None,
     }
 }
