@@ -18,6 +18,8 @@ pub enum Job<'a> {
         flags: ParserOptions,
         /// Whether each event stands on a line of its own.
         lines: bool,
+        /// Whether ranges have lines and columns.
+        positions: bool,
     },
     /// Events to the one form of their JSON.
     Check,
@@ -114,6 +116,17 @@ const LINES: CommandOption<'static> = CommandOption {
     help: "One line of JSON for each event, and no array",
 };
 
+/// The options of `read`.
+const READ_OPTIONS: [CommandOption<'static>; 2] = [
+    LINES,
+    CommandOption {
+        name: "positions",
+        letter: None,
+        takes: Takes::Nothing,
+        help: "Give each range the lines and columns of its ends",
+    },
+];
+
 /// The options that only `write` has.
 const WRITE_OPTIONS: [CommandOption<'static>; 3] = [
     CommandOption {
@@ -189,7 +202,7 @@ fn writing_command<'a>(
 
 fn read_command<'a>(alloc: Global, syntax_help: &'a str) -> Result<Command<'a>, AllocError> {
     let read = Command::new(alloc, "read").about(READ);
-    let read = with_options(alloc, read, &[LINES])?;
+    let read = with_options(alloc, read, &READ_OPTIONS)?;
     with_syntax(alloc, read, syntax_help)
 }
 
@@ -275,7 +288,11 @@ pub fn asked<'a>(
     let flags = flags_of(matches)?;
     let lines = matches.get_flag("lines");
     if name == "read" {
-        return Ok(Job::Read { flags, lines });
+        return Ok(Job::Read {
+            flags,
+            lines,
+            positions: matches.get_flag("positions"),
+        });
     }
     let mut options = options_of(alloc, matches, given)?;
     if name == "write" && matches.get_flag("check-plain-blocks") {
