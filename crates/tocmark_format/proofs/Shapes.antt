@@ -29,7 +29,7 @@ outlines-still old new e still none before h =
     ∙ ap (map Some) (sym (shape-more before e ∙ ap (λ es. shape before ++ es) none ∙ append-nil (shape before)))
 
 -- the values among some
-values : {A : Type 0} → List (Option A) → List A
+abbrev values : {A : Type 0} → List (Option A) → List A
 values [] = []
 values (Some x ∷ xs) = x ∷ values xs
 values (None ∷ xs) = values xs

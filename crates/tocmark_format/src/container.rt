@@ -146,7 +146,7 @@ impl Printer<'_> {
         let behind = start.saturating_add(digits).saturating_add(1);
         let columns = self.item_columns(start, behind);
         let mut first = String::new(self.alloc);
-        if self.look.is_literal {
+        if self.look.is_literal && !self.page.owes_sign() {
             push_blanks(&mut first, columns.indent)?;
         }
         self.push_marker(&mut first, own.get(..digits).unwrap_or(""))?;

@@ -260,6 +260,15 @@ impl Page {
         &mut self.top
     }
 
+    /// Whether the next line stands behind the sign of the innermost container; lists don't count.
+    pub(crate) fn owes_sign(&self) -> bool {
+        if self.top.kind == Kind::List {
+            self.outer.last().is_some_and(|frame| frame.owes_sign())
+        } else {
+            self.top.owes_sign()
+        }
+    }
+
     /// How many containers are open in the document.
     pub(crate) fn depth(&self) -> usize {
         self.outer.len()
