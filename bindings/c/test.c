@@ -274,6 +274,49 @@ static void rewriting(void) {
          "options and no place");
 }
 
+/* --- where writing goes wrong --- */
+
+typedef ptrdiff_t writer(const uint8_t *, size_t, const uint8_t *, size_t, uint32_t, const uint8_t *, size_t,
+                         struct tocmark_place *, uint8_t *, size_t);
+
+/* Writes events over a source, where what is wanted is a length, or an error's code. */
+static void writes_at(writer *write, const char *json, const char *source, ptrdiff_t wanted) {
+  uint8_t out[100];
+  place = (struct tocmark_place){sizeof place, 7, 8, 9};
+  ptrdiff_t size = write((const uint8_t *)json, strlen(json), (const uint8_t *)source, strlen(source), 0, NULL, 0, &place, out,
+                         sizeof out);
+  expect(size, wanted, json);
+  if (size >= 0)
+    is_at(7, 8, 9);
+}
+
+static void places(void) {
+  writer *const writers[] = {tocmark_write_json_at_, tocmark_write_checked_at_};
+  for (size_t i = 0; i < 2; i++) {
+    writes_at(writers[i], "[\"Rule\"]", "", 3);
+    writes_at(writers[i], "[\"Rule\", 1]", "", TOCMARK_NOT_EVENTS);
+    is_at(1, 0, 0);
+    writes_at(writers[i], "[\"Rule\", {\"Start\": \"Paragraph\"}]", "", TOCMARK_UNEXPECTED_EVENT);
+    is_at(1, 0, 0);
+    writes_at(writers[i], "[\"Rule\", {\"Start\": \"Strikethrough\"}, {\"End\": \"Strikethrough\"}, \"Rule\"]", "",
+           TOCMARK_UNREPRESENTABLE);
+    is_at(1, 0, 0);
+    writes_at(writers[i], "[[\"Rule\", null], [\"Rule\", {\"start\": 2, \"end\": 9}]]", "a\nb\n", TOCMARK_INVALID_SOURCE_RANGE);
+    is_at(1, 2, 3);
+    writes_at(writers[i], "[\"Rule\"", "", TOCMARK_NOT_JSON);
+    is_at(SIZE_MAX, 0, 0);
+    struct tocmark_place other = {sizeof other + 1, 7, 8, 9};
+    expect(writers[i](NULL, 0, NULL, 0, 0, NULL, 0, &other, NULL, 0), TOCMARK_NOT_JSON, "no JSON");
+    if (other.size != sizeof other + 1 || other.event != 7 || other.first_line != 8 || other.last_line != 9)
+      wrong("a place of another size is filled", NULL);
+    expect(writers[i](NULL, 0, NULL, 0, 0, (const uint8_t *)"\xFF", 1, NULL, NULL, 0), TOCMARK_OPTIONS_NOT_UTF8,
+           "options and no place");
+  }
+  writes_at(tocmark_write_checked_at_, "[{\"Start\": {\"FootnoteDefinition\": \"1\"}}, {\"End\": \"FootnoteDefinition\"}]", "",
+         TOCMARK_CHANGED);
+  is_at(0, 0, 0);
+}
+
 /* NULL is an empty text, a buffer without room, and the default style. */
 static void nulls(void) {
   expect(tocmark_error_text(TOCMARK_OUT_OF_MEMORY, NULL, 0), 13, "the text of an error for no room");
@@ -461,6 +504,7 @@ int main(void) {
     wrong("652 texts are wanted on standard input", NULL);
   errors();
   rewriting();
+  places();
   nulls();
   styles();
   refusals();

@@ -106,6 +106,18 @@ struct tocmark_place {
   size_t last_line;  /* the last one */
 };
 
+/* The same two functions, which also say where an error is. If a block is refused, `event` is its first event, and the lines
+ * are those of this event's range in the source. For TOCMARK_NOT_EVENTS, `event` is the first element that is no event, and for
+ * TOCMARK_CHANGED the first one that the result doesn't have, or the number of all events if others follow them.
+ *
+ * where: NULL, or what an error fills. */
+ptrdiff_t tocmark_write_json_at(const uint8_t *json, size_t json_len, const uint8_t *source, size_t source_len,
+                                uint32_t flags, const uint8_t *options, size_t options_len, struct tocmark_place *where,
+                                uint8_t *out, size_t out_len);
+ptrdiff_t tocmark_write_checked_at(const uint8_t *json, size_t json_len, const uint8_t *source, size_t source_len,
+                                   uint32_t flags, const uint8_t *options, size_t options_len,
+                                   struct tocmark_place *where, uint8_t *out, size_t out_len);
+
 /* Replaces the events of a source by others: all lines whose events stay are kept byte for byte, and the result parses to just
  * the new events. Texts side by side count as one. If the events are those of the source, the result is the source.
  *
@@ -178,6 +190,23 @@ static inline ptrdiff_t tocmark_write_checked_(const uint8_t *json, size_t json_
                                tocmark_text_(options), options_len, tocmark_room_(out), out_len);
 }
 
+static inline ptrdiff_t tocmark_write_json_at_(const uint8_t *json, size_t json_len, const uint8_t *source,
+                                               size_t source_len, uint32_t flags, const uint8_t *options, size_t options_len,
+                                               struct tocmark_place *where, uint8_t *out, size_t out_len) {
+  struct tocmark_place unread = {sizeof unread, 0, 0, 0};
+  return tocmark_write_json_at(tocmark_text_(json), json_len, tocmark_text_(source), source_len, flags,
+                               tocmark_text_(options), options_len, where ? where : &unread, tocmark_room_(out), out_len);
+}
+
+static inline ptrdiff_t tocmark_write_checked_at_(const uint8_t *json, size_t json_len, const uint8_t *source,
+                                                  size_t source_len, uint32_t flags, const uint8_t *options,
+                                                  size_t options_len, struct tocmark_place *where, uint8_t *out,
+                                                  size_t out_len) {
+  struct tocmark_place unread = {sizeof unread, 0, 0, 0};
+  return tocmark_write_checked_at(tocmark_text_(json), json_len, tocmark_text_(source), source_len, flags,
+                                  tocmark_text_(options), options_len, where ? where : &unread, tocmark_room_(out), out_len);
+}
+
 static inline ptrdiff_t tocmark_rewrite_(const uint8_t *json, size_t json_len, const uint8_t *source, size_t source_len,
                                          uint32_t flags, const uint8_t *options, size_t options_len,
                                          struct tocmark_place *where, uint8_t *out, size_t out_len) {
@@ -196,6 +225,8 @@ static inline ptrdiff_t tocmark_format_(const uint8_t *text, size_t text_len, ui
 #define tocmark_read_json tocmark_read_json_
 #define tocmark_write_json tocmark_write_json_
 #define tocmark_write_checked tocmark_write_checked_
+#define tocmark_write_json_at tocmark_write_json_at_
+#define tocmark_write_checked_at tocmark_write_checked_at_
 #define tocmark_rewrite tocmark_rewrite_
 #define tocmark_format tocmark_format_
 

@@ -14,6 +14,11 @@ def program(name, words, given):
     return subprocess.run([name, *words], input=given.encode(), stdout=subprocess.PIPE, check=True).stdout.decode()
 
 
+def position(end, text, offset):
+    line, column = tocmark.position_of(text, offset)
+    return {f"{end}_line": line, f"{end}_column": column}
+
+
 def main(name, texts):
     with open(texts, encoding="utf-8") as file:
         lines = [json.loads(line) for line in file if line.startswith('"')][:652]
@@ -23,6 +28,9 @@ def main(name, texts):
         found = program(name, ["read", "--syntax", syntax], text)
         pairs = [[event, {"start": place.start, "end": place.stop}] for event, place in tocmark.read(text, syntax=syntax)]
         wrong += json.loads(found) != pairs
+        located = [[event, {"start": place.start, "end": place.stop, **position("start", text, place.start), **position("end", text, place.stop)}]
+                   for event, place in tocmark.read(text, syntax=syntax)]
+        wrong += json.loads(program(name, ["read", "--positions", "--syntax", syntax], text)) != located
         with tempfile.NamedTemporaryFile("w", encoding="utf-8") as source:
             source.write(text)
             source.flush()

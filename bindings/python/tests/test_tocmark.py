@@ -135,6 +135,19 @@ class Writing(unittest.TestCase):
         self.refused(tocmark.Unrepresentable, -11, struck, syntax="commonmark")
         self.refused(tocmark.InvalidSourceRange, -12, [("Rule", range(2, 9))], "---")
 
+    def test_errors_have_a_place(self):
+        struck = [PARAGRAPH[0], {"Start": "Strikethrough"}, {"Text": "b"}, {"End": "Strikethrough"}, PARAGRAPH[2]]
+        placed = [*((event, range(0, 1)) for event in PARAGRAPH), *((event, range(4, 5)) for event in struck)]
+        for document in (False, True):
+            for events, source, event, lines in ((PARAGRAPH + struck, "", 3, None), (placed, "a\n\n\nb\n", 3, (4, 4)),
+                                                 ([*PARAGRAPH, "Rul"], "", 3, None), (PARAGRAPH[:2], "", 0, None),
+                                                 ([*PARAGRAPH, ("Rule", range(2, 9))], "---", 3, (1, 1))):
+                with self.assertRaises(tocmark.Error) as caught:
+                    tocmark.write(events, source, syntax="commonmark", check_document=document)
+                self.assertEqual((caught.exception.event, caught.exception.lines), (event, lines), events)
+        error = self.refused(tocmark.InvalidOptions, -9, PARAGRAPH, extensions=["superscript"], use_html_for_super_sub_script=True)
+        self.assertEqual((error.event, error.lines), (None, None))
+
     def test_an_option_that_is_wrong_is_named(self):
         for options, wanted in (({"list_token": "x"}, "list_token: expected one of * - +, and not 'x'"),
                                 ({"bullet": "-"}, "there is no option bullet"),
@@ -148,7 +161,8 @@ class Writing(unittest.TestCase):
         note = [{"Start": {"FootnoteDefinition": "1"}}, {"End": "FootnoteDefinition"}]
         items = [{"Start": {"List": None}}, {"Start": "Item"}, {"Text": "a"}, {"End": "Item"}, {"End": {"List": False}}]
         tocmark.write(note + items)
-        self.refused(tocmark.Changed, -16, note + items, check_document=True)
+        error = self.refused(tocmark.Changed, -16, note + items, check_document=True)
+        self.assertEqual((error.event, error.lines), (1, None))
         self.assertEqual(tocmark.write(PARAGRAPH, check_document=True), "a")
 
     def test_what_is_no_json(self):

@@ -28,8 +28,26 @@ def _text(code: int, text: bytes) -> str:
     return text.decode()
 
 
-def _is_pair(item: Any) -> bool:
-    return isinstance(item, (tuple, list))
+def _placed(function: Any, data: bytes, source: bytes, flags: int, options: bytes, guess: int) -> str:
+    """Returns the text of a call that says where an error is, or raises the exception of its code."""
+    place = _library.Place(size=_library.ctypes.sizeof(_library.Place))
+    code, text = _library.answer(function, data, len(data), source, len(source), flags, options, len(options), place,
+                                 guess=guess)
+    if code >= 0:
+        return text.decode()
+    lines = (place.first_line, place.last_line) if place.first_line else None
+    raise error_of(code, place.event if place.event <= len(data) else None, lines)
+
+
+_ENCODER = json.JSONEncoder(ensure_ascii=False, separators=(",", ":"))
+
+
+def _pair_of(item: Any) -> List[Any]:
+    """Returns an event with its range as JSON has it."""
+    if not isinstance(item, (tuple, list)):
+        return [item, None]
+    event, place = item
+    return [event, {"start": place.start, "end": place.stop} if isinstance(place, range) else place]
 
 
 def _json_of(events: Iterable[Given]) -> bytes:
@@ -37,11 +55,9 @@ def _json_of(events: Iterable[Given]) -> bytes:
     if isinstance(events, (str, bytes, dict)):
         raise TypeError(f"events must be a list of events, and not {type(events).__name__}")
     items: List[Any] = list(events)
-    if any(_is_pair(item) for item in items):
-        pairs = [item if _is_pair(item) else (item, None) for item in items]
-        items = [[event, {"start": place.start, "end": place.stop} if isinstance(place, range) else place]
-                 for event, place in pairs]
-    return json.dumps(items, ensure_ascii=False).encode()
+    if any(isinstance(item, (tuple, list)) for item in items):
+        items = [_pair_of(item) for item in items]
+    return _ENCODER.encode(items).encode()
 
 
 def read(text: str, *, syntax: str = "gfm", extensions: Iterable[str] = ()) -> List[Placed]:
@@ -78,16 +94,16 @@ def write(events: Iterable[Given], source: str = "", *, syntax: str = "gfm", ext
     '- a\\n- b'
     >>> tocmark.write([{"End": "Paragraph"}])
     Traceback (most recent call last):
-    tocmark.UnexpectedEvent: an event stands where it cannot
+    tocmark.UnexpectedEvent: event 0: an event stands where it cannot
 
     Raises `NotEvents`, `InvalidOptions`, `UnexpectedEvent`, `Unrepresentable`, `InvalidSourceRange`, `Changed`, and `Error`
-    for any other error of the library; `TypeError` if JSON has no such value; `MemoryError`.
+    for any other error of the library; `TypeError` if JSON has no such value; `MemoryError`. `Error.event` is the number of the
+    refused block's first event, and `Error.lines` has its lines in the source.
     """
     data, over = _json_of(events), encoded("source", source)
     chosen, flags = options_of(options), flags_of(syntax, extensions)
     function = _library.write_checked if check_document else _library.write_json
-    return _text(*_library.answer(function, data, len(data), over, len(over), flags, chosen, len(chosen),
-                                  guess=len(data) + 256))
+    return _placed(function, data, over, flags, chosen, len(data) + 256)
 
 
 def rewrite(source: str, events: Iterable[Given], *, syntax: str = "gfm", extensions: Iterable[str] = (),
@@ -110,17 +126,11 @@ def rewrite(source: str, events: Iterable[Given], *, syntax: str = "gfm", extens
     |a|
     |-|
 
-    Raises what `write` does, with the number of the event and the lines of the source (`Error.event`, `Error.lines`).
+    Raises what `write` does.
     """
     over, data = encoded("source", source), _json_of(events)
     chosen, flags = options_of(options), flags_of(syntax, extensions)
-    place = _library.Place(size=_library.ctypes.sizeof(_library.Place))
-    code, text = _library.answer(_library.rewrite, data, len(data), over, len(over), flags, chosen, len(chosen), place,
-                                 guess=len(over) + 4096)
-    if code >= 0:
-        return text.decode()
-    lines = (place.first_line, place.last_line) if place.first_line else None
-    raise error_of(code, place.event if place.event < len(data) else None, lines)
+    return _placed(_library.rewrite, data, over, flags, chosen, len(over) + 4096)
 
 
 def end_of(tag: Any) -> Any:

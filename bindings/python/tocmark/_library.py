@@ -1,6 +1,7 @@
 """The shared library: where it is, and its functions with their types."""
 import ctypes
 import os
+from functools import lru_cache
 from typing import Any, Tuple
 
 _HERE = os.path.dirname(os.path.realpath(__file__))
@@ -61,15 +62,22 @@ error_text = _function("tocmark_error_text", ctypes.c_ssize_t, *_room)
 format_text = _function("tocmark_format", *_text, ctypes.c_uint32, ctypes.POINTER(Style), *_room)
 read_json = _function("tocmark_read_json", *_text, ctypes.c_uint32, *_room)
 rewrite = _function("tocmark_rewrite", *_text, *_text, ctypes.c_uint32, *_text, ctypes.POINTER(Place), *_room)
-write_checked = _function("tocmark_write_checked", *_text, *_text, ctypes.c_uint32, *_text, *_room)
-write_json = _function("tocmark_write_json", *_text, *_text, ctypes.c_uint32, *_text, *_room)
+write_checked = _function("tocmark_write_checked_at", *_text, *_text, ctypes.c_uint32, *_text, ctypes.POINTER(Place), *_room)
+write_json = _function("tocmark_write_json_at", *_text, *_text, ctypes.c_uint32, *_text, ctypes.POINTER(Place), *_room)
+
+
+@lru_cache(maxsize=None)
+def _buffers(bits: int) -> Any:
+    """The type of buffers of 2 ** bits bytes. To make a type takes longer than to make a buffer."""
+    return ctypes.c_char * (1 << bits)
 
 
 def answer(function: Any, *arguments: Any, guess: int) -> Tuple[int, bytes]:
-    """Calls a function with a buffer of this many bytes, and again if that is too small. Returns its number and the text."""
+    """Calls a function with a buffer of at least this many bytes, and again if that is too small. Returns its number and the
+    text."""
     while True:
-        room = ctypes.create_string_buffer(max(guess, 1))
-        size = function(*arguments, room, guess)
-        if size <= guess:
+        room = _buffers(guess.bit_length())()
+        size = function(*arguments, room, len(room))
+        if size <= len(room):
             return size, ctypes.string_at(room, max(size, 0))
         guess = size

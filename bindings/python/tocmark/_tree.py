@@ -41,7 +41,8 @@ def text_of(source: str, place: range) -> str:
 
 
 def position_of(source: str, offset: int) -> Tuple[int, int]:
-    """Returns the line and the column of an offset in bytes, both counted from 1. A column counts characters.
+    """Returns the line and the column of an offset in bytes, both counted from 1. A column counts characters of Unicode. They
+    are those of `tocmark-events read --positions`.
 
     >>> import tocmark
     >>> tocmark.position_of("a\\né *b*", 5)
@@ -91,17 +92,27 @@ class Node:
     @property
     def line(self) -> Optional[int]:
         """The line on which it begins, counted from 1, if the source is known."""
-        return self._position()[0]
+        return self._position("start")[0]
 
     @property
     def column(self) -> Optional[int]:
         """The column at which it begins, counted from 1 in characters, if the source is known."""
-        return self._position()[1]
+        return self._position("start")[1]
 
-    def _position(self) -> Tuple[Optional[int], Optional[int]]:
+    @property
+    def end_line(self) -> Optional[int]:
+        """The line of the place behind it, if the source is known."""
+        return self._position("stop")[0]
+
+    @property
+    def end_column(self) -> Optional[int]:
+        """The column of the place behind it, if the source is known."""
+        return self._position("stop")[1]
+
+    def _position(self, end: str) -> Tuple[Optional[int], Optional[int]]:
         if self.source is None or self.range is None:
             return None, None
-        return position_of(self.source, self.range.start)
+        return position_of(self.source, getattr(self.range, end))
 
     @property
     def text(self) -> str:
@@ -134,13 +145,15 @@ class Node:
 
 
 def tree(events: Iterable[Given], source: Optional[str] = None) -> List[Node]:
-    """Returns the blocks of events, each with what is in it. With `source`, nodes have a line and a column.
+    """Returns the blocks of events, each with what is in it. With `source`, nodes have lines and columns.
 
     >>> import tocmark
     >>> source = "# a*b*\\n\\ncd\\n"
     >>> heading, paragraph = tocmark.tree(tocmark.read(source), source)
     >>> heading.name, heading.value["level"], heading.text, paragraph.line
     ('Heading', 'H1', 'ab', 3)
+    >>> paragraph.end_line, paragraph.end_column
+    (3, 3)
     >>> heading.children.pop().name
     'Emphasis'
     >>> tocmark.rewrite(source, heading.events() + paragraph.events())

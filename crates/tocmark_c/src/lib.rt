@@ -2,23 +2,23 @@
 //!
 //! Each function answers a text into room that the caller lends (`room`): how many bytes it takes, or a negative number, the
 //! code of what went wrong (`cause`). Nothing is kept from call to call. `style` is how C says how a text is to look, `place`
-//! how C is told where an error is, and `rewriting` rewrites a source. Below stand `tocmark_interchange` and `tocmark_format`.
+//! how C is told where an error is, and `refusal` why and where. `writing` writes events, and `rewriting` rewrites a source.
+//! Below stand `tocmark_interchange` and `tocmark_format`.
 #![tactic(auto)]
 
 mod cause;
 mod place;
+mod refusal;
 mod rewriting;
 mod room;
 mod style;
+mod writing;
 
-ghost use Rattle.std.specs.Prelude.{◌≡◌, IfErr, IfOk, is_some, string_bytes};
+ghost use Rattle.std.specs.Prelude.{◌≡◌, IfErr, IfOk, string_bytes};
 ghost use Rattle.tocmark_c.specs.Answer.{IsAnswer, IsErrorText, IsNever};
-ghost use Rattle.tocmark_c.specs.Calls.{IsAsked, IsAskedCause, IsDocumentCauseOf, IsFormatCause, IsMarkdownOf, IsReadCause, IsReadFrom, IsSameDocument, IsSameMarkdownOf, IsWriteCause, has_source};
+ghost use Rattle.tocmark_c.specs.Calls.{IsDocumentCauseOf, IsFormatCause, IsMarkdownOf, IsReadCause, IsReadFrom, IsSameDocument, IsSameMarkdownOf, IsWriteCause};
 ghost use Rattle.tocmark_c.specs.Place.{IsTold};
 ghost use Rattle.tocmark_c.specs.Rewriting.{IsRewriteCauseOf, IsRewrittenOf};
-ghost use Rattle.tocmark_event.specs.Options.{options_view};
-ghost use Rattle.tocmark_interchange.specs.Document.{IsDocumentCause, IsWrittenTheSame};
-ghost use Rattle.tocmark_interchange.specs.Interchange.{IsCause, IsWrittenFrom, source_text};
 
 use cause::{Cause, error_text};
 use place::TocmarkPlace;
@@ -26,13 +26,11 @@ use rewriting::rewrite;
 use room::{answer, lay};
 use std::alloc::Global;
 use style::{TocmarkStyle, style_of};
-use tocmark::Options;
 use tocmark::event::ParserOptions;
 use tocmark_format::formatted;
-use tocmark_interchange::{
-    DocumentError, WriteError, options_from_text, read_json, write_checked, write_json,
-};
+use tocmark_interchange::read_json;
 use tocmark_reader::{ExtendedReader, Names};
+use writing::write;
 
 /// The version: the third number, 256 times the second and 65,536 times the first.
 #[unsafe(no_mangle)]
@@ -63,7 +61,7 @@ pub extern "C" fn tocmark_read_json(alloc: Global, text: &[u8], flags: u32, out:
 /// The Markdown of events that are given as JSON, over the source of their ranges, under these options, where there is room.
 /// An empty source is none: then the ranges are dropped. Empty options are the default ones.
 #[unsafe(no_mangle)]
-#[tactic(auto, using(crate::proofs::Answers::answered))]
+#[tactic(auto, using(crate::proofs::Answers::text_answered, crate::proofs::Answers::cause_answered))]
 pub extern "C" fn tocmark_write_json(
     alloc: Global,
     json: &[u8],
@@ -75,12 +73,37 @@ pub extern "C" fn tocmark_write_json(
     ensures { IsAnswer (IsMarkdownOf flags source.now options.now json.now)
         (IsWriteCause flags source.now options.now json.now) result out.old out.new }
 {
-    answer(write(alloc, json, source, flags, options, false), out)
+    match write(alloc, json, source, flags, options, false) {
+        Ok(text) => lay(text.as_str(), out),
+        Err(refusal) => refusal.cause.code(),
+    }
+}
+
+/// The same. An error fills `place`.
+#[unsafe(no_mangle)]
+#[tactic(auto, using(crate::proofs::Answers::text_answered, crate::proofs::Answers::cause_answered, crate::proofs::Answers::place_kept, crate::proofs::Answers::place_filled))]
+pub extern "C" fn tocmark_write_json_at(
+    alloc: Global,
+    json: &[u8],
+    source: &[u8],
+    flags: u32,
+    options: &[u8],
+    place: &mut TocmarkPlace,
+    out: &mut [u8],
+) -> isize
+    ensures answer { IsAnswer (IsMarkdownOf flags source.now options.now json.now)
+        (IsWriteCause flags source.now options.now json.now) result out.old out.new }
+    ensures told { IsTold result place.old place.new }
+{
+    match write(alloc, json, source, flags, options, false) {
+        Ok(markdown) => lay(markdown.as_str(), out),
+        Err(refusal) => refusal.told(place),
+    }
 }
 
 /// The same, if the reader of extensions finds just these events in it: so the document says what they say.
 #[unsafe(no_mangle)]
-#[tactic(auto, using(crate::proofs::Answers::answered))]
+#[tactic(auto, using(crate::proofs::Answers::text_answered, crate::proofs::Answers::cause_answered))]
 pub extern "C" fn tocmark_write_checked(
     alloc: Global,
     json: &[u8],
@@ -92,7 +115,32 @@ pub extern "C" fn tocmark_write_checked(
     ensures { IsAnswer (IsSameMarkdownOf flags source.now options.now json.now)
         (IsDocumentCauseOf flags source.now options.now json.now) result out.old out.new }
 {
-    answer(write(alloc, json, source, flags, options, true), out)
+    match write(alloc, json, source, flags, options, true) {
+        Ok(text) => lay(text.as_str(), out),
+        Err(refusal) => refusal.cause.code(),
+    }
+}
+
+/// The same. An error fills `place`.
+#[unsafe(no_mangle)]
+#[tactic(auto, using(crate::proofs::Answers::text_answered, crate::proofs::Answers::cause_answered, crate::proofs::Answers::place_kept, crate::proofs::Answers::place_filled))]
+pub extern "C" fn tocmark_write_checked_at(
+    alloc: Global,
+    json: &[u8],
+    source: &[u8],
+    flags: u32,
+    options: &[u8],
+    place: &mut TocmarkPlace,
+    out: &mut [u8],
+) -> isize
+    ensures answer { IsAnswer (IsSameMarkdownOf flags source.now options.now json.now)
+        (IsDocumentCauseOf flags source.now options.now json.now) result out.old out.new }
+    ensures told { IsTold result place.old place.new }
+{
+    match write(alloc, json, source, flags, options, true) {
+        Ok(document) => lay(document.as_str(), out),
+        Err(refusal) => refusal.told(place),
+    }
 }
 
 /// The source, rewritten to the events of a JSON text under these options, where there is room. All lines whose events stay
@@ -113,11 +161,8 @@ pub extern "C" fn tocmark_rewrite(
     ensures told { IsTold result place.old place.new }
 {
     match rewrite(alloc, json, source, flags, options) {
-        Ok(text) => lay(text.as_str(), out),
-        Err(refusal) => {
-            place.fill(refusal.place);
-            refusal.cause.code()
-        }
+        Ok(rewritten) => lay(rewritten.as_str(), out),
+        Err(refusal) => refusal.told(place),
     }
 }
 
@@ -169,142 +214,4 @@ fn read(alloc: Global, text: &[u8], flags: u32) -> Result<String, Cause>
         Ok(output) => Ok(output),
         Err(_) => Err(Cause::OutOfMemory),
     }
-}
-
-/// The source that a text stands for: none where it is empty.
-#[tactic(auto, using(tocmark_interchange::proofs::Empty::empty_text))]
-fn source_of(text: &str) -> Option<&str>
-    ensures there { is_some result ≡ has_source text.now }
-    ensures text { source_text result ≡ text.now }
-{
-    if text.is_empty() { None } else { Some(text) }
-}
-
-/// The Markdown of events under options that are read, over the source that a text stands for.
-fn write_under(
-    alloc: Global,
-    json: &str,
-    source: &str,
-    flags: ParserOptions,
-    options: Options<'static>,
-) -> Result<String, WriteError>
-    ensures text { IfOk result (λ output. IsWrittenFrom (options_view options.entry) flags
-        (has_source source.now) source.now json.now (string_bytes output)) }
-    ensures cause { IfErr result (IsCause (options_view options.entry) flags
-        (has_source source.now) source.now json.now) }
-{
-    write_json(alloc, json, source_of(source), flags, options)
-}
-
-/// The same, if just these events are found in it.
-fn checked_under(
-    alloc: Global,
-    json: &str,
-    source: &str,
-    flags: ParserOptions,
-    options: Options<'static>,
-) -> Result<String, DocumentError>
-    ensures text { IfOk result (λ output. IsWrittenTheSame (options_view options.entry) flags
-        (has_source source.now) source.now json.now (string_bytes output)) }
-    ensures cause { IfErr result (IsDocumentCause (options_view options.entry) flags
-        (has_source source.now) source.now json.now) }
-{
-    write_checked(alloc, json, source_of(source), flags, options)
-}
-
-/// The Markdown of events under the options that a text has.
-#[tactic(auto, using(crate::proofs::Causes::options_told, crate::proofs::Causes::write_told))]
-fn write_text(
-    alloc: Global,
-    json: &str,
-    source: &str,
-    flags: u32,
-    options: &str,
-) -> Result<String, Cause>
-    ensures text { IfOk result (λ output.
-        IsMarkdownOf flags source.now options.now json.now (string_bytes output)) }
-    ensures cause { IfErr result (IsWriteCause flags source.now options.now json.now) }
-{
-    let flags = ParserOptions(flags);
-    let options = match options_from_text(alloc, options, flags) {
-        Ok(options) => options,
-        Err(error) => return Err(Cause::of_options(&error)),
-    };
-    match write_under(alloc, json, source, flags, options) {
-        Ok(output) => Ok(output),
-        Err(error) => Err(Cause::of_write(&error)),
-    }
-}
-
-/// The same, if just these events are found in it.
-#[tactic(auto, using(crate::proofs::Causes::options_told_of_document, crate::proofs::Causes::document_told))]
-fn checked_text(
-    alloc: Global,
-    json: &str,
-    source: &str,
-    flags: u32,
-    options: &str,
-) -> Result<String, Cause>
-    ensures text { IfOk result (λ output.
-        IsSameMarkdownOf flags source.now options.now json.now (string_bytes output)) }
-    ensures cause { IfErr result (IsDocumentCauseOf flags source.now options.now json.now) }
-{
-    let flags = ParserOptions(flags);
-    let options = match options_from_text(alloc, options, flags) {
-        Ok(options) => options,
-        Err(error) => return Err(Cause::of_options(&error)),
-    };
-    match checked_under(alloc, json, source, flags, options) {
-        Ok(output) => Ok(output),
-        Err(error) => Err(Cause::of_document(&error)),
-    }
-}
-
-/// One of both.
-fn asked_text(
-    alloc: Global,
-    json: &str,
-    source: &str,
-    flags: u32,
-    options: &str,
-    is_checked: bool,
-) -> Result<String, Cause>
-    ensures text { IfOk result (λ output.
-        IsAsked is_checked flags source.now options.now json.now (string_bytes output)) }
-    ensures cause { IfErr result
-        (IsAskedCause is_checked flags source.now options.now json.now) }
-{
-    if is_checked {
-        checked_text(alloc, json, source, flags, options)
-    } else {
-        write_text(alloc, json, source, flags, options)
-    }
-}
-
-fn write(
-    alloc: Global,
-    json: &[u8],
-    source: &[u8],
-    flags: u32,
-    options: &[u8],
-    is_checked: bool,
-) -> Result<String, Cause>
-    ensures text { IfOk result (λ output.
-        IsAsked is_checked flags source.now options.now json.now (string_bytes output)) }
-    ensures cause { IfErr result
-        (IsAskedCause is_checked flags source.now options.now json.now) }
-{
-    let json = match std::str::from_utf8(json) {
-        Ok(json) => json,
-        Err(_) => return Err(Cause::NotUtf8),
-    };
-    let source = match std::str::from_utf8(source) {
-        Ok(source) => source,
-        Err(_) => return Err(Cause::SourceNotUtf8),
-    };
-    let options = match std::str::from_utf8(options) {
-        Ok(options) => options,
-        Err(_) => return Err(Cause::OptionsNotUtf8),
-    };
-    asked_text(alloc, json, source, flags, options, is_checked)
 }

@@ -2,8 +2,6 @@
 
 ghost use Rattle.tocmark_c.specs.Place.{IsFilled};
 
-use tocmark_interchange::RewriteError;
-use tocmark_json::fault::JsonError;
 use tocmark_rewrite::Place;
 
 /// The size of `TocmarkPlace` in bytes.
@@ -39,18 +37,5 @@ impl TocmarkPlace {
         self.event = event;
         self.first_line = first;
         self.last_line = last;
-    }
-}
-
-/// Where a document isn't rewritten, if that is known.
-pub fn place_of(error: &RewriteError) -> Option<Place> {
-    match error {
-        RewriteError::Refused(place, _) => Some(*place),
-        RewriteError::ReadOtherwise(place) => Some(*place),
-        RewriteError::NotEvents(JsonError::Event { index, .. }) => Some(Place {
-            event: *index,
-            lines: None,
-        }),
-        _ => None,
     }
 }

@@ -1,30 +1,13 @@
 //! A source that is rewritten to the events of a JSON text.
 
-ghost use Rattle.std.specs.Prelude.{◌≡◌, IfErr, IfOk, string_bytes};
+ghost use Rattle.std.specs.Prelude.{IfErr, IfOk, string_bytes};
 ghost use Rattle.tocmark_c.specs.Rewriting.{IsRewriteCauseOf, IsRewrittenOf};
 
 use crate::cause::Cause;
-use crate::place::place_of;
+use crate::refusal::Refusal;
 use std::alloc::Global;
 use tocmark::event::ParserOptions;
 use tocmark_interchange::{options_from_text, rewrite_json};
-use tocmark_rewrite::Place;
-
-/// Why a source isn't rewritten, and where, if that is known.
-#[derive(Clone, Copy)]
-pub struct Refusal {
-    pub cause: Cause,
-    pub place: Option<Place>,
-}
-
-impl Refusal {
-    /// A refusal of no place.
-    fn of(cause: Cause) -> Refusal
-        ensures { result.cause ≡ cause }
-    {
-        Refusal { cause, place: None }
-    }
-}
 
 #[tactic(auto, using(crate::proofs::Rewritten::rewritten_told, crate::proofs::Rewritten::options_told, crate::proofs::Rewritten::rewriting_told))]
 fn rewrite_text(
@@ -42,14 +25,11 @@ fn rewrite_text(
     let flags = ParserOptions(flags);
     let options = match options_from_text(alloc, options, flags) {
         Ok(options) => options,
-        Err(error) => return Err(Refusal::of(Cause::of_options(&error))),
+        Err(error) => return Err(Refusal::of_options(&error)),
     };
     match rewrite_json(alloc, json, source, flags, options) {
         Ok(answer) => Ok(answer.text),
-        Err(error) => Err(Refusal {
-            cause: Cause::of_rewriting(&error),
-            place: place_of(&error),
-        }),
+        Err(error) => Err(Refusal::of_rewriting(&error)),
     }
 }
 

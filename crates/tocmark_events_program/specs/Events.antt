@@ -3,9 +3,10 @@ use Rattle.std.specs.Prelude.{◌≡◌, ◌⊎◌, ℕ, Bool, List, None, Optio
 use Rattle.std.specs.Io.KnownBytes.{Appends}
 use Rattle.serde_json.specs.Written.{IsInOrder}
 use Rattle.tocmark_event.specs.Options.{options_view}
+use Rattle.tocmark_event.specs.declared.event.flags.ParserOptions.{ParserOptions}
 use Rattle.tocmark_interchange.specs.Document.{IsWrittenTheSame}
-use Rattle.tocmark_interchange.specs.Interchange.{IsWrittenAgain, IsWrittenFrom, reading_json}
-use Rattle.tocmark_interchange.specs.Lines.{json_of, reading_lines}
+use Rattle.tocmark_interchange.specs.Interchange.{IsWrittenAgain, IsWrittenFrom, reading_json, reading_located}
+use Rattle.tocmark_interchange.specs.Lines.{json_of, reading_lines, reading_located_lines}
 use Rattle.tocmark_interchange.specs.Rewriting.{IsRewrittenText}
 use Rattle.tocmark_events_program.specs.declared.arguments.Job.{Job}
 use Rattle.tocmark_events_program.specs.declared.arguments.Job.TheVariants as job
@@ -14,15 +15,21 @@ use Rattle.tocmark_events_program.specs.declared.fault.Fault.TheVariants as faul
 
 -- whether a job's input is JSON by lines
 abbrev pub takes_lines : Job → Bool
-takes_lines (job.Read flags lines) = false
+takes_lines (job.Read flags lines positions) = false
 takes_lines job.Check = false
 takes_lines (job.Write flags options file is_document lines) = lines
 takes_lines (job.Rewrite flags options file reports lines) = lines
 
+-- events are read from a text, as an array or by lines, with lines and columns or without
+abbrev pub IsReadAs : ParserOptions → Bool → Bool → List ℕ → List ℕ → Type 0
+IsReadAs flags false false text output = IsInOrder output (reading_json flags text)
+IsReadAs flags true false text output = output ≡ reading_lines flags text
+IsReadAs flags false true text output = IsInOrder output (reading_located flags text)
+IsReadAs flags true true text output = output ≡ reading_located_lines flags text
+
 -- what a job makes of its text, which is no JSON by lines
 abbrev pub IsMade : Job → List ℕ → List ℕ → List ℕ → Type 0
-IsMade (job.Read flags false) source text output = IsInOrder output (reading_json flags text)
-IsMade (job.Read flags true) source text output = output ≡ reading_lines flags text
+IsMade (job.Read flags lines positions) source text output = IsReadAs flags lines positions text output
 IsMade job.Check source text output = IsWrittenAgain text output
 IsMade (job.Write flags options file true lines) source text output = IsWrittenTheSame (options_view options) flags (is_some file) source text output
 IsMade (job.Write flags options file false lines) source text output = IsWrittenFrom (options_view options) flags (is_some file) source text output

@@ -4,10 +4,10 @@ ghost use Rattle.std.specs.Prelude.{◌≡◌, IfErr, IfOk, string_bytes};
 ghost use Rattle.serde_json.specs.Written.{IsInOrder};
 ghost use Rattle.tocmark_event.specs.Options.{options_view};
 ghost use Rattle.tocmark_interchange.specs.Document.{IsWrittenTheSame};
-ghost use Rattle.tocmark_interchange.specs.Interchange.{IsWrittenAgain, IsWrittenFrom, reading_json};
-ghost use Rattle.tocmark_interchange.specs.Lines.{array_of, reading_lines};
+ghost use Rattle.tocmark_interchange.specs.Interchange.{IsWrittenAgain, IsWrittenFrom, reading_json, reading_located};
+ghost use Rattle.tocmark_interchange.specs.Lines.{array_of, reading_lines, reading_located_lines};
 ghost use Rattle.tocmark_interchange.specs.Rewriting.{IsRewrittenText};
-ghost use Rattle.tocmark_events_program.specs.Events.{IsAnswer, IsMade, IsWriteFault};
+ghost use Rattle.tocmark_events_program.specs.Events.{IsAnswer, IsMade, IsReadAs, IsWriteFault};
 
 use crate::arguments::Job;
 use crate::fault::Fault;
@@ -15,7 +15,8 @@ use std::alloc::Global;
 use tocmark::Options;
 use tocmark::event::ParserOptions;
 use tocmark_interchange::{
-    array_of, check_json, checked_over, read_json, read_lines, rewrite_json, write_over,
+    array_of, check_json, checked_over, read_json, read_lines, read_located, read_located_lines,
+    rewrite_json, write_over,
 };
 use tocmark_rewrite::RewrittenTree;
 
@@ -57,7 +58,51 @@ fn read_event_lines(alloc: Global, text: &str, flags: ParserOptions) -> Result<A
     Ok(only(alloc, output))
 }
 
-/// The one form of a JSON text of events: without spaces, the keys in order.
+/// The JSON of the events of a text under these flags, with lines and columns.
+fn read_located_events(alloc: Global, text: &str, flags: ParserOptions) -> Result<Answer, Fault>
+    ensures fault { IfErr result (λ fault. ¬ (IsWriteFault fault)) }
+    ensures read { IfOk result (λ answer.
+        IsInOrder (string_bytes answer.text) (reading_located flags text.now)) }
+{
+    let output = read_located(alloc, text, flags)?;
+    Ok(only(alloc, output))
+}
+
+/// The lines of JSON of the events of a text under these flags, with lines and columns.
+fn read_located_event_lines(
+    alloc: Global,
+    text: &str,
+    flags: ParserOptions,
+) -> Result<Answer, Fault>
+    ensures fault { IfErr result (λ fault. ¬ (IsWriteFault fault)) }
+    ensures read { IfOk result (λ answer.
+        string_bytes answer.text ≡ reading_located_lines flags text.now) }
+{
+    let output = read_located_lines(alloc, text, flags)?;
+    Ok(only(alloc, output))
+}
+
+/// The events of a text under these flags, as an array or by lines, with lines and columns or without.
+fn read_as(
+    alloc: Global,
+    text: &str,
+    flags: ParserOptions,
+    lines: bool,
+    positions: bool,
+) -> Result<Answer, Fault>
+    ensures fault { IfErr result (λ fault. ¬ (IsWriteFault fault)) }
+    ensures read { IfOk result (λ answer.
+        IsReadAs flags lines positions text.now (string_bytes answer.text)) }
+{
+    match (lines, positions) {
+        (false, false) => read_events(alloc, text, flags),
+        (true, false) => read_event_lines(alloc, text, flags),
+        (false, true) => read_located_events(alloc, text, flags),
+        (true, true) => read_located_event_lines(alloc, text, flags),
+    }
+}
+
+/// The one form of a JSON text of events: without spaces, the keys in order, without lines and columns.
 fn checked_events(alloc: Global, text: &str) -> Result<Answer, Fault>
     ensures fault { IfErr result (λ fault. ¬ (IsWriteFault fault)) }
     ensures again { IfOk result (λ answer. IsWrittenAgain text.now (string_bytes answer.text)) }
@@ -128,9 +173,9 @@ fn made(alloc: Global, job: Job<'_>, source: &str, text: &str) -> Result<Answer,
     match job {
         Job::Read {
             flags,
-            lines: false,
-        } => read_events(alloc, text, flags),
-        Job::Read { flags, lines: true } => read_event_lines(alloc, text, flags),
+            lines,
+            positions,
+        } => read_as(alloc, text, flags, lines, positions),
         Job::Check => checked_events(alloc, text),
         Job::Write {
             flags,

@@ -18,6 +18,8 @@ pub enum Job<'a> {
         flags: ParserOptions,
         /// Whether each event stands on a line of its own.
         lines: bool,
+        /// Whether ranges have lines and columns.
+        positions: bool,
     },
     /// Events to the one form of their JSON.
     Check,
@@ -114,6 +116,17 @@ const LINES: CommandOption<'static> = CommandOption {
     help: "One line of JSON for each event, and no array",
 };
 
+/// The options of `read`.
+const READ_OPTIONS: [CommandOption<'static>; 2] = [
+    LINES,
+    CommandOption {
+        name: "positions",
+        letter: None,
+        takes: Takes::Nothing,
+        help: "Give each range the lines and columns of its ends",
+    },
+];
+
 /// The options that only `write` has.
 const WRITE_OPTIONS: [CommandOption<'static>; 3] = [
     CommandOption {
@@ -137,7 +150,7 @@ const WRITE_OPTIONS: [CommandOption<'static>; 3] = [
 ];
 
 /// The options that only `rewrite` has.
-const REWRITE_OPTIONS: [CommandOption<'static>; 2] = [
+const REWRITE_OPTIONS: [CommandOption<'static>; 3] = [
     CommandOption {
         name: "source",
         letter: None,
@@ -149,6 +162,12 @@ const REWRITE_OPTIONS: [CommandOption<'static>; 2] = [
         letter: None,
         takes: Takes::Nothing,
         help: "Tell on standard error what became of each block",
+    },
+    CommandOption {
+        name: "in-place",
+        letter: None,
+        takes: Takes::Nothing,
+        help: "Replace the document, and write no output",
     },
 ];
 
@@ -183,7 +202,7 @@ fn writing_command<'a>(
 
 fn read_command<'a>(alloc: Global, syntax_help: &'a str) -> Result<Command<'a>, AllocError> {
     let read = Command::new(alloc, "read").about(READ);
-    let read = with_options(alloc, read, &[LINES])?;
+    let read = with_options(alloc, read, &READ_OPTIONS)?;
     with_syntax(alloc, read, syntax_help)
 }
 
@@ -246,6 +265,14 @@ pub fn options_file<'a>(matches: &ArgMatches<'a>) -> Option<&'a str> {
     }
 }
 
+/// The file that is rewritten in place, if the call asks for that.
+pub fn file_in_place<'a>(matches: &ArgMatches<'a>) -> Option<&'a str> {
+    match matches.subcommand() {
+        Some(("rewrite", matches)) if matches.get_flag("in-place") => matches.get_str("source"),
+        _ => None,
+    }
+}
+
 /// What the arguments ask for, beginning with these options, or why they are wrong.
 pub fn asked<'a>(
     alloc: Global,
@@ -261,7 +288,11 @@ pub fn asked<'a>(
     let flags = flags_of(matches)?;
     let lines = matches.get_flag("lines");
     if name == "read" {
-        return Ok(Job::Read { flags, lines });
+        return Ok(Job::Read {
+            flags,
+            lines,
+            positions: matches.get_flag("positions"),
+        });
     }
     let mut options = options_of(alloc, matches, given)?;
     if name == "write" && matches.get_flag("check-plain-blocks") {

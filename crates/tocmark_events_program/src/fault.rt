@@ -7,6 +7,7 @@ ghost use Rattle.tocmark_events_program.specs.declared.fault.Fault.TheVariants.{
 use std::alloc::{AllocError, AllocFailed};
 use std::io;
 use thiserror::Error;
+use tocmark_command::replace::ReplaceError;
 use tocmark_command::streams::InputError;
 use tocmark_interchange::{DocumentError, OptionsTextError, RewriteError, WriteError};
 use tocmark_json::fault::JsonError;
@@ -37,6 +38,9 @@ pub enum Fault {
     OutOfMemory,
     #[error("cannot write standard output")]
     Write,
+    /// The file that is rewritten stays as it was.
+    #[error("{0}: {1}")]
+    NotReplaced(String, ReplaceError),
 }
 
 impl From<AllocError> for Fault {

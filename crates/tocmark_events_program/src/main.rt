@@ -2,12 +2,13 @@
 //! `docs/JSON.md` has the form.
 //!
 //! It stands on `tocmark_interchange`, which makes its answers, and on `tocmark_command`, which has what it shares with the
-//! formatter. `answer` asks for the answer to a call. `arguments` has the program's options, `settings` sets those of the
-//! writer, and `fault` has the messages on standard error.
+//! formatter. `answer` asks for the answer to a call, and `edited` puts it in the place of a file. `arguments` has the
+//! program's options, `settings` sets those of the writer, and `fault` has the messages on standard error.
 #![tactic(auto)]
 
 mod answer;
 mod arguments;
+mod edited;
 mod fault;
 mod settings;
 
@@ -16,8 +17,9 @@ ghost use Rattle.std.specs.Io.KnownBytes.{Appends};
 ghost use Rattle.tocmark_events_program.specs.Events.{IsAnswer, IsAnswered, IsWriteFault, WritesLate};
 
 use answer::{Answer, answered};
-use arguments::{Job, NAME, asked, command, options_file};
+use arguments::{Job, NAME, asked, command, file_in_place, options_file};
 use clap::ArgMatches;
+use edited::Edited;
 use fault::Fault;
 use std::alloc::Global;
 use std::fs;
@@ -166,7 +168,42 @@ fn show(rt: &HostRuntime, error: &clap::Error) -> ExitCode {
     }
 }
 
-fn perform(rt: &HostRuntime, job: Job<'_>) -> ExitCode {
+/// Rewrites the file of a job in place: it gets the whole answer, or stays as it was. A file whose text stays the same isn't
+/// touched.
+fn rewrite_in_place(
+    rt: &HostRuntime,
+    job: Job<'_>,
+    file: &str,
+    source: &str,
+) -> Result<Vec<RewrittenTree>, Fault> {
+    let input = text_in(rt.alloc(), &mut rt.stdin())?;
+    let answer = answered(rt.alloc(), job, source, input.as_str())?;
+    let edited = Edited {
+        job,
+        source,
+        input: input.as_str(),
+        answer: &answer,
+    };
+    edited.put(rt, file)?;
+    Ok(answer.blocks)
+}
+
+/// The status of a job that replaces a file.
+fn perform_in_place(rt: &HostRuntime, job: Job<'_>, file: &str, source: &str) -> ExitCode {
+    let mut faults = rt.stderr();
+    match rewrite_in_place(rt, job, file, source) {
+        Ok(blocks) => {
+            report(&mut faults, job, &blocks);
+            ExitCode::from(0)
+        }
+        Err(fault) => {
+            EVENTS.complain(&mut faults, &fault);
+            ExitCode::from(1)
+        }
+    }
+}
+
+fn perform(rt: &HostRuntime, job: Job<'_>, in_place: Option<&str>) -> ExitCode {
     let mut faults = rt.stderr();
     let source = match source_of(rt, job) {
         Ok(source) => source,
@@ -175,6 +212,9 @@ fn perform(rt: &HostRuntime, job: Job<'_>) -> ExitCode {
             return ExitCode::from(1);
         }
     };
+    if let Some(file) = in_place {
+        return perform_in_place(rt, job, file, source.as_str());
+    }
     let mut input = rt.stdin();
     let mut output = rt.stdout();
     let alloc = rt.alloc();
@@ -198,7 +238,7 @@ fn start(rt: &HostRuntime, matches: &ArgMatches<'_>) -> ExitCode {
         }
     };
     match asked(rt.alloc(), matches, options) {
-        Ok(job) => perform(rt, job),
+        Ok(job) => perform(rt, job, file_in_place(matches)),
         Err(refusal) => {
             EVENTS.complain(&mut rt.stderr(), &refusal);
             ExitCode::from(2)

@@ -66,6 +66,13 @@ fn push_collapsed(line: &mut String, words: &str) -> Result<(), AllocError> {
     Ok(())
 }
 
+/// Whether all bytes are blanks, tabs and line feeds.
+fn are_white(bytes: &[u8]) -> bool {
+    bytes
+        .iter()
+        .all(|byte| matches!(*byte, b' ' | b'\t' | b'\n'))
+}
+
 impl Printer<'_> {
     /// Prints the definitions of links that stand before a place of the source and behind what is printed of the innermost
     /// container.
@@ -79,8 +86,11 @@ impl Printer<'_> {
         if from > source.line_start(from) && from != top.content {
             from = source.line_end(from).saturating_add(1);
         }
-        let text = self.gap_text(from, end)?;
         self.page.top_mut().at = end;
+        if are_white(source.bytes(from, end)) {
+            return Ok(());
+        }
+        let text = self.gap_text(from, end)?;
         let text = text.as_str().trim_matches(&[' ', '\t', '\n']);
         if text.is_empty() {
             return Ok(());

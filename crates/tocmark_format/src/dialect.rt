@@ -36,7 +36,18 @@ fn begins_with(text: &str, openers: &[&str]) -> bool {
 
 /// Whether a line that begins like this text is one of another dialect.
 pub(crate) fn begins_foreign_line(text: &str) -> bool {
-    begins_with(text, &LINE_OPENERS)
+    match text.as_bytes().first() {
+        Some(b'!' | b'?' | b':' | b'{') => begins_with(text, &LINE_OPENERS),
+        _ => false,
+    }
+}
+
+/// Whether a block that begins like this text is one of another dialect, but for the lines above.
+fn begins_foreign_block(text: &str) -> bool {
+    match text.as_bytes().first() {
+        Some(b'{' | b'i' | b'e' | b'=' | b'-') => begins_with(text, &BLOCK_OPENERS),
+        _ => false,
+    }
 }
 
 impl Printer<'_> {
@@ -64,7 +75,7 @@ impl Printer<'_> {
             Kind::Paragraph | Kind::Heading => {
                 let text = self.source.slice(start, end);
                 begins_foreign_line(text)
-                    || begins_with(text, &BLOCK_OPENERS)
+                    || begins_foreign_block(text)
                     || self.has_foreign_line(start, end, false)
             }
             Kind::Table => self.has_foreign_line(start, end, false),

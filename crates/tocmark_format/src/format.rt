@@ -75,6 +75,7 @@ struct ReadBack {
     says: Summary,
     /// Where each tree at the top begins.
     starts: Vec<usize>,
+    definitions: Vec<ReferenceDefinition>,
 }
 
 /// Adds where further trees begin.
@@ -112,12 +113,20 @@ impl PartTaker for ReadBack {
     }
 }
 
-/// A printed document, and what its source says.
+/// A printed document, and what its source says and defines.
 #[derive(Drop)]
 struct Printed {
     text: String,
     blocks: Vec<Block>,
     said: Summary,
+    definitions: Vec<ReferenceDefinition>,
+}
+
+/// What a text says, and the links that it defines.
+#[derive(Drop)]
+struct Found {
+    says: Summary,
+    definitions: Vec<ReferenceDefinition>,
 }
 
 impl Ladder {
@@ -252,8 +261,10 @@ fn unchanged(alloc: Global, text: &str) -> Result<Formatted, AllocError>
 impl<R: PartReader> Formatter<'_, R> {
     /// Prints a document.
     fn print(&self, source: &Source<'_>, ladder: &Ladder) -> Result<Printed, AllocError>
-        ensures { IfOk result (λ printed. Sums printed.said
+        ensures said { IfOk result (λ printed. Sums printed.said
             (found_events (R.reading self.now.reader.now source.now.text.now self.now.flags))) }
+        ensures definitions { IfOk result (λ printed. map link_defined printed.definitions.items
+            ≡ R.definitions self.now.reader.now source.now.text.now self.now.flags) }
     {
         let mut printing = Printing {
             printer: Printer::new(
@@ -266,55 +277,50 @@ impl<R: PartReader> Formatter<'_, R> {
             said: Summary::new(self.alloc, self.style.wrap),
         };
         let text = source.text;
-        self.reader
+        let definitions = self
+            .reader
             .read_parts(self.alloc, text, self.flags, &mut printing)?;
         let Printing { mut printer, said } = printing;
         printer.end()?;
         let (text, blocks) = printer.into_text();
-        Ok(Printed { text, blocks, said })
+        Ok(Printed {
+            text,
+            blocks,
+            said,
+            definitions,
+        })
     }
 
     /// Reads a printed document.
     fn read_back(&self, text: &str) -> Result<ReadBack, AllocError>
-        ensures { IfOk result (λ back. Sums back.says
+        ensures says { IfOk result (λ back. Sums back.says
             (found_events (R.reading self.now.reader.now text.now self.now.flags))) }
+        ensures definitions { IfOk result (λ back. map link_defined back.definitions.items
+            ≡ R.definitions self.now.reader.now text.now self.now.flags) }
     {
         let mut back = ReadBack {
             says: Summary::new(self.alloc, self.style.wrap),
             starts: Vec::new(self.alloc),
+            definitions: Vec::new(self.alloc),
         };
-        self.reader
+        back.definitions = self
+            .reader
             .read_parts(self.alloc, text, self.flags, &mut back)?;
         Ok(back)
     }
 
     /// What the reader finds in a text.
-    fn summary_of(&self, text: &str) -> Result<Summary, AllocError>
-        ensures { IfOk result (λ summary. Sums summary
+    fn found_in(&self, text: &str) -> Result<Found, AllocError>
+        ensures says { IfOk result (λ found. Sums found.says
             (found_events (R.reading self.now.reader.now text.now self.now.flags))) }
-    {
-        let mut summary = Summary::new(self.alloc, self.style.wrap);
-        self.reader
-            .read_parts(self.alloc, text, self.flags, &mut summary)?;
-        Ok(summary)
-    }
-
-    fn definitions_of(&self, text: &str) -> Result<Vec<ReferenceDefinition>, AllocError>
-        ensures { IfOk result (λ all. map link_defined all.items
+        ensures definitions { IfOk result (λ found. map link_defined found.definitions.items
             ≡ R.definitions self.now.reader.now text.now self.now.flags) }
     {
-        self.reader.read_definitions(self.alloc, text, self.flags)
-    }
-
-    /// Whether two texts have the same link definitions.
-    fn have_same_definitions(&self, one: &str, other: &str) -> Result<bool, AllocError>
-        ensures { IfOk result (λ same. IsTrue same
-            → R.definitions self.now.reader.now one.now self.now.flags
-            ≡ R.definitions self.now.reader.now other.now self.now.flags) }
-    {
-        let first = self.definitions_of(one)?;
-        let second = self.definitions_of(other)?;
-        Ok(same_definitions(&first, &second))
+        let mut says = Summary::new(self.alloc, self.style.wrap);
+        let definitions = self
+            .reader
+            .read_parts(self.alloc, text, self.flags, &mut says)?;
+        Ok(Found { says, definitions })
     }
 
     /// Which blocks the reader finds in a text under other flags.
@@ -378,9 +384,11 @@ impl<R: PartReader> Formatter<'_, R> {
             self.now.style.wrap self.now.flags self.now.also.now
             (R.reading self.now.reader.now) (R.definitions self.now.reader.now) one.now other.now) }
     {
-        let first = self.summary_of(one)?;
-        let second = self.summary_of(other)?;
-        if first.is_same(&second, self.style.wrap) && self.have_same_definitions(one, other)? {
+        let first = self.found_in(one)?;
+        let second = self.found_in(other)?;
+        if first.says.is_same(&second.says, self.style.wrap)
+            && same_definitions(&first.definitions, &second.definitions)
+        {
             self.have_same_shapes(one, other)
         } else {
             Ok(false)
@@ -397,18 +405,21 @@ impl<R: PartReader> Formatter<'_, R> {
         ensures { IfOk result (λ same. IsTrue same
             → Sums printed.now.said (found_events
             (R.reading self.now.reader.now source.now.text.now self.now.flags))
+            → map link_defined printed.now.definitions.items
+            ≡ R.definitions self.now.reader.now source.now.text.now self.now.flags
             → Sums back.now.says (found_events
             (R.reading self.now.reader.now (string_bytes printed.now.text) self.now.flags))
+            → map link_defined back.now.definitions.items
+            ≡ R.definitions self.now.reader.now (string_bytes printed.now.text) self.now.flags
             → AreAlike
             self.now.style.wrap self.now.flags self.now.also.now
             (R.reading self.now.reader.now) (R.definitions self.now.reader.now)
             (string_bytes printed.now.text) source.now.text.now) }
     {
-        let text = printed.text.as_str();
         if back.says.is_same(&printed.said, self.style.wrap)
-            && self.have_same_definitions(text, source.text)?
+            && same_definitions(&back.definitions, &printed.definitions)
         {
-            self.have_same_shapes(text, source.text)
+            self.have_same_shapes(printed.text.as_str(), source.text)
         } else {
             Ok(false)
         }

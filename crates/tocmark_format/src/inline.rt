@@ -107,12 +107,16 @@ fn is_sign(character: Option<char>) -> bool {
 }
 
 impl<'d, 'p, 'e, 'g> Inlines<'d, 'p, 'e, 'g> {
-    /// The pieces of no event, from this place in the source on.
-    pub(crate) fn new(context: Context<'d, 'p, 'e, 'g>, at: usize) -> Inlines<'d, 'p, 'e, 'g> {
+    /// The pieces of no event, from this place in the source on; `pieces` has room for them.
+    pub(crate) fn new(
+        context: Context<'d, 'p, 'e, 'g>,
+        at: usize,
+        pieces: Pieces,
+    ) -> Inlines<'d, 'p, 'e, 'g> {
         Inlines {
             context,
             at,
-            pieces: Pieces::new(context.alloc),
+            pieces,
             open: Vec::new(context.alloc),
             links: Vec::new(context.alloc),
             labels: 0,

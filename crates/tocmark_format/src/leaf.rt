@@ -1,15 +1,17 @@
 //! Leaves: paragraphs, headings, code, HTML and rules.
 
 use crate::fill::{Measure, filled};
+use crate::hazard::is_hazard;
 use crate::inline::{Context, Inlines};
-use crate::lines::Lines;
+use crate::lines::{Lines, line_end};
 use crate::page::Kind;
 use crate::part::Part;
-use crate::piece::Pieces;
+use crate::piece::{Piece, Pieces};
 use crate::printer::Printer;
 use crate::source::{is_blank, without_blanks};
 use crate::style::{Rule, Wrap};
 use std::alloc::AllocError;
+use std::mem;
 use tocmark_event::event::{CodeBlockKind, Event, HeadingLevel};
 
 fn level_number(level: HeadingLevel) -> usize {
@@ -93,14 +95,17 @@ fn repeated(text: &mut String, byte: u8, count: usize) -> Result<(), AllocError>
     Ok(())
 }
 
-impl Printer<'_> {
-    /// The pieces of events, whose text starts here in the source; and the place in the source behind them.
+impl<'d> Printer<'d> {
+    /// The pieces of events, whose text starts here in the source; and the place in the source behind them. Their room comes
+    /// from the printer, which gets it back by `keep_room`.
     pub(crate) fn pieces_of(
-        &self,
+        &mut self,
         part: &Part<'_>,
         events: (usize, usize),
         start: usize,
     ) -> Result<(Pieces, usize), AllocError> {
+        let mut room = mem::replace(&mut self.room, Pieces::new(self.alloc));
+        room.clear();
         let context = Context {
             alloc: self.alloc,
             source: self.source,
@@ -108,19 +113,19 @@ impl Printer<'_> {
             page: &self.page,
             look: self.look,
         };
-        let mut inlines = Inlines::new(context, start);
+        let mut inlines = Inlines::new(context, start, room);
         inlines.add_all(events.0, events.1)?;
         let Inlines { pieces, at, .. } = inlines;
         Ok((pieces, at))
     }
 
-    /// The lines of a paragraph, as the look breaks them.
-    fn lines_of(&self, pieces: &Pieces) -> Result<Lines, AllocError> {
-        let limit = match self.look.wrap {
-            Wrap::Keep => return Lines::kept(self.alloc, pieces, false),
-            Wrap::No => usize::MAX,
-            Wrap::At(limit) => limit,
-        };
+    /// Keeps the room of pieces for others.
+    pub(crate) fn keep_room(&mut self, pieces: Pieces) {
+        self.room = pieces;
+    }
+
+    /// The lines of a paragraph that are filled up to a limit.
+    fn filled_lines(&self, pieces: &Pieces, limit: usize) -> Result<Lines, AllocError> {
         let (first, others) = self.page.prefix_columns();
         let measure = Measure {
             first,
@@ -130,6 +135,53 @@ impl Printer<'_> {
         filled(self.alloc, pieces, measure)
     }
 
+    /// Prints a line of pieces, and what it ends with. It gets four blanks in front if it would begin a block without them.
+    fn print_line(&mut self, text: &str, tail: &str, is_deep: bool) -> Result<(), AllocError> {
+        if !is_deep {
+            return self.page.line_with(text, tail);
+        }
+        let mut line = String::from_str(self.alloc, text)?;
+        line.push_str(tail)?;
+        let indent = if is_hazard(line.as_str()) { "    " } else { "" };
+        self.page.line_with(indent, line.as_str())
+    }
+
+    /// Prints pieces with the lines that they have in the source.
+    fn print_kept_lines(&mut self, pieces: &Pieces) -> Result<(), AllocError> {
+        let (mut from, mut to) = (0usize, 0usize);
+        let mut is_deep = false;
+        for piece in &pieces.list {
+            let next_is_deep = match piece {
+                Piece::Text(end) | Piece::Solid(end) => {
+                    to = *end;
+                    continue;
+                }
+                Piece::Feed { is_deep } | Piece::Soft { is_deep } | Piece::Hard { is_deep, .. } =>
+                    *is_deep,
+            };
+            let (text, tail) = line_end(pieces.text.as_str().get(from..to).unwrap_or(""), *piece);
+            self.print_line(text, tail, is_deep)?;
+            from = to;
+            is_deep = next_is_deep;
+        }
+        let text = pieces.text.as_str().get(from..to).unwrap_or("");
+        self.print_line(text, "", is_deep)
+    }
+
+    /// The text of a leaf that is one event, whose text starts here in the source, if its lines are kept.
+    fn only_text(&self, part: &Part<'_>, events: (usize, usize), start: usize) -> Option<&'d str> {
+        let (from, to) = part.range(events.0);
+        if events.1.saturating_sub(events.0) == 1
+            && from <= start
+            && self.look.wrap == Wrap::Keep
+            && matches!(part.event(events.0), Some(Event::Text(_)))
+        {
+            Some(self.source.slice(from, to))
+        } else {
+            None
+        }
+    }
+
     /// Prints a paragraph's lines.
     pub(crate) fn print_text(
         &mut self,
@@ -137,17 +189,32 @@ impl Printer<'_> {
         events: (usize, usize),
         start: usize,
     ) -> Result<(), AllocError> {
+        if let Some(text) = self.only_text(part, events, start) {
+            return self.page.line(text);
+        }
         let (pieces, _) = self.pieces_of(part, events, start)?;
-        let lines = self.lines_of(&pieces)?;
-        self.print_all(&lines)
+        match self.look.wrap {
+            Wrap::Keep => self.print_kept_lines(&pieces)?,
+            Wrap::No => {
+                let lines = self.filled_lines(&pieces, usize::MAX)?;
+                self.print_all(&lines)?;
+            }
+            Wrap::At(limit) => {
+                let lines = self.filled_lines(&pieces, limit)?;
+                self.print_all(&lines)?;
+            }
+        }
+        self.keep_room(pieces);
+        Ok(())
     }
 
     /// Prints the title of a definition list. A line more would be a title of its own.
     pub(crate) fn print_title(&mut self, part: &Part<'_>, at: usize) -> Result<(), AllocError> {
         let events = (at.saturating_add(1), part.end(at));
         let (pieces, _) = self.pieces_of(part, events, part.range(at).0)?;
-        let lines = Lines::kept(self.alloc, &pieces, false)?;
-        self.print_all(&lines)
+        self.print_kept_lines(&pieces)?;
+        self.keep_room(pieces);
+        Ok(())
     }
 
     fn print_all(&mut self, lines: &Lines) -> Result<(), AllocError> {
@@ -172,6 +239,7 @@ impl Printer<'_> {
         let (pieces, behind) = self.pieces_of(part, (first, part.end(at)), text)?;
         let joins = self.look.wrap != Wrap::Keep;
         let mut lines = Lines::kept(self.alloc, &pieces, joins)?;
+        self.keep_room(pieces);
         let tail = source.slice(behind, end.min(source.line_end(behind)));
         if let Some(attributes) = attributes_in(tail) {
             lines.add_to_last(" ")?;

@@ -14,6 +14,28 @@ pub(crate) struct Lines {
     line: String,
 }
 
+/// A line before a break, and what it ends with there.
+pub(crate) fn line_end(line: &str, piece: Piece) -> (&str, &'static str) {
+    match piece {
+        Piece::Hard {
+            is_blanks: false,
+            ..
+        } => (line, "\\"),
+        Piece::Hard { .. } => (line.trim_end_matches(' '), "  "),
+        Piece::Soft { .. } => {
+            let text = line.trim_end_matches(' ');
+            let is_cut = text.len() < line.len();
+            let tail = if is_cut && ends_with_backslash(text) {
+                " "
+            } else {
+                ""
+            };
+            (text, tail)
+        }
+        _ => (line, ""),
+    }
+}
+
 impl Lines {
     pub(crate) fn new(alloc: Global) -> Lines {
         Lines {
@@ -76,24 +98,12 @@ impl Lines {
     /// Adds what a line ends with at a break.
     fn break_line(&mut self, piece: Piece) -> Result<(), AllocError> {
         let length = self.line.len();
-        match piece {
-            Piece::Hard {
-                is_blanks: false,
-                ..
-            } => self.line.push('\\'),
-            Piece::Hard { .. } => {
-                cut_blanks(&mut self.line, length);
-                self.line.push_str("  ")
-            }
-            Piece::Soft { .. } => {
-                cut_blanks(&mut self.line, length);
-                if self.line.len() < length && ends_with_backslash(self.line.as_str()) {
-                    return self.line.push(' ');
-                }
-                Ok(())
-            }
-            _ => Ok(()),
+        let (text, tail) = line_end(self.line.as_str(), piece);
+        let is_cut = text.len() < length;
+        if is_cut {
+            cut_blanks(&mut self.line, length);
         }
+        self.line.push_str(tail)
     }
 
     /// Joins the line and the next one by a blank.

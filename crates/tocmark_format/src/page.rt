@@ -330,6 +330,11 @@ impl Page {
 
     /// Prints a line behind what the containers have before it; no blanks stand at the end of one without a text.
     pub(crate) fn line(&mut self, line: &str) -> Result<(), AllocError> {
+        self.line_with(line, "")
+    }
+
+    /// Prints a line as `line` does, with a tail.
+    pub(crate) fn line_with(&mut self, line: &str, tail: &str) -> Result<(), AllocError> {
         if self.is_over {
             return Ok(());
         }
@@ -338,10 +343,11 @@ impl Page {
         let prefix = self.text.len().saturating_sub(start);
         self.is_over = prefix > self.budget;
         self.budget = self.budget.saturating_sub(prefix);
-        if line.is_empty() {
+        if line.is_empty() && tail.is_empty() {
             cut_blanks(&mut self.text, prefix);
         }
         self.text.push_str(line)?;
+        self.text.push_str(tail)?;
         self.text.push('\n')
     }
 

@@ -20,13 +20,21 @@ enum Spread {
     Loose,
 }
 
+/// A list: the place of its Start, and whether blank lines stand between its items.
+#[derive(Clone, Copy)]
+struct ListSpread {
+    at: usize,
+    spread: Spread,
+}
+
 /// Some trees at the top of a document.
 #[derive(Drop)]
 pub(crate) struct Part<'p> {
     events: &'p [Placed],
     /// For each Start the place of its End; for every other event its own.
     ends: Vec<usize>,
-    spreads: Vec<Spread>,
+    /// The lists, in order.
+    lists: Vec<ListSpread>,
     /// The places in the source of `*` and of `_`, in order; both are empty if there is no emphasis.
     stars: Vec<usize>,
     scores: Vec<usize>,
@@ -64,150 +72,151 @@ pub(crate) fn is_inline(event: &Event<'_>) -> bool {
     }
 }
 
-/// What is found of a list while its items pass.
+/// What an open container is.
 #[derive(Clone, Copy)]
-struct OpenBlock {
+enum Role {
+    /// A list, with its number.
+    List(usize),
+    Item,
+    /// Another block.
+    Block,
+    /// It stands within a line.
+    Inline,
+}
+
+/// A container that is open.
+#[derive(Clone, Copy)]
+struct OpenContainer {
     /// The place of its Start.
     at: usize,
-    is_list: bool,
-    is_item: bool,
+    role: Role,
     /// The end in the source of the last block in it, if there is one.
     last: Option<usize>,
 }
 
-/// The blocks that are open while a part is looked through.
+/// A look through a part.
 #[derive(Drop)]
 struct Walk {
-    blocks: Vec<OpenBlock>,
-    spreads: Vec<Spread>,
+    open: Vec<OpenContainer>,
+    ends: Vec<usize>,
+    lists: Vec<ListSpread>,
+    has_emphasis: bool,
 }
 
 impl Walk {
     /// Says of a list whether it is loose, unless that is known.
     fn tell(&mut self, list: usize, spread: Spread) {
-        if let Some(known) = self.spreads.get_mut(list)
-            && *known == Spread::Unknown
+        if let Some(known) = self.lists.get_mut(list)
+            && known.spread == Spread::Unknown
         {
-            *known = spread;
+            known.spread = spread;
         }
     }
 
-    /// The place of the list that an event belongs to: that is in it, or in one of its items.
-    fn list_round(&self) -> Option<usize> {
-        let count = self.blocks.len();
-        match self.blocks.last() {
-            Some(block) if block.is_list => Some(block.at),
-            Some(block) if block.is_item => {
-                let outer = count.checked_sub(2)?;
-                self.blocks.get(outer).map(|block| block.at)
-            }
-            _ => None,
+    fn set(&mut self, list: usize, spread: Spread) {
+        if let Some(known) = self.lists.get_mut(list) {
+            known.spread = spread;
+        }
+    }
+
+    /// The number of the list round an item that is innermost.
+    fn list_round_item(&self) -> Option<usize> {
+        let outer = self.open.len().checked_sub(2)?;
+        match self.open.get(outer) {
+            Some(container) => match container.role {
+                Role::List(list) => Some(list),
+                _ => None,
+            },
+            None => None,
         }
     }
 
     /// Takes an event that begins something: a list is loose if an item has a paragraph, tight if it has bare text, and
     /// else as blank lines in the source say.
     fn begin(&mut self, source: &Source<'_>, event: &Event<'_>, start: usize) {
-        let Some(list) = self.list_round() else {
+        let Some(container) = self.open.last().copied() else {
             return;
         };
-        let Some(block) = self.blocks.last().copied() else {
+        let list = match container.role {
+            Role::List(list) => Some(list),
+            Role::Item => self.list_round_item(),
+            _ => None,
+        };
+        let Some(list) = list else {
             return;
         };
-        if block.is_item {
+        let is_inline = is_inline(event);
+        if let Role::Item = container.role {
             match event {
                 Event::Start(Tag::Paragraph) => self.set(list, Spread::Loose),
-                _ if is_inline(event) => self.tell(list, Spread::Tight),
+                _ if is_inline => self.tell(list, Spread::Tight),
                 _ => {}
             }
         }
-        if let Some(last) = block.last
-            && !is_inline(event)
+        if let Some(last) = container.last
+            && !is_inline
             && source.has_blank_line(last, start)
         {
             self.tell(list, Spread::Loose);
         }
     }
 
-    fn set(&mut self, list: usize, spread: Spread) {
-        if let Some(known) = self.spreads.get_mut(list) {
-            *known = spread;
-        }
-    }
-
-    /// Opens a block, if an event starts one.
-    fn open(&mut self, at: usize, event: &Event<'_>) -> Result<(), AllocError> {
-        let Event::Start(tag) = event else {
-            return Ok(());
+    /// Opens a container.
+    fn open(&mut self, at: usize, tag: &Tag<'_>) -> Result<(), AllocError> {
+        let role = match tag {
+            Tag::List(_) => {
+                let list = self.lists.len();
+                self.lists.push(ListSpread {
+                    at,
+                    spread: Spread::Unknown,
+                })?;
+                Role::List(list)
+            }
+            Tag::Item => Role::Item,
+            _ if is_inline_tag(tag) => Role::Inline,
+            _ => Role::Block,
         };
-        if is_inline_tag(tag) {
-            return Ok(());
-        }
-        self.blocks.push(OpenBlock {
+        self.open.push(OpenContainer {
             at,
-            is_list: matches!(tag, Tag::List(_)),
-            is_item: matches!(tag, Tag::Item),
+            role,
             last: None,
         })?;
         Ok(())
     }
 
-    /// Takes the end of a block that ends here in the source.
-    fn end(&mut self, end: usize) {
-        self.blocks.pop();
-        if let Some(block) = self.blocks.last_mut() {
-            block.last = Some(end);
+    /// Takes the End of the innermost container, which ends here in the source.
+    fn end(&mut self, at: usize, tag: TagEnd, end: usize) {
+        if let TagEnd::Emphasis | TagEnd::Strong = tag {
+            self.has_emphasis = true;
+        }
+        let Some(container) = self.open.pop() else {
+            return;
+        };
+        if let Some(place) = self.ends.get_mut(container.at) {
+            *place = at;
+        }
+        if let Role::Inline = container.role {
+            return;
+        }
+        if let Some(outer) = self.open.last_mut() {
+            outer.last = Some(end);
         }
     }
-}
 
-/// Where each container ends.
-fn ends_of(alloc: Global, events: &[Placed]) -> Result<Vec<usize>, AllocError> {
-    let mut ends = Vec::with_capacity(alloc, events.len())?;
-    let mut starts = Vec::new(alloc);
-    for (at, pair) in events.iter().enumerate() {
-        ends.push(at)?;
+    /// Takes the event at a place.
+    fn take(&mut self, source: &Source<'_>, at: usize, pair: &Placed) -> Result<(), AllocError> {
+        let (start, end) = pair.1;
+        self.ends.push(at)?;
         match &pair.0 {
-            Event::Start(_) => starts.push(at)?,
-            Event::End(_) => {
-                let start: Option<usize> = starts.pop();
-                if let Some(start) = start
-                    && let Some(end) = ends.get_mut(start)
-                {
-                    *end = at;
-                }
+            Event::End(tag) => self.end(at, *tag, end),
+            Event::Start(tag) => {
+                self.begin(source, &pair.0, start);
+                self.open(at, tag)?;
             }
-            _ => {}
+            event => self.begin(source, event, start),
         }
+        Ok(())
     }
-    Ok(ends)
-}
-
-/// Which lists are loose.
-fn spreads_of(
-    alloc: Global,
-    source: &Source<'_>,
-    events: &[Placed],
-) -> Result<Vec<Spread>, AllocError> {
-    let mut walk = Walk {
-        blocks: Vec::new(alloc),
-        spreads: Vec::with_capacity(alloc, events.len())?,
-    };
-    for _ in events {
-        walk.spreads.push(Spread::Unknown)?;
-    }
-    for (at, pair) in events.iter().enumerate() {
-        let (event, (start, end)) = pair;
-        match event {
-            Event::End(tag) if is_inline_end(*tag) => {}
-            Event::End(_) => walk.end(*end),
-            _ => {
-                walk.begin(source, event, *start);
-                walk.open(at, event)?;
-            }
-        }
-    }
-    Ok(walk.spreads)
 }
 
 /// The places of a byte between two places of a source.
@@ -230,11 +239,6 @@ fn places_of(
     Ok(places)
 }
 
-/// Whether emphasis is among events.
-fn has_emphasis(events: &[Placed]) -> bool {
-    events.iter().any(|pair| matches!(&pair.0, Event::End(TagEnd::Emphasis | TagEnd::Strong)))
-}
-
 /// What some trees cover of the source.
 fn range_of(events: &[Placed]) -> (usize, usize) {
     match (events.first(), events.last()) {
@@ -249,15 +253,25 @@ impl<'p> Part<'p> {
         source: &Source<'_>,
         events: &'p [Placed],
     ) -> Result<Part<'p>, AllocError> {
-        let range = if has_emphasis(events) {
+        let mut walk = Walk {
+            open: Vec::new(alloc),
+            ends: Vec::with_capacity(alloc, events.len())?,
+            lists: Vec::new(alloc),
+            has_emphasis: false,
+        };
+        for (at, pair) in events.iter().enumerate() {
+            walk.take(source, at, pair)?;
+        }
+        let range = if walk.has_emphasis {
             range_of(events)
         } else {
             (0, 0)
         };
+        let Walk { ends, lists, .. } = walk;
         Ok(Part {
             events,
-            ends: ends_of(alloc, events)?,
-            spreads: spreads_of(alloc, source, events)?,
+            ends,
+            lists,
             stars: places_of(alloc, source, b'*', range)?,
             scores: places_of(alloc, source, b'_', range)?,
         })
@@ -291,7 +305,10 @@ impl<'p> Part<'p> {
 
     /// Whether a list is loose.
     pub(crate) fn is_loose(&self, list: usize) -> bool {
-        self.spreads.get(list) == Some(&Spread::Loose)
+        let number = self.lists.partition_point(|one| one.at < list);
+        self.lists
+            .get(number)
+            .is_some_and(|one| one.spread == Spread::Loose)
     }
 
     /// Whether a byte, `*` or `_`, stands in a stretch of the source.
@@ -339,7 +356,8 @@ impl<'p> Part<'p> {
 
     /// The texts of a code block or an HTML block that starts at a place, as one.
     pub(crate) fn raw_text(&self, alloc: Global, at: usize) -> Result<String, AllocError> {
-        let mut text = String::new(alloc);
+        let (start, end) = self.range(at);
+        let mut text = String::with_capacity(alloc, end.saturating_sub(start))?;
         let inner = self
             .events
             .get(at.saturating_add(1)..self.end(at))

@@ -61,20 +61,25 @@ pub trait PartReader: Reader {
         ensures { IfOk result (λ all. map link_defined all.items
             ≡ definitions self.now text.now flags) };
 
-    /// Hands the events of a text to a taker. It fails if memory runs out, here or there.
+    /// Hands the events of a text to a taker, and returns its link definitions. It fails if memory runs out, here or there.
     fn read_parts<T: PartTaker>(
         &self,
         alloc: Global,
         text: &str,
         flags: ParserOptions,
         taker: &mut T,
-    ) -> Result<(), AllocError>
-        ensures { OnOk result ((before : List EventView) → T.has_taken taker.old before
+    ) -> Result<Vec<ReferenceDefinition>, AllocError>
+        ensures taken { OnOk result ((before : List EventView) → T.has_taken taker.old before
             → T.has_taken taker.new
             (before ++ found_events (Self.reading self.now text.now flags))) }
+        ensures definitions { IfOk result (λ all. map link_defined all.items
+            ≡ definitions self.now text.now flags) }
     {
         let part = self.read(alloc, text, flags)?;
-        taker.take(alloc, &part)
+        let result = taker.take(alloc, &part);
+        drop(part);
+        result?;
+        self.read_definitions(alloc, text, flags)
     }
 }
 
@@ -113,11 +118,12 @@ impl PartReader for CoreReader {
         text: &str,
         _flags: ParserOptions,
         taker: &mut T,
-    ) -> Result<(), AllocError> {
-        let mut blocks = self.blocks(alloc, text)?;
+    ) -> Result<Vec<ReferenceDefinition>, AllocError> {
+        let (mut blocks, definitions) = self.blocks_and_definitions(alloc, text)?;
         let handed = hand_blocks(alloc, &mut blocks, taker);
         drop(blocks);
-        handed
+        handed?;
+        Ok(definitions)
     }
 }
 
@@ -140,11 +146,12 @@ impl PartReader for ExtendedReader {
         text: &str,
         flags: ParserOptions,
         taker: &mut T,
-    ) -> Result<(), AllocError> {
-        let mut blocks = self.blocks(alloc, text, flags)?;
+    ) -> Result<Vec<ReferenceDefinition>, AllocError> {
+        let (mut blocks, definitions) = self.blocks_and_definitions(alloc, text, flags)?;
         let handed = hand_blocks(alloc, &mut blocks, taker);
         drop(blocks);
-        handed
+        handed?;
+        Ok(definitions)
     }
 }
 
@@ -167,7 +174,7 @@ impl<R: PartReader> PartReader for &R {
         text: &str,
         flags: ParserOptions,
         taker: &mut T,
-    ) -> Result<(), AllocError> {
+    ) -> Result<Vec<ReferenceDefinition>, AllocError> {
         (**self).read_parts(alloc, text, flags, taker)
     }
 }

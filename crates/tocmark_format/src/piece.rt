@@ -34,6 +34,12 @@ impl Pieces {
         }
     }
 
+    /// Takes all pieces away, and keeps their room.
+    pub(crate) fn clear(&mut self) {
+        self.text.truncate(0);
+        self.list.truncate(0);
+    }
+
     pub(crate) fn push(&mut self, piece: Piece) -> Result<(), AllocError> {
         self.list.push(piece)?;
         Ok(())

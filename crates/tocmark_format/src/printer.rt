@@ -5,6 +5,7 @@ use crate::kept::Stretch;
 use crate::look::Look;
 use crate::page::{Kind, Page};
 use crate::part::{Part, is_inline};
+use crate::piece::Pieces;
 use crate::source::Source;
 use std::alloc::{AllocError, Global};
 use tocmark_event::event::{Event, Tag};
@@ -60,6 +61,8 @@ pub(crate) struct Printer<'d> {
     pub(crate) blocks: Vec<Block>,
     /// How many trees came.
     trees: usize,
+    /// Room for the pieces of a leaf.
+    pub(crate) room: Pieces,
     /// Whether the source ends within a line of code or HTML.
     pub(crate) is_cut: bool,
     /// The stretch that a comment keeps and that isn't printed yet.
@@ -86,6 +89,7 @@ impl<'d> Printer<'d> {
             keeps_definitions,
             blocks: Vec::new(alloc),
             trees: 0,
+            room: Pieces::new(alloc),
             is_cut: false,
             kept: None,
             foreign: None,

@@ -4,11 +4,22 @@ ghost use Rattle.std.specs.Prelude.{◌≡◌, IfOk};
 
 use std::alloc::{AllocError, Global};
 
+/// How many bytes of a text share an entry of the index of its lines.
+const STRETCH: usize = 64;
+
+/// Where the lines of a text begin.
+#[derive(Drop)]
+struct LineStarts {
+    starts: Vec<usize>,
+    /// For each stretch of bytes the number of the line that its first byte stands on.
+    index: Vec<usize>,
+}
+
 /// A text, and where its lines begin.
 #[derive(Drop)]
 pub(crate) struct Source<'s> {
     pub(crate) text: &'s str,
-    starts: Vec<usize>,
+    lines: LineStarts,
 }
 
 /// Whether a byte is a blank or a tab.
@@ -26,24 +37,68 @@ pub(crate) fn without_blanks(text: &str) -> &str {
     without_end_blanks(text.trim_start_matches(&[' ', '\t']))
 }
 
+impl LineStarts {
+    fn of(alloc: Global, text: &str) -> Result<LineStarts, AllocError> {
+        let mut lines = LineStarts {
+            starts: Vec::new(alloc),
+            index: Vec::with_capacity(alloc, (text.len() / STRETCH).saturating_add(1))?,
+        };
+        let mut at = 0usize;
+        for line in text.split('\n') {
+            lines.index_to(at)?;
+            lines.starts.push(at)?;
+            at = at.saturating_add(line.len()).saturating_add(1);
+        }
+        lines.index_to(at)?;
+        Ok(lines)
+    }
+
+    /// Indexes the bytes before a place: they stand on the last line, or are indexed already.
+    fn index_to(&mut self, at: usize) -> Result<(), AllocError> {
+        let line = self.starts.len().saturating_sub(1);
+        let count = at.saturating_add(STRETCH - 1) / STRETCH;
+        for _ in self.index.len()..count {
+            self.index.push(line)?;
+        }
+        Ok(())
+    }
+
+    /// The number of the line that a place stands on, counted from 0. The place stands in the text, or just behind it.
+    fn line_of(&self, at: usize) -> usize {
+        let mut line = self.index.get(at / STRETCH).copied().unwrap_or(0);
+        for _ in 0..STRETCH {
+            match self.starts.get(line.saturating_add(1)) {
+                Some(next) if *next <= at => line = line.saturating_add(1),
+                _ => break,
+            }
+        }
+        line
+    }
+
+    /// Where a line begins by its number.
+    fn start(&self, number: usize) -> Option<usize> {
+        self.starts.get(number).copied()
+    }
+}
+
 impl<'s> Source<'s> {
     /// A text whose lines end with line feeds.
     pub(crate) fn new(alloc: Global, text: &'s str) -> Result<Source<'s>, AllocError>
         ensures { IfOk result (λ source. source.text.now ≡ text.now) }
     {
-        let mut starts = Vec::new(alloc);
-        starts.push(0usize)?;
-        for (at, byte) in text.as_bytes().iter().enumerate() {
-            if *byte == b'\n' {
-                starts.push(at.saturating_add(1))?;
-            }
-        }
-        Ok(Source { text, starts })
+        let lines = LineStarts::of(alloc, text)?;
+        Ok(Source { text, lines })
     }
 
     /// The text between two places; empty if there is none.
     pub(crate) fn slice(&self, from: usize, to: usize) -> &'s str {
         self.text.get(from..to).unwrap_or("")
+    }
+
+    /// The bytes between two places, up to the end of the text; none if there are none.
+    pub(crate) fn bytes(&self, from: usize, to: usize) -> &'s [u8] {
+        let bytes = self.text.as_bytes();
+        bytes.get(from..to.min(bytes.len())).unwrap_or(&[])
     }
 
     /// The byte at a place; a line feed at the end and past it.
@@ -53,32 +108,33 @@ impl<'s> Source<'s> {
 
     /// The number of the line that a place stands on, counted from 0.
     pub(crate) fn line_of(&self, at: usize) -> usize {
-        self.starts
-            .partition_point(|start| *start <= at)
-            .saturating_sub(1)
+        self.lines.line_of(at.min(self.text.len()))
+    }
+
+    /// The line feed before a line by its number; the end of the text, if there is no such line.
+    fn end_before(&self, number: usize) -> usize {
+        match self.lines.start(number) {
+            Some(start) => start.saturating_sub(1),
+            None => self.text.len(),
+        }
     }
 
     /// A line by its number, counted from 0, without its line feed; empty if there is none.
     pub(crate) fn line(&self, number: usize) -> &'s str {
-        match self.starts.get(number) {
-            Some(start) => self.slice(*start, self.line_end(*start)),
+        match self.lines.start(number) {
+            Some(start) => self.slice(start, self.end_before(number.saturating_add(1))),
             None => "",
         }
     }
 
     /// Where the line of a place begins.
     pub(crate) fn line_start(&self, at: usize) -> usize {
-        let line = self.line_of(at);
-        self.starts.get(line).copied().unwrap_or(0)
+        self.lines.start(self.line_of(at)).unwrap_or(0)
     }
 
     /// The line feed that ends the line of a place; the end of the text, if there is none.
     pub(crate) fn line_end(&self, at: usize) -> usize {
-        let next = self.line_of(at).saturating_add(1);
-        match self.starts.get(next) {
-            Some(start) => start.saturating_sub(1),
-            None => self.text.len(),
-        }
+        self.end_before(self.line_of(at).saturating_add(1))
     }
 
     /// The first place from here on without a blank or a tab.
@@ -108,8 +164,7 @@ impl<'s> Source<'s> {
         let first = self.line_of(from).saturating_add(1);
         let last = self.line_of(to);
         for line in first..last {
-            let start = self.starts.get(line).copied().unwrap_or(0);
-            let text = self.slice(start, self.line_end(start));
+            let text = self.line(line);
             if text.trim_start_matches(&[' ', '\t', '>']).is_empty() {
                 return true;
             }

@@ -151,7 +151,7 @@ impl Cells {
 
 impl Printer<'_> {
     /// The cells of a table; none if a row has more of them than the head, which are in no event.
-    fn cells_of(&self, part: &Part<'_>, at: usize) -> Result<Option<Cells>, AllocError> {
+    fn cells_of(&mut self, part: &Part<'_>, at: usize) -> Result<Option<Cells>, AllocError> {
         let mut cells = Cells::new(self.alloc);
         let mut cell_end = 0usize;
         for inner in at.saturating_add(1)..part.end(at) {
@@ -162,6 +162,7 @@ impl Printer<'_> {
                     let events = (inner.saturating_add(1), part.end(inner));
                     let (pieces, _) = self.pieces_of(part, events, text)?;
                     cells.add(pieces.text.as_str())?;
+                    self.keep_room(pieces);
                     cell_end = end;
                 }
                 Some(Event::End(TagEnd::TableHead | TagEnd::TableRow)) => {

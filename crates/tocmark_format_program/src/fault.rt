@@ -7,6 +7,7 @@ ghost use Rattle.tocmark_format_program.specs.declared.fault.Fault.TheVariants.{
 use std::alloc::{AllocError, AllocFailed};
 use std::io;
 use thiserror::Error;
+use tocmark_command::replace::ReplaceError;
 
 /// What is wrong with one file. The message stands behind its name.
 #[derive(Debug, Drop, Error)]
@@ -21,16 +22,10 @@ pub enum Fault {
     NameWithin,
     #[error("is no regular file")]
     NotRegular,
-    #[error("is read-only")]
-    ReadOnly,
     #[error("a .gitignore that holds in it cannot be read: {0}")]
     Ignores(io::Error),
-    #[error("cannot be written: {0}")]
-    Write(io::Error),
-    #[error("its owner and permissions cannot be kept: {0}")]
-    Attributes(io::Error),
-    #[error("was changed while it was formatted")]
-    Changed,
+    #[error("{0}")]
+    Replace(ReplaceError),
     #[error("standard output cannot be written: {0}")]
     Output(io::Error),
     #[error("out of memory")]

@@ -43,7 +43,7 @@ use list::add_list;
 use lookup::Refused;
 use outcome::{Outcome, outcome_of, status_of};
 use quoted::Quoted;
-use replace::{Change, remove_left, replace_text};
+use replace::{Change, replace_text};
 use report::Report;
 use search::{Found, Origin, Search, Target};
 use settings::Settings;
@@ -54,6 +54,7 @@ use std::{env, fs};
 use stream::{Passed, READER, format_stream};
 use text::text_in;
 use tocmark_command::program::Program;
+use tocmark_command::replace::remove_left;
 use tocmark_command::streams::write_out;
 use tocmark_command::syntax::syntax_help;
 use words::{Words, words_of};
@@ -130,7 +131,7 @@ fn format_file(
         decision: &decision,
         syncs: work.task.syncs,
     };
-    replace_text(rt, path, &change)?;
+    replace_text(rt, path, &change).map_err(Fault::Replace)?;
     let outcome = outcome_of(&decision);
     Ok(Passed {
         outcome,

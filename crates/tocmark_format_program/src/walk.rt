@@ -2,11 +2,11 @@
 
 use crate::fault::Fault;
 use crate::lookup::{Refused, joined, whole_path};
-use crate::replace::replaced_by;
 use crate::rules::Entry;
 use crate::search::{Search, Target, is_markdown};
 use std::fs::DirEntry;
 use std::{fs, io};
+use tocmark_command::replace::replaced_by;
 
 /// A folder that is still to be searched.
 #[derive(Drop)]

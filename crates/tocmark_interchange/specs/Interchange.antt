@@ -16,11 +16,13 @@ use Rattle.tocmark_event.specs.View.{EventView}
 use Rattle.tocmark_event.specs.declared.event.flags.ParserOptions.{ParserOptions}
 use Rattle.tocmark_event.specs.declared.options.Error.{Error}
 use Rattle.tocmark_event.specs.declared.options.Error.TheVariants as error
-use Rattle.tocmark_json.specs.Json.{event_json, events_json, pair_json, pair_view, pairs_json}
+use Rattle.tocmark_json.specs.Json.{IsPairsJson, event_json, events_json, listed, located_json, pair_view, pairs_json}
+use Rattle.tocmark_json.specs.Positions.{span_of}
 use Rattle.tocmark_interchange.specs.Options.{IsOptionsJson, is_options_object}
 use Rattle.tocmark_json.specs.Place.{StandsIn}
 use Rattle.tocmark_json.specs.declared.fault.JsonError.{JsonError}
-use Rattle.tocmark_state.specs.Ranges.{Pair, unranged}
+use Rattle.tocmark_json.specs.declared.positions.Span.{Span}
+use Rattle.tocmark_state.specs.Ranges.{Pair, Range, unranged}
 use Rattle.tocmark_state.specs.WorkView.{rendering}
 use Rattle.tocmark_state.specs.Walk.{Walk, Done, done, nothing_yet, script}
 use Rattle.tocmark_interchange.specs.declared.fault.OptionsTextError.{OptionsTextError}
@@ -51,6 +53,14 @@ source_text None = []
 abbrev pub reading_json : ParserOptions → List ℕ → Data
 reading_json flags text = pairs_json (map (λ e. (e.0, Some e.1)) (reading_of (syntax_of All flags) text).events)
 
+-- an event with its range in a text, and the lines and columns of that
+abbrev pub located_in : List ℕ → EventView × Range → Pair × Option Span
+located_in text e = ((e.0, Some e.1), Some (span_of text e.1))
+
+-- the JSON of what the reader of extensions finds in a text under these flags, with lines and columns
+abbrev pub reading_located : ParserOptions → List ℕ → Data
+reading_located flags text = listed located_json (map (located_in text) (reading_of (syntax_of All flags) text).events)
+
 -- what events with ranges come to over a source, under these options and flags: a unit that is read back needs no
 -- definitions of footnotes, since these are units of their own
 abbrev pub writing : OptionsView → ParserOptions → List ℕ → List Pair → Walk Done
@@ -64,7 +74,7 @@ pub record IsWritten (options : OptionsView) (flags : ParserOptions) (source : L
 
 -- a value is that of these events, with their ranges or, where none has one, without
 abbrev pub IsJsonOf : Data → List Pair → Type 0
-IsJsonOf value pairs = (value ≡ pairs_json pairs) ⊎ ((es : List EventView) × (value ≡ events_json es) × (pairs ≡ map unranged es))
+IsJsonOf value pairs = IsPairsJson value pairs ⊎ ((es : List EventView) × (value ≡ events_json es) × (pairs ≡ map unranged es))
 
 -- a text is the JSON of these events
 pub record IsTextOf (input : List ℕ) (pairs : List Pair) : Type 0 where
@@ -78,13 +88,21 @@ pub record IsWrittenFrom (options : OptionsView) (flags : ParserOptions) (has_so
   pub is_text : IsTextOf input pairs
   pub is_written : IsWritten options flags source (in_source has_source pairs) output
 
--- the JSON of some events, written again: each item and member once and in order
+-- the value of events without lines and columns: of events with ranges, or of events alone
+abbrev pub IsPlainForm : Data → Data → Type 0
+IsPlainForm value form =
+    ((pairs : List Pair) × IsPairsJson value pairs × (form ≡ pairs_json pairs))
+    ⊎ ((es : List EventView) × (value ≡ events_json es) × (form ≡ events_json es))
+
+-- the text of such a value: each item and member once and in order
+abbrev pub IsAgain : Data → List ℕ → Type 0
+IsAgain value output = (form : Data) × IsPlainForm value form × IsInOrder output form
+
+-- the JSON of some events, written again without lines and columns
 pub record IsWrittenAgain (input output : List ℕ) : Type 0 where
   pub value : Data
-  pub pairs : List Pair
   pub is_read : read input ≡ Some value
-  pub is_json : IsJsonOf value pairs
-  pub is_again : IsInOrder output value
+  pub is_again : IsAgain value output
 
 -- the error is what the events come to; of memory, and of a writer that refuses a text for want of it, nothing is said
 abbrev pub IsRefusal : Walk Done → Error → Type 0
@@ -94,7 +112,7 @@ IsRefusal walk e = walk.outcome ≡ Err e
 
 -- an element that is named stands in the value, and those before it are events, with ranges or without
 abbrev pub IsNoList : Data → JsonError → Type 0
-IsNoList value e = StandsIn pair_json value e ⊎ StandsIn event_json value e
+IsNoList value e = StandsIn located_json value e ⊎ StandsIn event_json value e
 
 -- why a text is not the JSON of events
 abbrev pub IsNoEvents : List ℕ → WriteError → Type 0

@@ -1,7 +1,8 @@
 -- JSON by lines.
 use Rattle.std.specs.Prelude.{◌==◌, ℕ, List, [], ◌∷◌, ◌++◌, Bool, true, false, Some, map}
 use Rattle.tocmark_event.specs.declared.event.flags.ParserOptions.{ParserOptions}
-use Rattle.tocmark_json.specs.Printed.{lines_text}
+use Rattle.tocmark_interchange.specs.Interchange.{located_in}
+use Rattle.tocmark_json.specs.Printed.{lines_text, located_lines}
 use Rattle.tocmark_read_scan.specs.declared.syntax.Names.TheVariants.{All}
 use Rattle.tocmark_reader.specs.Flags.{syntax_of}
 use Rattle.tocmark_reader.specs.Reading.{reading_of}
@@ -24,3 +25,7 @@ json_of false input = input
 -- the lines of JSON of what the reader of extensions finds in a text under these flags
 abbrev pub reading_lines : ParserOptions → List ℕ → List ℕ
 reading_lines flags text = lines_text (map (λ e. (e.0, Some e.1)) (reading_of (syntax_of All flags) text).events)
+
+-- the same with lines and columns
+abbrev pub reading_located_lines : ParserOptions → List ℕ → List ℕ
+reading_located_lines flags text = located_lines (map (located_in text) (reading_of (syntax_of All flags) text).events)

@@ -1,10 +1,8 @@
 //! The JSON text of events in its one form.
 
-ghost use Rattle.std.specs.Prelude.{◌≡◌, List, IfErr, IfOk, OnOk, string_bytes};
+ghost use Rattle.std.specs.Prelude.{IfErr, IfOk, string_bytes};
 ghost use Rattle.serde_json.specs.View.{view};
-ghost use Rattle.serde_json.specs.Written.{IsInOrder};
-ghost use Rattle.tocmark_state.specs.Ranges.{Pair};
-ghost use Rattle.tocmark_interchange.specs.Interchange.{IsJsonOf, IsNoEvents, IsNoList, IsWrittenAgain};
+ghost use Rattle.tocmark_interchange.specs.Interchange.{IsAgain, IsNoEvents, IsNoList, IsWrittenAgain};
 
 use crate::fault::WriteError;
 use crate::writing::{has_ranges, value_in};
@@ -16,8 +14,7 @@ use tocmark_json::printing::{events_to_text, pairs_to_text};
 use tocmark_json::reading::{events_from_json, pairs_from_json};
 
 fn plain_again(alloc: Global, value: &Value) -> Result<String, JsonError>
-    ensures again { IfOk result (λ output. IsInOrder (string_bytes output) (view value.now)) }
-    ensures events { OnOk result ((pairs : List Pair) × IsJsonOf (view value.now) pairs) }
+    ensures again { IfOk result (λ output. IsAgain (view value.now) (string_bytes output)) }
     ensures place { IfErr result (IsNoList (view value.now)) }
 {
     let events: Vec<Event<'static>> = events_from_json(alloc, value)?;
@@ -25,8 +22,7 @@ fn plain_again(alloc: Global, value: &Value) -> Result<String, JsonError>
 }
 
 fn ranged_again(alloc: Global, value: &Value) -> Result<String, JsonError>
-    ensures again { IfOk result (λ output. IsInOrder (string_bytes output) (view value.now)) }
-    ensures events { OnOk result ((pairs : List Pair) × IsJsonOf (view value.now) pairs) }
+    ensures again { IfOk result (λ output. IsAgain (view value.now) (string_bytes output)) }
     ensures place { IfErr result (IsNoList (view value.now)) }
 {
     let pairs: Vec<(Event<'static>, Option<(usize, usize)>)> = pairs_from_json(alloc, value)?;
@@ -35,8 +31,7 @@ fn ranged_again(alloc: Global, value: &Value) -> Result<String, JsonError>
 
 /// The text of the events of a value.
 fn written_again(alloc: Global, value: &Value) -> Result<String, JsonError>
-    ensures again { IfOk result (λ output. IsInOrder (string_bytes output) (view value.now)) }
-    ensures events { OnOk result ((pairs : List Pair) × IsJsonOf (view value.now) pairs) }
+    ensures again { IfOk result (λ output. IsAgain (view value.now) (string_bytes output)) }
     ensures place { IfErr result (IsNoList (view value.now)) }
 {
     if has_ranges(value) {
@@ -46,7 +41,7 @@ fn written_again(alloc: Global, value: &Value) -> Result<String, JsonError>
     }
 }
 
-/// The JSON text of events in its one form: without spaces, the keys in order.
+/// The JSON text of events in its one form: without spaces, the keys in order. Lines and columns are left out.
 ///
 /// An `Err` says that the text is no JSON (`NotJson`) or not that of events (`NotEvents`, with the first one that is none), or
 /// that memory ran out.

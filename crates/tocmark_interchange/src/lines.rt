@@ -1,11 +1,12 @@
 //! JSON by lines: each event, or each pair of an event and its range, stands on a line of its own.
 
 ghost use Rattle.std.specs.Prelude.{◌≡◌, [], ◌∷◌, ◌++◌, IfOk, OnOk, string_bytes};
-ghost use Rattle.tocmark_interchange.specs.Lines.{array_of, reading_lines, with_commas};
+ghost use Rattle.tocmark_interchange.specs.Lines.{array_of, reading_lines, reading_located_lines, with_commas};
 
 use std::alloc::{AllocError, Global};
 use tocmark::event::ParserOptions;
 use tocmark::reader::Reader;
+use tocmark_json::locating::located_to_lines;
 use tocmark_json::printing::ranged_to_lines;
 use tocmark_reader::{ExtendedReader, Names};
 
@@ -19,6 +20,20 @@ pub fn read_lines(alloc: Global, text: &str, flags: ParserOptions) -> Result<Str
     let reader = ExtendedReader { names: Names::All };
     let reading = reader.read(alloc, text, flags)?;
     let output = ranged_to_lines(alloc, &reading.events)?;
+    Ok(output)
+}
+
+/// The same, where each range has the lines and columns of its ends, too.
+pub fn read_located_lines(
+    alloc: Global,
+    text: &str,
+    flags: ParserOptions,
+) -> Result<String, AllocError>
+    ensures { IfOk result (λ output. string_bytes output ≡ reading_located_lines flags text.now) }
+{
+    let reader = ExtendedReader { names: Names::All };
+    let found = reader.read(alloc, text, flags)?;
+    let output = located_to_lines(alloc, text, &found.events)?;
     Ok(output)
 }
 

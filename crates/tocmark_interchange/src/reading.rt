@@ -2,11 +2,12 @@
 
 ghost use Rattle.std.specs.Prelude.{IfOk, string_bytes};
 ghost use Rattle.serde_json.specs.Written.{IsInOrder};
-ghost use Rattle.tocmark_interchange.specs.Interchange.{reading_json};
+ghost use Rattle.tocmark_interchange.specs.Interchange.{reading_json, reading_located};
 
 use std::alloc::{AllocError, Global};
 use tocmark::event::ParserOptions;
 use tocmark::reader::Reader;
+use tocmark_json::locating::located_to_text;
 use tocmark_json::printing::ranged_to_text;
 use tocmark_reader::{ExtendedReader, Names};
 
@@ -19,5 +20,16 @@ pub fn read_json(alloc: Global, text: &str, flags: ParserOptions) -> Result<Stri
     let reader = ExtendedReader { names: Names::All };
     let reading = reader.read(alloc, text, flags)?;
     let output = ranged_to_text(alloc, &reading.events)?;
+    Ok(output)
+}
+
+/// The same, where each range has the lines and columns of its ends, too.
+pub fn read_located(alloc: Global, text: &str, flags: ParserOptions) -> Result<String, AllocError>
+    ensures { IfOk result (λ output.
+        IsInOrder (string_bytes output) (reading_located flags text.now)) }
+{
+    let reader = ExtendedReader { names: Names::All };
+    let found = reader.read(alloc, text, flags)?;
+    let output = located_to_text(alloc, text, &found.events)?;
     Ok(output)
 }

@@ -20,7 +20,7 @@ use Rattle.serde_json.proofs.Numbers.{number_of-decimal}
 use Rattle.serde_json.proofs.Texts.{print-outline, unless_float-number_of}
 use Rattle.tocmark_event.specs.declared.event.Alignment.{Alignment}
 use Rattle.tocmark_json.specs.Json.{alignment_json, both, size_json, tagged}
-use Rattle.tocmark_json.specs.Printed.{Grows, Adds}
+use Rattle.tocmark_json.specs.Printed.{Grows, Adds, AddsMember}
 
 -- ---- one token
 
@@ -66,14 +66,12 @@ module _ {E : Type 0} (r : Result (Unit {0}) E) (a b c d w : Written) where
         reads = ap₂ (λ (o p : Option Data). option_map array (option_and_then (λ d. option_map (item d) (option_and_then (λ e. option_map (item e) (Some no_items)) p)) o)) first.reads second.reads;
       }) closes
 
--- a key and its value stand behind what stood there
-pub record AddsMember (name : List ℕ) (d : Data) (old new : Written) : Type 0 where
-  pub grows : Grows (key name ∷ json_tokens (outline d)) old new
-  pub whole : blank (outline d) ≡ outline d
-  pub reads : of_json (outline d) ≡ Some d
-
 pub member_added : (name : List ℕ) (d : Data) (a b c : Written) → Grows (key name ∷ []) a b → Adds d b c → AddsMember name d a c
 member_added name d a b c named content = record { grows = then _ _ a b c named content.grows; whole = content.whole; reads = content.reads }
+
+module _ {E : Type 0} (r : Result (Unit {0}) E) (a b c : Written) where
+  pub member_added_at : (name : List ℕ) (d : Data) → Grows (key name ∷ []) a b → OnOk r (Adds d b c) → OnOk r (AddsMember name d a c)
+  member_added_at name d named content = on_ok_weaker r (λ added. member_added name d a b c named added) content
 
 module _ {E : Type 0} (r : Result (Unit {0}) E) (a b c d w : Written) where
   -- two members, whose keys stand in their order
@@ -99,6 +97,19 @@ module _ {E : Type 0} (r : Result (Unit {0}) E) (a b c d e f w : Written) where
         reads =
             (λ i. option_map object (option_and_then (λ o. option_and_then (λ p. option_and_then (λ q. option_and_then (λ v. Some (put n v (put m q (put l p (member k o no_members))))) (fourth.reads i)) (third.reads i)) (second.reads i)) (first.reads i)))
             ∙ ap (λ ms. Some (object ms)) (ordered x y z u);
+      }) closes
+
+module _ {E : Type 0} (r : Result (Unit {0}) E) (a b c d e f g h w : Written) where
+  -- six members, whose keys stand in their order
+  pub six_added : (k l m n i j : List ℕ) (x y z u s t : Data) → ((o p q v x5 y6 : Data) → put j y6 (put i x5 (put n v (put m q (put l p (member k o no_members))))) ≡ member k o (member l p (member m q (member n v (member i x5 (member j y6 no_members)))))) → Grows (begin_object ∷ []) a b → AddsMember k x b c → AddsMember l y c d → AddsMember m z d e → AddsMember n u e f → AddsMember i s f g → AddsMember j t g h → OnOk r (Grows (end_object ∷ []) h w)
+      → OnOk r (Adds (object (member k x (member l y (member m z (member n u (member i s (member j t no_members))))))) a w)
+  six_added k l m n i j x y z u s t ordered begins first second third fourth fifth sixth closes =
+      on_ok_weaker r (λ end. record {
+        grows = then _ _ a b w begins (then _ _ b c w first.grows (then _ _ c d w second.grows (then _ _ d e w third.grows (then _ _ e f w fourth.grows (then _ _ f g w fifth.grows (then _ _ g h w sixth.grows end))))));
+        whole = λ here. json.object (json.member k (first.whole here) (json.member l (second.whole here) (json.member m (third.whole here) (json.member n (fourth.whole here) (json.member i (fifth.whole here) (json.member j (sixth.whole here) json.no_members))))));
+        reads =
+            (λ here. option_map object (option_and_then (λ o. option_and_then (λ p. option_and_then (λ q. option_and_then (λ v. option_and_then (λ x5. option_and_then (λ y6. Some (put j y6 (put i x5 (put n v (put m q (put l p (member k o no_members))))))) (sixth.reads here)) (fifth.reads here)) (fourth.reads here)) (third.reads here)) (second.reads here)) (first.reads here)))
+            ∙ ap (λ ms. Some (object ms)) (ordered x y z u s t);
       }) closes
 
 -- ---- the items of an array

@@ -17,7 +17,8 @@ use Rattle.tocmark_event.specs.declared.event.LinkType.{LinkType}
 use Rattle.tocmark_event.specs.declared.event.LinkType.TheVariants as link
 use Rattle.tocmark_event.specs.declared.event.TagEnd.{TagEnd}
 use Rattle.tocmark_event.specs.declared.event.TagEnd.TheVariants as end
-use Rattle.tocmark_json.specs.Json.{optional, size_json, level_json, quote_json, alignment_json, metadata_json, link_type_json, code_json, attribute_json, heading_json, tag_json, end_json, event_json, range_json, pair_json, events_json, pairs_json}
+use Rattle.tocmark_json.specs.Json.{optional, size_json, level_json, quote_json, alignment_json, metadata_json, link_type_json, code_json, attribute_json, heading_json, tag_json, end_json, event_json, range_json, location_json, located_json, pair_json, events_json, pairs_json, IsPairsJson}
+use Rattle.tocmark_json.specs.declared.positions.Span.{Span}
 
 -- ---- parts of a value
 
@@ -278,12 +279,26 @@ event-back (view.Leaf view.HardBreak) = refl
 event-back (view.Leaf view.Rule) = refl
 event-back (view.Leaf (view.TaskListMarker b)) = refl
 
+abbrev key_at : ℕ → Members → List ℕ
+key_at n no_members = []
+key_at zero (member k d ms) = k
+key_at (suc n) (member k d ms) = key_at n ms
+
+-- lines and columns stand between the two numbers of a range
+abbrev start_of : Members → Data
+start_of ms = cond (bytes_eq (key_at 1 ms) (codes "start")) (member_at 1 ms) (member_at 3 ms)
+
 abbrev range_of : Data → ℕ × ℕ
-range_of d = (size_of (content 1 d), size_of (content 0 d))
+range_of d = (size_of (start_of (members_in d)), size_of (content 0 d))
 
 option_range-back : (o : Option (ℕ × ℕ)) → option_of range_of (optional range_json o) ≡ o
 option_range-back None = refl
 option_range-back (Some r) = refl
+
+location-back : (o : Option (ℕ × ℕ)) (s : Option Span) → option_of range_of (location_json o s) ≡ o
+location-back None s = refl
+location-back (Some r) None = refl
+location-back (Some r) (Some s) = refl
 
 abbrev pair_of : Data → EventView × Option (ℕ × ℕ)
 pair_of d = (event_of (item_at 0 (items_in d)), option_of range_of (item_at 1 (items_in d)))
@@ -299,3 +314,19 @@ events-told-apart es fs same = sym (all-back event_json event_of event-back es) 
 
 pub pairs-told-apart : (ps qs : List (EventView × Option (ℕ × ℕ))) → pairs_json ps ≡ pairs_json qs → ps ≡ qs
 pairs-told-apart ps qs same = sym (all-back pair_json pair_of pair-back ps) ∙ ap (list_of pair_of) same ∙ all-back pair_json pair_of pair-back qs
+
+located-back : (l : (EventView × Option (ℕ × ℕ)) × Option Span) → pair_of (located_json l) ≡ l.0
+located-back l =
+    ap (λ (e : EventView). (e, option_of range_of (location_json l.0.1 l.1))) (event-back l.0.0)
+    ∙ ap (λ (r : Option (ℕ × ℕ)). (l.0.0, r)) (location-back l.0.1 l.1)
+
+all-seen : {A B : Type 0} (json : A → Data) (f : Data → B) (seen : A → B) → ((a : A) → f (json a) ≡ seen a) → (xs : List A) → all_of f (items_of (map json xs)) ≡ map seen xs
+all-seen json f seen back [] = refl
+all-seen json f seen back (x ∷ xs) = ap (λ y. y ∷ all_of f (items_of (map json xs))) (back x) ∙ ap (λ ys. seen x ∷ ys) (all-seen json f seen back xs)
+
+located-pairs : (value : Data) (ps : List (EventView × Option (ℕ × ℕ))) → IsPairsJson value ps → list_of pair_of value ≡ ps
+located-pairs value ps (ls, is, seen) =
+    ap (list_of pair_of) is ∙ all-seen located_json pair_of (λ (l : (EventView × Option (ℕ × ℕ)) × Option Span). l.0) located-back ls ∙ seen
+
+pub located-told-apart : (value : Data) (ps qs : List (EventView × Option (ℕ × ℕ))) → IsPairsJson value ps → IsPairsJson value qs → ps ≡ qs
+located-told-apart value ps qs h k = sym (located-pairs value ps h) ∙ located-pairs value qs k

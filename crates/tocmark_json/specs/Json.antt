@@ -1,5 +1,5 @@
 -- The JSON value of an event, in the form of pulldown-cmark's feature `serde`.
-use Rattle.std.specs.Prelude.{ℕ, List, map, codes, Option, None, Some}
+use Rattle.std.specs.Prelude.{◌≡◌, ℕ, List, map, codes, Option, None, Some}
 use Rattle.serde_json.specs.Data.{Data, null, boolean, number, unsigned, string, array, object, no_items, item, no_members, member}
 use Rattle.serde_json.specs.View.{items_of}
 use Rattle.tocmark_event.specs.View as view
@@ -17,6 +17,8 @@ use Rattle.tocmark_event.specs.declared.event.LinkType.TheVariants as link
 use Rattle.tocmark_event.specs.declared.event.EventOf.{EventOf}
 use Rattle.tocmark_event.specs.declared.event.TagEnd.{TagEnd}
 use Rattle.tocmark_event.specs.declared.event.TagEnd.TheVariants as end
+use Rattle.tocmark_json.specs.Positions.{span_of}
+use Rattle.tocmark_json.specs.declared.positions.Span.{Span}
 
 -- a variant that holds something: an object whose one key is the variant's name
 abbrev pub tagged : List ℕ → Data → Data
@@ -177,6 +179,22 @@ event_json (view.Leaf l) = leaf_json l
 abbrev pub range_json : ℕ × ℕ → Data
 range_json r = object (member (codes "end") (size_json r.1) (member (codes "start") (size_json r.0) no_members))
 
+-- a range with the lines and columns of its ends
+abbrev pub spanned_json : ℕ × ℕ → Span → Data
+spanned_json r s =
+    object (member (codes "end") (size_json r.1)
+    (member (codes "end_column") (size_json s.end.column)
+    (member (codes "end_line") (size_json s.end.line)
+    (member (codes "start") (size_json r.0)
+    (member (codes "start_column") (size_json s.start.column)
+    (member (codes "start_line") (size_json s.start.line) no_members))))))
+
+-- a range, if there is one, with its lines and columns or without
+abbrev pub location_json : Option (ℕ × ℕ) → Option Span → Data
+location_json None s = null
+location_json (Some r) None = range_json r
+location_json (Some r) (Some s) = spanned_json r s
+
 -- an event whose texts have these bytes, with its range, if it has one
 abbrev pub pair_view : {T : Type 0} → (T → List ℕ) → EventOf T × Option (ℕ × ℕ) → EventView × Option (ℕ × ℕ)
 pair_view bytes p = (view.event_view bytes p.0, p.1)
@@ -189,9 +207,22 @@ ranged_view bytes p = (view.event_view bytes p.0, Some p.1)
 abbrev pub pair_json : EventView × Option (ℕ × ℕ) → Data
 pair_json p = both (event_json p.0) (optional range_json p.1)
 
+-- an event, its range, and the lines and columns of that
+abbrev pub located_json : (EventView × Option (ℕ × ℕ)) × Option Span → Data
+located_json l = both (event_json l.0.0) (location_json l.0.1 l.1)
+
+-- an event of a text that has a range there, with the lines and columns of that
+abbrev pub located_view : {T : Type 0} → (T → List ℕ) → List ℕ → EventOf T × (ℕ × ℕ) → (EventView × Option (ℕ × ℕ)) × Option Span
+located_view bytes text p = (ranged_view bytes p, Some (span_of text p.1))
+
 -- a list of events, and one of events with their ranges
 abbrev pub events_json : List EventView → Data
 events_json = listed event_json
 
 abbrev pub pairs_json : List (EventView × Option (ℕ × ℕ)) → Data
 pairs_json = listed pair_json
+
+-- a value is that of events with their ranges, each with its lines and columns or without
+abbrev pub IsPairsJson : Data → List (EventView × Option (ℕ × ℕ)) → Type 0
+IsPairsJson value pairs =
+    (ls : List ((EventView × Option (ℕ × ℕ)) × Option Span)) × (value ≡ listed located_json ls) × (map (λ l. l.0) ls ≡ pairs)

@@ -1,3 +1,4 @@
 pub mod Json
 pub mod Place
+pub mod Positions
 pub mod Printed

@@ -80,6 +80,56 @@ pub fn four_members(value: &Value) -> Option<Four<'_>>
     })
 }
 
+/// The names and the values of six members of an object, in the order of their names.
+#[derive(Clone, Copy)]
+pub struct Six<'a> {
+    /// The first one's name and value.
+    pub first: (&'a str, &'a Value),
+    /// The second one's name and value.
+    pub second: (&'a str, &'a Value),
+    /// The third one's name and value.
+    pub third: (&'a str, &'a Value),
+    /// The fourth one's name and value.
+    pub fourth: (&'a str, &'a Value),
+    /// The fifth one's name and value.
+    pub fifth: (&'a str, &'a Value),
+    /// The last one's name and value.
+    pub sixth: (&'a str, &'a Value),
+}
+
+/// The members of an object that has six of them.
+pub fn six_members(value: &Value) -> Option<Six<'_>>
+    ensures { IfSome result (λ found. view value.now
+        ≡ object (member found.first.0.now (view found.first.1.now)
+        (member found.second.0.now (view found.second.1.now)
+        (member found.third.0.now (view found.third.1.now)
+        (member found.fourth.0.now (view found.fourth.1.now)
+        (member found.fifth.0.now (view found.fifth.1.now)
+        (member found.sixth.0.now (view found.sixth.1.now) no_members))))))) }
+{
+    let Value::Object(map) = value else {
+        return None;
+    };
+    let mut members = map.iter();
+    let first = members.next()?;
+    let second = members.next()?;
+    let third = members.next()?;
+    let fourth = members.next()?;
+    let fifth = members.next()?;
+    let sixth = members.next()?;
+    if members.next().is_some() {
+        return None;
+    }
+    Some(Six {
+        first: (first.0.as_str(), first.1),
+        second: (second.0.as_str(), second.1),
+        third: (third.0.as_str(), third.1),
+        fourth: (fourth.0.as_str(), fourth.1),
+        fifth: (fifth.0.as_str(), fifth.1),
+        sixth: (sixth.0.as_str(), sixth.1),
+    })
+}
+
 /// The items of an array that has two.
 pub fn two_items(value: &Value) -> Option<(&Value, &Value)>
     ensures { IfSome result (λ found. view value.now

@@ -22,7 +22,7 @@ use tocmark_event::event::{
 };
 
 #[tactic(auto, using(crate::proofs::Adding::grown))]
-fn print_token(out: &mut Writer, token: Token<'_>) -> Result<(), AllocError>
+pub(crate) fn print_token(out: &mut Writer, token: Token<'_>) -> Result<(), AllocError>
     requires { IsPrintable (token_of token) }
     ensures { OnOk result (Grows (token_of token.entry ∷ []) out.old out.new) }
 {
@@ -51,7 +51,7 @@ fn print_name(out: &mut Writer, name: &str) -> Result<(), AllocError>
 }
 
 #[tactic(auto, using(crate::proofs::Adding::size_added))]
-fn print_size(out: &mut Writer, size: u64) -> Result<(), AllocError>
+pub(crate) fn print_size(out: &mut Writer, size: u64) -> Result<(), AllocError>
     ensures { OnOk result (Adds (size_json size) out.old out.new) }
 {
     out.u64(size)
@@ -419,7 +419,7 @@ fn print_ended(out: &mut Writer, end: TagEnd) -> Result<(), AllocError>
     print_token(out, Token::EndObject)
 }
 
-fn print_event<T: Words>(out: &mut Writer, event: &EventOf<T>) -> Result<(), AllocError>
+pub(crate) fn print_event<T: Words>(out: &mut Writer, event: &EventOf<T>) -> Result<(), AllocError>
     ensures { OnOk result (Adds (event_json (event_view T.bytes event.now)) out.old out.new) }
 {
     match event {
@@ -514,7 +514,7 @@ fn print_ranged_events<T: Words>(
 }
 
 /// The text of a writer that began with nothing.
-fn text_of(out: Writer) -> Result<String, AllocError>
+pub(crate) fn text_of(out: Writer) -> Result<String, AllocError>
     requires { out.before ≡ [] }
     ensures text { IfOk result (λ text. string_bytes text ≡ print out.tokens) }
     ensures reads_back { tokens (print out.tokens) ≡ out.tokens }
@@ -589,7 +589,7 @@ fn ranged_event_to_text<T: Words>(
 }
 
 /// Adds a line and a line feed.
-fn push_line(text: &mut String, line: &String) -> Result<(), AllocError>
+pub(crate) fn push_line(text: &mut String, line: &String) -> Result<(), AllocError>
     ensures { OnOk result (string_bytes text.new
         ≡ string_bytes text.old ++ (string_bytes line.now ++ 10 ∷ [])) }
 {

@@ -5,12 +5,13 @@ ghost use Rattle.std.specs.Option.{option_map};
 ghost use Rattle.serde_json.specs.Data.{array, boolean, string};
 ghost use Rattle.serde_json.specs.View.{items_view, view};
 ghost use Rattle.tocmark_event.specs.View.{attribute_view, code_view, event_view, tag_view};
-ghost use Rattle.tocmark_json.specs.Json.{alignment_json, attribute_json, code_json, end_json, event_json, events_json, heading_json, level_json, link_json, link_type_json, listed, metadata_json, optional, pair_json, pair_view, pairs_json, quote_json, range_json, size_json, tag_json, tagged};
+ghost use Rattle.tocmark_json.specs.Json.{alignment_json, attribute_json, code_json, end_json, event_json, events_json, heading_json, level_json, link_json, link_type_json, listed, located_json, metadata_json, optional, pair_view, quote_json, size_json, tag_json, tagged, IsPairsJson};
 ghost use Rattle.tocmark_json.specs.Place.{IsAt, StandsIn};
 
 use crate::fault::{Fault, JsonError};
 use crate::names::{alignment_named, level_named, link_type_named, metadata_named, quote_named};
-use crate::parts::{four_members, number_in, only_member, two_items, two_members};
+use crate::parts::{four_members, number_in, only_member, two_items};
+use crate::ranges::{Location, location_from};
 use serde_json::Value;
 use std::alloc::Global;
 use tocmark_event::event::{
@@ -45,8 +46,6 @@ const A_TAG: &str = "a container, by its name or as an object with its name as t
 const AN_END: &str = "a container's end, by its name or as an object with its name as the only key";
 
 const AN_EVENT: &str = "an event, by its name or as an object with its name as the only key";
-
-const A_RANGE: &str = "null, or an object with the keys start and end alone";
 
 const A_PAIR: &str = "an array of two, an event and its range";
 
@@ -522,43 +521,19 @@ pub fn event_from_json<U: OwnedWords + Drop>(
     }
 }
 
-fn place_in(value: &Value, key: &'static str) -> Result<usize, Fault>
-    ensures { IfOk result (λ place. view value.now ≡ size_json place) }
-{
-    let Some(number) = number_in(value) else {
-        return Err(wanted(key, A_NUMBER));
-    };
-    match usize::try_from(number) {
-        Ok(place) => Ok(place),
-        Err(_) => Err(wanted(key, A_NUMBER)),
-    }
-}
-
-fn range_from(value: &Value) -> Result<Option<(usize, usize)>, Fault>
-    ensures { IfOk result (λ range. view value.now ≡ optional range_json range) }
-{
-    if let Value::Null = value {
-        return Ok(None);
-    }
-    let Some((("end", end), ("start", start))) = two_members(value) else {
-        return Err(wanted("range", A_RANGE));
-    };
-    let start = place_in(start, "start")?;
-    Ok(Some((start, place_in(end, "end")?)))
-}
-
+/// An event and its range, with the lines and columns of that or without.
 fn pair_from<U: OwnedWords + Drop>(
     alloc: Global,
     value: &Value,
-) -> Result<(EventOf<U>, Option<(usize, usize)>), Fault>
+) -> Result<(EventOf<U>, Location), Fault>
     ensures { IfOk result (λ pair. view value.now
-        ≡ pair_json (pair_view U.Words.bytes pair)) }
+        ≡ located_json ((event_view U.Words.bytes pair.0, pair.1.range), pair.1.span)) }
 {
     let Some((event, range)) = two_items(value) else {
         return Err(wanted("pair", A_PAIR));
     };
-    let range = range_from(range)?;
-    Ok((event_from_json(alloc, event)?, range))
+    let location = location_from(range)?;
+    Ok((event_from_json(alloc, event)?, location))
 }
 
 fn event_at<U: OwnedWords + Drop>(
@@ -580,9 +555,9 @@ fn pair_at<U: OwnedWords + Drop>(
     alloc: Global,
     value: &Value,
     index: usize,
-) -> Result<(EventOf<U>, Option<(usize, usize)>), JsonError>
+) -> Result<(EventOf<U>, Location), JsonError>
     ensures pair { IfOk result (λ pair. view value.now
-        ≡ pair_json (pair_view U.Words.bytes pair)) }
+        ≡ located_json ((event_view U.Words.bytes pair.0, pair.1.range), pair.1.span)) }
     ensures place { IfErr result (IsAt index) }
 {
     match pair_from(alloc, value) {
@@ -611,14 +586,15 @@ fn pairs_in<U: OwnedWords + Drop>(
     alloc: Global,
     items: &[Value],
 ) -> Result<Vec<(EventOf<U>, Option<(usize, usize)>)>, JsonError>
-    ensures pairs { IfOk result (λ pairs. array (items_view items.now)
-        ≡ pairs_json (map (pair_view U.Words.bytes) pairs.items)) }
-    ensures place { IfErr result (StandsIn pair_json (array (items_view items.now))) }
+    ensures pairs { IfOk result (λ pairs. IsPairsJson (array (items_view items.now))
+        (map (pair_view U.Words.bytes) pairs.items)) }
+    ensures place { IfErr result (StandsIn located_json (array (items_view items.now))) }
 {
     let mut pairs = Vec::new(alloc);
     for item in items {
         let index = pairs.len();
-        pairs.push(pair_at(alloc, item, index)?)?;
+        let (event, location) = pair_at(alloc, item, index)?;
+        pairs.push((event, location.range))?;
     }
     Ok(pairs)
 }
@@ -641,14 +617,15 @@ pub fn events_from_json<U: OwnedWords + Drop>(
 }
 
 /// The events of a JSON value with their ranges, where they have one. The value is then exactly that of
-/// these events and ranges; any other one is refused as by `events_from_json`.
+/// these events and ranges, each with its lines and columns or without; any other one is refused as by
+/// `events_from_json`.
 pub fn pairs_from_json<U: OwnedWords + Drop>(
     alloc: Global,
     value: &Value,
 ) -> Result<Vec<(EventOf<U>, Option<(usize, usize)>)>, JsonError>
-    ensures pairs { IfOk result (λ pairs. view value.now
-        ≡ pairs_json (map (pair_view U.Words.bytes) pairs.items)) }
-    ensures place { IfErr result (StandsIn pair_json (view value.now)) }
+    ensures pairs { IfOk result (λ pairs. IsPairsJson (view value.now)
+        (map (pair_view U.Words.bytes) pairs.items)) }
+    ensures place { IfErr result (StandsIn located_json (view value.now)) }
 {
     match value {
         Value::Array(items) => pairs_in(alloc, items),

@@ -65,11 +65,12 @@ use Rattle.tocmark_reader.specs.Attributes.{no_attributes, attributes_of, byte_t
 use Rattle.tocmark_reader.specs.Emitted.{Container, Source, emitted}
 use Rattle.tocmark_reader.specs.Inlines.{inline_node, inline_item}
 use Rattle.tocmark_reader.specs.Pages as pages
-use Rattle.tocmark_reader.specs.Pages.{start_state, pieces_of, is_unwrapped, block_taken_in, wrapped_in, task_nodes, with_block, leaf_inlines_in, with_inlines, content_line, block_tag}
+use Rattle.tocmark_reader.specs.Pages.{start_state, pieces_of, is_unwrapped, block_taken_in, wrapped_in, task_nodes, with_block, leaf_inlines_in, with_lines_of, with_inlines, content_line, block_tag}
 use Rattle.tocmark_reader.specs.PlainTexts.{IsReadAs}
 use Rattle.tocmark_reader.specs.QuietLines.{is_text_byte}
 use Rattle.tocmark_reader.specs.Reading.{FoundView, collected_in, collected_from, first_entry, found_under, noted_as, reading_of}
 use Rattle.tocmark_reader.specs.Reading as reading
+use Rattle.tocmark_reader.proofs.FormulaLines.{one_line}
 use Rattle.tocmark_reader.proofs.PlainEvents.{unplaced, source_of}
 use Rattle.tocmark_reader.proofs.PlainReading.{IsPrintable}
 use Rattle.tocmark_reader.proofs.PlainSources.{IsClean, AreClean, clean_ascii, all_implied, source_between}
@@ -542,8 +543,8 @@ module _ (b : ℕ) (bs : List ℕ) (i : ℕ) (js : List ℕ) where
   found_heading syntax = refl
 
   heading_wrapped : (syntax : Syntax) → found_state (wrapped_in syntax text (first_entry syntax.undefined_notes [] []) (piece ∷ []) block (start_state [])) ≡ found_of (inlines.read_inlines_in syntax (content.content_of text (map content_line (piece ∷ []))) 1 (first_entry syntax.undefined_notes [] []) no_inlines)
-  unfolding wrapped_in with_block task_nodes leaf_inlines_in
-  heading_wrapped syntax = refl
+  unfolding wrapped_in with_block task_nodes leaf_inlines_in with_lines_of
+  heading_wrapped syntax = rw (one_line syntax piece) refl
 
   words_stand : bytes_between text 2 (n + 2) ≡ words
   words_stand = piece_between text (35 ∷ 32 ∷ []) words tail 2 (n + 2) refl refl (let q : n + 2 ≡ 2 + n = omega arith in q)

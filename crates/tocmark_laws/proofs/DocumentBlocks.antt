@@ -15,7 +15,7 @@ use Rattle.tocmark_read_constructs.specs.Quotes.{quote_kind_in, tag_in}
 use Rattle.tocmark_read_blocks.specs.Containers.{container_once_in, container_once, containers_opened, goes_directly, begun_at}
 use Rattle.tocmark_read_blocks.specs.Paragraphs.{text_taken, text_started, rule_started}
 use Rattle.tocmark_read_constructs.specs.Headings.{heading_put, heading_started_in}
-use Rattle.tocmark_read_page.specs.Pieces.{piece_of, text_piece, heading_piece}
+use Rattle.tocmark_read_page.specs.Pieces.{piece_of, is_split, whole_place, text_piece, heading_piece}
 use Rattle.tocmark_event.specs.declared.event.HeadingLevel.{HeadingLevel}
 use Rattle.tocmark_read_lines.specs.declared.beginnings.Heading.{Heading}
 use Rattle.tocmark_read_lines.specs.Containers.{container_at, container_in, item_at, raised_at}
@@ -155,7 +155,7 @@ started_fresh bs ps start end number =
     rw (get_last bs b, same, set_last bs b b) refl
 
 text_begins : (text : List ℕ) (cells : List Cell) (l : Line) (bs : List Block) (ps : List Piece) (end number : ℕ) → cell_place cells 0 l.end ≡ l.start → nat_lt l.start l.next ≡ true → text_taken text cells l here (closed bs ps end number) ≡ open_page bs ps (line_piece l) l.start l.end l.number
-unfolding text_taken text_piece is_paragraph leaf_opened closed_to leaf_closed times list_left begun loosened had_marked list_of is_apart
+unfolding text_taken text_piece whole_place is_split is_paragraph leaf_opened closed_to leaf_closed times list_left begun loosened had_marked list_of is_apart
 text_begins text cells l bs ps end number p h =
     ap (λ at. piece_taken (piece_of 0 at l.end l.next) l true (text_started at (leaf_opened leaf.Paragraph kind.Paragraph at l (closed_to text 0 (closed bs ps end number))))) p
     ∙ ap (λ s. piece_taken (line_piece l) l true s) (started_fresh bs ps l.start l.end l.number)

@@ -32,7 +32,8 @@ use Rattle.tocmark_reader.specs.Words.{cleaned, info_text_in}
 use Rattle.tocmark_reader.proofs.Zeros.{without_zeros, line_kept}
 use Rattle.tocmark_read_page.specs.declared.page.BlockKind.TheVariants as kind
 use Rattle.tocmark_reader.specs.Emitted.{NodeView, Container, Given}
-use Rattle.tocmark_reader.specs.Pages.{State, start_state, pieces_of, is_unwrapped, block_taken_in, block_step_in, paragraph_taken_in, wrapped, wrapped_in, task_nodes, with_block, leaf_inlines_in, with_inlines, with_rule, with_fence_in, fence_node_in, lines_nodes, line_nodes, space_nodes, line_item, content_line, block_tag}
+use Rattle.tocmark_reader.specs.Formulas.{keeps_blanks}
+use Rattle.tocmark_reader.specs.Pages.{State, start_state, pieces_of, is_unwrapped, block_taken_in, block_step_in, paragraph_taken_in, wrapped, wrapped_in, task_nodes, with_block, leaf_inlines_in, with_lines_of, with_inlines, with_rule, with_fence_in, fence_node_in, lines_nodes, line_nodes, space_nodes, line_item, content_line, block_tag}
 use Rattle.tocmark_reader.specs.Reading.{found_in, found_under, FoundView, collected, collected_from, first_entry}
 use Rattle.tocmark_reader.proofs.PlacedParts.{parts_inlines_at}
 use Rattle.tocmark_reader.proofs.PlainEvents.{viewed}
@@ -148,7 +149,7 @@ abbrev with_found : List NodeView → Kind → ℕ → ℕ → inlines.State →
 with_found ns k start end found = with_inlines found (at ((ns ++ record { depth = 0; item = Container (tag_of k); start = start; end = end } ∷ []) ++ []))
 
 wrapped_found : (text : List ℕ) (k : Kind) (start end n m : ℕ) (new : List Piece) (ns : List NodeView) → wrapped text find new (block (block_kind k) start end n m) (at ns) ≡ with_found ns k start end (inlines.read_inlines (content.content_of text (map content_line new)) 1 find none)
-unfolding wrapped_in with_block task_nodes leaf_inlines_in
+unfolding wrapped_in with_block task_nodes leaf_inlines_in with_lines_of keeps_blanks
 wrapped_found text k start end n m new ns =
     ap (λ t. with_inlines (inlines.read_inlines (content.content_of text (map content_line new)) 1 find none) (at ((ns ++ record { depth = 0; item = Container t; start = start; end = end } ∷ []) ++ []))) (kind_tag text k)
 

@@ -14,7 +14,7 @@ use Rattle.tocmark_read_lines.specs.Lines.{line}
 use Rattle.tocmark_read_lines.specs.Containers.{raised_at}
 use Rattle.tocmark_read_lines.specs.declared.cell.Cell.{Cell}
 use Rattle.tocmark_read_lines.specs.declared.line.Line.{Line}
-use Rattle.tocmark_read_page.specs.Pieces.{piece_of, text_piece}
+use Rattle.tocmark_read_page.specs.Pieces.{piece_of, is_split, whole_place, text_piece}
 use Rattle.tocmark_read_page.specs.Definitions.{begins_definition, definitions_from}
 use Rattle.tocmark_read_page.specs.Leaves.{is_paragraph}
 use Rattle.tocmark_read_blocks.specs.Leaves.{leaf_turn}
@@ -56,7 +56,7 @@ started_before at bs ps new p start end number =
     rw (get_last bs (block kind.Paragraph start start (length ps) (length ps)), more) refl
 
 text_goes_on : (text : List ℕ) (cells : List Cell) (l : Line) (bs : List Block) (ps new : List Piece) (p : Piece) (start end number : ℕ) → cell_place cells 0 l.end ≡ l.start → nat_lt l.start l.next ≡ true → text_taken text cells l here (open_lines bs ps (p ∷ new) start end number) ≡ open_lines bs ps ((p ∷ new) ++ line_piece l ∷ []) start l.end l.number
-unfolding text_taken text_piece is_paragraph
+unfolding text_taken text_piece whole_place is_split is_paragraph
 text_goes_on text cells l bs ps new p start end number at h =
     ap (λ at. piece_taken (piece_of 0 at l.end l.next) l true (text_started at (open_lines bs ps (p ∷ new) start end number))) at
     ∙ ap (λ s. piece_taken (line_piece l) l true s) (started_before l.start bs ps new p start end number)

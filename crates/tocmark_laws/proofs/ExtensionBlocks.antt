@@ -21,7 +21,7 @@ use Rattle.tocmark_read_lines.specs.declared.note.NoteStart.{NoteStart}
 use Rattle.tocmark_read_page.specs.Definitions.{begins_definition as begins_link, definitions_from}
 use Rattle.tocmark_read_page.specs.Leaves.{is_paragraph, is_table}
 use Rattle.tocmark_read_page.specs.Pages.{State, first_page, leaf_opened, leaf_closed, closed_to, times, list_left, begun, loosened, had_marked, list_of, is_apart, leaf_finished, finished, settled, shortened, piece_taken, one_closed}
-use Rattle.tocmark_read_page.specs.Pieces.{piece_of, text_piece}
+use Rattle.tocmark_read_page.specs.Pieces.{piece_of, is_split, whole_place, text_piece}
 use Rattle.tocmark_read_page.specs.declared.leaf.Leaf.TheVariants as leaf
 use Rattle.tocmark_read_page.specs.declared.line_start.Known.{Known}
 use Rattle.tocmark_read_page.specs.declared.line_start.LineStart.{LineStart}
@@ -186,7 +186,7 @@ unfolding piece_taken
 piece_taken_whole l s h = rw h refl
 
 text_begins : (text : List ℕ) (cells : List Cell) (l : Line) → cell_place cells 0 l.end ≡ l.start → nat_lt l.start l.next ≡ true → text_taken text cells l here first_page ≡ paragraph Never (line_piece l ∷ []) l.start l.end l.number
-unfolding text_taken text_piece text_started is_paragraph leaf_opened closed_to leaf_closed times list_left begun loosened had_marked list_of is_apart
+unfolding text_taken text_piece whole_place is_split text_started is_paragraph leaf_opened closed_to leaf_closed times list_left begun loosened had_marked list_of is_apart
 text_begins text cells l p h =
     ap (λ at. piece_taken (piece_of 0 at l.end l.next) l true (text_started at (leaf_opened leaf.Paragraph kind.Paragraph at l (closed_to text 0 first_page)))) p
     ∙ piece_taken_whole l (paragraph Never [] l.start l.end l.number) h
@@ -199,7 +199,7 @@ unfolding text_started
 started_before header at p0 pieces start end number = rw (some_pieces (length pieces)) refl
 
 text_goes_on : (header : HeaderLine) (text : List ℕ) (cells : List Cell) (l : Line) (p0 : Piece) (pieces : List Piece) (start end number : ℕ) → cell_place cells 0 l.end ≡ l.start → nat_lt l.start l.next ≡ true → text_taken text cells l here (paragraph header (p0 ∷ pieces) start end number) ≡ paragraph header ((p0 ∷ pieces) ++ line_piece l ∷ []) start l.end l.number
-unfolding text_taken text_piece is_paragraph
+unfolding text_taken text_piece whole_place is_split is_paragraph
 text_goes_on header text cells l p0 pieces start end number p h =
     ap (λ at. piece_taken (piece_of 0 at l.end l.next) l true (text_started at (paragraph header (p0 ∷ pieces) start end number))) p
     ∙ ap (λ s. piece_taken (line_piece l) l true s) (started_before header l.start p0 pieces start end number)
@@ -235,7 +235,7 @@ next_passed known header text cells l p0 pieces start end number h = by_tables k
     by_tables false = goes_on
 
 -- the first line begins a paragraph
-line_begins : (known : Known) (text : List ℕ) (cells : List Cell) (l : Line) → IsFreeLine text cells l → line_taken_in known text first_page l ≡ paragraph (header_behind known.syntax.tables cells Never) (line_piece l ∷ []) l.start l.end l.number
+pub line_begins : (known : Known) (text : List ℕ) (cells : List Cell) (l : Line) → IsFreeLine text cells l → line_taken_in known text first_page l ≡ paragraph (header_behind known.syntax.tables cells Never) (line_piece l ∷ []) l.start l.end l.number
 unfolding line_taken_in cells_taken_in touched leaf_turn is_table
 line_begins known text cells l h =
     ap (λ c. cells_taken_in known text c l first_page) h.columns
@@ -348,7 +348,7 @@ first_byte text pre l rest start h e at =
     ap (λ (xs : List ℕ). byte_at xs start) (e ∙ ap (λ (xs : List ℕ). pre ++ (xs ++ rest)) h.shape)
     ∙ byte_behind pre (h.rest ++ rest) h.first start at
 
-line_free : (text pre l rest : List ℕ) (start end next number : ℕ) → text ≡ pre ++ (l ++ rest) → start ≡ length pre → end ≡ start + length l → IsFreeText l → end < 2 ^ 64 → start < next → IsFreeLine text (numbered start l) (record { number = number; start = start; end = end; next = next })
+pub line_free : (text pre l rest : List ℕ) (start end next number : ℕ) → text ≡ pre ++ (l ++ rest) → start ≡ length pre → end ≡ start + length l → IsFreeText l → end < 2 ^ 64 → start < next → IsFreeLine text (numbered start l) (record { number = number; start = start; end = end; next = next })
 line_free text pre l rest start end next number e at to h fits order =
     let stands : bytes_between text start end ≡ l = piece_between text pre l rest start end e at (to ∙ ap (λ n. n + length l) at) in
     let byte : byte_at text start ≡ h.first = first_byte text pre l rest start h e at in

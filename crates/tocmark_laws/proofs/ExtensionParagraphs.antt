@@ -1,8 +1,8 @@
 -- What is found in a paragraph of lines that begin nothing, under every syntax.
-use Rattle.std.proofs.Common.{◌≡◌, ℕ, suc, ◌+◌, ◌-◌, ◌^◌, ◌<◌, ◌≤◌, Bool, true, false, ◌==◌, if◌then◌else◌, nat_le, List, [], ◌∷◌, ◌++◌, length, map, replicate, refl, ap, ◌∙◌, arith, Option, None}
+use Rattle.std.proofs.Common.{◌≡◌, ℕ, suc, ◌+◌, ◌-◌, ◌^◌, ◌<◌, ◌≤◌, Bool, true, false, ◌==◌, if◌then◌else◌, nat_le, nat_lt, List, [], ◌∷◌, ◌++◌, length, map, replicate, refl, ap, ◌∙◌, arith, Option, None}
 use Rattle.std.proofs.Math.Seq.{take-length}
 use Rattle.std.proofs.lemmas.Bool.Decides.{nat_tests}
-use Rattle.std.specs.List.{AllByRecursion, fold}
+use Rattle.std.specs.List.{AllByRecursion, fold, list_any}
 use Rattle.tocmark_read_scan.specs.Basic.{plus, byte_at, starts_at}
 use Rattle.tocmark_read_scan.specs.Content as content
 use Rattle.tocmark_read_scan.specs.PlainParts.{last_byte}
@@ -26,8 +26,10 @@ use Rattle.tocmark_read_spans.specs.declared.definitions.Entry.{Entry}
 use Rattle.tocmark_read_spans.specs.declared.role.Role.TheVariants.{Plain}
 use Rattle.tocmark_read_inlines.specs.Inlines as inlines
 use Rattle.tocmark_read_inlines.specs.Scan as s
-use Rattle.tocmark_reader.specs.Pages.{State, start_state, pieces_of, assembled_in, is_unwrapped, block_taken_in, paragraph_taken_in, wrapped_in, task_nodes, with_block, leaf_inlines_in, with_inlines, content_line, block_tag}
+use Rattle.tocmark_reader.specs.Formulas.{is_indented, keeps_blanks}
+use Rattle.tocmark_reader.specs.Pages.{State, start_state, pieces_of, assembled_in, is_unwrapped, block_taken_in, paragraph_taken_in, wrapped_in, task_nodes, with_block, leaf_inlines_in, with_lines_of, with_inlines, content_line, block_tag}
 use Rattle.tocmark_reader.specs.Reading.{FoundView, collected_in, collected_from, first_entry, found_under, noted, noted_as}
+use Rattle.tocmark_reader.proofs.FormulaLines.{one_line, bare_lines}
 use Rattle.tocmark_reader.proofs.PlainReading.{IsPrintable}
 use Rattle.tocmark_reader.proofs.PlainSources.{IsClean, AreClean}
 use Rattle.tocmark_laws.specs.Extensions.{lined}
@@ -77,6 +79,9 @@ none_collected syntax text n pieces = by_test syntax.footnotes
     by_test true = refl
     by_test false = refl
 
+not_before : (k : ℕ) → nat_lt k k ≡ false
+not_before k = grind (arith, nat_tests)
+
 some_pieces : (k : ℕ) → nat_le (suc k) 0 ≡ false
 some_pieces k = grind (arith, nat_tests)
 
@@ -94,15 +99,15 @@ found_taken : (syntax : Syntax) (text : List ℕ) (n : ℕ) (pieces : List Piece
 unfolding is_unwrapped block_taken_in paragraph_block
 found_taken syntax text n pieces = refl
 
-taken_whole : (syntax : Syntax) (text : List ℕ) (n k : ℕ) (pieces : List Piece) → found_state (taken syntax text n (suc k) pieces) ≡ found_of text n (inlines.read_inlines_in syntax (content.content_of text (map content_line pieces)) 1 (first_entry syntax.undefined_notes [] []) no_inlines)
-unfolding paragraph_taken_in wrapped_in with_block task_nodes leaf_inlines_in block_tag paragraph_block
-taken_whole syntax text n k pieces = rw (some_pieces k) refl
+taken_whole : (syntax : Syntax) (text : List ℕ) (n k : ℕ) (pieces : List Piece) → keeps_blanks syntax pieces ≡ false → found_state (taken syntax text n (suc k) pieces) ≡ found_of text n (inlines.read_inlines_in syntax (content.content_of text (map content_line pieces)) 1 (first_entry syntax.undefined_notes [] []) no_inlines)
+unfolding paragraph_taken_in wrapped_in with_block task_nodes leaf_inlines_in with_lines_of block_tag paragraph_block
+taken_whole syntax text n k pieces bare = rw (some_pieces k, bare) refl
 
-found_one : (syntax : Syntax) (text : List ℕ) (n : ℕ) (p : Piece) (ps : List Piece) (c : content.State) → content.content_of text (map content_line (p ∷ ps)) ≡ c → found_with syntax text (one_block 0 n (p ∷ ps)) defs.collected_none ≡ found_of text n (inlines.read_inlines_in syntax c 1 (first_entry syntax.undefined_notes [] []) no_inlines)
-found_one syntax text n p ps c e =
+found_one : (syntax : Syntax) (text : List ℕ) (n : ℕ) (p : Piece) (ps : List Piece) (c : content.State) → keeps_blanks syntax (p ∷ ps) ≡ false → content.content_of text (map content_line (p ∷ ps)) ≡ c → found_with syntax text (one_block 0 n (p ∷ ps)) defs.collected_none ≡ found_of text n (inlines.read_inlines_in syntax c 1 (first_entry syntax.undefined_notes [] []) no_inlines)
+found_one syntax text n p ps c bare e =
     found_taken syntax text n (p ∷ ps)
     ∙ ap (λ pieces. found_state (taken syntax text n (suc (length ps)) pieces)) (whole_pieces (p ∷ ps))
-    ∙ taken_whole syntax text n (length ps) (p ∷ ps)
+    ∙ taken_whole syntax text n (length ps) (p ∷ ps) bare
     ∙ ap (λ (x : content.State). found_of text n (inlines.read_inlines_in syntax x 1 (first_entry syntax.undefined_notes [] []) no_inlines)) e
 
 -- the pieces of lines are these lines
@@ -111,9 +116,19 @@ unfolding content_line
 pieces_are_lines before start l [] = refl
 pieces_are_lines before start l (m ∷ ms) = ap (λ (ls : List ContentLine). record { start = start; end = start + length l; next = start + length l + 1 } ∷ ls) (pieces_are_lines (before + 1) (start + length l + 1) m ms)
 
+-- no line of these is indented
+no_indents : (before start : ℕ) (l : List ℕ) (ms : List (List ℕ)) → list_any is_indented (map line_piece (line_list before start l ms)) ≡ false
+unfolding is_indented
+no_indents before start l [] = rw (not_before start) refl
+no_indents before start l (m ∷ ms) = rw (not_before start) (no_indents (before + 1) (start + length l + 1) m ms)
+
+bare : (syntax : Syntax) (l : List ℕ) (ms : List (List ℕ)) → keeps_blanks syntax (map line_piece (line_list 0 0 l ms)) ≡ false
+bare syntax l [] = one_line syntax _
+bare syntax l (m ∷ ms) = bare_lines syntax _ (map line_piece (line_list (0 + 1) (0 + length l + 1) m ms)) (no_indents (0 + 1) (0 + length l + 1) m ms)
+
 found_lines : (syntax : Syntax) (text : List ℕ) (n : ℕ) (l : List ℕ) (ms : List (List ℕ)) (c : content.State) → content.content_of text (line_places 0 l ms) ≡ c → found_with syntax text (one_block 0 n (map line_piece (line_list 0 0 l ms))) defs.collected_none ≡ found_of text n (inlines.read_inlines_in syntax c 1 (first_entry syntax.undefined_notes [] []) no_inlines)
-found_lines syntax text n l [] c e = found_one syntax text n _ _ c (ap (content.content_of text) (pieces_are_lines 0 0 l []) ∙ e)
-found_lines syntax text n l (m ∷ ms) c e = found_one syntax text n _ _ c (ap (content.content_of text) (pieces_are_lines 0 0 l (m ∷ ms)) ∙ e)
+found_lines syntax text n l [] c e = found_one syntax text n _ _ c (bare syntax l []) (ap (content.content_of text) (pieces_are_lines 0 0 l []) ∙ e)
+found_lines syntax text n l (m ∷ ms) c e = found_one syntax text n _ _ c (bare syntax l (m ∷ ms)) (ap (content.content_of text) (pieces_are_lines 0 0 l (m ∷ ms)) ∙ e)
 
 -- what is found in such a paragraph: the inlines of its content
 pub paragraph_found : (syntax : Syntax) (l : List ℕ) (ms : List (List ℕ)) (c : content.State) → AllByRecursion IsFreeText (l ∷ ms) → AllByRecursion (λ b. (b == 13) ≡ false) (feed_joined l ms) → length (feed_joined l ms) < 2 ^ 64 → (byte_at (feed_joined l ms) 0 == 91) ≡ false → content.content_of (feed_joined l ms) (line_places 0 l ms) ≡ c → found_under syntax (feed_joined l ms) ≡ found_of (feed_joined l ms) (length (feed_joined l ms)) (inlines.read_inlines_in syntax c 1 (first_entry syntax.undefined_notes [] []) no_inlines)

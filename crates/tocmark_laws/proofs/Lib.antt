@@ -52,3 +52,8 @@ pub mod ScriptReading
 pub mod AttributedHeadings
 pub mod TaskItems
 mod ExtensionExamples
+pub mod TableRows
+pub mod TableBlocks
+pub mod TableNodes
+pub mod TableReading
+pub mod LiteralLabels

@@ -62,11 +62,12 @@ use Rattle.tocmark_read_inlines.proofs.PlainNodes.{node}
 use Rattle.tocmark_reader.specs.Emitted.{emitted}
 use Rattle.tocmark_reader.specs.Inlines.{inline_node, inline_item}
 use Rattle.tocmark_reader.specs.Pages as pages
-use Rattle.tocmark_reader.specs.Pages.{start_state, pieces_of, is_unwrapped, block_taken_in, paragraph_taken_in, bare_in, task_nodes, with_block, with_task, leaf_inlines_in, with_inlines, content_line, block_tag}
+use Rattle.tocmark_reader.specs.Pages.{start_state, pieces_of, is_unwrapped, block_taken_in, paragraph_taken_in, bare_in, task_nodes, with_block, with_task, leaf_inlines_in, with_lines_of, with_inlines, content_line, block_tag}
 use Rattle.tocmark_reader.specs.PlainTexts.{IsReadAs}
 use Rattle.tocmark_reader.specs.QuietLines.{is_text_byte}
 use Rattle.tocmark_reader.specs.Reading.{FoundView, collected_in, collected_from, first_entry, found_under, noted_as, reading_of}
 use Rattle.tocmark_reader.specs.Reading as reading
+use Rattle.tocmark_reader.proofs.FormulaLines.{one_line}
 use Rattle.tocmark_reader.proofs.PlainEvents.{unplaced, source_of}
 use Rattle.tocmark_reader.proofs.PlainReading.{IsPrintable}
 use Rattle.tocmark_reader.proofs.PlainSources.{IsClean, AreClean, all_implied, source_between}
@@ -355,8 +356,8 @@ module _ (done : Bool) (b : ℕ) (bs : List ℕ) where
   found_task syntax = refl
 
   task_bare : (syntax : Syntax) → found_state (bare_in syntax text (first_entry syntax.undefined_notes [] []) (piece ∷ []) (task_block size 1) containers) ≡ found_of (inlines.read_inlines_in syntax (content.content_of text (map content_line (piece ∷ []))) 2 (first_entry syntax.undefined_notes [] []) no_inlines)
-  unfolding bare_in with_task with_block task_nodes leaf_inlines_in
-  task_bare syntax = refl
+  unfolding bare_in with_task with_block task_nodes leaf_inlines_in with_lines_of
+  task_bare syntax = rw (one_line syntax piece) refl
 
   words_stand : bytes_between text 6 size ≡ words
   words_stand = piece_between text (45 ∷ 32 ∷ 91 ∷ box_byte done ∷ 93 ∷ 32 ∷ []) words [] 6 size (ap (λ (l : List ℕ). 45 ∷ 32 ∷ 91 ∷ box_byte done ∷ 93 ∷ 32 ∷ l) (sym (append-nil words))) refl (let q : size ≡ 6 + n = omega arith in q)

@@ -25,7 +25,7 @@ use Rattle.tocmark_render.specs.Unrepresentable.{IsUnrepresentable}
 use Rattle.tocmark_render.proofs.Chosen.{chosen-flat}
 use Rattle.tocmark_render.proofs.Unrepresentable.{unrepresentable-causes}
 use Rattle.tocmark_render.specs.Validates.{validates}
-use Rattle.tocmark_state.specs.Walk.{Kept, Standing}
+use Rattle.tocmark_state.specs.Walk.{Kept}
 use Rattle.tocmark_state.specs.WorkView.{keeping, rendering}
 use Rattle.tocmark_laws.specs.Unexpected.{IsMisplacedUnit, setting_at}
 use Rattle.tocmark_laws.specs.UnrepresentableLists.{IsUnrepresentableUnit}
@@ -108,13 +108,12 @@ rendering-misplaced o reading kept unit next balanced h =
     let s = setting_at o reading kept in
     unit-misplaced s kept.document unit next balanced (not-kept kept.flags (chosen s kept.document unit next) UnexpectedEvent h)
 
-pub rendering-unrepresentable : (o : OptionsView) (reading : List ℕ → ParserOptions → ReadingView) (at : Standing) (next : Option EventView)
-    → IsBalanced at.pending → (rendering o reading).choice at.document at.pending next ≡ Err Unrepresentable → IsUnrepresentableUnit (setting_at o reading at.document) at next
-rendering-unrepresentable o reading at next balanced h =
-    let s = setting_at o reading at.document in
-    let d = at.document.document in
+pub rendering-unrepresentable : (o : OptionsView) (reading : List ℕ → ParserOptions → ReadingView) (kept : Kept) (unit : List SourcedEvent) (next : Option EventView)
+    → IsBalanced unit → (rendering o reading).choice kept unit next ≡ Err Unrepresentable → IsUnrepresentableUnit (setting_at o reading kept) kept.document unit next
+rendering-unrepresentable o reading kept unit next balanced h =
+    let s = setting_at o reading kept in
     record {
       forest = balanced.0;
       is = balanced.1;
-      cause = unit-unrepresentable s d at.pending next balanced.0 balanced.1 (not-kept at.document.flags (chosen s d at.pending next) Unrepresentable h);
+      cause = unit-unrepresentable s kept.document unit next balanced.0 balanced.1 (not-kept kept.flags (chosen s kept.document unit next) Unrepresentable h);
     }

@@ -33,7 +33,7 @@ use Rattle.tocmark_laws.proofs.ExtensionParagraphs.{IsFreeByte, begins_freely, n
 
 -- ---- lines of words
 
-abbrev marks : List ℕ
+abbrev pub marks : List ℕ
 marks = codes "!$&*<[\\]^_`~"
 
 -- a byte of words

@@ -14,3 +14,5 @@ pub mod Written
 pub mod LineFeeds
 pub mod Documents
 pub mod Extensions
+pub mod PlainTables
+pub mod LiteralLabels

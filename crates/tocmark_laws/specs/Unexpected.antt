@@ -11,8 +11,7 @@ use Rattle.tocmark_spelling.specs.Plan.{Setting}
 use Rattle.tocmark_spelling.specs.PlanOf.{setting_of}
 use Rattle.tocmark_laws.specs.Causes.{HasWrongEnd}
 use Rattle.tocmark_state.specs.Ranges.{Pair}
-use Rattle.tocmark_state.specs.Walk.{Kept, Standing, walk}
-use Rattle.tocmark_state.specs.WorkView.{rendering}
+use Rattle.tocmark_state.specs.Walk.{Kept, Rendering, Standing, walk}
 use Rattle.tocmark_laws.specs.Misplaced.{HasMisplacedStart}
 
 -- what units are written with behind a document, but for the label of one
@@ -37,23 +36,23 @@ pub data IsUnexpectedEnd (s : Setting) (at : Standing) : Type 0 where
   IsOpen : at.open_tags ≢ [] → IsUnexpectedEnd s at
   InLastUnit : IsMisplacedUnit s at.pending → IsUnexpectedEnd s at
 
--- the first pair that is unexpected, and why
-pub record HasUnexpectedPair (options : OptionsView) (reading : List ℕ → ParserOptions → ReadingView) (source : List ℕ) (from : Standing) (p : List Pair) : Type 0 where
+-- the first pair that is unexpected where units are written so, and why
+pub record HasUnexpectedPair (how : Rendering) (options : OptionsView) (reading : List ℕ → ParserOptions → ReadingView) (source : List ℕ) (from : Standing) (p : List Pair) : Type 0 where
   pub before : List Pair
   pub pair : Pair
   pub after : List Pair
   pub is : p ≡ before ++ pair ∷ after
   pub at : Standing
-  pub stands : (walk (rendering options reading) source from before).outcome ≡ Ok at
+  pub stands : (walk how source from before).outcome ≡ Ok at
   pub cause : IsUnexpected (setting_at options reading at.document) at pair
 
 -- all pairs are taken, and the end is unexpected
-pub record HasUnexpectedEnd (options : OptionsView) (reading : List ℕ → ParserOptions → ReadingView) (source : List ℕ) (from : Standing) (p : List Pair) : Type 0 where
+pub record HasUnexpectedEnd (how : Rendering) (options : OptionsView) (reading : List ℕ → ParserOptions → ReadingView) (source : List ℕ) (from : Standing) (p : List Pair) : Type 0 where
   pub at : Standing
-  pub stands : (walk (rendering options reading) source from p).outcome ≡ Ok at
+  pub stands : (walk how source from p).outcome ≡ Ok at
   pub cause : IsUnexpectedEnd (setting_at options reading at.document) at
 
 -- where a list of pairs is unexpected, and why
-pub data IsUnexpectedIn (options : OptionsView) (reading : List ℕ → ParserOptions → ReadingView) (source : List ℕ) (from : Standing) (p : List Pair) : Type 0 where
-  AtPair : HasUnexpectedPair options reading source from p → IsUnexpectedIn options reading source from p
-  AtEnd : HasUnexpectedEnd options reading source from p → IsUnexpectedIn options reading source from p
+pub data IsUnexpectedIn (how : Rendering) (options : OptionsView) (reading : List ℕ → ParserOptions → ReadingView) (source : List ℕ) (from : Standing) (p : List Pair) : Type 0 where
+  AtPair : HasUnexpectedPair how options reading source from p → IsUnexpectedIn how options reading source from p
+  AtEnd : HasUnexpectedEnd how options reading source from p → IsUnexpectedIn how options reading source from p

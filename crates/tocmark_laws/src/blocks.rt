@@ -3,12 +3,12 @@
 ghost use Rattle.std.specs.Prelude.{◌≡◌, ◌++◌, ℕ, Err, List, Ok, Option, false};
 ghost use Rattle.std.specs.List.{concat};
 ghost use Rattle.tocmark_laws.specs.Paragraphs.{Keeps};
-ghost use Rattle.tocmark_state.specs.WorkView.{rendering};
-ghost use Rattle.tocmark_state.specs.Walk.{done, nothing_yet, script};
+ghost use Rattle.tocmark_state.specs.WorkView.{rendering, rendering_behind};
+ghost use Rattle.tocmark_state.specs.Walk.{Standing, done, nothing_yet, script};
 ghost use Rattle.tocmark_state.specs.Ranges.{Pair};
 ghost use Rattle.tocmark_state.specs.Writes.{Makes};
 ghost use Rattle.tocmark_state.specs.declared.work.Progress.{Progress};
-ghost use Rattle.tocmark_event.specs.Forest.{IsBalanced};
+ghost use Rattle.tocmark_event.specs.Forest.{IsBalanced, IsReading};
 ghost use Rattle.tocmark_event.specs.Options.{OptionsView};
 ghost use Rattle.tocmark_event.specs.Reading.{ReadingView};
 ghost use Rattle.tocmark_event.specs.declared.event.flags.ParserOptions.{ParserOptions};
@@ -18,6 +18,8 @@ ghost use Rattle.tocmark_laws.specs.CodeBlocks.{CodeIsFenced, IsFence, code_even
 ghost use Rattle.tocmark_laws.specs.Links.{LinksAreClosed, link_events, link_text};
 ghost use Rattle.tocmark_laws.specs.Unexpected.{IsMisplacedUnit, IsUnexpectedIn};
 ghost use Rattle.tocmark_laws.specs.UnrepresentableLists.{IsUnrepresentableIn};
+ghost use Rattle.tocmark_spelling.specs.Page.{Reference};
+ghost use Rattle.tocmark_write_labels.specs.Defined.{behind};
 ghost use Rattle.tocmark_write_labels.specs.Document.{DocumentView};
 ghost use Rattle.tocmark_render.specs.Chosen.{chosen};
 ghost use Rattle.tocmark_spelling.specs.Plan.{Setting};
@@ -83,21 +85,38 @@ pub fn unexpected_units_are_misplaced()
 /// A list of events that is refused as `UnexpectedEvent` has a cause, at the first pair at which it is or at its
 /// end. At a pair: an event of the unit before it may not stand where it does, or it is an End without its Start or
 /// of a container that isn't the innermost one. At the end: a container isn't ended, or an event of the last unit may
-/// not stand where it does.
+/// not stand where it does. So it is from the start of a new state (`new`), and from every standing whose pending
+/// events begin a forest in which its open containers are open, of a state that is told of definitions (`told`).
 pub fn unexpected_events_have_causes()
-    ensures { (options : OptionsView) (reading : List ℕ → ParserOptions → ReadingView)
+    ensures new { (options : OptionsView) (reading : List ℕ → ParserOptions → ReadingView)
         (flags : ParserOptions) (source : List ℕ) (p : List Pair)
         → (script (rendering options reading) source (nothing_yet flags) p).outcome
         ≡ Err UnexpectedEvent
-        → IsUnexpectedIn options reading source (nothing_yet flags) p }
+        → IsUnexpectedIn (rendering options reading) options reading source (nothing_yet flags) p }
+    ensures told { (defined : List Reference) (options : OptionsView)
+        (reading : List ℕ → ParserOptions → ReadingView) (source : List ℕ) (from : Standing)
+        → IsReading from.pending from.open_tags → (p : List Pair)
+        → (script (rendering_behind defined options reading) source from p).outcome
+        ≡ Err UnexpectedEvent
+        → IsUnexpectedIn (rendering_behind defined options reading) options reading source from p }
 {}
 
 /// A list of events that is refused as `Unrepresentable` has a unit that can't be represented: one that is due at
 /// the first pair at which the list is refused, or the last one, where all pairs are taken and no container is open.
+/// So it is from the start of a new state (`new`), and from each standing of that kind of a state that is told of
+/// definitions, which the first unit is written behind (`told`).
 pub fn unrepresentable_lists_have_causes()
-    ensures { (options : OptionsView) (reading : List ℕ → ParserOptions → ReadingView)
+    ensures new { (options : OptionsView) (reading : List ℕ → ParserOptions → ReadingView)
         (flags : ParserOptions) (source : List ℕ) (p : List Pair)
         → (script (rendering options reading) source (nothing_yet flags) p).outcome
         ≡ Err Unrepresentable
-        → IsUnrepresentableIn options reading source (nothing_yet flags) p }
+        → IsUnrepresentableIn (rendering options reading) (λ d. d) options reading source
+        (nothing_yet flags) p }
+    ensures told { (defined : List Reference) (options : OptionsView)
+        (reading : List ℕ → ParserOptions → ReadingView) (source : List ℕ) (from : Standing)
+        → IsReading from.pending from.open_tags → (p : List Pair)
+        → (script (rendering_behind defined options reading) source from p).outcome
+        ≡ Err Unrepresentable
+        → IsUnrepresentableIn (rendering_behind defined options reading) (behind defined) options
+        reading source from p }
 {}

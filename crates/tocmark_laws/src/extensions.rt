@@ -5,6 +5,7 @@
 //! rule, and not to the reader's code. A phrase has no marks, and a letter or a digit at either end.
 
 ghost use Rattle.tocmark_laws.specs.Extensions.{AttributesAreRead, FormulasAreRead, FrontMatterIsRead, ScriptsAreRead, StruckPhrasesAreRead, TasksAreRead, WordsAreRead};
+ghost use Rattle.tocmark_laws.specs.PlainTables.{TablesAreRead};
 
 /// Under every syntax, lines of words are a paragraph with a text for each line, with the ranges that `CoreReader`
 /// gives. Each line begins with a letter, and none of its characters, from U+0020 to U+007E, is a mark.
@@ -45,4 +46,11 @@ pub fn attributes_are_read()
 /// tight list with this one task.
 pub fn tasks_are_read()
     ensures { TasksAreRead }
+{}
+
+/// Under each syntax with tables, a row of cells, a row of dashes and further rows, each on a line, are a table with
+/// these alignments and cells. Each row begins with a bar and has one behind each cell, and all have as many cells. A
+/// cell is a phrase without bars, and any number of spaces may stand around it, as in `| two words |one|`.
+pub fn tables_are_read()
+    ensures { TablesAreRead }
 {}

@@ -13,6 +13,7 @@ ghost use Rattle.tocmark_event.specs.declared.options.Error.{Error};
 ghost use Rattle.tocmark_state.specs.declared.work.Progress.{Progress};
 ghost use Rattle.tocmark_laws.specs.Calls.{AreCalls, all_pairs};
 ghost use Rattle.tocmark_laws.specs.Causes.{IsRefusedAtPair, IsRefusedIn};
+ghost use Rattle.tocmark_laws.specs.LiteralLabels.{LiteralLabelsCount};
 ghost use Rattle.tocmark_laws.specs.Paragraphs.{AppendsTo, Keeps, ReadsAs, ReadsAsSpan, paragraph_of, paragraph_with};
 ghost use Rattle.tocmark_laws.specs.PlainLines.{is_line, paragraph_of_lines, IsReadBack, IsPlaced, IsPlainOf, PlacedLine, escaped_text, texts};
 ghost use Rattle.tocmark_state.specs.Ranges.{Pair};
@@ -42,6 +43,13 @@ pub fn units_are_trees()
         × (walk how source (beginning kept) p
         ≡ then_ranged (ranged source 0 p)
         (walk_trees how kept trees.whole trees.part trees.refused)) }
+{}
+
+/// Of the texts of earlier units only their literal labels count: if the texts of two standings have the same literal
+/// labels, and the standings are otherwise alike, all further events hand the same texts from both, and end alike. So it
+/// is for each reader, and where a document has definitions already.
+pub fn only_literal_labels_count()
+    ensures { LiteralLabelsCount }
 {}
 
 /// What is pending begins a forest, in which the containers are open that the state holds as open; so a

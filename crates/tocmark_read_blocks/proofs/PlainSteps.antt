@@ -11,7 +11,7 @@ use Rattle.tocmark_read_constructs.specs.Tasks.{task_in}
 use Rattle.tocmark_read_constructs.specs.Quotes.{quote_kind_in, tag_in}
 use Rattle.tocmark_read_blocks.specs.Containers.{container_once_in, container_once, containers_opened, goes_directly, begun_at}
 use Rattle.tocmark_read_blocks.specs.Paragraphs.{text_taken, text_started}
-use Rattle.tocmark_read_page.specs.Pieces.{piece_of, text_piece}
+use Rattle.tocmark_read_page.specs.Pieces.{piece_of, is_split, whole_place, text_piece}
 use Rattle.tocmark_read_lines.specs.Containers.{container_at, container_in, item_at, raised_at}
 use Rattle.tocmark_read_lines.specs.DefinitionLists.{definition_start}
 use Rattle.tocmark_read_lines.specs.Notes.{note_start}
@@ -115,7 +115,7 @@ unfolding piece_taken
 piece_taken_whole l s h = rw h refl
 
 text_begins : (text : List ℕ) (cells : List Cell) (l : Line) → cell_place cells 0 l.end ≡ l.start → nat_lt l.start l.next ≡ true → text_taken text cells l here first_page ≡ paragraph (line_piece l ∷ []) l.start l.end l.number
-unfolding text_taken text_piece text_started is_paragraph leaf_opened closed_to leaf_closed times list_left begun loosened had_marked list_of is_apart
+unfolding text_taken text_piece whole_place is_split text_started is_paragraph leaf_opened closed_to leaf_closed times list_left begun loosened had_marked list_of is_apart
 text_begins text cells l p h =
     ap (λ at. piece_taken (piece_of 0 at l.end l.next) l true (text_started at (leaf_opened leaf.Paragraph kind.Paragraph at l (closed_to text 0 first_page)))) p
     ∙ piece_taken_whole l (paragraph [] l.start l.end l.number) h
@@ -128,7 +128,7 @@ unfolding text_started
 started_before at p0 pieces start end number = rw (some_pieces (length pieces)) refl
 
 text_goes_on : (text : List ℕ) (cells : List Cell) (l : Line) (p0 : Piece) (pieces : List Piece) (start end number : ℕ) → cell_place cells 0 l.end ≡ l.start → nat_lt l.start l.next ≡ true → text_taken text cells l here (paragraph (p0 ∷ pieces) start end number) ≡ paragraph ((p0 ∷ pieces) ++ line_piece l ∷ []) start l.end l.number
-unfolding text_taken text_piece is_paragraph
+unfolding text_taken text_piece whole_place is_split is_paragraph
 text_goes_on text cells l p0 pieces start end number p h =
     ap (λ at. piece_taken (piece_of 0 at l.end l.next) l true (text_started at (paragraph (p0 ∷ pieces) start end number))) p
     ∙ ap (λ s. piece_taken (line_piece l) l true s) (started_before l.start p0 pieces start end number)

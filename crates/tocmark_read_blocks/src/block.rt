@@ -333,6 +333,7 @@ fn whole_piece(line: Line) -> Piece
 {
     Piece {
         spaces: 0,
+        from: line.start,
         start: line.start,
         end: line.end,
         next: line.next,

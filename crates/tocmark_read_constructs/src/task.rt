@@ -130,6 +130,7 @@ fn take_boxed(
     set_task(so_far, task.done, task.start);
     let words = Piece {
         spaces: 0,
+        from: behind,
         start: behind,
         end: row.line.end,
         next: row.line.next,

@@ -21,7 +21,7 @@ is_split cells column =
 
 -- a line of a leaf
 abbrev pub piece_of : ℕ → ℕ → ℕ → ℕ → Piece
-piece_of spaces start end next = record { spaces = spaces; start = start; end = end; next = next }
+piece_of spaces start end next = record { spaces = spaces; from = start; start = start; end = end; next = next }
 
 -- the rest of a line: what is left of a partly used tab is spaces
 unfoldable pub code_piece : List Cell → ℕ → Line → Piece
@@ -30,9 +30,21 @@ code_piece cells column line =
     if is_split cells column then piece_of (same_place cells column at) (plus at 1) line.end line.next
     else piece_of 0 at line.end line.next
 
+-- the place of a column, or the place behind its tab if the tab begins before it
+unfoldable pub whole_place : List Cell → ℕ → Line → ℕ
+whole_place cells column line =
+    let at = cell_place cells column line.end in
+    if is_split cells column then plus at 1 else at
+
 -- a line of a paragraph begins with its first byte that is no space
 unfoldable pub text_piece : List Cell → Cursor → Line → Piece
-text_piece cells cursor line = piece_of 0 (cell_place cells cursor.ink line.end) line.end line.next
+text_piece cells cursor line = record {
+  spaces = 0;
+  from = whole_place cells cursor.column line;
+  start = cell_place cells cursor.ink line.end;
+  end = line.end;
+  next = line.next;
+}
 
 -- the text of a heading on one line
 unfoldable pub heading_piece : List Cell → Heading → Line → Piece

@@ -1,7 +1,7 @@
 //! What a leaf keeps of a line.
 
 ghost use Rattle.std.specs.Prelude.{◌≡◌};
-ghost use Rattle.tocmark_read_page.specs.Pieces.{same_place, is_split, code_piece, text_piece, heading_piece, keeps_line};
+ghost use Rattle.tocmark_read_page.specs.Pieces.{same_place, is_split, code_piece, whole_place, text_piece, heading_piece, keeps_line};
 
 use crate::leaf::Leaf;
 use tocmark_read_lines::beginnings::Heading;
@@ -13,6 +13,8 @@ use tocmark_read_lines::line::Line;
 pub struct Piece {
     /// How many columns of spaces are left of a partly used tab just before it.
     pub spaces: usize,
+    /// The place behind the prefixes of its containers: before the blanks that a paragraph leaves out.
+    pub from: usize,
     /// The place of its first byte.
     pub start: usize,
     /// The place of its line ending.
@@ -52,19 +54,35 @@ pub fn code_piece(cells: &Cells, column: usize, line: Line) -> Piece
 {
     let at = cell_place(cells, column, line.end);
     if is_split(cells, column) {
+        let start = at.saturating_add(1);
         Piece {
             spaces: same_place(cells, column, at),
-            start: at.saturating_add(1),
+            from: start,
+            start,
             end: line.end,
             next: line.next,
         }
     } else {
         Piece {
             spaces: 0,
+            from: at,
             start: at,
             end: line.end,
             next: line.next,
         }
+    }
+}
+
+/// The place of a column; of one that isn't the first of its tab the place behind that tab.
+#[tactic(auto, unfolding(crate::specs::Pieces::whole_place))]
+fn whole_place(cells: &Cells, column: usize, line: Line) -> usize
+    ensures { result ≡ whole_place cells.now column line }
+{
+    let at = cell_place(cells, column, line.end);
+    if is_split(cells, column) {
+        at.saturating_add(1)
+    } else {
+        at
     }
 }
 
@@ -75,6 +93,7 @@ pub fn text_piece(cells: &Cells, cursor: Cursor, line: Line) -> Piece
 {
     Piece {
         spaces: 0,
+        from: whole_place(cells, cursor.column, line),
         start: cell_place(cells, cursor.ink, line.end),
         end: line.end,
         next: line.next,
@@ -87,9 +106,11 @@ pub fn heading_piece(cells: &Cells, heading: Heading, line: Line) -> Piece
     ensures { result ≡ heading_piece cells.now heading line }
 {
     let end = cell_place(cells, heading.to, line.end);
+    let start = cell_place(cells, heading.from, line.end);
     Piece {
         spaces: 0,
-        start: cell_place(cells, heading.from, line.end),
+        from: start,
+        start,
         end,
         next: end,
     }

@@ -1,4 +1,5 @@
 mod OneLabel
+pub mod Room
 pub mod Search
 pub mod Marks
 pub mod NotedRuns

@@ -17,22 +17,24 @@ struct Ticks {
 }
 
 /// Makes room for so many entries: further ones are 0.
-fn pad(alloc: Global, last: &mut Vec<usize>, count: usize) -> Result<(), AllocError>
+#[tactic(auto, using(crate::proofs::Room::enough, crate::proofs::Room::filled_up))]
+fn pad(last: &mut Vec<usize>, count: usize) -> Result<(), AllocError>
     ensures { OnOk result (last.new.items ≡ padded count last.old.items) }
 {
-    let more = vec![in alloc; 0; count.saturating_sub(last.len())]?;
-    last.extend_from_slice(&more)?;
+    if last.len() < count {
+        last.resize(count, 0)?;
+    }
     Ok(())
 }
 
 impl Ticks {
     /// Takes note of the run between two places.
     #[tactic(auto, unfolding(crate::specs::Tick::noted))]
-    fn note(&mut self, alloc: Global, start: usize, end: usize) -> Result<(), AllocError>
+    fn note(&mut self, start: usize, end: usize) -> Result<(), AllocError>
         ensures { OnOk result (ticks_view self.new ≡ noted start end (ticks_view self.old)) }
     {
         let count = end.saturating_sub(start);
-        pad(alloc, &mut self.last, count.saturating_add(1))?;
+        pad(&mut self.last, count.saturating_add(1))?;
         set(&mut self.last, count, start.saturating_add(1));
         self.place = end;
         Ok(())
@@ -66,7 +68,7 @@ pub fn last_ticks(alloc: Global, bytes: &[u8]) -> Result<Vec<usize>, AllocError>
     for _steps_left in (0..bytes.len()).rev() {
         match run_from(bytes, ticks.place) {
             None => return Ok(ticks.last),
-            Some((start, end)) => ticks.note(alloc, start, end)?,
+            Some((start, end)) => ticks.note(start, end)?,
         }
     }
     Ok(ticks.last)

@@ -1,4 +1,5 @@
 mod Folded
+pub mod NoWord
 pub mod Places
 pub mod PlainReferences
 pub mod Unmarked

@@ -1,11 +1,11 @@
 //! Raw HTML: tags, comments, processing instructions, declarations and CDATA.
 
-ghost use Rattle.std.specs.Prelude.{◌≡◌, length};
+ghost use Rattle.std.specs.Prelude.{◌≡◌, codes, length};
 ghost use Rattle.tocmark_read_scan.specs.Repeat.{iterated};
 ghost use Rattle.tocmark_read_tokens.specs.Html.{name_end, closing_tag, quoted_end, value, value_end, attribute, tag_close, open_tag, further, nearer, last_of, last_ends, found_within, comment, declaration, raw_html};
 
 use tocmark_read_scan::basic::{byte_at, starts_at};
-use tocmark_read_scan::class::{Class, is_in, run_end};
+use tocmark_read_scan::class::{Class, has_byte, is_in, run_end};
 
 /// For each kind of raw HTML that ends by a word of its own, the place behind the first byte of the
 /// last such word of a text; 0 where there is none. So a search that would find nothing isn't begun.
@@ -211,15 +211,52 @@ fn last_of(bytes: &[u8], word: &[u8]) -> usize
     }
 }
 
+/// The place behind the first byte of the last `-->`; 0 where there is none. It isn't looked for where
+/// no hyphen stands.
+#[tactic(auto, using(crate::proofs::NoWord::no_comment))]
+fn last_comment(bytes: &[u8]) -> usize
+    ensures { result ≡ last_of bytes.now (codes "-->") }
+{
+    if has_byte(bytes, b'-') {
+        last_of(bytes, b"-->")
+    } else {
+        0
+    }
+}
+
+/// The same for `?>`, by its question mark.
+#[tactic(auto, using(crate::proofs::NoWord::no_instruction))]
+fn last_instruction(bytes: &[u8]) -> usize
+    ensures { result ≡ last_of bytes.now (codes "?>") }
+{
+    if has_byte(bytes, b'?') {
+        last_of(bytes, b"?>")
+    } else {
+        0
+    }
+}
+
+/// The same for `]]>`, by its brackets.
+#[tactic(auto, using(crate::proofs::NoWord::no_cdata))]
+fn last_cdata(bytes: &[u8]) -> usize
+    ensures { result ≡ last_of bytes.now (codes "]]>") }
+{
+    if has_byte(bytes, b']') {
+        last_of(bytes, b"]]>")
+    } else {
+        0
+    }
+}
+
 /// What to know of a text before raw HTML is looked for in it.
 #[tactic(auto, unfolding(crate::specs::Html::last_ends))]
 pub fn last_ends(bytes: &[u8]) -> LastEnds
     ensures { result ≡ last_ends bytes.now }
 {
     LastEnds {
-        comment: last_of(bytes, b"-->"),
-        instruction: last_of(bytes, b"?>"),
-        cdata: last_of(bytes, b"]]>"),
+        comment: last_comment(bytes),
+        instruction: last_instruction(bytes),
+        cdata: last_cdata(bytes),
         declaration: last_of(bytes, b">"),
     }
 }

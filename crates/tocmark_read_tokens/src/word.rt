@@ -112,14 +112,17 @@ pub fn enclosed(bytes: &[u8], from: usize, kind: Enclosure) -> Option<usize>
     }
 }
 
-/// Whether a byte ends a destination without brackets, at so many open parentheses: 32 is the most.
+/// Whether a byte ends a destination without brackets, at so many open parentheses: 32 is the most. Most
+/// bytes stand behind a parenthesis, and end none.
 #[tactic(auto, unfolding(crate::specs::Word::ends_bare))]
 fn ends_bare(depth: usize, escaped: bool, byte: u8) -> bool
     ensures { result ≡ ends_bare depth escaped byte }
 {
-    let blank = byte <= b' ' || byte == 0x7f;
+    if byte > b')' {
+        return byte == 0x7f;
+    }
     let paren = byte == b')' && depth == 0 || byte == b'(' && depth >= 32;
-    blank || paren && !escaped
+    byte <= b' ' || paren && !escaped
 }
 
 #[tactic(auto, unfolding(crate::specs::Word::depth_after))]

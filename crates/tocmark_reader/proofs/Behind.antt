@@ -16,7 +16,8 @@ use Rattle.tocmark_read_inlines.specs.Inlines as inlines
 use Rattle.tocmark_read_spans.specs.declared.definitions.Entry.{Entry}
 use Rattle.tocmark_reader.specs.Emitted.{NodeView, Writing, step}
 use Rattle.tocmark_reader.specs.Inlines.{inline_node}
-use Rattle.tocmark_reader.specs.Pages.{State, Progress, written_behind, written_by, content_line, lines_nodes, block_node, pieces_of, with_inlines, leaf_inlines_in, task_nodes, with_block, with_task, bare_in, with_lines, fence_node_in, with_fence_in, with_rule, wrapped_in, paragraph_taken_in, taken_as_in, block_taken_in, is_unwrapped, block_step_in, cell_inlines_in, cell_taken_in}
+use Rattle.tocmark_reader.specs.Formulas.{keeps_blanks, laid_nodes}
+use Rattle.tocmark_reader.specs.Pages.{State, Progress, written_behind, written_by, content_line, lines_nodes, block_node, pieces_of, with_inlines, with_laid, with_lines_of, leaf_inlines_in, task_nodes, with_block, with_task, bare_in, with_lines, fence_node_in, with_fence_in, with_rule, wrapped_in, paragraph_taken_in, taken_as_in, block_taken_in, is_unwrapped, block_step_in, cell_inlines_in, cell_taken_in}
 
 abbrev pub Find : Type 0
 Find = List ℕ → Option Entry
@@ -76,10 +77,26 @@ adds_inlines text found w s =
     ap (progress (record { nodes = []; targets = found.targets; texts = found.texts; missed = found.missed }))
     (fold-append (step text) w s.nodes (map (inline_node found.texts found.targets) found.nodes))
 
+adds_laid : (text : List ℕ) (lines : List Piece) (found : inlines.State) (w : Writing) (s : State) → written_behind text w (with_laid text lines found s) ≡ written_behind text (fold (step text) w s.nodes) (with_laid text lines found (record { nodes = []; inlines = s.inlines }))
+adds_laid text lines found w s =
+    ap (progress (record { nodes = []; targets = found.targets; texts = found.texts; missed = found.missed }))
+    (fold-append (step text) w s.nodes (laid_nodes text lines found.texts found.targets found.nodes))
+
+adds_lines_of : (syntax : Syntax) (text : List ℕ) (lines : List Piece) (found : inlines.State) (w : Writing) (s : State) → written_behind text w (with_lines_of syntax text lines found s) ≡ written_behind text (fold (step text) w s.nodes) (with_lines_of syntax text lines found (record { nodes = []; inlines = s.inlines }))
+unfolding with_lines_of
+adds_lines_of syntax text lines found w s = by_test (keeps_blanks syntax lines)
+  where
+    at : Bool → State → State
+    at t s = if t then with_laid text lines found s else with_inlines found s
+
+    by_test : (t : Bool) → written_behind text w (at t s) ≡ written_behind text (fold (step text) w s.nodes) (at t (record { nodes = []; inlines = s.inlines }))
+    by_test true = adds_laid text lines found w s
+    by_test false = adds_inlines text found w s
+
 adds_leaf : (syntax : Syntax) (text : List ℕ) (find : Find) (pieces : List Piece) (depth : ℕ) → Adds text (leaf_inlines_in syntax text find pieces depth)
 unfolding leaf_inlines_in
 adds_leaf syntax text find pieces depth w s =
-    adds_inlines text (inlines.read_inlines_in syntax (content.content_of text (map content_line pieces)) depth find s.inlines) w s
+    adds_lines_of syntax text pieces (inlines.read_inlines_in syntax (content.content_of text (map content_line pieces)) depth find s.inlines) w s
 
 adds_wrapped : (syntax : Syntax) (text : List ℕ) (find : Find) (pieces : List Piece) (b : Block) → Adds text (wrapped_in syntax text find pieces b)
 unfolding wrapped_in

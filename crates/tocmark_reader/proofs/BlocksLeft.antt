@@ -27,8 +27,9 @@ use Rattle.tocmark_reader.specs.declared.emit.Open.{Open}
 use Rattle.tocmark_reader.specs.Emitted.{ItemView, Container, Source, Given, NodeView, Writing, closed, closings, emission_view, put, shown, source_text, step}
 use Rattle.tocmark_reader.specs.Range.{snapped}
 use Rattle.tocmark_reader.specs.Inlines.{inline_node}
+use Rattle.tocmark_reader.specs.Formulas.{keeps_blanks, laid_nodes}
 use Rattle.tocmark_reader.specs.Left.{IsHandable, all_made, begins_tree, behind, goes_on, has_events, is_at_tree, is_empty, reading_at_end, reading_left}
-use Rattle.tocmark_reader.specs.Pages.{State, Progress, assembly_view, node, written_behind, written_by, content_line, lines_nodes, block_node, pieces_of, with_inlines, leaf_inlines_in, task_nodes, with_block, with_lines, fence_node_in, with_fence_in, with_rule, wrapped_in, paragraph_taken_in, taken_as_in, block_taken_in, is_unwrapped, cell_inlines_in, cell_taken_in}
+use Rattle.tocmark_reader.specs.Pages.{State, Progress, assembly_view, node, written_behind, written_by, content_line, lines_nodes, block_node, pieces_of, with_inlines, with_laid, with_lines_of, leaf_inlines_in, task_nodes, with_block, with_lines, fence_node_in, with_fence_in, with_rule, wrapped_in, paragraph_taken_in, taken_as_in, block_taken_in, is_unwrapped, cell_inlines_in, cell_taken_in}
 use Rattle.tocmark_reader.proofs.Behind.{Find, some_taken, first_behind}
 
 abbrev Marked : Type 0
@@ -50,11 +51,24 @@ begins_inlines depth found s h =
     let more : List NodeView = map (inline_node found.texts found.targets) found.nodes in
     (h.0, h.1 ++ more, ap (λ (l : List NodeView). l ++ more) h.2, h.3)
 
+begins_laid : (depth : ℕ) (text : List ℕ) (lines : List Piece) (found : inlines.State) (s : State) → Begins depth s → Begins depth (with_laid text lines found s)
+begins_laid depth text lines found s h =
+    let more : List NodeView = laid_nodes text lines found.texts found.targets found.nodes in
+    (h.0, h.1 ++ more, ap (λ (l : List NodeView). l ++ more) h.2, h.3)
+
+begins_lines_of : (depth : ℕ) (syntax : Syntax) (text : List ℕ) (lines : List Piece) (found : inlines.State) (s : State) → Begins depth s → Begins depth (with_lines_of syntax text lines found s)
+unfolding with_lines_of
+begins_lines_of depth syntax text lines found s h = by_test (keeps_blanks syntax lines)
+  where
+    by_test : (t : Bool) → Begins depth (if t then with_laid text lines found s else with_inlines found s)
+    by_test true = begins_laid depth text lines found s h
+    by_test false = begins_inlines depth found s h
+
 begins_wrapped : (syntax : Syntax) (text : List ℕ) (find : Find) (pieces : List Piece) (b : Block) (i : inlines.State) → Begins b.depth (wrapped_in syntax text find pieces b (no_nodes i))
 unfolding wrapped_in leaf_inlines_in
 begins_wrapped syntax text find pieces b i =
     let s : State = with_block text b (no_nodes i) in
-    begins_inlines b.depth (inlines.read_inlines_in syntax (content.content_of text (map content_line pieces)) (plus b.depth 1) find s.inlines) s (begins_block text b i)
+    begins_lines_of b.depth syntax text pieces (inlines.read_inlines_in syntax (content.content_of text (map content_line pieces)) (plus b.depth 1) find s.inlines) s (begins_block text b i)
 
 begins_cell : (syntax : Syntax) (text : List ℕ) (find : Find) (b : Block) (i : inlines.State) → Begins b.depth (cell_taken_in syntax text find b (no_nodes i))
 unfolding cell_taken_in cell_inlines_in

@@ -16,5 +16,6 @@ pub mod PlainSearch
 pub mod PlacedParts
 pub mod QuietInlines
 pub mod QuietContent
+pub mod FormulaLines
 pub mod QuietLeaf
 pub mod Core

@@ -26,7 +26,8 @@ use Rattle.tocmark_read_inlines.proofs.PlainPasses.{AreRead}
 use Rattle.tocmark_read_inlines.proofs.PlainLeaf.{known, parts_inlines}
 use Rattle.tocmark_read_inlines.proofs.PlainNodes.{nodes_of}
 use Rattle.tocmark_reader.specs.Emitted.{NodeView, Container, Writing, step, closed, emitted}
-use Rattle.tocmark_reader.specs.Pages.{State, start_state, pieces_of, assembled, is_unwrapped, block_taken_in, paragraph_taken, paragraph_taken_in, wrapped_in, task_nodes, with_block, leaf_inlines_in, with_inlines, content_line, block_tag}
+use Rattle.tocmark_reader.specs.Formulas.{keeps_blanks}
+use Rattle.tocmark_reader.specs.Pages.{State, start_state, pieces_of, assembled, is_unwrapped, block_taken_in, paragraph_taken, paragraph_taken_in, wrapped_in, task_nodes, with_block, leaf_inlines_in, with_lines_of, with_inlines, content_line, block_tag}
 use Rattle.tocmark_reader.specs.Reading.{core_reading, found_in, found_under, reading_of, FoundView, collected, collected_from, first_entry}
 use Rattle.tocmark_reader.proofs.PlainEvents.{Marked, viewed, at, events_of, emit_parts}
 use Rattle.tocmark_reader.proofs.PlainSources.{IsClean, AreClean, snapped_clean, all_implied}
@@ -90,7 +91,7 @@ unfolding is_unwrapped block_taken_in paragraph_block
 found_taken text n pieces = refl
 
 taken_whole : (text : List ℕ) (n k : ℕ) (pieces : List Piece) → found_state (taken text n (suc k) pieces) ≡ found_of n (inlines.read_inlines (content.content_of text (map content_line pieces)) 1 (first_entry false [] []) no_inlines)
-unfolding paragraph_taken_in wrapped_in with_block task_nodes leaf_inlines_in block_tag paragraph_block
+unfolding paragraph_taken_in wrapped_in with_block task_nodes leaf_inlines_in with_lines_of keeps_blanks block_tag paragraph_block
 taken_whole text n k pieces = rw (some_pieces k) refl
 
 found_one : (text : List ℕ) (n : ℕ) (p : Piece) (ps : List Piece) (c : content.State) → content.content_of text (map content_line (p ∷ ps)) ≡ c → found_from text (one_block n (p ∷ ps)) ≡ found_of n (inlines.read_inlines c 1 (first_entry false [] []) no_inlines)

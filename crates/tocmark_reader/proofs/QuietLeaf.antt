@@ -21,9 +21,11 @@ use Rattle.tocmark_read_inlines.proofs.PlainLeaf.{known}
 use Rattle.tocmark_read_inlines.proofs.PlainNeighbours.{ArePlainParts, plain_parts_are_read}
 use Rattle.tocmark_read_inlines.proofs.PlainNodes.{node, nodes_of}
 use Rattle.tocmark_reader.specs.Emitted.{NodeView, Writing, step}
+use Rattle.tocmark_reader.specs.Formulas.{keeps_blanks}
 use Rattle.tocmark_reader.specs.Inlines.{inline_item, inline_node, leaf_of}
 use Rattle.tocmark_reader.specs.Pages.{State, Progress, content_line, leaf_inlines_in, with_inlines, written_by}
 use Rattle.tocmark_reader.specs.QuietLines.{is_text_byte, are_quiet_lines, further_nodes, quiet_nodes}
+use Rattle.tocmark_reader.proofs.FormulaLines.{found_plainly}
 use Rattle.tocmark_reader.proofs.PlacedParts.{parts_inlines_at}
 use Rattle.tocmark_reader.proofs.QuietInlines.{IsTextOrFeed, no_mark, read_alike}
 use Rattle.tocmark_reader.proofs.QuietContent.{bytes_of, AreQuiet, are_quiet, bares, line_parts, joined, spelled_lines, content_of_quiet}
@@ -164,12 +166,14 @@ found_only t d l ls e =
     ∙ ap (λ (ns : List Node). (let s : State = record { nodes = quiet_nodes d (l ∷ ls); inlines = record t { nodes = ns } } in s)) (sym e)
 
 -- what is written of such a leaf
-pub quiet_written : (syntax : Syntax) (text : List ℕ) (find : List ℕ → Option Entry) (pieces : List Piece) (d : ℕ) (p : Progress) (w : Writing) → are_quiet_lines text pieces ≡ true → p.inlines.nodes ≡ [] → length text < 2 ^ 64 → w ≡ fold (step text) p.writing (quiet_nodes d pieces) → record { writing = w; inlines = p.inlines } ≡ written_by text (leaf_inlines_in syntax text find pieces d) p
+pub quiet_written : (syntax : Syntax) (text : List ℕ) (find : List ℕ → Option Entry) (pieces : List Piece) (d : ℕ) (p : Progress) (w : Writing) → keeps_blanks syntax pieces ≡ false → are_quiet_lines text pieces ≡ true → p.inlines.nodes ≡ [] → length text < 2 ^ 64 → w ≡ fold (step text) p.writing (quiet_nodes d pieces) → record { writing = w; inlines = p.inlines } ≡ written_by text (leaf_inlines_in syntax text find pieces d) p
 unfolding leaf_inlines_in
-quiet_written syntax text find [] d p w h e fits k = absurd (true≢false (sym h))
-quiet_written syntax text find (l ∷ ls) d p w h e fits k =
+quiet_written syntax text find [] d p w n h e fits k = absurd (true≢false (sym h))
+quiet_written syntax text find (l ∷ ls) d p w n h e fits k =
     let found : inlines.State → Progress = λ f. (let s : State = with_inlines f (record { nodes = []; inlines = p.inlines }) in record { writing = fold (step text) p.writing s.nodes; inlines = s.inlines }) in
     let read = lines_read syntax text find l ls d p.inlines (are_quiet text l ls h) fits in
     ap (λ (x : Writing). (let q : Progress = record { writing = x; inlines = p.inlines } in q)) k
-    ∙ sym (ap found read
+    ∙ sym (ap (λ (s : State). (let q : Progress = record { writing = fold (step text) p.writing s.nodes; inlines = s.inlines } in q))
+    (found_plainly syntax text (l ∷ ls) (inlines.read_inlines_in syntax (content.content_of text (map content_line (l ∷ ls))) d find p.inlines) (record { nodes = []; inlines = p.inlines }) n)
+    ∙ ap found read
     ∙ ap (λ (s : State). (let q : Progress = record { writing = fold (step text) p.writing s.nodes; inlines = s.inlines } in q)) (found_only p.inlines d l ls e))

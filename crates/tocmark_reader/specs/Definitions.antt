@@ -110,11 +110,13 @@ said_from names text places at [] = []
 said_from names text places at (d ∷ ds) =
     said_at names text d (unwrap_or (slice_get places at) no_place) ∷ said_from names text places (plus at 1) ds
 
--- the definitions of a text: those that its blocks give, each where it stands
-unfoldable pub definitions_of : Syntax → List ℕ → List SaidDefinition
-definitions_of syntax text =
-    let found = blocks_in syntax text in
-    said_from syntax.names text (places_in text found) 0 found.definitions
+-- the definitions that blocks give, each where it stands
+unfoldable pub definitions_among : Names → List ℕ → BlocksView → List SaidDefinition
+definitions_among names text found = said_from names text (places_in text found) 0 found.definitions
+
+-- the definitions of a text: those that its blocks give
+abbrev pub definitions_of : Syntax → List ℕ → List SaidDefinition
+definitions_of syntax text = definitions_among syntax.names text (blocks_in syntax text)
 
 -- the ranges of a place are good
 pub record IsGoodPlace (text : List ℕ) (p : DefinitionPlace) : Type 0 where

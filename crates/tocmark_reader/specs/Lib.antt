@@ -4,6 +4,7 @@ pub mod Emitted
 pub mod Words
 pub mod Attributes
 pub mod Inlines
+pub mod Formulas
 pub mod Pages
 pub mod Reading
 pub mod Left

@@ -21,6 +21,7 @@ use Rattle.tocmark_read_spans.specs.declared.definitions.Entry.{Entry}
 use Rattle.tocmark_reader.specs.Attributes.{heading_tag}
 use Rattle.tocmark_reader.specs.Emitted.{ItemView, NodeView, Container, Given, Writing, emission_view, step}
 use Rattle.tocmark_reader.specs.Inlines.{inline_node}
+use Rattle.tocmark_reader.specs.Formulas.{keeps_blanks, laid_nodes}
 use Rattle.tocmark_reader.specs.Words.{cleaned, info_text, info_text_in, spaces_text, name_text}
 use Rattle.tocmark_reader.specs.declared.block_events.Assembly.{Assembly}
 
@@ -115,10 +116,21 @@ with_inlines found s = record {
   inlines = record { nodes = []; targets = found.targets; texts = found.texts; missed = found.missed };
 }
 
+-- the nodes of the inlines that were found, whose formulas keep the blanks of these lines
+abbrev pub with_laid : List ℕ → List Piece → inlines.State → State → State
+with_laid text lines found s = record {
+  nodes = s.nodes ++ laid_nodes text lines found.texts found.targets found.nodes;
+  inlines = record { nodes = []; targets = found.targets; texts = found.texts; missed = found.missed };
+}
+
+-- the nodes of the inlines that were found in these lines
+unfoldable pub with_lines_of : Syntax → List ℕ → List Piece → inlines.State → State → State
+with_lines_of syntax text lines found s = if keeps_blanks syntax lines then with_laid text lines found s else with_inlines found s
+
 -- the inlines of a leaf
 unfoldable pub leaf_inlines_in : Syntax → List ℕ → (List ℕ → Option Entry) → List Piece → ℕ → State → State
 leaf_inlines_in syntax text find pieces depth s =
-    with_inlines (inlines.read_inlines_in syntax (content.content_of text (map content_line pieces)) depth find s.inlines) s
+    with_lines_of syntax text pieces (inlines.read_inlines_in syntax (content.content_of text (map content_line pieces)) depth find s.inlines) s
 
 -- the box of a task, at a depth
 unfoldable pub task_nodes : Option Task → ℕ → List NodeView

@@ -3,11 +3,12 @@
 ghost use Rattle.std.specs.Prelude.{◌≡◌, [], OnOk};
 ghost use Rattle.tocmark_read_spans.specs.Definitions.{entry_of};
 ghost use Rattle.tocmark_read_inlines.specs.Inlines.{inlines_view};
-ghost use Rattle.tocmark_reader.specs.Pages.{is_unwrapped, assembly_view, leaf_inlines_in, with_block, with_inlines, with_task, bare_in, with_lines, with_rule, wrapped_in, paragraph_taken_in, with_fence_in, block_taken_in, nothing_written, written_by, cell_inlines_in, cell_taken_in};
+ghost use Rattle.tocmark_reader.specs.Pages.{is_unwrapped, assembly_view, leaf_inlines_in, with_block, with_inlines, with_laid, with_lines_of, with_task, bare_in, with_lines, with_rule, wrapped_in, paragraph_taken_in, with_fence_in, block_taken_in, nothing_written, written_by, cell_inlines_in, cell_taken_in};
 
 use crate::code_lines::write_lines;
 use crate::containers::{write_block, write_fence, write_task};
 use crate::emit::Emission;
+use crate::formula::{keeps_blanks, write_laid_inlines};
 use crate::inline::write_inlines;
 use crate::pieces::{content_lines, pieces_of};
 use crate::quiet::{are_quiet_lines, write_quiet_lines};
@@ -106,8 +107,45 @@ impl Assembly {
         Ok(())
     }
 
+    /// Writes inlines that were found in these lines, and keeps what they have beside the source.
+    fn write_laid(
+        &mut self,
+        alloc: Global,
+        text: &SearchedText<'_>,
+        lines: &[Piece],
+        found: Inlines,
+    ) -> Result<(), AllocError>
+        ensures { OnOk result (assembly_view self.new ≡ written_by text.now
+            (with_laid text.now lines.now (inlines_view found)) (assembly_view self.old)) }
+    {
+        write_laid_inlines(alloc, &mut self.emission, text, lines, &found)?;
+        self.inlines = found;
+        self.inlines.nodes.clear();
+        Ok(())
+    }
+
+    /// Writes inlines that were found in these lines: only formulas in indented lines ask for these.
+    #[tactic(auto, unfolding(crate::specs::Pages::with_lines_of))]
+    fn write_from_lines(
+        &mut self,
+        alloc: Global,
+        document: &Document<'_, '_>,
+        lines: &[Piece],
+        found: Inlines,
+    ) -> Result<(), AllocError>
+        ensures { OnOk result (assembly_view self.new ≡ written_by document.now.text.now
+            (with_lines_of document.now.syntax document.now.text.now lines.now
+            (inlines_view found)) (assembly_view self.old)) }
+    {
+        if keeps_blanks(document.syntax, lines) {
+            self.write_laid(alloc, document.text, lines, found)
+        } else {
+            self.write_found(alloc, document.text, found)
+        }
+    }
+
     /// Reads the inlines of a leaf from its text, whatever stands in it.
-    #[tactic(auto, unfolding(crate::specs::Pages::leaf_inlines_in))]
+    #[tactic(auto, unfolding(crate::specs::Pages::leaf_inlines_in, crate::specs::Pages::with_lines_of))]
     fn read_marked_leaf(
         &mut self,
         alloc: Global,
@@ -131,7 +169,7 @@ impl Assembly {
             depth,
             document.definitions,
         )?;
-        self.write_found(alloc, document.text, found)
+        self.write_from_lines(alloc, document, pieces, found)
     }
 
     /// Reads the inlines of a leaf. Where its lines have no mark in any reading, each of them is a text.
@@ -148,7 +186,10 @@ impl Assembly {
             (assembly_view self.old)) }
     {
         let text = document.text;
-        if self.inlines.nodes.is_empty() && are_quiet_lines(text.as_str().as_bytes(), pieces) {
+        if !keeps_blanks(document.syntax, pieces)
+            && self.inlines.nodes.is_empty()
+            && are_quiet_lines(text.as_str().as_bytes(), pieces)
+        {
             write_quiet_lines(alloc, &mut self.emission, text, depth, pieces)
         } else {
             self.read_marked_leaf(alloc, document, pieces, depth)

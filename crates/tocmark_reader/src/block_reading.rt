@@ -56,12 +56,15 @@ fn likely_events(bytes: usize) -> usize {
     (bytes / 3).clamp(FEW, MANY)
 }
 
-/// How many events a block is likely to have: code and HTML have one for each line.
+/// How many events a block is likely to have: code and HTML have one for each line, containers have a Start and
+/// an End.
 fn likely_in_block(block: Block) -> usize {
     match block.kind {
         BlockKind::Indented | BlockKind::Fenced(_, _) | BlockKind::Html => {
             block.last.saturating_sub(block.first).saturating_add(2)
         }
+        BlockKind::Quote(_) | BlockKind::List(_) | BlockKind::Item => 2,
+        BlockKind::Table(_, _) | BlockKind::TableHead | BlockKind::TableRow => 2,
         _ => likely_events(block.end.saturating_sub(block.start)),
     }
 }
@@ -128,10 +131,14 @@ impl BlockReading<'_> {
 
     /// How many events the next tree is likely to have.
     fn likely_in_tree(&self) -> usize {
-        match self.blocks.get(self.place).copied() {
-            None => 0,
-            Some(block) => likely_in_block(block),
+        let mut all = 0usize;
+        for block in self.blocks.get(self.place..).unwrap_or(&[]) {
+            if all > 0 && begins_tree(*block) {
+                break;
+            }
+            all = all.saturating_add(likely_in_block(*block));
         }
+        all
     }
 
     /// Makes events up to the end of a tree, or of the text.

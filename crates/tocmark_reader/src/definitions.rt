@@ -5,7 +5,7 @@ ghost use Rattle.std.specs.List.{All, flat_map};
 ghost use Rattle.tocmark_read_scan.specs.Repeat.{repeated};
 ghost use Rattle.tocmark_read_blocks.specs.Blocks.{blocks_view};
 ghost use Rattle.tocmark_read_page.specs.Definitions.{definition_view, joined, joined_line};
-ghost use Rattle.tocmark_reader.specs.Definitions.{byte_places, definitions_of, line_places, no_place, opening, place_at, place_of, place_step, placed_on, placed_once, places_from, places_in, said_at, said_from, said_view, snapped_place, IsGoodPlace, IsWellPlaced};
+ghost use Rattle.tocmark_reader.specs.Definitions.{byte_places, definitions_among, definitions_of, line_places, no_place, opening, place_at, place_of, place_step, placed_on, placed_once, places_from, places_in, said_at, said_from, said_view, snapped_place, IsGoodPlace, IsWellPlaced};
 ghost use Rattle.tocmark_reader.specs.Pages.{pieces_of};
 
 use crate::emit::snapped;
@@ -293,6 +293,25 @@ fn said_all(
     Ok(all)
 }
 
+/// The definitions that the blocks of a text give, in their order.
+#[tactic(auto, unfolding(crate::specs::Definitions::definitions_among))]
+pub(crate) fn definitions_among(
+    alloc: Global,
+    names: Names,
+    text: &str,
+    found: &Blocks,
+) -> Result<Vec<ReferenceDefinition>, AllocError>
+    ensures exact { IfOk result (λ all. map said_view all.items
+        ≡ definitions_among names text.now (blocks_view found.now)) }
+    ensures ranges { IfOk result (λ all. All (IsWellPlaced text.now) all.items) }
+{
+    if found.definitions.len() == 0 {
+        return Ok(Vec::new(alloc));
+    }
+    let places = places_in(alloc, text.as_bytes(), found)?;
+    said_all(alloc, names, text, &found.definitions, &places)
+}
+
 /// The link reference definitions of a text under a syntax, in their order, each with what it says and
 /// where it stands. Of several with one label the first is what links with that label lead to.
 ///
@@ -304,7 +323,6 @@ fn said_all(
 ///     let (from, to) = definition.place.destination;
 /// }
 /// ```
-#[tactic(auto, unfolding(crate::specs::Definitions::definitions_of))]
 pub fn find_definitions(
     alloc: Global,
     syntax: Syntax,
@@ -314,6 +332,5 @@ pub fn find_definitions(
     ensures ranges { IfOk result (λ all. All (IsWellPlaced text.now) all.items) }
 {
     let found = read_blocks(alloc, syntax, text.as_bytes())?;
-    let places = places_in(alloc, text.as_bytes(), &found)?;
-    said_all(alloc, syntax.names, text, &found.definitions, &places)
+    definitions_among(alloc, syntax.names, text, &found)
 }

@@ -11,7 +11,7 @@ ghost use Rattle.tocmark_read_scan.specs.declared.syntax.Names.TheVariants.{All}
 
 use crate::block_reading::BlockReading;
 use crate::definitions::{ReferenceDefinition, find_definitions};
-use crate::reader::{find, find_blocks};
+use crate::reader::{find, find_blocks, find_blocks_and_definitions};
 use std::alloc::{AllocError, Global};
 use tocmark_event::event::ParserOptions;
 use tocmark_event::reader::{Reader, Reading};
@@ -188,6 +188,24 @@ impl ExtendedReader {
         ensures between { IfOk result (λ blocks. IsBetweenTrees blocks) }
     {
         find_blocks(alloc, syntax_of(self.names, flags), text)
+    }
+
+    /// Reads a text block by block as `blocks` does, and finds its link definitions as `definitions` does. The
+    /// text is read once for both.
+    pub fn blocks_and_definitions<'t>(
+        &self,
+        alloc: Global,
+        text: &'t str,
+        flags: ParserOptions,
+    ) -> Result<(BlockReading<'t>, Vec<ReferenceDefinition>), AllocError>
+        ensures left { IfOk result (λ both.
+            reading_left both.0 ≡ reading_of (syntax_of self.now.names flags) text.now) }
+        ensures between { IfOk result (λ both. IsBetweenTrees both.0) }
+        ensures definitions { IfOk result (λ both. map said_view both.1.items
+            ≡ definitions_of (syntax_of self.now.names flags) text.now) }
+        ensures ranges { IfOk result (λ both. EachOf (IsWellPlaced text.now) both.1.items) }
+    {
+        find_blocks_and_definitions(alloc, syntax_of(self.names, flags), text)
     }
 
     /// The link reference definitions that this reader finds in a text under some flags, as

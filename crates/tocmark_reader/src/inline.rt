@@ -84,7 +84,11 @@ fn character_text(alloc: Global, character: char) -> Result<CowStr<'static>, All
 }
 
 #[tactic(auto, unfolding(crate::specs::Inlines::leaf_of))]
-fn leaf_event(alloc: Global, texts: &[u8], leaf: Leaf) -> Result<Event<'static>, AllocError>
+pub(crate) fn leaf_event(
+    alloc: Global,
+    texts: &[u8],
+    leaf: Leaf,
+) -> Result<Event<'static>, AllocError>
     ensures { IfOk result (λ e. event_view text_of e ≡ EventLeaf (leaf_of texts.now leaf)) }
 {
     match leaf {
@@ -101,7 +105,7 @@ fn leaf_event(alloc: Global, texts: &[u8], leaf: Leaf) -> Result<Event<'static>,
 }
 
 /// Writes a container of inlines.
-fn write_span(
+pub(crate) fn write_span(
     alloc: Global,
     out: &mut Emission,
     text: &SearchedText<'_>,

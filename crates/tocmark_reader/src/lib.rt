@@ -9,8 +9,8 @@
 //! 1. `reader` finds the blocks of the text, and what labels are defined as in it.
 //! 2. `block_reading` makes the events of the blocks: all at once, or block by block as a caller asks for them.
 //! 3. `block_events` takes a block. A container comes from `containers` and `attributes`, code and HTML come from
-//!    `code_lines`, and the inlines of a paragraph, a heading or a cell come from `inline`. `quiet` is the short way for
-//!    lines without marks.
+//!    `code_lines`, and the inlines of a paragraph, a heading or a cell come from `inline`. `formula` keeps the blanks of a
+//!    formula's lines. `quiet` is the short way for lines without marks.
 //! 4. `emit` puts the events behind one another, and ends the containers.
 //!
 //! Some modules serve several steps. `words` makes the texts that the source doesn't spell as they are. `searched` is the
@@ -27,6 +27,7 @@ mod containers;
 pub mod definitions;
 mod emit;
 pub mod extended;
+mod formula;
 mod inline;
 pub mod laws;
 mod pieces;
@@ -41,6 +42,6 @@ pub use block_reading::BlockReading;
 pub use definitions::{DefinitionPlace, ReferenceDefinition, find_definitions};
 pub use extended::{EXTENSIONS, ExtendedReader, GFM, NAMED_EXTENSIONS};
 pub use plain::is_plain;
-pub use reader::{CoreReader, find, find_blocks};
+pub use reader::{CoreReader, find, find_blocks, find_blocks_and_definitions};
 pub use tocmark_read_scan::syntax::Names;
 pub use unit_reader::UnitReader;

@@ -1,15 +1,18 @@
 //! The reader.
 
 ghost use Rattle.std.specs.Prelude.{◌≡◌, map, string_bytes, IfOk, OnOk};
-ghost use Rattle.tocmark_read_blocks.specs.Blocks.{blocks_view};
+ghost use Rattle.std.specs.List.{All};
+ghost use Rattle.tocmark_read_blocks.specs.Blocks.{blocks_in, blocks_view};
 ghost use Rattle.tocmark_read_page.specs.Definitions.{definition_view};
 ghost use Rattle.tocmark_read_spans.specs.Definitions.{collected_view, entry_of};
 ghost use Rattle.tocmark_reader.specs.Reading.{define_step_in, collected_in, noted_as, noted, collected_from, first_entry, found_under, core_reading, reading_of};
+ghost use Rattle.tocmark_reader.specs.Definitions.{definitions_of, said_view, IsWellPlaced};
 ghost use Rattle.tocmark_reader.specs.Left.{IsBetweenTrees, reading_left};
 ghost use Rattle.tocmark_event.specs.Reading.{reading_view};
 
 use crate::block_events::Assembly;
 use crate::block_reading::BlockReading;
+use crate::definitions::{ReferenceDefinition, definitions_among};
 use crate::searched::SearchedText;
 use crate::words::replaced_bytes;
 use std::alloc::{AllocError, Global};
@@ -120,17 +123,18 @@ fn definitions(
     })
 }
 
-/// Finds the blocks of a text, with the extensions of a syntax; their events are still to be made.
+/// A text whose blocks are found, and whose events are still to be made.
 #[tactic(auto, unfolding(crate::specs::Reading::found_under, crate::specs::Reading::reading_of))]
-pub fn find_blocks(
+fn begin<'t>(
     alloc: Global,
     syntax: Syntax,
-    text: &str,
-) -> Result<BlockReading<'_>, AllocError>
-    ensures left { IfOk result (λ begun. reading_left begun ≡ reading_of syntax text.now) }
+    text: &'t str,
+    found: Blocks,
+) -> Result<BlockReading<'t>, AllocError>
+    ensures left { blocks_view found ≡ blocks_in syntax text.now
+        → IfOk result (λ begun. reading_left begun ≡ reading_of syntax text.now) }
     ensures between { IfOk result (λ begun. IsBetweenTrees begun) }
 {
-    let found = read_blocks(alloc, syntax, text.as_bytes())?;
     let Collected {
         keys,
         labels,
@@ -153,6 +157,38 @@ pub fn find_blocks(
     })
 }
 
+/// Finds the blocks of a text, with the extensions of a syntax; their events are still to be made.
+pub fn find_blocks(
+    alloc: Global,
+    syntax: Syntax,
+    text: &str,
+) -> Result<BlockReading<'_>, AllocError>
+    ensures left { IfOk result (λ begun. reading_left begun ≡ reading_of syntax text.now) }
+    ensures between { IfOk result (λ begun. IsBetweenTrees begun) }
+{
+    let found = read_blocks(alloc, syntax, text.as_bytes())?;
+    begin(alloc, syntax, text, found)
+}
+
+/// Finds the blocks of a text as `find_blocks` does, and its link definitions as `find_definitions` does. The
+/// text is read once for both.
+pub fn find_blocks_and_definitions(
+    alloc: Global,
+    syntax: Syntax,
+    text: &str,
+) -> Result<(BlockReading<'_>, Vec<ReferenceDefinition>), AllocError>
+    ensures left { IfOk result (λ both. reading_left both.0 ≡ reading_of syntax text.now) }
+    ensures between { IfOk result (λ both. IsBetweenTrees both.0) }
+    ensures definitions { IfOk result (λ both. map said_view both.1.items
+        ≡ definitions_of syntax text.now) }
+    ensures ranges { IfOk result (λ both. All (IsWellPlaced text.now) both.1.items) }
+{
+    let found = read_blocks(alloc, syntax, text.as_bytes())?;
+    let said = definitions_among(alloc, syntax.names, text, &found)?;
+    let begun = begin(alloc, syntax, text, found)?;
+    Ok((begun, said))
+}
+
 /// The events of a text and its labels, with the extensions of a syntax.
 pub fn find(alloc: Global, syntax: Syntax, text: &str) -> Result<Reading, AllocError>
     ensures { IfOk result (λ found. reading_view found ≡ reading_of syntax text.now) }
@@ -168,6 +204,22 @@ impl CoreReader {
         ensures between { IfOk result (λ blocks. IsBetweenTrees blocks) }
     {
         find_blocks(alloc, CORE, text)
+    }
+
+    /// Reads a text block by block as `blocks` does, and finds its link definitions as `find_definitions` does.
+    /// The text is read once for both.
+    pub fn blocks_and_definitions<'t>(
+        &self,
+        alloc: Global,
+        text: &'t str,
+    ) -> Result<(BlockReading<'t>, Vec<ReferenceDefinition>), AllocError>
+        ensures left { IfOk result (λ both. reading_left both.0 ≡ core_reading text.now) }
+        ensures between { IfOk result (λ both. IsBetweenTrees both.0) }
+        ensures definitions { IfOk result (λ both. map said_view both.1.items
+            ≡ definitions_of CORE text.now) }
+        ensures ranges { IfOk result (λ both. All (IsWellPlaced text.now) both.1.items) }
+    {
+        find_blocks_and_definitions(alloc, CORE, text)
     }
 }
 

@@ -3,7 +3,7 @@ use Rattle.tocmark_compare.specs.Given.{found_events}
 use Rattle.tocmark_format.proofs.Folding.{sums-all}
 use Rattle.tocmark_format.proofs.format.Formatter.read_back.Goals as goal
 
-pub returns : goal.returns
-returns g c =
+pub returns-clause-says : goal.returns-clause-says
+returns-clause-says g c =
     let f = c.args.self.now in
-    sums-all c.read_parts.new.taker.says (found_events (g.R.Reader.reading f.reader.now c.args.text.now f.flags)) (c.in_ok-read_parts.ensures [] c.new.ensures)
+    sums-all c.read_parts.new.taker.says (found_events (g.R.Reader.reading f.reader.now c.args.text.now f.flags)) (c.in_ok-read_parts.ensures.taken [] c.new.ensures)

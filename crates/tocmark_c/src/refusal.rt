@@ -1,0 +1,109 @@
+//! Why a call is refused, and where.
+
+ghost use Rattle.std.specs.Prelude.{◌≡◌};
+ghost use Rattle.tocmark_c.specs.Codes.{code_of, document_cause, options_cause, rewriting_cause, write_cause};
+ghost use Rattle.tocmark_c.specs.Place.{IsFilled};
+
+use crate::cause::Cause;
+use crate::place::TocmarkPlace;
+use tocmark_interchange::{DocumentError, OptionsTextError, RewriteError, WriteError};
+use tocmark_json::fault::JsonError;
+use tocmark_rewrite::Place;
+
+/// Why a call is refused, and where, if that is known.
+#[derive(Clone, Copy)]
+pub struct Refusal {
+    pub cause: Cause,
+    pub place: Option<Place>,
+}
+
+impl Refusal {
+    /// A refusal of no place.
+    pub fn of(cause: Cause) -> Refusal
+        ensures { result.cause ≡ cause }
+    {
+        Refusal { cause, place: None }
+    }
+
+    /// Why a text has no options.
+    pub fn of_options(error: &OptionsTextError) -> Refusal
+        ensures { result.cause ≡ options_cause error.now }
+    {
+        Refusal::of(Cause::of_options(error))
+    }
+
+    /// Why events aren't written.
+    pub fn of_write(error: &WriteError) -> Refusal
+        ensures { result.cause ≡ write_cause error.now }
+    {
+        Refusal {
+            cause: Cause::of_write(error),
+            place: place_of_write(error),
+        }
+    }
+
+    /// Why events aren't written as a document that says the same.
+    pub fn of_document(error: &DocumentError) -> Refusal
+        ensures { result.cause ≡ document_cause error.now }
+    {
+        Refusal {
+            cause: Cause::of_document(error),
+            place: place_of_document(error),
+        }
+    }
+
+    /// Why a source isn't rewritten.
+    pub fn of_rewriting(error: &RewriteError) -> Refusal
+        ensures { result.cause ≡ rewriting_cause error.now }
+    {
+        Refusal {
+            cause: Cause::of_rewriting(error),
+            place: place_of_rewriting(error),
+        }
+    }
+
+    /// The code of the cause. The place is filled.
+    pub fn told(self, place: &mut TocmarkPlace) -> isize
+        ensures code { result ≡ code_of self.cause }
+        ensures filled { IsFilled place.old place.new }
+    {
+        place.fill(self.place);
+        self.cause.code()
+    }
+}
+
+/// The place of an event of which no line is known.
+fn event_alone(event: usize) -> Place {
+    Place { event, lines: None }
+}
+
+fn place_of_json(error: &JsonError) -> Option<Place> {
+    match error {
+        JsonError::Event { index, .. } => Some(event_alone(*index)),
+        _ => None,
+    }
+}
+
+fn place_of_write(error: &WriteError) -> Option<Place> {
+    match error {
+        WriteError::Refused(place, _) => Some(*place),
+        WriteError::NotEvents(error) => place_of_json(error),
+        _ => None,
+    }
+}
+
+fn place_of_document(error: &DocumentError) -> Option<Place> {
+    match error {
+        DocumentError::Write(error) => place_of_write(error),
+        DocumentError::Changed(event) => Some(event_alone(*event)),
+    }
+}
+
+fn place_of_rewriting(error: &RewriteError) -> Option<Place> {
+    match error {
+        RewriteError::Refused(place, _) => Some(*place),
+        RewriteError::ReadOtherwise(place) => Some(*place),
+        RewriteError::NotEvents(error) => place_of_json(error),
+        _ => None,
+    }
+}

@@ -1,0 +1,10 @@
+use Rattle.std.proofs.Common.{◌∙◌, ap, map, sym}
+use mathlib.Core.List.{map-map}
+use Rattle.tocmark_reader.specs.Definitions.{said_view}
+use Rattle.tocmark_format.specs.LinkDefinitions.{unplaced}
+use Rattle.tocmark_format.proofs.parts.CoreReaderPartReader.read_parts.Goals as goal
+
+pub returns-clause-definitions : goal.returns-clause-definitions
+returns-clause-definitions g c =
+    let all = c.in_ok-blocks_and_definitions.field-0.1 in
+    sym (map-map unplaced said_view all.items) ∙ ap (map unplaced) c.in_ok-blocks_and_definitions.ensures.definitions

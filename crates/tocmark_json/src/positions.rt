@@ -1,0 +1,165 @@
+//! The lines and columns of a text.
+
+ghost use Rattle.std.specs.List.{All};
+ghost use Rattle.std.specs.Prelude.{◌≡◌, ◌-◌, ◌≤◌, IfOk, drop, length};
+ghost use Rattle.tocmark_json.specs.Positions.{behind, ends_line, begins_none, passed, position_of, span_of, IsIndex, IsMark};
+
+use std::alloc::{AllocError, Global};
+
+/// A place in a text.
+#[derive(Clone, Copy, Debug, PartialEq, Eq)]
+pub struct Position {
+    /// The line, counted from 1. A line feed ends a line, and so does a carriage return; both together are one ending.
+    pub line: usize,
+    /// How many characters of Unicode stand before it on its line, plus 1.
+    pub column: usize,
+}
+
+/// Where a range of a text is.
+#[derive(Clone, Copy, Debug, PartialEq, Eq)]
+pub struct Span {
+    /// Where it begins.
+    pub start: Position,
+    /// The place behind its last byte.
+    pub end: Position,
+}
+
+/// How many bytes are between two marks.
+const STEP: usize = 64;
+
+/// Whether the first byte ends a line.
+fn ends_line(rest: &[u8]) -> bool
+    ensures { result ≡ ends_line rest.now }
+{
+    match rest {
+        [] => false,
+        [byte] => *byte == b'\n' || *byte == b'\r',
+        [byte, next, ..] => *byte == b'\n' || *byte == b'\r' && *next != b'\n',
+    }
+}
+
+/// Whether the first byte goes on in a character.
+fn begins_none(rest: &[u8]) -> bool
+    ensures { result ≡ begins_none rest.now }
+{
+    match rest {
+        [] => true,
+        [byte, ..] => 128 <= *byte && *byte <= 191,
+    }
+}
+
+/// The place behind the first byte of what is left of a text.
+#[tactic(auto, unfolding(crate::specs::Positions::behind))]
+fn behind(rest: &[u8], position: Position) -> Position
+    ensures { result ≡ behind rest.now position }
+{
+    if ends_line(rest) {
+        return Position {
+            line: position.line.saturating_add(1),
+            column: 1,
+        };
+    }
+    if begins_none(rest) {
+        return position;
+    }
+    Position {
+        line: position.line,
+        column: position.column.saturating_add(1),
+    }
+}
+
+/// The place of a byte, from that of one before it.
+#[tactic(auto, using(crate::proofs::Passing::goes_on, crate::proofs::Passing::ended))]
+fn passed(bytes: &[u8], from: usize, to: usize, position: Position) -> Position
+    requires { to ≤ length bytes.now }
+    ensures { result ≡ passed position (drop from bytes.now) (to - from) }
+{
+    let mut place = position;
+    for at in from..to {
+        place = behind(&bytes[at..], place);
+    }
+    place
+}
+
+/// The place of one byte of a text.
+#[derive(Clone, Copy, Debug, PartialEq, Eq)]
+struct Mark {
+    offset: usize,
+    position: Position,
+}
+
+/// Where each text begins.
+const BEGIN: Mark = Mark {
+    offset: 0,
+    position: Position { line: 1, column: 1 },
+};
+
+/// The marks of the bytes 0, 64, 128 and so on.
+#[tactic(auto, using(crate::proofs::Passing::next_place))]
+fn marks_of(alloc: Global, bytes: &[u8]) -> Result<Vec<Mark>, AllocError>
+    ensures { IfOk result (λ marks. All (IsMark bytes.now) marks.items) }
+{
+    let mut marks = Vec::new(alloc);
+    let mut position = BEGIN.position;
+    for offset in 0..bytes.len() {
+        if offset % STEP == 0 {
+            marks.push(Mark { offset, position })?;
+        }
+        position = behind(&bytes[offset..], position);
+    }
+    Ok(marks)
+}
+
+/// A text whose lines and columns are looked up.
+#[derive(Drop)]
+pub struct Positions<'t> {
+    bytes: &'t [u8],
+    marks: Vec<Mark>,
+}
+
+impl<'t> Positions<'t> {
+    /// An index of a text's places. It takes half the text's memory, and fails if memory runs out.
+    pub fn new(alloc: Global, text: &'t str) -> Result<Positions<'t>, AllocError>
+        ensures index { IfOk result IsIndex }
+        ensures text { IfOk result (λ positions. positions.bytes.now ≡ text.now) }
+    {
+        let bytes = text.as_bytes();
+        let marks = marks_of(alloc, bytes)?;
+        Ok(Positions { bytes, marks })
+    }
+
+    /// The last mark that isn't behind a byte, or the first one.
+    fn mark_before(&self, offset: usize) -> Mark
+        requires { IsIndex self.now }
+        ensures mark { IsMark self.now.bytes.now result }
+        ensures before { result.offset ≤ offset }
+    {
+        let last = self.marks.len().saturating_sub(1);
+        match self.marks.get((offset / STEP).min(last)) {
+            Some(mark) if mark.offset <= offset => *mark,
+            _ => BEGIN,
+        }
+    }
+
+    /// The place of a byte. If the text has no such byte, it is the place behind the last one.
+    #[tactic(auto, using(crate::proofs::Passing::marked))]
+    fn position(&self, offset: usize) -> Position
+        requires { IsIndex self.now }
+        ensures { result ≡ position_of self.now.bytes.now offset }
+    {
+        let within = offset.min(self.bytes.len());
+        let mark = self.mark_before(within);
+        passed(self.bytes, mark.offset, within, mark.position)
+    }
+
+    /// Where a range of the text is.
+    pub fn span(&self, range: (usize, usize)) -> Span
+        requires { IsIndex self.now }
+        ensures { result ≡ span_of self.now.bytes.now range }
+    {
+        Span {
+            start: self.position(range.0),
+            end: self.position(range.1),
+        }
+    }
+}
