@@ -8,7 +8,8 @@
 //! ones read `gfm`. `@front`, `@before N` and `@behind N` put a paragraph `New.` in front of all blocks, or before or behind
 //! block N, which is counted from 0, and past the last one from the first one on again. `@without N` takes that block out.
 //! `@shout` puts a word in front of each item and cell that begins with a text. `@join` moves each heading one level down,
-//! and joins the lines of those below level 2. Behind `@definitions` there is a line for each definition of a label: what it
+//! and joins the lines of those below level 2. `@say WORD` puts WORD in place of each `baz` in a text; `@merge WORD` does so,
+//! too, after it has joined neighbouring texts. Behind `@definitions` there is a line for each definition of a label: what it
 //! says, and the ranges of all of it, its destination and its title. Behind
 //! `@blocks` a text, which may have tables, is read block by block: a line has how many events each of them has. Behind
 //! `@format` and options of a style, as `bullet=-`, there is a line for each text: what it becomes in that style, and how
@@ -38,7 +39,7 @@ const MARK: &str = "-marked";
 
 /// What is done with the events of a text.
 #[derive(Clone, Copy)]
-enum Edit {
+enum Edit<'l> {
     Nothing,
     Secure,
     Mark,
@@ -51,13 +52,15 @@ enum Edit {
     Without(usize),
     Shout,
     Join,
+    Say(&'l str),
+    Merge(&'l str),
 }
 
 /// What is said of a text.
 #[derive(Clone, Copy)]
-enum Question {
+enum Question<'l> {
     Three,
-    One(Edit),
+    One(Edit<'l>),
     Definitions,
     Blocks,
     Format(Looks),
@@ -72,8 +75,14 @@ fn number_in(text: &str) -> io::Result<usize> {
     }
 }
 
-/// The edit of a block that is named by its number.
-fn block_edit_named(name: &str) -> io::Result<Edit> {
+/// The edit that is named with a word or a block's number.
+fn longer_edit_named(name: &str) -> io::Result<Edit<'_>> {
+    if let Some(word) = name.strip_prefix("say ") {
+        return Ok(Edit::Say(word));
+    }
+    if let Some(word) = name.strip_prefix("merge ") {
+        return Ok(Edit::Merge(word));
+    }
     if let Some(number) = name.strip_prefix("behind ") {
         return Ok(Edit::Behind(number_in(number)?));
     }
@@ -86,7 +95,7 @@ fn block_edit_named(name: &str) -> io::Result<Edit> {
     }
 }
 
-fn edit_named(name: &str) -> io::Result<Edit> {
+fn edit_named(name: &str) -> io::Result<Edit<'_>> {
     match name {
         "https" => Ok(Edit::Secure),
         "mark" => Ok(Edit::Mark),
@@ -96,7 +105,7 @@ fn edit_named(name: &str) -> io::Result<Edit> {
         "front" => Ok(Edit::Front),
         "shout" => Ok(Edit::Shout),
         "join" => Ok(Edit::Join),
-        _ => block_edit_named(name),
+        _ => longer_edit_named(name),
     }
 }
 
@@ -121,7 +130,7 @@ fn secured(alloc: Global, destination: &str) -> Result<Option<String>, AllocErro
 fn changed(
     alloc: Global,
     event: &Event<'static>,
-    edit: Edit,
+    edit: Edit<'_>,
 ) -> Result<Option<String>, AllocError> {
     let Some(destination) = destination_in(event) else {
         return Ok(None);
@@ -232,7 +241,7 @@ fn without(
 fn with_block_edit(
     alloc: Global,
     events: &[(Event<'static>, (usize, usize))],
-    edit: Edit,
+    edit: Edit<'_>,
 ) -> Result<Vec<(Event<'static>, (usize, usize))>, AllocError> {
     let places = block_places(alloc, events)?;
     let number = match edit {
@@ -280,10 +289,44 @@ fn shout(alloc: Global, events: &mut [(Event<'static>, (usize, usize))]) -> Resu
     Ok(())
 }
 
+/// Puts a word in place of each `baz` in a text.
+fn say(
+    alloc: Global,
+    events: &mut [(Event<'static>, (usize, usize))],
+    word: &str,
+) -> Result<(), AllocError> {
+    for (event, _range) in events.iter_mut() {
+        if let Event::Text(text) = event {
+            let other = text.as_ref().replace(alloc, "baz", word)?;
+            *text = CowStr::Owned(other);
+        }
+    }
+    Ok(())
+}
+
+/// The events with each text joined to the one before it.
+fn merged(
+    alloc: Global,
+    events: &[(Event<'static>, (usize, usize))],
+) -> Result<Vec<(Event<'static>, (usize, usize))>, AllocError> {
+    let mut all: Vec<(Event<'static>, (usize, usize))> = Vec::new(alloc);
+    for pair in events {
+        if let Event::Text(next) = &pair.0
+            && let Some((Event::Text(text), _range)) = all.last_mut()
+        {
+            let joined = format!(in alloc; "{text}{next}")?;
+            *text = CowStr::Owned(joined);
+        } else {
+            all.push((pair.0.to_static(alloc)?, pair.1))?;
+        }
+    }
+    Ok(all)
+}
+
 fn make_edit(
     alloc: Global,
     events: &mut Vec<(Event<'static>, (usize, usize))>,
-    edit: Edit,
+    edit: Edit<'_>,
 ) -> Result<(), AllocError> {
     match edit {
         Edit::Nothing => {}
@@ -291,6 +334,11 @@ fn make_edit(
             *events = with_block_edit(alloc, events, edit)?;
         }
         Edit::Shout => shout(alloc, events)?,
+        Edit::Say(word) => say(alloc, events, word)?,
+        Edit::Merge(word) => {
+            *events = merged(alloc, events)?;
+            say(alloc, events, word)?;
+        }
         Edit::Join => {
             shift_headings(events, Shift::Down(1));
             join_heading_lines(events);
@@ -314,7 +362,7 @@ fn make_edit(
 }
 
 /// Whether an edit is made in a text with extensions.
-fn has_extensions(edit: Edit) -> bool {
+fn has_extensions(edit: Edit<'_>) -> bool {
     match edit {
         Edit::Nothing | Edit::Secure | Edit::Mark => false,
         Edit::Lower | Edit::Title | Edit::Stress => false,
@@ -328,7 +376,7 @@ fn edited_by<R: DefinitionReader>(
     text: &str,
     reader: &R,
     flags: ParserOptions,
-    how: Edit,
+    how: Edit<'_>,
 ) -> Result<String, Fault> {
     let mut reading = reader.read(alloc, text, flags)?;
     make_edit(alloc, &mut reading.events, how)?;
@@ -344,7 +392,7 @@ fn edited_by<R: DefinitionReader>(
 }
 
 /// What a text becomes.
-fn edited(alloc: Global, text: &str, how: Edit) -> Result<String, Fault> {
+fn edited(alloc: Global, text: &str, how: Edit<'_>) -> Result<String, Fault> {
     if has_extensions(how) {
         edited_by(alloc, text, &ExtendedReader::new(), GFM, how)
     } else {
@@ -361,7 +409,12 @@ fn text_of(alloc: Global, line: &str) -> io::Result<String> {
 }
 
 /// A line for what a text becomes.
-fn write_edited<W: Write>(alloc: Global, output: &mut W, text: &str, how: Edit) -> io::Result<()> {
+fn write_edited<W: Write>(
+    alloc: Global,
+    output: &mut W,
+    text: &str,
+    how: Edit<'_>,
+) -> io::Result<()> {
     match edited(alloc, text, how) {
         Ok(text) => {
             let value = Value::String(text);
@@ -476,7 +529,7 @@ fn write_formatted<W: Write>(
 }
 
 /// What the lines behind a line ask, if it isn't a text.
-fn question_of(line: &str) -> io::Result<Option<Question>> {
+fn question_of(line: &str) -> io::Result<Option<Question<'_>>> {
     if line == "%" {
         return Ok(Some(Question::Count));
     }
@@ -528,7 +581,12 @@ fn answer_all<W: Write>(alloc: Global, output: &mut W, lines: &str) -> io::Resul
 }
 
 /// A line for each text: what it becomes.
-fn answer_one<W: Write>(alloc: Global, output: &mut W, lines: &str, how: Edit) -> io::Result<()> {
+fn answer_one<W: Write>(
+    alloc: Global,
+    output: &mut W,
+    lines: &str,
+    how: Edit<'_>,
+) -> io::Result<()> {
     for line in lines.split('\n') {
         if !line.is_empty() && !line.starts_with('#') {
             let text = text_of(alloc, line)?;

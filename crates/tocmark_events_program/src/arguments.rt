@@ -206,19 +206,35 @@ fn read_command<'a>(alloc: Global, syntax_help: &'a str) -> Result<Command<'a>, 
     with_syntax(alloc, read, syntax_help)
 }
 
+fn rewrite_command<'a>(alloc: Global, syntax_help: &'a str) -> Result<Command<'a>, AllocError> {
+    let rewrite = Command::new(alloc, "rewrite").about(REWRITE);
+    writing_command(alloc, rewrite, &REWRITE_OPTIONS, syntax_help)
+}
+
+fn write_command<'a>(alloc: Global, syntax_help: &'a str) -> Result<Command<'a>, AllocError> {
+    let write = Command::new(alloc, "write").about(WRITE);
+    writing_command(alloc, write, &WRITE_OPTIONS, syntax_help)
+}
+
+/// Adds a subcommand, if memory was enough to make it.
+fn with_subcommand<'a>(
+    command: Command<'a>,
+    subcommand: Result<Command<'a>, AllocError>,
+) -> Result<Command<'a>, AllocError> {
+    command.subcommand(subcommand?)
+}
+
 /// The command line, with this help of `--syntax`. `docs/JSON.md` says what its parts mean.
 pub fn command<'a>(alloc: Global, syntax_help: &'a str) -> Result<Command<'a>, AllocError> {
-    let rewrite = Command::new(alloc, "rewrite").about(REWRITE);
-    let write = Command::new(alloc, "write").about(WRITE);
-    Command::new(alloc, NAME)
+    let command = Command::new(alloc, NAME)
         .bin_name(NAME)?
         .version("0.1.0")
         .about("Turn Markdown into events as JSON, and back")
-        .subcommand_required(true)
-        .subcommand(read_command(alloc, syntax_help)?)?
-        .subcommand(writing_command(alloc, rewrite, &REWRITE_OPTIONS, syntax_help)?)?
-        .subcommand(writing_command(alloc, write, &WRITE_OPTIONS, syntax_help)?)?
-        .subcommand(Command::new(alloc, "check").about(CHECK))
+        .subcommand_required(true);
+    let command = with_subcommand(command, read_command(alloc, syntax_help))?;
+    let command = with_subcommand(command, rewrite_command(alloc, syntax_help))?;
+    let command = with_subcommand(command, write_command(alloc, syntax_help))?;
+    command.subcommand(Command::new(alloc, "check").about(CHECK))
 }
 
 /// The flags of the syntax and the extensions that are named.

@@ -1,4 +1,4 @@
-//! Single events that are replaced by themselves: texts, info strings, levels of headings.
+//! Single events that are replaced by themselves: raw HTML, info strings, levels of headings.
 
 use crate::edits::number_of;
 use crate::patch::Patch;
@@ -79,28 +79,22 @@ fn info_patch(
     }))
 }
 
-/// A text of other words.
-fn text_patch(
+/// Raw HTML that says something else.
+fn html_patch(
     alloc: Global,
     range: (usize, usize),
-    is_raw: bool,
     new: &str,
 ) -> Result<Option<Patch>, AllocError> {
     Ok(Some(Patch {
         from: range.0,
         to: range.1,
-        text: if is_raw {
-            String::from_str(alloc, new)?
-        } else {
-            spelled_text(alloc, new)?
-        },
+        text: String::from_str(alloc, new)?,
     }))
 }
 
 /// What of an event can be replaced by itself.
 #[derive(Clone, Copy)]
 enum ReplaceablePart<'t> {
-    Text(&'t str),
     Html(&'t str),
     Info(&'t str),
     Level(HeadingLevel),
@@ -117,7 +111,6 @@ fn replaceable_part_of_tag<'t>(tag: &'t Tag<'_>) -> Option<ReplaceablePart<'t>> 
 fn replaceable_part<'t>(event: &'t Event<'_>) -> Option<ReplaceablePart<'t>> {
     match event {
         Event::Start(tag) => replaceable_part_of_tag(tag),
-        Event::Text(text) => Some(ReplaceablePart::Text(text.as_ref())),
         Event::Html(text) => Some(ReplaceablePart::Html(text.as_ref())),
         Event::InlineHtml(text) => Some(ReplaceablePart::Html(text.as_ref())),
         _ => None,
@@ -128,7 +121,6 @@ fn replaceable_part<'t>(event: &'t Event<'_>) -> Option<ReplaceablePart<'t>> {
 pub(crate) fn event_patch(
     alloc: Global,
     source: &str,
-    is_raw: bool,
     old: &(Event<'_>, (usize, usize)),
     new: &Event<'_>,
 ) -> Result<Option<Patch>, AllocError> {
@@ -137,12 +129,7 @@ pub(crate) fn event_patch(
         return Ok(None);
     };
     match (before, after) {
-        (ReplaceablePart::Text(_), ReplaceablePart::Text(text)) => text_patch(
-            alloc, range, is_raw, text,
-        ),
-        (ReplaceablePart::Html(_), ReplaceablePart::Html(text)) => text_patch(
-            alloc, range, true, text,
-        ),
+        (ReplaceablePart::Html(_), ReplaceablePart::Html(text)) => html_patch(alloc, range, text),
         (ReplaceablePart::Info(_), ReplaceablePart::Info(info)) => info_patch(
             alloc, source, range.0, info,
         ),

@@ -180,7 +180,7 @@ pub(crate) fn innermost(
 }
 
 /// What stands before a block on its line, with spaces for the marks of items.
-fn prefix_of(alloc: Global, source: &str, begins: usize) -> Result<String, AllocError> {
+pub(crate) fn prefix_of(alloc: Global, source: &str, begins: usize) -> Result<String, AllocError> {
     let start = line_start(source.as_bytes(), begins);
     let mut prefix = String::new(alloc);
     for c in source.get(start..begins).unwrap_or("").chars() {
@@ -190,7 +190,7 @@ fn prefix_of(alloc: Global, source: &str, begins: usize) -> Result<String, Alloc
 }
 
 /// A text of which each line but the first stands behind a prefix.
-fn behind_prefix(alloc: Global, text: &str, prefix: &str) -> Result<String, AllocError> {
+pub(crate) fn behind_prefix(alloc: Global, text: &str, prefix: &str) -> Result<String, AllocError> {
     let mut all = String::new(alloc);
     for (at, line) in text.split('\n').enumerate() {
         if at > 0 {

@@ -6,9 +6,11 @@
 use crate::event::event_patch;
 use crate::label::DefinitionChange;
 use crate::link::{LinkChange, is_address, is_reference, link_parts, text_start};
+use crate::wording::{Run, Spelling, joined_texts};
 use std::alloc::{AllocError, Global};
 use std::collections::HashMap;
 use tocmark_compare::event::same_event;
+use tocmark_compare::same::is_text;
 use tocmark_event::event::{Event, LinkType, Tag};
 use tocmark_read_tokens::label::key_of;
 use tocmark_reader::ReferenceDefinition;
@@ -43,10 +45,23 @@ pub struct Patches {
     pub allows_inner: bool,
     /// Whether some are.
     pub has_inner: bool,
-    /// The Starts that are open.
-    open: Vec<usize>,
+    /// How texts are spelled.
+    pub spelling: Spelling,
+    /// Whether the spelling of some text is a choice.
+    pub has_texts: bool,
+    /// The Starts that are open: where each stands in the events that the reader found, and in those that were given.
+    open: Vec<(usize, usize)>,
     /// Whether a text stands as it is, as in code.
     is_raw: bool,
+}
+
+/// What stands in the place of one event, or of a run of texts.
+#[derive(Clone, Copy)]
+struct Step {
+    /// The stretch of the events that the reader found.
+    old: (usize, usize),
+    /// The stretch of those that were given.
+    new: (usize, usize),
 }
 
 /// Whether an event opens a block whose texts stand as they are.
@@ -58,6 +73,70 @@ fn opens_raw(event: &Event<'_>) -> bool {
     }
 }
 
+impl Step {
+    /// How many events it has that the reader found.
+    fn count(self) -> usize {
+        self.old.1.saturating_sub(self.old.0)
+    }
+
+    /// How many events it has that were given.
+    fn other_count(self) -> usize {
+        self.new.1.saturating_sub(self.new.0)
+    }
+
+    /// Its events with a number, one on each side.
+    fn single(self, number: usize) -> Step {
+        let at = self.old.0.saturating_add(number);
+        let other = self.new.0.saturating_add(number);
+        Step {
+            old: (at, at.saturating_add(1)),
+            new: (other, other.saturating_add(1)),
+        }
+    }
+}
+
+fn is_text_at(events: &[(Event<'_>, (usize, usize))], at: usize) -> bool {
+    match events.get(at) {
+        Some(pair) => is_text(&pair.0),
+        None => false,
+    }
+}
+
+/// The end of the run of texts that begins at a place, or else of the one event there.
+fn step_end(events: &[(Event<'_>, (usize, usize))], first: usize) -> usize {
+    for at in first..events.len() {
+        if !is_text_at(events, at) {
+            return at.max(first.saturating_add(1));
+        }
+    }
+    events.len()
+}
+
+/// What stands in the place of each event, and of each run of texts; none if these aren't as many.
+fn steps(
+    alloc: Global,
+    old: &[(Event<'_>, (usize, usize))],
+    new: &[(Event<'_>, (usize, usize))],
+) -> Result<Option<Vec<Step>>, AllocError> {
+    let mut all = Vec::new(alloc);
+    let (mut at, mut other) = (0usize, 0usize);
+    for _ in 0..old.len() {
+        if at >= old.len() || other >= new.len() {
+            break;
+        }
+        let (past, next) = (step_end(old, at), step_end(new, other));
+        all.push(Step {
+            old: (at, past),
+            new: (other, next),
+        })?;
+        (at, other) = (past, next);
+    }
+    if at < old.len() || other < new.len() {
+        return Ok(None);
+    }
+    Ok(Some(all))
+}
+
 impl Patches {
     pub fn new(alloc: Global, allows_inner: bool) -> Patches {
         Patches {
@@ -66,6 +145,8 @@ impl Patches {
             written: Vec::new(alloc),
             allows_inner,
             has_inner: false,
+            spelling: Spelling::Literal,
+            has_texts: false,
             open: Vec::new(alloc),
             is_raw: false,
         }
@@ -116,17 +197,18 @@ impl Patches {
         self.take(link.inline_patch(alloc, source)?)
     }
 
-    /// A container that ends, by the places of its Start and its End; false if it was changed and can't be patched.
+    /// A container that ends behind an event, by the places of its Start on both sides; false if it was changed and can't be
+    /// patched.
     fn end(
         &mut self,
         alloc: Global,
         source: &str,
         old: &[(Event<'_>, (usize, usize))],
         new: &[(Event<'_>, (usize, usize))],
-        container: (usize, usize),
+        starts: (usize, usize),
+        last: usize,
     ) -> Result<bool, AllocError> {
-        let (start, end) = container;
-        let (Some(before), Some(after)) = (old.get(start), new.get(start)) else {
+        let (Some(before), Some(after)) = (old.get(starts.0), new.get(starts.1)) else {
             return Ok(false);
         };
         let (Some(parts), Some(others)) = (link_parts(&before.0), link_parts(&after.0)) else {
@@ -136,9 +218,8 @@ impl Patches {
             return Ok(true);
         }
         let range = before.1;
-        let last = end.saturating_sub(1);
         let inner = match old.get(last) {
-            Some(pair) if last > start => pair.1.1,
+            Some(pair) if last > starts.0 => pair.1.1,
             _ => text_start(source, range.0),
         };
         let link = LinkChange {
@@ -157,31 +238,93 @@ impl Patches {
         source: &str,
         old: &[(Event<'_>, (usize, usize))],
         new: &[(Event<'_>, (usize, usize))],
-        at: usize,
+        places: (usize, usize),
     ) -> Result<bool, AllocError> {
-        let (Some(before), Some(after)) = (old.get(at), new.get(at)) else {
+        let (Some(before), Some(after)) = (old.get(places.0), new.get(places.1)) else {
             return Ok(false);
         };
         match &before.0 {
             Event::Start(_) => {
                 self.is_raw = opens_raw(&before.0);
-                self.open.push(at)?;
+                self.open.push(places)?;
                 if link_parts(&before.0).is_some() && link_parts(&after.0).is_some() {
                     return Ok(true);
                 }
             }
             Event::End(_) => {
                 self.is_raw = false;
-                let start = self.open.pop().unwrap_or(at);
-                return self.end(alloc, source, old, new, (start, at));
+                let starts = self.open.pop().unwrap_or(places);
+                let last = places.0.saturating_sub(1);
+                return self.end(alloc, source, old, new, starts, last);
             }
             _ => {}
         }
         if same_event(&before.0, &after.0) {
             return Ok(true);
         }
-        let patch = event_patch(alloc, source, self.is_raw, before, &after.0)?;
+        let patch = event_patch(alloc, source, before, &after.0)?;
         self.take(patch)
+    }
+
+    /// A run of texts, and the texts that were given in its place.
+    fn texts(
+        &mut self,
+        alloc: Global,
+        source: &str,
+        old: &[(Event<'_>, (usize, usize))],
+        new: &[(Event<'_>, (usize, usize))],
+        step: Step,
+    ) -> Result<(), AllocError> {
+        let before = old.get(step.old.0..step.old.1).unwrap_or(&[]);
+        let after = new.get(step.new.0..step.new.1).unwrap_or(&[]);
+        let run = Run::of(alloc, source, self.is_raw, before)?;
+        let text = joined_texts(alloc, after)?;
+        if run.says(text.as_str()) {
+            return Ok(());
+        }
+        self.has_texts = self.has_texts || !self.is_raw;
+        for patch in &run.patches(alloc, source, text.as_str(), self.spelling)? {
+            self.list.push(patch.copied(alloc)?)?;
+        }
+        Ok(())
+    }
+
+    /// Texts that stand as they are, as in code: each by itself if there are as many.
+    fn raw_texts(
+        &mut self,
+        alloc: Global,
+        source: &str,
+        old: &[(Event<'_>, (usize, usize))],
+        new: &[(Event<'_>, (usize, usize))],
+        step: Step,
+    ) -> Result<(), AllocError> {
+        if step.count() != step.other_count() {
+            return self.texts(alloc, source, old, new, step);
+        }
+        for number in 0..step.count() {
+            self.texts(alloc, source, old, new, step.single(number))?;
+        }
+        Ok(())
+    }
+
+    /// What was given in the place of an event or a run of texts; false if that can't be patched.
+    fn step(
+        &mut self,
+        alloc: Global,
+        source: &str,
+        old: &[(Event<'_>, (usize, usize))],
+        new: &[(Event<'_>, (usize, usize))],
+        step: Step,
+    ) -> Result<bool, AllocError> {
+        if !is_text_at(old, step.old.0) || !is_text_at(new, step.new.0) {
+            return self.pair(alloc, source, old, new, (step.old.0, step.new.0));
+        }
+        if self.is_raw {
+            self.raw_texts(alloc, source, old, new, step)?;
+        } else {
+            self.texts(alloc, source, old, new, step)?;
+        }
+        Ok(true)
     }
 
     /// The patches of a tree; false if it can't be patched. The lists are the events that the reader
@@ -193,12 +336,12 @@ impl Patches {
         old: &[(Event<'_>, (usize, usize))],
         new: &[(Event<'_>, (usize, usize))],
     ) -> Result<bool, AllocError> {
-        if old.len() != new.len() {
-            return Ok(false);
-        }
         self.open.clear();
-        for at in 0..old.len() {
-            if !self.pair(alloc, source, old, new, at)? {
+        let Some(steps) = steps(alloc, old, new)? else {
+            return Ok(false);
+        };
+        for step in &steps {
+            if !self.step(alloc, source, old, new, *step)? {
                 return Ok(false);
             }
         }

@@ -31,6 +31,7 @@ use crate::patch::{Patch, Patches};
 use crate::pieces::{Definitions, Piece, Tools, events_of, make_pieces, write_tree};
 use crate::plan::{Documents, Plan, place_of};
 use crate::trees::{Block, Tree, blocks, trees};
+use crate::wording::Spelling;
 use std::alloc::{AllocError, Global};
 use tocmark_compare::same::{are_same, differ};
 use tocmark_event::event::{Event, ParserOptions};
@@ -213,17 +214,37 @@ fn add_tree<'a, R: Reader>(
     add_written(tools, source, patches, *block, plan.tree, events)
 }
 
+/// How changes are made: whether blocks in trees may be written by themselves, how texts are spelled, and of which trees, if
+/// not of all. The texts of the others are literal.
+#[derive(Clone, Copy)]
+struct Attempt<'a> {
+    allows_inner: bool,
+    spelling: Spelling,
+    trees: Option<&'a [bool]>,
+}
+
+impl Attempt<'_> {
+    /// How the texts of a tree are spelled.
+    fn spelling_in(&self, tree: usize) -> Spelling {
+        match self.trees {
+            Some(trees) if trees.get(tree).copied() != Some(true) => Spelling::Literal,
+            _ => self.spelling,
+        }
+    }
+}
+
 /// The patches of all trees, where each stands for the block in its place; none if one is refused.
 fn all_patches<'a, R: DefinitionReader>(
     tools: &Tools<'_, '_, R>,
     source: &str,
     work: &Work<'_>,
     events: &'a [(Event<'a>, (usize, usize))],
-    inner: bool,
+    attempt: Attempt<'_>,
 ) -> Result<Option<Patches>, AllocError> {
     let alloc = tools.alloc;
-    let mut patches = Patches::new(alloc, inner);
+    let mut patches = Patches::new(alloc, attempt.allows_inner);
     for at in 0..work.plans.len() {
+        patches.spelling = attempt.spelling_in(at);
         if !add_tree(tools, source, &mut patches, work, at, events)? {
             return Ok(None);
         }
@@ -321,8 +342,43 @@ fn refusal<R: Reader>(
     Ok(Some(place))
 }
 
-/// The source with just what was edited replaced, if it is read as the events: where blocks in trees may be
-/// written by themselves, and where they may not.
+/// Of each tree, whether a text reads otherwise than it, although its neighbours may come and go.
+fn misread_trees<R: Reader>(
+    tools: &Tools<'_, '_, R>,
+    work: &Work<'_>,
+    text: &str,
+    events: &[(Event<'_>, (usize, usize))],
+) -> Result<Vec<bool>, AllocError> {
+    let alloc = tools.alloc;
+    let reading = tools.reader.read(alloc, text, tools.flags)?;
+    let read = trees(alloc, &reading.events)?;
+    let mut misread = Vec::new(alloc);
+    for (at, plan) in work.plans.iter().enumerate() {
+        let behind = work.plans.len().saturating_sub(at);
+        let mut is_read = false;
+        for place in [Some(at), read.len().checked_sub(behind)] {
+            if let Some(place) = place
+                && let Some(tree) = read.get(place)
+                && !is_read
+            {
+                is_read = is_tree(alloc, &reading.events, *tree, events, plan.tree)?;
+            }
+        }
+        misread.push(!is_read)?;
+    }
+    Ok(misread)
+}
+
+/// The ways in which changes are made, as they are tried: whether blocks in trees may be written by themselves, and how texts
+/// are spelled.
+const ATTEMPTS: [(bool, Spelling); 4] = [
+    (true, Spelling::Literal),
+    (true, Spelling::Escaped),
+    (true, Spelling::Anew),
+    (false, Spelling::Anew),
+];
+
+/// The source with just what was edited replaced, in the first way in which it is read as the events.
 fn patched_text<'a, R: DefinitionReader>(
     tools: &Tools<'_, '_, R>,
     source: &str,
@@ -338,19 +394,33 @@ fn patched_text<'a, R: DefinitionReader>(
     if !are_in_place(work) {
         return Ok(None);
     }
-    for inner in [true, false] {
-        let Some(patches) = all_patches(tools, source, work, events, inner)? else {
+    let mut misread = Vec::new(tools.alloc);
+    let (mut has_texts, mut has_inner) = (true, true);
+    for (allows_inner, spelling) in ATTEMPTS {
+        if allows_inner && !has_texts || !allows_inner && !has_inner {
+            continue;
+        }
+        let attempt = Attempt {
+            allows_inner,
+            spelling,
+            trees: if spelling == Spelling::Escaped {
+                Some(&misread)
+            } else {
+                None
+            },
+        };
+        let Some(patches) = all_patches(tools, source, work, events, attempt)? else {
             return Ok(None);
         };
         let output = patched(tools.alloc, source, &patches.list, &patches.written)?;
-        let has_inner = patches.has_inner;
+        (has_texts, has_inner) = (patches.has_texts, patches.has_inner);
         drop(patches);
         match refusal(tools, work, output.text.as_str(), events)? {
             None => return Ok(Some(output)),
             Some(_place) => {}
         }
-        if !has_inner {
-            return Ok(None);
+        if spelling == Spelling::Literal && has_texts {
+            misread = misread_trees(tools, work, output.text.as_str(), events)?;
         }
     }
     Ok(None)
