@@ -15,7 +15,7 @@ use Rattle.json.proofs.Printed.Trees.{value-json_tokens}
 use Rattle.serde_json.specs.Data.{Data, null, boolean, number, unsigned, string, array, object, Items, item, no_items, Members, member, no_members, put, depth, items_depth, members_depth}
 use Rattle.serde_json.specs.Read.{of_items, of_json, max_depth, read}
 use Rattle.serde_json.specs.View.{items_of}
-use Rattle.serde_json.specs.Written.{outline, items_outline, members_outline, blank, blank_items, compact_text, unless_float, IsInOrder}
+use Rattle.serde_json.specs.Written.{outline, items_outline, members_outline, blank_items, compact_text, unless_float, IsInOrder}
 use Rattle.serde_json.proofs.Numbers.{number_of-decimal}
 use Rattle.serde_json.proofs.Texts.{print-outline, unless_float-number_of}
 use Rattle.tocmark_event.specs.declared.event.Alignment.{Alignment}

@@ -6,7 +6,7 @@ use Rattle.serde_json.specs.View.{view, items_of, items_view}
 use Rattle.serde_json.specs.declared.value.Value.{Value}
 use Rattle.tocmark_event.proofs.Copying.{copied-more, copied-all}
 use Rattle.tocmark_event.specs.View.{EventView}
-use Rattle.tocmark_json.specs.Json.{IsPairsJson, listed, located_json}
+use Rattle.tocmark_json.specs.Json.{IsPairsJson, located_json}
 use Rattle.tocmark_json.specs.Place.{IsAt, StandsIn}
 use Rattle.tocmark_json.specs.declared.fault.JsonError.{JsonError}
 use Rattle.tocmark_json.specs.declared.positions.Span.{Span}

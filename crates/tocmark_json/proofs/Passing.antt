@@ -1,6 +1,8 @@
 -- Places of a text, one behind the other.
-use Rattle.std.proofs.Common.{◌≡◌, ◌∙◌, ◌+◌, ◌-◌, ◌<◌, ◌≤◌, ℕ, zero, suc, List, [], ◌∷◌, ap, arith, drop, length, min, refl, sym}
+use Rattle.std.proofs.Common.{◌≡◌, ◌∙◌, ◌+◌, ◌-◌, ◌<◌, ◌≤◌, ℕ, zero, suc, List, [], ◌∷◌, ◌++◌, ap, arith, drop, length, min, refl, subst, sym}
+use Rattle.std.specs.List.{All}
 use Rattle.std.proofs.lemmas.List.{drop-drop}
+use Rattle.std.proofs.lemmas.List.Elements.{All-append, All-cons, All-nil}
 use Rattle.tocmark_json.specs.Positions.{IsMark, behind, passed, position_of, start}
 use Rattle.tocmark_json.specs.declared.positions.Mark.{Mark}
 use Rattle.tocmark_json.specs.declared.positions.Position.{Position}
@@ -31,6 +33,9 @@ one_before n = omega arith
 suc_add : (m n : ℕ) → (m + n) + 1 ≡ m + suc n
 suc_add m n = omega arith
 
+none_more : (n : ℕ) → n ≡ n + 0
+none_more n = omega arith
+
 -- the place of the next byte
 further : (p : Position) (bs : List ℕ) (n : ℕ) → passed p bs (suc n) ≡ behind (drop n bs) (passed p bs n)
 further p bs zero = refl
@@ -44,7 +49,7 @@ next_place bs n p q here is =
 
 -- two walks, one behind the other
 joined : (p : Position) (bs : List ℕ) (m n : ℕ) → passed (passed p bs m) (drop m bs) n ≡ passed p bs (m + n)
-joined p bs m zero = ap (λ k. passed p bs k) (omega arith)
+joined p bs m zero = ap (λ k. passed p bs k) (none_more m)
 joined p bs m (suc n) =
     further (passed p bs m) (drop m bs) n
     ∙ ap (λ r. behind (drop n (drop m bs)) r) (joined p bs m n)
@@ -85,3 +90,8 @@ marked bs mark offset q is before walked =
     ∙ joined start bs mark.offset (to - mark.offset)
     ∙ ap (λ k. passed start bs k) all
     ∙ within start bs offset
+
+-- one more mark
+pub marked_more : (bs : List ℕ) (marks more : List Mark) (mark : Mark) → All (IsMark bs) marks → more ≡ marks ++ mark ∷ [] → IsMark bs mark → All (IsMark bs) more
+marked_more bs marks more mark all pushed is =
+    subst (λ (ms : List Mark). All (IsMark bs) ms) (sym pushed) (All-append (IsMark bs) marks (mark ∷ []) all (All-cons (IsMark bs) mark [] is (All-nil (IsMark bs))))

@@ -1,7 +1,7 @@
 //! The lines and columns of a text.
 
 ghost use Rattle.std.specs.List.{All};
-ghost use Rattle.std.specs.Prelude.{◌≡◌, ◌-◌, ◌≤◌, IfOk, drop, length};
+ghost use Rattle.std.specs.Prelude.{◌≡◌, ◌-◌, ◌≤◌, ℕ, IfOk, List, OnOk, drop, length};
 ghost use Rattle.tocmark_json.specs.Positions.{behind, ends_line, begins_none, passed, position_of, span_of, IsIndex, IsMark};
 
 use std::alloc::{AllocError, Global};
@@ -26,6 +26,17 @@ pub struct Span {
 
 /// How many bytes are between two marks.
 const STEP: usize = 64;
+
+/// The bytes from a place on.
+fn rest(bytes: &[u8], place: usize) -> &[u8]
+    ensures { result.now ≡ drop place bytes.now }
+{
+    if place <= bytes.len() {
+        &bytes[place..]
+    } else {
+        &[]
+    }
+}
 
 /// Whether the first byte ends a line.
 fn ends_line(rest: &[u8]) -> bool
@@ -69,14 +80,14 @@ fn behind(rest: &[u8], position: Position) -> Position
 }
 
 /// The place of a byte, from that of one before it.
-#[tactic(auto, using(crate::proofs::Passing::goes_on, crate::proofs::Passing::ended))]
+#[tactic(auto, using(crate::proofs::Passing::ended))]
 fn passed(bytes: &[u8], from: usize, to: usize, position: Position) -> Position
     requires { to ≤ length bytes.now }
     ensures { result ≡ passed position (drop from bytes.now) (to - from) }
 {
     let mut place = position;
     for at in from..to {
-        place = behind(&bytes[at..], place);
+        place = behind(rest(bytes, at), place);
     }
     place
 }
@@ -94,18 +105,29 @@ const BEGIN: Mark = Mark {
     position: Position { line: 1, column: 1 },
 };
 
+/// Adds the mark of a byte 0, 64, 128 and so on.
+#[tactic(auto, using(crate::proofs::Passing::marked_more))]
+fn push_mark(marks: &mut Vec<Mark>, mark: Mark) -> Result<(), AllocError>
+    ensures { OnOk result ((text : List ℕ) → IsMark text mark
+        → All (IsMark text) marks.old.items → All (IsMark text) marks.new.items) }
+{
+    if mark.offset % STEP == 0 {
+        marks.push(mark)?;
+        Ok(())
+    } else {
+        Ok(())
+    }
+}
+
 /// The marks of the bytes 0, 64, 128 and so on.
-#[tactic(auto, using(crate::proofs::Passing::next_place))]
 fn marks_of(alloc: Global, bytes: &[u8]) -> Result<Vec<Mark>, AllocError>
     ensures { IfOk result (λ marks. All (IsMark bytes.now) marks.items) }
 {
     let mut marks = Vec::new(alloc);
     let mut position = BEGIN.position;
     for offset in 0..bytes.len() {
-        if offset % STEP == 0 {
-            marks.push(Mark { offset, position })?;
-        }
-        position = behind(&bytes[offset..], position);
+        push_mark(&mut marks, Mark { offset, position })?;
+        position = behind(rest(bytes, offset), position);
     }
     Ok(marks)
 }

@@ -1,4 +1,4 @@
-use Rattle.std.proofs.Common.{◌≡◌, ◌×◌}
+use Rattle.std.proofs.Common.{◌≡◌}
 use Rattle.std.specs.List.{All}
 use Rattle.tocmark_json.specs.Positions.{IsMark, position_of}
 use Rattle.tocmark_json.proofs.positions.marks_of.Given as goal

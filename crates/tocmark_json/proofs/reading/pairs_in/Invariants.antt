@@ -1,4 +1,4 @@
-use Rattle.std.proofs.Common.{◌≡◌, map, take}
+use Rattle.std.proofs.Common.{map, take}
 use Rattle.serde_json.specs.View.{view}
 use Rattle.tocmark_json.specs.Json.{pair_view}
 use Rattle.tocmark_json.proofs.Located.{AreSoFar}
