@@ -6,14 +6,6 @@ use Rattle.tocmark_event.specs.declared.event.flags.ParserOptions.{ParserOptions
 use Rattle.tocmark_format.specs.Shape.{has_same_shape}
 use Rattle.tocmark_format.proofs.format.Formatter.have_same_shapes.Goals as goal
 
-pub loop-flags-preserved : goal.loop-flags-preserved
-loop-flags-preserved g c =
-    let f = c.args.self.now in
-    All-more (λ (o : ParserOptions). has_same_shape (g.R.Reader.reading f.reader.now c.args.one.now o) (g.R.Reader.reading f.reader.now c.args.other.now o))
-    f.also.now c.loop-flags.flags-index c.flags-item.result c.loop-flags-test.true c.loop-flags.invariant
-    (subst (λ (o : ParserOptions). has_same_shape (g.R.Reader.reading f.reader.now c.args.one.now o) (g.R.Reader.reading f.reader.now c.args.other.now o))
-    c.flags-item.is (c.in_ok-have_same_shape.ensures c.if-not.false))
-
 pub returns : goal.returns
 returns g c = λ _.
     let f = c.args.self.now in

@@ -6,4 +6,4 @@ use Rattle.tocmark_format.proofs.format.Formatter.read_back.Goals as goal
 pub returns-clause-says : goal.returns-clause-says
 returns-clause-says g c =
     let f = c.args.self.now in
-    sums-all c.read_parts.new.taker.says (found_events (g.R.Reader.reading f.reader.now c.args.text.now f.flags)) (c.in_ok-read_parts.ensures.taken [] c.new.ensures)
+    sums-all c.read_parts.new.taker.says (found_events (g.R.Reader.reading f.reader.now c.args.text.now f.flags)) (c.in_ok-back.ensures.taken [] c.new.ensures)

@@ -12,4 +12,4 @@ returns-in-Some c =
     c.put.ensures
 
 pub returns-in-None : goal.returns-in-None
-returns-in-None c = λ before h. outlines-still c.args.self.now c.args.self.now (event_view text_of c.args.pair.now.0) refl c.in-None.ensures.none before h
+returns-in-None c = λ before h. outlines-still c.args.self.now c.args.self.now (event_view text_of c.args.pair.now.0) refl (c.in-None.ensures.none refl) before h
