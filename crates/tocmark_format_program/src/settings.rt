@@ -145,7 +145,10 @@ impl AlsoRead {
     /// These syntaxes and the one with this name; none for `none`.
     fn with(self, name: &str) -> Option<AlsoRead> {
         match name {
-            "commonmark" => Some(AlsoRead { commonmark: true, ..self }),
+            "commonmark" => Some(AlsoRead {
+                commonmark: true,
+                ..self
+            }),
             "gfm" => Some(AlsoRead { gfm: true, ..self }),
             "all" => Some(AlsoRead { all: true, ..self }),
             "none" => Some(AlsoRead::NONE),
