@@ -6,5 +6,5 @@ use Rattle.tocmark_format.proofs.parts.ExtendedReaderPartReader.read_parts.Goals
 
 pub returns-clause-definitions : goal.returns-clause-definitions
 returns-clause-definitions g c =
-    let all = c.in_ok-blocks.field-0.1 in
+    let all = c.in_ok-blocks.definitions in
     sym (map-map unplaced said_view all.items) ∙ ap (map unplaced) c.in_ok-blocks.ensures.definitions
