@@ -52,6 +52,7 @@ IsWriteFault (fault.NotRewritten e) = ⊥
 IsWriteFault (fault.Changed n) = ⊥
 IsWriteFault fault.OutOfMemory = ⊥
 IsWriteFault fault.Write = Unit {0}
+IsWriteFault (fault.NotReplaced name e) = ⊥
 
 -- an answer stands behind what the output held
 pub record IsAnswered (j : Job) (source input : List ℕ) (old new : Option (List ℕ)) : Type 0 where

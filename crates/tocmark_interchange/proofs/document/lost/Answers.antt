@@ -1,4 +1,4 @@
-use Rattle.std.proofs.Common.{◌≡◌, ◌∙◌, IfOk, IfSome, IsNone, List, ap, map, subst}
+use Rattle.std.proofs.Common.{◌≡◌, ◌∙◌, IfOk, IfSome, IsNone, List, ap, subst}
 use Rattle.tocmark_event.specs.Merged.{merged}
 use Rattle.tocmark_event.specs.View.{EventView}
 use Rattle.tocmark_interchange.proofs.FoundAgain.{found_read, given_read}
