@@ -304,20 +304,35 @@ fn say(
     Ok(())
 }
 
+/// The text of the last of these events with that of the next one, if both are texts.
+fn joined_text(
+    alloc: Global,
+    events: &[(Event<'static>, (usize, usize))],
+    next: &Event<'static>,
+) -> Result<Option<String>, AllocError> {
+    let Some((Event::Text(text), _range)) = events.last() else {
+        return Ok(None);
+    };
+    match next {
+        Event::Text(more) => Ok(Some(format!(in alloc; "{text}{more}")?)),
+        _ => Ok(None),
+    }
+}
+
 /// The events with each text joined to the one before it.
 fn merged(
     alloc: Global,
     events: &[(Event<'static>, (usize, usize))],
 ) -> Result<Vec<(Event<'static>, (usize, usize))>, AllocError> {
-    let mut all: Vec<(Event<'static>, (usize, usize))> = Vec::new(alloc);
+    let mut all = Vec::new(alloc);
     for pair in events {
-        if let Event::Text(next) = &pair.0
-            && let Some((Event::Text(text), _range)) = all.last_mut()
-        {
-            let joined = format!(in alloc; "{text}{next}")?;
-            *text = CowStr::Owned(joined);
-        } else {
-            all.push((pair.0.to_static(alloc)?, pair.1))?;
+        match joined_text(alloc, &all, &pair.0)? {
+            Some(text) => {
+                if let Some(last) = all.last_mut() {
+                    last.0 = Event::Text(CowStr::Owned(text));
+                }
+            }
+            None => all.push((pair.0.to_static(alloc)?, pair.1))?,
         }
     }
     Ok(all)
