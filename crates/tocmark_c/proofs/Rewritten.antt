@@ -21,7 +21,7 @@ rewritten_told bits source options json output o answer are valid is text =
     (o, are, valid, record { answer = answer; is_rewritten = is; is_its_text = text })
 
 -- why a source is not rewritten
-rewriting_by_error : (bits : ℕ) (source options json : List ℕ) (e : RewriteError) → IsRewriteCause json e → IsRewriteCauseOf bits source options json (rewriting_cause e)
+rewriting_by_error : (bits : ℕ) (source options json : List ℕ) (e : RewriteError) → IsRewriteCause (flags_of bits) source json e → IsRewriteCauseOf bits source options json (rewriting_cause e)
 rewriting_by_error bits source options json (rewrite_error.NotJson x) h = h
 rewriting_by_error bits source options json (rewrite_error.NotEvents x) h = (h.0, h.1, x, h.2)
 rewriting_by_error bits source options json (rewrite_error.Refused p (error.FormatFailed f)) h = tt
@@ -42,7 +42,7 @@ options_by_error bits source options json (options_error.Invalid x) h = (h.0, h.
 options_by_error bits source options json options_error.OutOfMemory h = tt
 
 -- the same of the cause that is told
-pub rewriting_told : (bits : ℕ) (source options json : List ℕ) (e : RewriteError) (cause : Cause) → cause ≡ rewriting_cause e → IsRewriteCause json e → IsRewriteCauseOf bits source options json cause
+pub rewriting_told : (bits : ℕ) (source options json : List ℕ) (e : RewriteError) (cause : Cause) → cause ≡ rewriting_cause e → IsRewriteCause (flags_of bits) source json e → IsRewriteCauseOf bits source options json cause
 rewriting_told bits source options json e cause is h =
     subst (λ (c : Cause). IsRewriteCauseOf bits source options json c) (sym is) (rewriting_by_error bits source options json e h)
 

@@ -1,19 +1,21 @@
 -- The events that are handed to rewriting are those of the JSON text.
-use Rattle.std.proofs.Common.{◌≡◌, ℕ, List, Option, Result, map, subst, sym, ap, ◌∙◌}
+use Rattle.std.proofs.Common.{◌≡◌, ◌≢◌, ℕ, List, Option, Result, map, subst, sym, ap, ◌∙◌}
 use mathlib.Core.List.{map-map}
 use Rattle.std.specs.Borrow.{Bor}
 use Rattle.std.specs.Iterator.{Drains, YieldsFirstBy}
 use Rattle.std.specs.Prelude.{IfErr, IfOk, true}
 use Rattle.std.proofs.lemmas.Result.{IfErr-weaker, IfOk-weaker}
-use Rattle.tocmark_event.specs.Reading.{lent_pair}
+use Rattle.tocmark_event.specs.Reading.{ReadingView, lent_pair}
 use Rattle.tocmark_event.specs.Text.{ParserEvent, text_of}
 use Rattle.tocmark_event.specs.View.{EventView}
 use Rattle.tocmark_event.specs.declared.event.flags.ParserOptions.{ParserOptions}
 use Rattle.tocmark_compare.specs.Given.{given_events}
 use Rattle.tocmark_json.specs.Json.{pair_view}
 use Rattle.tocmark_laws.proofs.Handed.{drained}
-use Rattle.tocmark_rewrite.specs.Edited.{IsWrittenFor, edited_events}
+use Rattle.tocmark_rewrite.specs.Edited.{HasItsCause, IsWrittenFor, edited_events}
 use Rattle.tocmark_rewrite.specs.declared.answer.Rewritten.{Rewritten}
+use Rattle.tocmark_rewrite.specs.declared.fault.Fault.{Fault}
+use Rattle.tocmark_rewrite.specs.declared.fault.Fault.TheVariants as fault
 use Rattle.tocmark_state.specs.Ranges.{Pair, Range}
 use Rattle.tocmark_interchange.specs.Document.{without_range}
 use Rattle.tocmark_interchange.specs.Interchange.{IsTextOf, in_source, kept, places_left}
@@ -50,13 +52,21 @@ written_from flags source input ps r is h =
       is_written = subst (λ (es : List EventView). IsWrittenFor (reading_under flags) source es answer) (given_read ps) w;
     }) h
 
-of_block : (input : List ℕ) (pairs : List Pair) → IsTextOf input pairs → (e : RewriteError) → IsOfBlock e → IsRewriteCause input e
-of_block input pairs is (rewrite_error.NotJson e) h = absurd h
-of_block input pairs is (rewrite_error.NotEvents e) h = absurd h
-of_block input pairs is (rewrite_error.Refused p e) h = (pairs, is)
-of_block input pairs is (rewrite_error.ReadOtherwise p) h = (pairs, is)
-of_block input pairs is rewrite_error.OutOfMemory h = tt
+of_block : (flags : ParserOptions) (source input : List ℕ) (pairs : List Pair) → IsTextOf input pairs → (e : RewriteError) → IsOfBlock (reading_under flags) source (without_range pairs) e → IsRewriteCause flags source input e
+of_block flags source input pairs is (rewrite_error.NotJson e) h = absurd h
+of_block flags source input pairs is (rewrite_error.NotEvents e) h = absurd h
+of_block flags source input pairs is (rewrite_error.Refused p e) h = (pairs, is, h)
+of_block flags source input pairs is (rewrite_error.ReadOtherwise p) h = (pairs, is, h)
+of_block flags source input pairs is rewrite_error.OutOfMemory h = tt
 
--- an error that names a block comes from events
-pub blocks_of : {A : Type 0} (input : List ℕ) (pairs : List Pair) (r : Result A RewriteError) → IsTextOf input pairs → IfErr r IsOfBlock → IfErr r (IsRewriteCause input)
-blocks_of input pairs r is h = IfErr-weaker r IsOfBlock (IsRewriteCause input) (of_block input pairs is) h
+-- an error that names a block comes from events that were changed
+pub blocks_of : {A : Type 0} (flags : ParserOptions) (source input : List ℕ) (ps : List (ParserEvent × Option (ℕ × ℕ))) (r : Result A RewriteError) → IsTextOf input (map (pair_view text_of) ps) → IfErr r (IsOfBlock (reading_under flags) source (given_events ps)) → IfErr r (IsRewriteCause flags source input)
+blocks_of flags source input ps r is h =
+    IfErr-weaker r (IsOfBlock (reading_under flags) source (given_events ps)) (IsRewriteCause flags source input) (λ e w.
+    of_block flags source input (map (pair_view text_of) ps) is e (subst (λ (es : List EventView). IsOfBlock (reading_under flags) source es e) (given_read ps) w)) h
+
+-- a fault that isn't of memory has its cause, so each has
+pub caused : (reading : List ℕ → ReadingView) (source : List ℕ) (given : List EventView) (f : Fault) → (f ≢ fault.OutOfMemory → HasItsCause reading source given f) → HasItsCause reading source given f
+caused reading source given fault.OutOfMemory h = tt
+caused reading source given (fault.Refused p e) h = h (λ is. absurd (let same = is in cc))
+caused reading source given (fault.ReadOtherwise p) h = h (λ is. absurd (let same = is in cc))

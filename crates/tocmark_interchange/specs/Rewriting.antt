@@ -1,6 +1,7 @@
 -- When a document is rewritten to the events of a JSON text, and why it isn't.
 use Rattle.std.specs.Prelude.{◌≡◌, ℕ, List, string_bytes}
 use Rattle.tocmark_event.specs.Reading.{ReadingView}
+use Rattle.tocmark_event.specs.View.{EventView}
 use Rattle.tocmark_event.specs.declared.event.flags.ParserOptions.{ParserOptions}
 use Rattle.tocmark_interchange.specs.Document.{without_range}
 use Rattle.tocmark_interchange.specs.Interchange.{IsNoEvents, IsTextOf}
@@ -10,7 +11,7 @@ use Rattle.tocmark_interchange.specs.declared.fault.WriteError.TheVariants as wr
 use Rattle.tocmark_read_scan.specs.declared.syntax.Names.TheVariants.{All}
 use Rattle.tocmark_reader.specs.Flags.{syntax_of}
 use Rattle.tocmark_reader.specs.Reading.{reading_of}
-use Rattle.tocmark_rewrite.specs.Edited.{IsWrittenFor}
+use Rattle.tocmark_rewrite.specs.Edited.{IsChanged, IsTriedInVain, IsWrittenFor}
 use Rattle.tocmark_rewrite.specs.declared.answer.Rewritten.{Rewritten}
 use Rattle.tocmark_state.specs.Ranges.{Pair}
 
@@ -30,18 +31,30 @@ pub record IsRewrittenText (flags : ParserOptions) (source input output : List �
   pub is_rewritten : IsRewrittenFrom flags source input answer
   pub is_its_text : output ≡ string_bytes answer.text
 
--- an error that names a block, or speaks of memory
-abbrev pub IsOfBlock : RewriteError → Type 0
-IsOfBlock (rewrite_error.NotJson e) = ⊥
-IsOfBlock (rewrite_error.NotEvents e) = ⊥
-IsOfBlock (rewrite_error.Refused p e) = Unit {0}
-IsOfBlock (rewrite_error.ReadOtherwise p) = Unit {0}
-IsOfBlock rewrite_error.OutOfMemory = Unit {0}
+-- the events that were given aren't those of the source, and a text was tried that doesn't say what they do
+abbrev pub AreTriedInVain : (List ℕ → ReadingView) → List ℕ → List EventView → Type 0
+AreTriedInVain reading source given = IsChanged reading source given × IsTriedInVain reading (reading source).defined source given
 
--- why a document is not rewritten: the text is not the JSON of events, or it is, and a block has no text
-abbrev pub IsRewriteCause : List ℕ → RewriteError → Type 0
-IsRewriteCause input (rewrite_error.NotJson e) = IsNoEvents input (write_error.NotJson e)
-IsRewriteCause input (rewrite_error.NotEvents e) = IsNoEvents input (write_error.NotEvents e)
-IsRewriteCause input (rewrite_error.Refused p e) = (pairs : List Pair) × IsTextOf input pairs
-IsRewriteCause input (rewrite_error.ReadOtherwise p) = (pairs : List Pair) × IsTextOf input pairs
-IsRewriteCause input rewrite_error.OutOfMemory = Unit {0}
+-- why a source isn't rewritten to these events
+abbrev pub IsOfBlock : (List ℕ → ReadingView) → List ℕ → List EventView → RewriteError → Type 0
+IsOfBlock reading source given (rewrite_error.NotJson e) = ⊥
+IsOfBlock reading source given (rewrite_error.NotEvents e) = ⊥
+IsOfBlock reading source given (rewrite_error.Refused p e) = IsChanged reading source given
+IsOfBlock reading source given (rewrite_error.ReadOtherwise p) = AreTriedInVain reading source given
+IsOfBlock reading source given rewrite_error.OutOfMemory = Unit {0}
+
+-- the events that a text has as JSON aren't those of the source
+abbrev pub IsEdited : ParserOptions → List ℕ → List ℕ → Type 0
+IsEdited flags source input = (pairs : List Pair) × IsTextOf input pairs × IsChanged (reading_under flags) source (without_range pairs)
+
+-- nor does a text say what they do that was tried
+abbrev pub IsEditedInVain : ParserOptions → List ℕ → List ℕ → Type 0
+IsEditedInVain flags source input = (pairs : List Pair) × IsTextOf input pairs × AreTriedInVain (reading_under flags) source (without_range pairs)
+
+-- why a document is not rewritten: the text is not the JSON of events, or it is, and they were changed
+abbrev pub IsRewriteCause : ParserOptions → List ℕ → List ℕ → RewriteError → Type 0
+IsRewriteCause flags source input (rewrite_error.NotJson e) = IsNoEvents input (write_error.NotJson e)
+IsRewriteCause flags source input (rewrite_error.NotEvents e) = IsNoEvents input (write_error.NotEvents e)
+IsRewriteCause flags source input (rewrite_error.Refused p e) = IsEdited flags source input
+IsRewriteCause flags source input (rewrite_error.ReadOtherwise p) = IsEditedInVain flags source input
+IsRewriteCause flags source input rewrite_error.OutOfMemory = Unit {0}

@@ -1,7 +1,6 @@
 //! Why a text is refused.
 
 ghost use Rattle.std.specs.Prelude.{◌≡◌};
-ghost use Rattle.tocmark_interchange.specs.Rewriting.{IsOfBlock};
 ghost use Rattle.tocmark_interchange.specs.declared.fault.RewriteError.TheVariants.{OutOfMemory as no_memory};
 ghost use Rattle.tocmark_interchange.specs.declared.fault.WriteError.TheVariants.{OutOfMemory as out_of_memory};
 
@@ -9,7 +8,7 @@ use std::alloc::{AllocError, AllocFailed};
 use std::fmt;
 use tocmark::{Error, OptionsError};
 use tocmark_json::fault::JsonError;
-use tocmark_rewrite::{Fault, Place};
+use tocmark_rewrite::Place;
 
 /// Writes where an error is: the number of the event, and its lines if they are known.
 fn write_place<W: fmt::Write>(f: &mut fmt::Formatter<W>, place: Place) -> fmt::Result {
@@ -94,18 +93,6 @@ impl<T: Drop> From<AllocFailed<T>> for RewriteError {
 
     fn from(_fault: AllocFailed<T>) -> RewriteError {
         RewriteError::OutOfMemory
-    }
-}
-
-impl From<Fault> for RewriteError {
-    ghost from_gives = { λ _ e. IsOfBlock e };
-
-    fn from(fault: Fault) -> RewriteError {
-        match fault {
-            Fault::Refused(place, error) => RewriteError::Refused(place, error),
-            Fault::ReadOtherwise(place) => RewriteError::ReadOtherwise(place),
-            Fault::OutOfMemory => RewriteError::OutOfMemory,
-        }
     }
 }
 

@@ -1,16 +1,13 @@
-use Rattle.std.proofs.Common.{map}
-use Rattle.tocmark_event.specs.Text.{text_of}
-use Rattle.tocmark_json.specs.Json.{pair_view}
 use Rattle.tocmark_interchange.proofs.Rewritten.{blocks_of, written_from}
 use Rattle.tocmark_interchange.proofs.rewriting.rewrite_json.Goals as goal
 
 pub returns-in-Ok-clause-cause : goal.returns-in-Ok-clause-cause
 returns-in-Ok-clause-cause c =
-    blocks_of c.args.json.now (map (pair_view text_of) c.in-Ok.pairs.items) c.rewritten_pairs.result c.in-Ok.ensures.pairs c.rewritten_pairs.ensures.block
+    blocks_of c.args.flags c.args.source.now c.args.json.now c.in-Ok.pairs.items c.rewritten_pairs.result c.in-Ok.ensures.pairs c.rewritten_pairs.ensures.block
 
 pub returns-in-Ok-clause-edited : goal.returns-in-Ok-clause-edited
 returns-in-Ok-clause-edited c =
     written_from c.args.flags c.args.source.now c.args.json.now c.in-Ok.pairs.items c.rewritten_pairs.result c.in-Ok.ensures.pairs c.rewritten_pairs.ensures.edited
 
 pub returns-in-Err-clause-cause : goal.returns-in-Err-clause-cause
-returns-in-Err-clause-cause c = c.not_events.ensures c.args.json.now c.in-Err.ensures.cause
+returns-in-Err-clause-cause c = c.not_events.ensures c.args.flags c.args.source.now c.args.json.now c.in-Err.ensures.cause
