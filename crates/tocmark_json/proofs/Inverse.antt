@@ -28,7 +28,7 @@ pick d [] s = d
 pick d (p ∷ ps) s = cond (bytes_eq s p.0) p.1 (pick d ps s)
 
 -- the name of a variant
-abbrev name_of : Data → List ℕ
+abbrev pub name_of : Data → List ℕ
 name_of null = []
 name_of (boolean b) = []
 name_of (number n) = []
@@ -63,13 +63,13 @@ item_at n no_items = null
 item_at zero (item d ds) = d
 item_at (suc n) (item d ds) = item_at n ds
 
-abbrev content : ℕ → Data → Data
+abbrev pub content : ℕ → Data → Data
 content n d = member_at n (members_in d)
 
-abbrev text_of : Data → List ℕ
+abbrev pub text_of : Data → List ℕ
 text_of d = name_of d
 
-abbrev truth_of : Data → Bool
+abbrev pub truth_of : Data → Bool
 truth_of null = false
 truth_of (boolean b) = b
 truth_of (number n) = false
@@ -77,7 +77,7 @@ truth_of (string s) = false
 truth_of (array ds) = false
 truth_of (object ms) = false
 
-abbrev size_of : Data → ℕ
+abbrev pub size_of : Data → ℕ
 size_of null = 0
 size_of (boolean b) = 0
 size_of (number (unsigned n)) = n
@@ -87,7 +87,7 @@ size_of (string s) = 0
 size_of (array ds) = 0
 size_of (object ms) = 0
 
-abbrev option_of : {A : Type 0} → (Data → A) → Data → Option A
+abbrev pub option_of : {A : Type 0} → (Data → A) → Data → Option A
 option_of f null = None
 option_of f (boolean b) = Some (f (boolean b))
 option_of f (number n) = Some (f (number n))
@@ -99,7 +99,7 @@ abbrev all_of : {A : Type 0} → (Data → A) → Items → List A
 all_of f no_items = []
 all_of f (item d ds) = f d ∷ all_of f ds
 
-abbrev list_of : {A : Type 0} → (Data → A) → Data → List A
+abbrev pub list_of : {A : Type 0} → (Data → A) → Data → List A
 list_of f d = all_of f (items_in d)
 
 all-back : {A : Type 0} (json : A → Data) (f : Data → A) → ((a : A) → f (json a) ≡ a) → (xs : List A) → all_of f (items_of (map json xs)) ≡ xs
@@ -108,7 +108,7 @@ all-back json f back (x ∷ xs) = ap (λ y. y ∷ all_of f (items_of (map json x
 
 -- ---- the enumerations
 
-abbrev level_of : Data → HeadingLevel
+abbrev pub level_of : Data → HeadingLevel
 level_of d = pick level.H1 ((codes "H1", level.H1) ∷ (codes "H2", level.H2) ∷ (codes "H3", level.H3) ∷ (codes "H4", level.H4) ∷ (codes "H5", level.H5) ∷ (codes "H6", level.H6) ∷ []) (name_of d)
 
 level-back : (a : HeadingLevel) → level_of (level_json a) ≡ a
@@ -119,7 +119,7 @@ level-back level.H4 = refl
 level-back level.H5 = refl
 level-back level.H6 = refl
 
-abbrev quote_of : Data → BlockQuoteKind
+abbrev pub quote_of : Data → BlockQuoteKind
 quote_of d = pick quote.Note ((codes "Note", quote.Note) ∷ (codes "Tip", quote.Tip) ∷ (codes "Important", quote.Important) ∷ (codes "Warning", quote.Warning) ∷ (codes "Caution", quote.Caution) ∷ []) (name_of d)
 
 quote-back : (a : BlockQuoteKind) → quote_of (quote_json a) ≡ a
@@ -129,7 +129,7 @@ quote-back quote.Important = refl
 quote-back quote.Warning = refl
 quote-back quote.Caution = refl
 
-abbrev alignment_of : Data → Alignment
+abbrev pub alignment_of : Data → Alignment
 alignment_of d = pick align.None ((codes "None", align.None) ∷ (codes "Left", align.Left) ∷ (codes "Center", align.Center) ∷ (codes "Right", align.Right) ∷ []) (name_of d)
 
 alignment-back : (a : Alignment) → alignment_of (alignment_json a) ≡ a
@@ -138,17 +138,17 @@ alignment-back align.Left = refl
 alignment-back align.Center = refl
 alignment-back align.Right = refl
 
-abbrev metadata_of : Data → MetadataBlockKind
+abbrev pub metadata_of : Data → MetadataBlockKind
 metadata_of d = pick meta.YamlStyle ((codes "YamlStyle", meta.YamlStyle) ∷ (codes "PlusesStyle", meta.PlusesStyle) ∷ []) (name_of d)
 
 metadata-back : (a : MetadataBlockKind) → metadata_of (metadata_json a) ≡ a
 metadata-back meta.YamlStyle = refl
 metadata-back meta.PlusesStyle = refl
 
-abbrev link_type_of : Data → LinkType
+abbrev pub link_type_of : Data → LinkType
 link_type_of d = pick link.Inline ((codes "Inline", link.Inline) ∷ (codes "Reference", link.Reference) ∷ (codes "ReferenceUnknown", link.ReferenceUnknown) ∷ (codes "Collapsed", link.Collapsed) ∷ (codes "CollapsedUnknown", link.CollapsedUnknown) ∷ (codes "Shortcut", link.Shortcut) ∷ (codes "ShortcutUnknown", link.ShortcutUnknown) ∷ (codes "Autolink", link.Autolink) ∷ (codes "Email", link.Email) ∷ (codes "WikiLink", link.WikiLink (truth_of (content 0 (content 0 d)))) ∷ []) (name_of d)
 
-link_type-back : (a : LinkType) → link_type_of (link_type_json a) ≡ a
+pub link_type-back : (a : LinkType) → link_type_of (link_type_json a) ≡ a
 link_type-back link.Inline = refl
 link_type-back link.Reference = refl
 link_type-back link.ReferenceUnknown = refl
@@ -178,14 +178,14 @@ option_size-back (Some n) = refl
 
 -- ---- containers
 
-abbrev code_of : Data → CodeView
+abbrev pub code_of : Data → CodeView
 code_of d = pick view.Indented ((codes "Indented", view.Indented) ∷ (codes "Fenced", view.Fenced (text_of (content 0 d))) ∷ []) (name_of d)
 
-code-back : (k : CodeView) → code_of (code_json k) ≡ k
+pub code-back : (k : CodeView) → code_of (code_json k) ≡ k
 code-back view.Indented = refl
 code-back (view.Fenced s) = refl
 
-abbrev attribute_of : Data → List ℕ × Option (List ℕ)
+abbrev pub attribute_of : Data → List ℕ × Option (List ℕ)
 attribute_of d = (text_of (item_at 0 (items_in d)), option_of text_of (item_at 1 (items_in d)))
 
 attribute-back : (a : List ℕ × Option (List ℕ)) → attribute_of (attribute_json a) ≡ a
@@ -203,10 +203,10 @@ heading-back l id cs vs =
     ∙ ap (λ (x : List (List ℕ)). view.Heading l id x (all_of attribute_of (items_of (map attribute_json vs)))) classes
     ∙ ap (λ (x : List (List ℕ × Option (List ℕ))). view.Heading l id cs x) attrs
 
-abbrev tag_of : Data → TagView
+abbrev pub tag_of : Data → TagView
 tag_of d = pick view.Paragraph ((codes "Paragraph", view.Paragraph) ∷ (codes "HtmlBlock", view.HtmlBlock) ∷ (codes "Item", view.Item) ∷ (codes "DefinitionList", view.DefinitionList) ∷ (codes "DefinitionListTitle", view.DefinitionListTitle) ∷ (codes "DefinitionListDefinition", view.DefinitionListDefinition) ∷ (codes "TableHead", view.TableHead) ∷ (codes "TableRow", view.TableRow) ∷ (codes "TableCell", view.TableCell) ∷ (codes "Emphasis", view.Emphasis) ∷ (codes "Strong", view.Strong) ∷ (codes "Strikethrough", view.Strikethrough) ∷ (codes "Superscript", view.Superscript) ∷ (codes "Subscript", view.Subscript) ∷ (codes "Heading", heading_of (content 0 d)) ∷ (codes "BlockQuote", view.BlockQuote (option_of quote_of (content 0 d))) ∷ (codes "CodeBlock", view.CodeBlock (code_of (content 0 d))) ∷ (codes "List", view.ListOf (option_of size_of (content 0 d))) ∷ (codes "FootnoteDefinition", view.FootnoteDefinition (text_of (content 0 d))) ∷ (codes "Table", view.Table (list_of alignment_of (content 0 d))) ∷ (codes "Link", view.Link (link_type_of (content 2 (content 0 d))) (text_of (content 0 (content 0 d))) (text_of (content 3 (content 0 d))) (text_of (content 1 (content 0 d)))) ∷ (codes "Image", view.Image (link_type_of (content 2 (content 0 d))) (text_of (content 0 (content 0 d))) (text_of (content 3 (content 0 d))) (text_of (content 1 (content 0 d)))) ∷ (codes "MetadataBlock", view.MetadataBlock (metadata_of (content 0 d))) ∷ []) (name_of d)
 
-tag-back : (t : TagView) → tag_of (tag_json t) ≡ t
+pub tag-back : (t : TagView) → tag_of (tag_json t) ≡ t
 tag-back view.Paragraph = refl
 tag-back view.HtmlBlock = refl
 tag-back view.Item = refl
@@ -231,10 +231,10 @@ tag-back (view.Link k d t i) = ap (λ (x : LinkType). view.Link x d t i) (link_t
 tag-back (view.Image k d t i) = ap (λ (x : LinkType). view.Image x d t i) (link_type-back k)
 tag-back (view.MetadataBlock k) = ap (λ (x : MetadataBlockKind). view.MetadataBlock x) (metadata-back k)
 
-abbrev kind_of : Data → TagEnd
+abbrev pub kind_of : Data → TagEnd
 kind_of d = pick end.Paragraph ((codes "Paragraph", end.Paragraph) ∷ (codes "CodeBlock", end.CodeBlock) ∷ (codes "HtmlBlock", end.HtmlBlock) ∷ (codes "Item", end.Item) ∷ (codes "FootnoteDefinition", end.FootnoteDefinition) ∷ (codes "DefinitionList", end.DefinitionList) ∷ (codes "DefinitionListTitle", end.DefinitionListTitle) ∷ (codes "DefinitionListDefinition", end.DefinitionListDefinition) ∷ (codes "Table", end.Table) ∷ (codes "TableHead", end.TableHead) ∷ (codes "TableRow", end.TableRow) ∷ (codes "TableCell", end.TableCell) ∷ (codes "Emphasis", end.Emphasis) ∷ (codes "Strong", end.Strong) ∷ (codes "Strikethrough", end.Strikethrough) ∷ (codes "Superscript", end.Superscript) ∷ (codes "Subscript", end.Subscript) ∷ (codes "Link", end.Link) ∷ (codes "Image", end.Image) ∷ (codes "Heading", end.Heading (level_of (content 0 d))) ∷ (codes "BlockQuote", end.BlockQuote (option_of quote_of (content 0 d))) ∷ (codes "List", end.List (truth_of (content 0 d))) ∷ (codes "MetadataBlock", end.MetadataBlock (metadata_of (content 0 d))) ∷ []) (name_of d)
 
-kind-back : (k : TagEnd) → kind_of (end_json k) ≡ k
+pub kind-back : (k : TagEnd) → kind_of (end_json k) ≡ k
 kind-back end.Paragraph = refl
 kind-back end.CodeBlock = refl
 kind-back end.HtmlBlock = refl
@@ -261,10 +261,10 @@ kind-back (end.MetadataBlock k) = ap (λ (x : MetadataBlockKind). end.MetadataBl
 
 -- ---- events
 
-abbrev event_of : Data → EventView
+abbrev pub event_of : Data → EventView
 event_of d = pick (view.Leaf view.Rule) ((codes "Start", view.Start (tag_of (content 0 d))) ∷ (codes "End", view.End (kind_of (content 0 d))) ∷ (codes "SoftBreak", view.Leaf view.SoftBreak) ∷ (codes "HardBreak", view.Leaf view.HardBreak) ∷ (codes "Rule", view.Leaf view.Rule) ∷ (codes "Text", view.Leaf (view.Text (text_of (content 0 d)))) ∷ (codes "Code", view.Leaf (view.Code (text_of (content 0 d)))) ∷ (codes "InlineMath", view.Leaf (view.InlineMath (text_of (content 0 d)))) ∷ (codes "DisplayMath", view.Leaf (view.DisplayMath (text_of (content 0 d)))) ∷ (codes "Html", view.Leaf (view.Html (text_of (content 0 d)))) ∷ (codes "InlineHtml", view.Leaf (view.InlineHtml (text_of (content 0 d)))) ∷ (codes "FootnoteReference", view.Leaf (view.FootnoteReference (text_of (content 0 d)))) ∷ (codes "TaskListMarker", view.Leaf (view.TaskListMarker (truth_of (content 0 d)))) ∷ []) (name_of d)
 
-event-back : (e : EventView) → event_of (event_json e) ≡ e
+pub event-back : (e : EventView) → event_of (event_json e) ≡ e
 event-back (view.Start t) = ap (λ (x : TagView). view.Start x) (tag-back t)
 event-back (view.End k) = ap (λ (x : TagEnd). view.End x) (kind-back k)
 event-back (view.Leaf (view.Text s)) = refl

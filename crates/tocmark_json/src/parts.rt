@@ -1,15 +1,17 @@
 //! What stands in a value: the members of an object, the items of an array.
 
-ghost use Rattle.std.specs.Prelude.{◌≡◌, IfSome};
+ghost use Rattle.std.specs.Prelude.{◌≡◌, IfNone, IfSome};
 ghost use Rattle.serde_json.specs.Data.{object, member, no_members, number, unsigned};
 ghost use Rattle.serde_json.specs.View.{view};
-ghost use Rattle.tocmark_json.specs.Json.{both, tagged};
+ghost use Rattle.tocmark_json.specs.Json.{both, size_json, tagged};
+ghost use Rattle.tocmark_json.specs.Place.{IsNoArray, IsNoObject, IsNoneOf};
 
 use serde_json::Value;
 
 /// The name and the value of an object that has one member.
 pub fn only_member(value: &Value) -> Option<(&str, &Value)>
-    ensures { IfSome result (λ found. view value.now ≡ tagged found.0.now (view found.1.now)) }
+    ensures found { IfSome result (λ found. view value.now ≡ tagged found.0.now (view found.1.now)) }
+    ensures none { IfNone result (IsNoObject 1 (view value.now)) }
 {
     let Value::Object(map) = value else {
         return None;
@@ -24,9 +26,10 @@ pub fn only_member(value: &Value) -> Option<(&str, &Value)>
 
 /// The names and the values of an object that has two members, in the order of their names.
 pub fn two_members(value: &Value) -> Option<((&str, &Value), (&str, &Value))>
-    ensures { IfSome result (λ found. view value.now
+    ensures found { IfSome result (λ found. view value.now
         ≡ object (member found.0.0.now (view found.0.1.now)
         (member found.1.0.now (view found.1.1.now) no_members))) }
+    ensures none { IfNone result (IsNoObject 2 (view value.now)) }
 {
     let Value::Object(map) = value else {
         return None;
@@ -55,11 +58,12 @@ pub struct Four<'a> {
 
 /// The members of an object that has four of them.
 pub fn four_members(value: &Value) -> Option<Four<'_>>
-    ensures { IfSome result (λ found. view value.now
+    ensures found { IfSome result (λ found. view value.now
         ≡ object (member found.first.0.now (view found.first.1.now)
         (member found.second.0.now (view found.second.1.now)
         (member found.third.0.now (view found.third.1.now)
         (member found.fourth.0.now (view found.fourth.1.now) no_members))))) }
+    ensures none { IfNone result (IsNoObject 4 (view value.now)) }
 {
     let Value::Object(map) = value else {
         return None;
@@ -99,13 +103,14 @@ pub struct Six<'a> {
 
 /// The members of an object that has six of them.
 pub fn six_members(value: &Value) -> Option<Six<'_>>
-    ensures { IfSome result (λ found. view value.now
+    ensures found { IfSome result (λ found. view value.now
         ≡ object (member found.first.0.now (view found.first.1.now)
         (member found.second.0.now (view found.second.1.now)
         (member found.third.0.now (view found.third.1.now)
         (member found.fourth.0.now (view found.fourth.1.now)
         (member found.fifth.0.now (view found.fifth.1.now)
         (member found.sixth.0.now (view found.sixth.1.now) no_members))))))) }
+    ensures none { IfNone result (IsNoObject 6 (view value.now)) }
 {
     let Value::Object(map) = value else {
         return None;
@@ -132,8 +137,9 @@ pub fn six_members(value: &Value) -> Option<Six<'_>>
 
 /// The items of an array that has two.
 pub fn two_items(value: &Value) -> Option<(&Value, &Value)>
-    ensures { IfSome result (λ found. view value.now
+    ensures found { IfSome result (λ found. view value.now
         ≡ both (view found.0.now) (view found.1.now)) }
+    ensures none { IfNone result (IsNoArray 2 (view value.now)) }
 {
     let Value::Array(items) = value else {
         return None;
@@ -147,7 +153,8 @@ pub fn two_items(value: &Value) -> Option<(&Value, &Value)>
 /// The number of a value that is a whole number from 0 to 2^64 - 1.
 #[tactic(auto, using(crate::proofs::Numbers::is_number))]
 pub fn number_in(value: &Value) -> Option<u64>
-    ensures { IfSome result (λ n. view value.now ≡ number (unsigned n)) }
+    ensures found { IfSome result (λ n. view value.now ≡ number (unsigned n)) }
+    ensures none { IfNone result (IsNoneOf size_json (view value.now)) }
 {
     value.as_u64()
 }

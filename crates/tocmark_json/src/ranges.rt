@@ -1,9 +1,10 @@
 //! Ranges from their JSON value, with their lines and columns or without.
 
-ghost use Rattle.std.specs.Prelude.{◌≡◌, IfOk, codes};
+ghost use Rattle.std.specs.Prelude.{◌≡◌, IfErr, IfOk, codes};
 ghost use Rattle.serde_json.specs.Data.{member, no_members, object};
 ghost use Rattle.serde_json.specs.View.{view};
-ghost use Rattle.tocmark_json.specs.Json.{location_json, size_json};
+ghost use Rattle.tocmark_json.specs.Json.{full_place_json, location_json, place_json, range_json, size_json};
+ghost use Rattle.tocmark_json.specs.Place.{Refuses};
 
 use crate::fault::Fault;
 use crate::parts::{number_in, six_members, two_members};
@@ -30,7 +31,8 @@ pub struct Location {
 }
 
 fn place_in(value: &Value, key: &'static str) -> Result<usize, Fault>
-    ensures { IfOk result (λ place. view value.now ≡ size_json place) }
+    ensures read { IfOk result (λ place. view value.now ≡ size_json place) }
+    ensures refused { IfErr result (Refuses size_json (view value.now)) }
 {
     let Some(number) = number_in(value) else {
         return Err(Fault::Wanted {
@@ -48,9 +50,12 @@ fn place_in(value: &Value, key: &'static str) -> Result<usize, Fault>
 }
 
 fn plain_from(start: &Value, end: &Value) -> Result<Location, Fault>
-    ensures { IfOk result (λ location. object (member (codes "end") (view end.now)
+    ensures read { IfOk result (λ location. object (member (codes "end") (view end.now)
         (member (codes "start") (view start.now) no_members))
         ≡ location_json location.range location.span) }
+    ensures refused { IfErr result (Refuses range_json (object
+        (member (codes "end") (view end.now)
+        (member (codes "start") (view start.now) no_members)))) }
 {
     let start = place_in(start, "start")?;
     let end = place_in(end, "end")?;
@@ -61,8 +66,9 @@ fn plain_from(start: &Value, end: &Value) -> Result<Location, Fault>
 }
 
 fn spanned_from(value: &Value) -> Result<Location, Fault>
-    ensures { IfOk result (λ location. view value.now
+    ensures read { IfOk result (λ location. view value.now
         ≡ location_json location.range location.span) }
+    ensures refused { IfErr result (Refuses full_place_json (view value.now)) }
 {
     let Some(found) = six_members(value) else {
         return Err(no_range());
@@ -94,8 +100,9 @@ fn spanned_from(value: &Value) -> Result<Location, Fault>
 
 /// The range of a value, with its lines and columns or without, or none of `null`.
 pub fn location_from(value: &Value) -> Result<Location, Fault>
-    ensures { IfOk result (λ location. view value.now
+    ensures read { IfOk result (λ location. view value.now
         ≡ location_json location.range location.span) }
+    ensures refused { IfErr result (Refuses place_json (view value.now)) }
 {
     if let Value::Null = value {
         return Ok(Location {
