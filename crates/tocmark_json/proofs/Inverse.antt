@@ -28,7 +28,7 @@ pick d [] s = d
 pick d (p ∷ ps) s = cond (bytes_eq s p.0) p.1 (pick d ps s)
 
 -- the name of a variant
-abbrev pub name_of : Data → List ℕ
+abbrev name_of : Data → List ℕ
 name_of null = []
 name_of (boolean b) = []
 name_of (number n) = []
@@ -45,7 +45,7 @@ members_in (string s) = no_members
 members_in (array ds) = no_members
 members_in (object ms) = ms
 
-abbrev items_in : Data → Items
+abbrev pub items_in : Data → Items
 items_in null = no_items
 items_in (boolean b) = no_items
 items_in (number n) = no_items
@@ -58,7 +58,7 @@ member_at n no_members = null
 member_at zero (member k d ms) = d
 member_at (suc n) (member k d ms) = member_at n ms
 
-abbrev item_at : ℕ → Items → Data
+abbrev pub item_at : ℕ → Items → Data
 item_at n no_items = null
 item_at zero (item d ds) = d
 item_at (suc n) (item d ds) = item_at n ds
@@ -69,7 +69,7 @@ content n d = member_at n (members_in d)
 abbrev pub text_of : Data → List ℕ
 text_of d = name_of d
 
-abbrev pub truth_of : Data → Bool
+abbrev truth_of : Data → Bool
 truth_of null = false
 truth_of (boolean b) = b
 truth_of (number n) = false
@@ -77,7 +77,7 @@ truth_of (string s) = false
 truth_of (array ds) = false
 truth_of (object ms) = false
 
-abbrev pub size_of : Data → ℕ
+abbrev size_of : Data → ℕ
 size_of null = 0
 size_of (boolean b) = 0
 size_of (number (unsigned n)) = n
@@ -129,7 +129,7 @@ quote-back quote.Important = refl
 quote-back quote.Warning = refl
 quote-back quote.Caution = refl
 
-abbrev pub alignment_of : Data → Alignment
+abbrev alignment_of : Data → Alignment
 alignment_of d = pick align.None ((codes "None", align.None) ∷ (codes "Left", align.Left) ∷ (codes "Center", align.Center) ∷ (codes "Right", align.Right) ∷ []) (name_of d)
 
 alignment-back : (a : Alignment) → alignment_of (alignment_json a) ≡ a
@@ -138,7 +138,7 @@ alignment-back align.Left = refl
 alignment-back align.Center = refl
 alignment-back align.Right = refl
 
-abbrev pub metadata_of : Data → MetadataBlockKind
+abbrev metadata_of : Data → MetadataBlockKind
 metadata_of d = pick meta.YamlStyle ((codes "YamlStyle", meta.YamlStyle) ∷ (codes "PlusesStyle", meta.PlusesStyle) ∷ []) (name_of d)
 
 metadata-back : (a : MetadataBlockKind) → metadata_of (metadata_json a) ≡ a
@@ -148,7 +148,7 @@ metadata-back meta.PlusesStyle = refl
 abbrev pub link_type_of : Data → LinkType
 link_type_of d = pick link.Inline ((codes "Inline", link.Inline) ∷ (codes "Reference", link.Reference) ∷ (codes "ReferenceUnknown", link.ReferenceUnknown) ∷ (codes "Collapsed", link.Collapsed) ∷ (codes "CollapsedUnknown", link.CollapsedUnknown) ∷ (codes "Shortcut", link.Shortcut) ∷ (codes "ShortcutUnknown", link.ShortcutUnknown) ∷ (codes "Autolink", link.Autolink) ∷ (codes "Email", link.Email) ∷ (codes "WikiLink", link.WikiLink (truth_of (content 0 (content 0 d)))) ∷ []) (name_of d)
 
-pub link_type-back : (a : LinkType) → link_type_of (link_type_json a) ≡ a
+link_type-back : (a : LinkType) → link_type_of (link_type_json a) ≡ a
 link_type-back link.Inline = refl
 link_type-back link.Reference = refl
 link_type-back link.ReferenceUnknown = refl
@@ -178,10 +178,10 @@ option_size-back (Some n) = refl
 
 -- ---- containers
 
-abbrev pub code_of : Data → CodeView
+abbrev code_of : Data → CodeView
 code_of d = pick view.Indented ((codes "Indented", view.Indented) ∷ (codes "Fenced", view.Fenced (text_of (content 0 d))) ∷ []) (name_of d)
 
-pub code-back : (k : CodeView) → code_of (code_json k) ≡ k
+code-back : (k : CodeView) → code_of (code_json k) ≡ k
 code-back view.Indented = refl
 code-back (view.Fenced s) = refl
 
@@ -231,10 +231,10 @@ tag-back (view.Link k d t i) = ap (λ (x : LinkType). view.Link x d t i) (link_t
 tag-back (view.Image k d t i) = ap (λ (x : LinkType). view.Image x d t i) (link_type-back k)
 tag-back (view.MetadataBlock k) = ap (λ (x : MetadataBlockKind). view.MetadataBlock x) (metadata-back k)
 
-abbrev pub kind_of : Data → TagEnd
+abbrev kind_of : Data → TagEnd
 kind_of d = pick end.Paragraph ((codes "Paragraph", end.Paragraph) ∷ (codes "CodeBlock", end.CodeBlock) ∷ (codes "HtmlBlock", end.HtmlBlock) ∷ (codes "Item", end.Item) ∷ (codes "FootnoteDefinition", end.FootnoteDefinition) ∷ (codes "DefinitionList", end.DefinitionList) ∷ (codes "DefinitionListTitle", end.DefinitionListTitle) ∷ (codes "DefinitionListDefinition", end.DefinitionListDefinition) ∷ (codes "Table", end.Table) ∷ (codes "TableHead", end.TableHead) ∷ (codes "TableRow", end.TableRow) ∷ (codes "TableCell", end.TableCell) ∷ (codes "Emphasis", end.Emphasis) ∷ (codes "Strong", end.Strong) ∷ (codes "Strikethrough", end.Strikethrough) ∷ (codes "Superscript", end.Superscript) ∷ (codes "Subscript", end.Subscript) ∷ (codes "Link", end.Link) ∷ (codes "Image", end.Image) ∷ (codes "Heading", end.Heading (level_of (content 0 d))) ∷ (codes "BlockQuote", end.BlockQuote (option_of quote_of (content 0 d))) ∷ (codes "List", end.List (truth_of (content 0 d))) ∷ (codes "MetadataBlock", end.MetadataBlock (metadata_of (content 0 d))) ∷ []) (name_of d)
 
-pub kind-back : (k : TagEnd) → kind_of (end_json k) ≡ k
+kind-back : (k : TagEnd) → kind_of (end_json k) ≡ k
 kind-back end.Paragraph = refl
 kind-back end.CodeBlock = refl
 kind-back end.HtmlBlock = refl
@@ -261,10 +261,10 @@ kind-back (end.MetadataBlock k) = ap (λ (x : MetadataBlockKind). end.MetadataBl
 
 -- ---- events
 
-abbrev pub event_of : Data → EventView
+abbrev event_of : Data → EventView
 event_of d = pick (view.Leaf view.Rule) ((codes "Start", view.Start (tag_of (content 0 d))) ∷ (codes "End", view.End (kind_of (content 0 d))) ∷ (codes "SoftBreak", view.Leaf view.SoftBreak) ∷ (codes "HardBreak", view.Leaf view.HardBreak) ∷ (codes "Rule", view.Leaf view.Rule) ∷ (codes "Text", view.Leaf (view.Text (text_of (content 0 d)))) ∷ (codes "Code", view.Leaf (view.Code (text_of (content 0 d)))) ∷ (codes "InlineMath", view.Leaf (view.InlineMath (text_of (content 0 d)))) ∷ (codes "DisplayMath", view.Leaf (view.DisplayMath (text_of (content 0 d)))) ∷ (codes "Html", view.Leaf (view.Html (text_of (content 0 d)))) ∷ (codes "InlineHtml", view.Leaf (view.InlineHtml (text_of (content 0 d)))) ∷ (codes "FootnoteReference", view.Leaf (view.FootnoteReference (text_of (content 0 d)))) ∷ (codes "TaskListMarker", view.Leaf (view.TaskListMarker (truth_of (content 0 d)))) ∷ []) (name_of d)
 
-pub event-back : (e : EventView) → event_of (event_json e) ≡ e
+event-back : (e : EventView) → event_of (event_json e) ≡ e
 event-back (view.Start t) = ap (λ (x : TagView). view.Start x) (tag-back t)
 event-back (view.End k) = ap (λ (x : TagEnd). view.End x) (kind-back k)
 event-back (view.Leaf (view.Text s)) = refl

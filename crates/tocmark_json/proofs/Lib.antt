@@ -7,3 +7,4 @@ pub mod Passing
 pub mod Adding
 pub mod Shallow
 pub mod Refusals
+pub mod Forms

@@ -1,46 +1,84 @@
 -- What is no part of a value is no whole either.
-use Rattle.std.proofs.Common.{◌≡◌, ◌∙◌, ◌<◌, ℕ, zero, suc, List, [], ◌∷◌, Option, ap, arith, codes, get_or, length, map, sym}
-use Rattle.serde_json.specs.Data.{Data, boolean, string, array, item, object, Items, Members, member, no_members}
+use Rattle.std.proofs.Common.{◌≡◌, ◌∙◌, ◌<◌, ℕ, zero, suc, Bool, List, [], ◌∷◌, IfErr, IfNone, IsErrAnd, Option, None, Some, Result, Ok, Err, ap, arith, codes, get_or, length, map, subst, sym}
+use Rattle.serde_json.specs.Data.{Data, null, string, array, item, object, member, no_members}
 use Rattle.serde_json.specs.View.{items_of, items_view, view}
 use Rattle.serde_json.specs.declared.value.Value.{Value}
-use Rattle.tocmark_event.specs.View.{EventView, TagView}
+use Rattle.tocmark_event.specs.View.{TagView}
 use Rattle.tocmark_event.specs.declared.event.HeadingLevel.{HeadingLevel}
-use Rattle.tocmark_event.specs.declared.event.TagEnd.{TagEnd}
-use Rattle.tocmark_json.specs.Json.{alignment_json, attribute_json, code_json, end_json, event_json, heading_json, level_json, listed, metadata_json, optional, quote_json, size_json, tag_json, tagged, target_json}
+use Rattle.tocmark_event.specs.declared.event.LinkType.TheVariants as link
+use Rattle.tocmark_json.specs.Json.{full_place_json, heading_json, link_type_json, listed, optional, place_json, quote_json, size_json, tag_json, tagged, target_json}
 use Rattle.tocmark_json.specs.Place.{IsNoneOf, Refuses}
 use Rattle.tocmark_json.specs.declared.fault.Fault.{Fault}
 use Rattle.tocmark_json.specs.declared.fault.Fault.TheVariants as fault
-use Rattle.tocmark_json.proofs.Inverse.{alignment_of, attribute_of, code_of, content, event-back, event_of, kind-back, kind_of, level_of, link_type_of, list_of, metadata_of, option_of, quote_of, size_of, tag-back, tag_of, text_of, truth_of}
+use Rattle.tocmark_json.proofs.Inverse.{attribute_of, content, level_of, link_type_of, list_of, option_of, quote_of, tag-back, tag_of, text_of}
 
 -- whatever the fault is
 pub refused : {A : Type 0} (json : A → Data) (value : Data) → IsNoneOf json value → (e : Fault) → Refuses json value e
-refused json value no (fault.Wanted key wanted) = no
-refused json value no fault.OutOfMemory = tt
+refused json value lacks (fault.Wanted key wanted) = lacks
+refused json value lacks fault.OutOfMemory = tt
 
 -- the fault of a part is one of the whole
 pub lifted : {A B : Type 0} (part : A → Data) (whole : B → Data) (v w : Data) → (IsNoneOf part v → IsNoneOf whole w) → (e : Fault) → Refuses part v e → Refuses whole w e
 lifted part whole v w step (fault.Wanted key wanted) h = step h
 lifted part whole v w step fault.OutOfMemory h = tt
 
+-- the same where it is handed on
+pub handed_on : {T A B : Type 0} (r : Result T Fault) (part : A → Data) (whole : B → Data) (v w : Data) → (IsNoneOf part v → IsNoneOf whole w) → IfErr r (Refuses part v) → IfErr r (Refuses whole w)
+handed_on (Ok x) part whole v w step h = tt
+handed_on (Err e) part whole v w step h = lifted part whole v w step e h
+
+-- the same where a `?` returns it
+pub returned : {T A B : Type 0} (r : Result T Fault) (e : Fault) → IsErrAnd r (λ y. y ≡ e) → (part : A → Data) (whole : B → Data) (v w : Data) → (IsNoneOf part v → IsNoneOf whole w) → Refuses part v e → IfErr r (Refuses whole w)
+returned (Ok x) e is part whole v w step h = absurd is
+returned (Err y) e is part whole v w step h = subst (λ (f : Fault). Refuses whole w f) (sym is) (lifted part whole v w step e h)
+
+pub none_given : {T : Type 0} (o : Option T) (P : Type 0) → P → IfNone o P
+none_given None P p = p
+none_given (Some x) P p = tt
+
 -- ---- arrays
 
 no-item : {A : Type 0} (json : A → Data) (vs : List Value) (i : ℕ) (there : Value) → i < length vs → there ≡ get_or vs i there → (xs : List A) → items_view vs ≡ items_of (map json xs) → IsNoneOf json (view there) → ⊥
-no-item json [] i there lt at xs is no = absurd (omega arith)
-no-item json (v ∷ vs) i there lt at [] is no = absurd cc
-no-item json (v ∷ vs) zero there lt at (x ∷ xs) is no =
+no-item json [] i there lt at xs is lacks = absurd (omega arith)
+no-item json (v ∷ vs) i there lt at [] is lacks = absurd cc
+no-item json (v ∷ vs) zero there lt at (x ∷ xs) is lacks =
     let step : item (view v) (items_view vs) ≡ item (json x) (items_of (map json xs)) = is in
     let first : view v ≡ json x = cc in
-    no x (ap view at ∙ first)
-no-item json (v ∷ vs) (suc i) there lt at (x ∷ xs) is no =
+    lacks x (ap view at ∙ first)
+no-item json (v ∷ vs) (suc i) there lt at (x ∷ xs) is lacks =
     let step : item (view v) (items_view vs) ≡ item (json x) (items_of (map json xs)) = is in
     let rest : items_view vs ≡ items_of (map json xs) = cc in
-    no-item json vs i there (omega arith) at xs rest no
+    no-item json vs i there (omega arith) at xs rest lacks
 
 -- a list with an item of another form is no list of the form
 pub no_list : {A : Type 0} (json : A → Data) (vs : List Value) (i : ℕ) (there : Value) → i < length vs → there ≡ get_or vs i there → IsNoneOf json (view there) → IsNoneOf (listed json) (array (items_view vs))
-no_list json vs i there lt at no xs is =
+no_list json vs i there lt at lacks xs is =
     let inner : items_view vs ≡ items_of (map json xs) = cc in
-    no-item json vs i there lt at xs inner no
+    no-item json vs i there lt at xs inner lacks
+
+pub no_list_in : {A : Type 0} (json : A → Data) (v : Data) (vs : List Value) → v ≡ array (items_view vs) → (i : ℕ) (there : Value) → i < length vs → there ≡ get_or vs i there → IsNoneOf json (view there) → IsNoneOf (listed json) v
+no_list_in json v vs is i there lt at lacks xs h = no_list json vs i there lt at lacks xs (sym is ∙ h)
+
+-- ---- cases
+
+-- a place is null, or an object with two or six members
+pub no_place : (v : Data) → (v ≡ null → ⊥) → ((a b : Data) → v ≡ object (member (codes "end") a (member (codes "start") b no_members)) → ⊥) → IsNoneOf full_place_json v → IsNoneOf place_json v
+no_place v not_null two six (None, s) h = not_null h
+no_place v not_null two six (Some r, None) h = two (size_json r.1) (size_json r.0) h
+no_place v not_null two six (Some r, Some s) h = six (r, s) h
+
+-- a type of link is a string, or that of a wiki link
+pub no_link_type : (v : Data) → IsNoneOf string v → IsNoneOf (λ (b : Bool). link_type_json (link.WikiLink b)) v → IsNoneOf link_type_json v
+no_link_type v text wiki link.Inline h = text (codes "Inline") h
+no_link_type v text wiki link.Reference h = text (codes "Reference") h
+no_link_type v text wiki link.ReferenceUnknown h = text (codes "ReferenceUnknown") h
+no_link_type v text wiki link.Collapsed h = text (codes "Collapsed") h
+no_link_type v text wiki link.CollapsedUnknown h = text (codes "CollapsedUnknown") h
+no_link_type v text wiki link.Shortcut h = text (codes "Shortcut") h
+no_link_type v text wiki link.ShortcutUnknown h = text (codes "ShortcutUnknown") h
+no_link_type v text wiki link.Autolink h = text (codes "Autolink") h
+no_link_type v text wiki link.Email h = text (codes "Email") h
+no_link_type v text wiki (link.WikiLink b) h = wiki b h
 
 -- ---- objects with one member
 
@@ -52,77 +90,14 @@ module _ (v : Data) where
   tag_at : (name : List ℕ) (t : TagView) → tagged name v ≡ tag_json t → v ≡ content 0 (tag_json (tag_of (tagged name v)))
   tag_at name t h = ap (content 0) (exact tag_json tag_of tag-back (tagged name v) t h)
 
-  end_at : (name : List ℕ) (k : TagEnd) → tagged name v ≡ end_json k → v ≡ content 0 (end_json (kind_of (tagged name v)))
-  end_at name k h = ap (content 0) (exact end_json kind_of kind-back (tagged name v) k h)
-
-  event_at : (name : List ℕ) (e : EventView) → tagged name v ≡ event_json e → v ≡ content 0 (event_json (event_of (tagged name v)))
-  event_at name e h = ap (content 0) (exact event_json event_of event-back (tagged name v) e h)
-
   pub no_heading : ((l : HeadingLevel) (id : Option (List ℕ)) (classes : List (List ℕ)) (attrs : List (List ℕ × Option (List ℕ))) → v ≡ heading_json l id classes attrs → ⊥) → IsNoneOf tag_json (tagged (codes "Heading") v)
-  no_heading no t h = no (level_of (content 3 v)) (option_of text_of (content 2 v)) (list_of text_of (content 1 v)) (list_of attribute_of (content 0 v)) (tag_at (codes "Heading") t h)
+  no_heading lacks t h = lacks (level_of (content 3 v)) (option_of text_of (content 2 v)) (list_of text_of (content 1 v)) (list_of attribute_of (content 0 v)) (tag_at (codes "Heading") t h)
 
   pub no_quote : IsNoneOf (optional quote_json) v → IsNoneOf tag_json (tagged (codes "BlockQuote") v)
-  no_quote no t h = no (option_of quote_of v) (tag_at (codes "BlockQuote") t h)
-
-  pub no_code : IsNoneOf code_json v → IsNoneOf tag_json (tagged (codes "CodeBlock") v)
-  no_code no t h = no (code_of v) (tag_at (codes "CodeBlock") t h)
-
-  pub no_start : IsNoneOf (optional size_json) v → IsNoneOf tag_json (tagged (codes "List") v)
-  no_start no t h = no (option_of size_of v) (tag_at (codes "List") t h)
-
-  pub no_footnote : IsNoneOf string v → IsNoneOf tag_json (tagged (codes "FootnoteDefinition") v)
-  no_footnote no t h = no (text_of v) (tag_at (codes "FootnoteDefinition") t h)
-
-  pub no_table : IsNoneOf (listed alignment_json) v → IsNoneOf tag_json (tagged (codes "Table") v)
-  no_table no t h = no (list_of alignment_of v) (tag_at (codes "Table") t h)
-
-  pub no_metadata : IsNoneOf metadata_json v → IsNoneOf tag_json (tagged (codes "MetadataBlock") v)
-  no_metadata no t h = no (metadata_of v) (tag_at (codes "MetadataBlock") t h)
+  no_quote lacks t h = lacks (option_of quote_of v) (tag_at (codes "BlockQuote") t h)
 
   pub no_link : IsNoneOf target_json v → IsNoneOf tag_json (tagged (codes "Link") v)
-  no_link no t h = no (link_type_of (content 2 v), text_of (content 0 v), text_of (content 3 v), text_of (content 1 v)) (tag_at (codes "Link") t h)
+  no_link lacks t h = lacks (link_type_of (content 2 v), text_of (content 0 v), text_of (content 3 v), text_of (content 1 v)) (tag_at (codes "Link") t h)
 
   pub no_image : IsNoneOf target_json v → IsNoneOf tag_json (tagged (codes "Image") v)
-  no_image no t h = no (link_type_of (content 2 v), text_of (content 0 v), text_of (content 3 v), text_of (content 1 v)) (tag_at (codes "Image") t h)
-
-  pub no_heading_end : IsNoneOf level_json v → IsNoneOf end_json (tagged (codes "Heading") v)
-  no_heading_end no k h = no (level_of v) (end_at (codes "Heading") k h)
-
-  pub no_quote_end : IsNoneOf (optional quote_json) v → IsNoneOf end_json (tagged (codes "BlockQuote") v)
-  no_quote_end no k h = no (option_of quote_of v) (end_at (codes "BlockQuote") k h)
-
-  pub no_list_end : IsNoneOf boolean v → IsNoneOf end_json (tagged (codes "List") v)
-  no_list_end no k h = no (truth_of v) (end_at (codes "List") k h)
-
-  pub no_metadata_end : IsNoneOf metadata_json v → IsNoneOf end_json (tagged (codes "MetadataBlock") v)
-  no_metadata_end no k h = no (metadata_of v) (end_at (codes "MetadataBlock") k h)
-
-  pub no_tag : IsNoneOf tag_json v → IsNoneOf event_json (tagged (codes "Start") v)
-  no_tag no e h = no (tag_of v) (event_at (codes "Start") e h)
-
-  pub no_end : IsNoneOf end_json v → IsNoneOf event_json (tagged (codes "End") v)
-  no_end no e h = no (kind_of v) (event_at (codes "End") e h)
-
-  pub no_text : IsNoneOf string v → IsNoneOf event_json (tagged (codes "Text") v)
-  no_text no e h = no (text_of v) (event_at (codes "Text") e h)
-
-  pub no_code_span : IsNoneOf string v → IsNoneOf event_json (tagged (codes "Code") v)
-  no_code_span no e h = no (text_of v) (event_at (codes "Code") e h)
-
-  pub no_formula : IsNoneOf string v → IsNoneOf event_json (tagged (codes "InlineMath") v)
-  no_formula no e h = no (text_of v) (event_at (codes "InlineMath") e h)
-
-  pub no_display : IsNoneOf string v → IsNoneOf event_json (tagged (codes "DisplayMath") v)
-  no_display no e h = no (text_of v) (event_at (codes "DisplayMath") e h)
-
-  pub no_html : IsNoneOf string v → IsNoneOf event_json (tagged (codes "Html") v)
-  no_html no e h = no (text_of v) (event_at (codes "Html") e h)
-
-  pub no_inline_html : IsNoneOf string v → IsNoneOf event_json (tagged (codes "InlineHtml") v)
-  no_inline_html no e h = no (text_of v) (event_at (codes "InlineHtml") e h)
-
-  pub no_reference : IsNoneOf string v → IsNoneOf event_json (tagged (codes "FootnoteReference") v)
-  no_reference no e h = no (text_of v) (event_at (codes "FootnoteReference") e h)
-
-  pub no_marker : IsNoneOf boolean v → IsNoneOf event_json (tagged (codes "TaskListMarker") v)
-  no_marker no e h = no (truth_of v) (event_at (codes "TaskListMarker") e h)
+  no_image lacks t h = lacks (link_type_of (content 2 v), text_of (content 0 v), text_of (content 3 v), text_of (content 1 v)) (tag_at (codes "Image") t h)

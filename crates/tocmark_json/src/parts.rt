@@ -1,12 +1,34 @@
 //! What stands in a value: the members of an object, the items of an array.
 
-ghost use Rattle.std.specs.Prelude.{◌≡◌, IfNone, IfSome};
-ghost use Rattle.serde_json.specs.Data.{object, member, no_members, number, unsigned};
+ghost use Rattle.std.specs.Prelude.{◌≡◌, IfNone, IfSome, IsFalse, IsTrue};
+ghost use Rattle.serde_json.specs.Data.{Data, object, member, no_members, null, number, string, unsigned};
 ghost use Rattle.serde_json.specs.View.{view};
 ghost use Rattle.tocmark_json.specs.Json.{both, size_json, tagged};
 ghost use Rattle.tocmark_json.specs.Place.{IsNoArray, IsNoObject, IsNoneOf};
 
 use serde_json::Value;
+
+/// Whether a value is `null`.
+pub fn is_null(value: &Value) -> bool
+    ensures yes { IsTrue result → view value.now ≡ null }
+    ensures no { IsFalse result → view value.now ≡ null → ⊥ }
+{
+    match value {
+        Value::Null => true,
+        _ => false,
+    }
+}
+
+/// The text of a value that is a string.
+pub fn text_in(value: &Value) -> Option<&str>
+    ensures found { IfSome result (λ text. view value.now ≡ string text.now) }
+    ensures none { IfNone result (IsNoneOf string (view value.now)) }
+{
+    match value {
+        Value::String(text) => Some(text.as_str()),
+        _ => None,
+    }
+}
 
 /// The name and the value of an object that has one member.
 pub fn only_member(value: &Value) -> Option<(&str, &Value)>
@@ -22,6 +44,24 @@ pub fn only_member(value: &Value) -> Option<(&str, &Value)>
         return None;
     }
     Some((name.as_str(), content))
+}
+
+/// The value of a member, if it has the wanted name.
+pub fn value_named<'a>(name: &str, value: &'a Value, wanted: &'static str) -> Option<&'a Value>
+    ensures found { IfSome result (λ found. (name.now ≡ wanted.now)
+        × (view found.now ≡ view value.now)) }
+    ensures none { IfNone result (name.now ≡ wanted.now → ⊥) }
+{
+    if name == wanted { Some(value) } else { None }
+}
+
+/// The value of an object that has one member, of this name.
+pub fn one_named<'a>(value: &'a Value, name: &'static str) -> Option<&'a Value>
+    ensures found { IfSome result (λ found. view value.now ≡ tagged name.now (view found.now)) }
+    ensures none { IfNone result (IsNoneOf (tagged name.now) (view value.now)) }
+{
+    let found = only_member(value)?;
+    value_named(found.0, found.1, name)
 }
 
 /// The names and the values of an object that has two members, in the order of their names.
@@ -41,6 +81,24 @@ pub fn two_members(value: &Value) -> Option<((&str, &Value), (&str, &Value))>
         return None;
     }
     Some(((first.0.as_str(), first.1), (second.0.as_str(), second.1)))
+}
+
+/// The values of an object that has two members, of these names in their order.
+pub fn two_named<'a>(
+    value: &'a Value,
+    first: &'static str,
+    second: &'static str,
+) -> Option<(&'a Value, &'a Value)>
+    ensures found { IfSome result (λ found. view value.now
+        ≡ object (member first.now (view found.0.now)
+        (member second.now (view found.1.now) no_members))) }
+    ensures none { IfNone result ((a b : Data) → view value.now
+        ≡ object (member first.now a (member second.now b no_members)) → ⊥) }
+{
+    let found = two_members(value)?;
+    let first = value_named(found.0.0, found.0.1, first)?;
+    let second = value_named(found.1.0, found.1.1, second)?;
+    Some((first, second))
 }
 
 /// The names and the values of four members of an object, in the order of their names.
@@ -81,6 +139,49 @@ pub fn four_members(value: &Value) -> Option<Four<'_>>
         second: (second.0.as_str(), second.1),
         third: (third.0.as_str(), third.1),
         fourth: (fourth.0.as_str(), fourth.1),
+    })
+}
+
+/// The values of four members of an object, in the order of their names.
+#[derive(Clone, Copy)]
+pub struct FourValues<'a> {
+    /// The first one's value.
+    pub first: &'a Value,
+    /// The second one's value.
+    pub second: &'a Value,
+    /// The third one's value.
+    pub third: &'a Value,
+    /// The last one's value.
+    pub fourth: &'a Value,
+}
+
+/// The values of an object that has four members, of these names in their order.
+pub fn four_named<'a>(
+    value: &'a Value,
+    first: &'static str,
+    second: &'static str,
+    third: &'static str,
+    fourth: &'static str,
+) -> Option<FourValues<'a>>
+    ensures found { IfSome result (λ found. view value.now
+        ≡ object (member first.now (view found.first.now)
+        (member second.now (view found.second.now)
+        (member third.now (view found.third.now)
+        (member fourth.now (view found.fourth.now) no_members))))) }
+    ensures none { IfNone result ((a b c d : Data) → view value.now
+        ≡ object (member first.now a (member second.now b
+        (member third.now c (member fourth.now d no_members)))) → ⊥) }
+{
+    let found = four_members(value)?;
+    let first = value_named(found.first.0, found.first.1, first)?;
+    let second = value_named(found.second.0, found.second.1, second)?;
+    let third = value_named(found.third.0, found.third.1, third)?;
+    let fourth = value_named(found.fourth.0, found.fourth.1, fourth)?;
+    Some(FourValues {
+        first,
+        second,
+        third,
+        fourth,
     })
 }
 
@@ -144,10 +245,13 @@ pub fn two_items(value: &Value) -> Option<(&Value, &Value)>
     let Value::Array(items) = value else {
         return None;
     };
-    match items.as_slice() {
-        [first, second] => Some((first, second)),
-        _ => None,
+    let mut rest = items.iter();
+    let first = rest.next()?;
+    let second = rest.next()?;
+    if rest.next().is_some() {
+        return None;
     }
+    Some((first, second))
 }
 
 /// The number of a value that is a whole number from 0 to 2^64 - 1.

@@ -12,7 +12,7 @@ ghost use Rattle.tocmark_json.specs.Place.{IsAt, IsNoneOf, Refuses, StandsIn};
 
 use crate::fault::{Fault, JsonError};
 use crate::names::{alignment_named, level_named, link_type_named, metadata_named, quote_named};
-use crate::parts::{four_members, number_in, only_member, two_items};
+use crate::parts::{four_named, number_in, one_named, only_member, text_in, two_items};
 use crate::ranges::{Location, location_from};
 use serde_json::Value;
 use std::alloc::Global;
@@ -147,10 +147,10 @@ fn wiki_link_from(value: &Value) -> Result<LinkType, Fault>
     ensures read { IfOk result (λ link_type. view value.now ≡ link_type_json link_type) }
     ensures refused { IfErr result (Refuses (λ b. link_type_json (link.WikiLink b)) (view value.now)) }
 {
-    let Some(("WikiLink", content)) = only_member(value) else {
+    let Some(content) = one_named(value, "WikiLink") else {
         return Err(wanted("link_type", A_LINK_TYPE));
     };
-    let Some(("has_pothole", truth)) = only_member(content) else {
+    let Some(truth) = one_named(content, "has_pothole") else {
         return Err(wanted("WikiLink", "an object with the key has_pothole alone"));
     };
     let has_pothole = truth_from(truth, "has_pothole")?;
@@ -161,10 +161,10 @@ fn link_type_from(value: &Value) -> Result<LinkType, Fault>
     ensures read { IfOk result (λ link_type. view value.now ≡ link_type_json link_type) }
     ensures refused { IfErr result (Refuses link_type_json (view value.now)) }
 {
-    let Value::String(name) = value else {
+    let Some(name) = text_in(value) else {
         return wiki_link_from(value);
     };
-    match link_type_named(name.as_str()) {
+    match link_type_named(name) {
         Some(link_type) => Ok(link_type),
         None => Err(wanted("link_type", A_LINK_TYPE)),
     }
@@ -174,9 +174,9 @@ fn fenced_from<U: OwnedWords>(alloc: Global, value: &Value) -> Result<CodeBlockK
     ensures read { IfOk result (λ kind. view value.now ≡ code_json (code_view U.Words.bytes kind)) }
     ensures refused { IfErr result (Refuses (λ info. code_json (event.Fenced info)) (view value.now)) }
 {
-    match only_member(value) {
-        Some(("Fenced", info)) => text_from(alloc, info, "Fenced").map(CodeBlockKindOf::Fenced),
-        _ => Err(wanted("CodeBlock", A_KIND_OF_CODE)),
+    match one_named(value, "Fenced") {
+        Some(info) => text_from(alloc, info, "Fenced").map(CodeBlockKindOf::Fenced),
+        None => Err(wanted("CodeBlock", A_KIND_OF_CODE)),
     }
 }
 
@@ -258,23 +258,17 @@ fn heading_from<U: OwnedWords + Drop>(alloc: Global, value: &Value) -> Result<Ta
         ≡ tag_json (tag_view U.Words.bytes tag)) }
     ensures refused { IfErr result (Refuses tag_json (tagged (codes "Heading") (view value.now))) }
 {
-    let Some(found) = four_members(value) else {
+    let Some(found) = four_named(value, "attrs", "classes", "id", "level") else {
         return Err(wanted("Heading", A_HEADING));
     };
-    let (("attrs", attrs), ("classes", classes)) = (found.first, found.second) else {
-        return Err(wanted("Heading", A_HEADING));
-    };
-    let (("id", id), ("level", level)) = (found.third, found.fourth) else {
-        return Err(wanted("Heading", A_HEADING));
-    };
-    let level = level_from(level, "level")?;
-    let id = optional_text_from(alloc, id, "id")?;
-    let classes = classes_from(alloc, classes)?;
+    let level = level_from(found.fourth, "level")?;
+    let id = optional_text_from(alloc, found.third, "id")?;
+    let classes = classes_from(alloc, found.second)?;
     Ok(TagOf::Heading {
         level,
         id,
         classes,
-        attrs: attributes_from(alloc, attrs)?,
+        attrs: attributes_from(alloc, found.first)?,
     })
 }
 
@@ -297,23 +291,17 @@ fn target_from<U: OwnedWords + Drop>(
         (U.Words.bytes target.title) (U.Words.bytes target.id)) }
     ensures refused { IfErr result (Refuses target_json (view value.now)) }
 {
-    let Some(found) = four_members(value) else {
+    let Some(found) = four_named(value, "dest_url", "id", "link_type", "title") else {
         return Err(wanted(key, A_LINK));
     };
-    let (("dest_url", dest_url), ("id", id)) = (found.first, found.second) else {
-        return Err(wanted(key, A_LINK));
-    };
-    let (("link_type", link_type), ("title", title)) = (found.third, found.fourth) else {
-        return Err(wanted(key, A_LINK));
-    };
-    let link_type = link_type_from(link_type)?;
-    let dest_url = text_from(alloc, dest_url, "dest_url")?;
-    let title = text_from(alloc, title, "title")?;
+    let link_type = link_type_from(found.third)?;
+    let dest_url = text_from(alloc, found.first, "dest_url")?;
+    let title = text_from(alloc, found.fourth, "title")?;
     Ok(Target {
         link_type,
         dest_url,
         title,
-        id: text_from(alloc, id, "id")?,
+        id: text_from(alloc, found.second, "id")?,
     })
 }
 
@@ -423,8 +411,8 @@ fn tag_from<U: OwnedWords + Drop>(alloc: Global, value: &Value) -> Result<TagOf<
     ensures read { IfOk result (λ tag. view value.now ≡ tag_json (tag_view U.Words.bytes tag)) }
     ensures refused { IfErr result (Refuses tag_json (view value.now)) }
 {
-    if let Value::String(name) = value {
-        return match plain_tag(name.as_str()) {
+    if let Some(name) = text_in(value) {
+        return match plain_tag(name) {
             Some(tag) => Ok(tag),
             None => Err(wanted("Start", A_TAG)),
         };
@@ -480,8 +468,8 @@ fn end_from(value: &Value) -> Result<TagEnd, Fault>
     ensures read { IfOk result (λ end. view value.now ≡ end_json end) }
     ensures refused { IfErr result (Refuses end_json (view value.now)) }
 {
-    if let Value::String(name) = value {
-        return match plain_end(name.as_str()) {
+    if let Some(name) = text_in(value) {
+        return match plain_end(name) {
             Some(end) => Ok(end),
             None => Err(wanted("End", AN_END)),
         };
@@ -540,8 +528,8 @@ pub fn event_from_json<U: OwnedWords + Drop>(
         ≡ event_json (event_view U.Words.bytes event)) }
     ensures refused { IfErr result (Refuses event_json (view value.now)) }
 {
-    if let Value::String(name) = value {
-        return match plain_event(name.as_str()) {
+    if let Some(name) = text_in(value) {
+        return match plain_event(name) {
             Some(event) => Ok(event),
             None => Err(wanted("event", AN_EVENT)),
         };
