@@ -45,7 +45,7 @@ members_in (string s) = no_members
 members_in (array ds) = no_members
 members_in (object ms) = ms
 
-abbrev items_in : Data → Items
+abbrev pub items_in : Data → Items
 items_in null = no_items
 items_in (boolean b) = no_items
 items_in (number n) = no_items
@@ -58,15 +58,15 @@ member_at n no_members = null
 member_at zero (member k d ms) = d
 member_at (suc n) (member k d ms) = member_at n ms
 
-abbrev item_at : ℕ → Items → Data
+abbrev pub item_at : ℕ → Items → Data
 item_at n no_items = null
 item_at zero (item d ds) = d
 item_at (suc n) (item d ds) = item_at n ds
 
-abbrev content : ℕ → Data → Data
+abbrev pub content : ℕ → Data → Data
 content n d = member_at n (members_in d)
 
-abbrev text_of : Data → List ℕ
+abbrev pub text_of : Data → List ℕ
 text_of d = name_of d
 
 abbrev truth_of : Data → Bool
@@ -87,7 +87,7 @@ size_of (string s) = 0
 size_of (array ds) = 0
 size_of (object ms) = 0
 
-abbrev option_of : {A : Type 0} → (Data → A) → Data → Option A
+abbrev pub option_of : {A : Type 0} → (Data → A) → Data → Option A
 option_of f null = None
 option_of f (boolean b) = Some (f (boolean b))
 option_of f (number n) = Some (f (number n))
@@ -99,7 +99,7 @@ abbrev all_of : {A : Type 0} → (Data → A) → Items → List A
 all_of f no_items = []
 all_of f (item d ds) = f d ∷ all_of f ds
 
-abbrev list_of : {A : Type 0} → (Data → A) → Data → List A
+abbrev pub list_of : {A : Type 0} → (Data → A) → Data → List A
 list_of f d = all_of f (items_in d)
 
 all-back : {A : Type 0} (json : A → Data) (f : Data → A) → ((a : A) → f (json a) ≡ a) → (xs : List A) → all_of f (items_of (map json xs)) ≡ xs
@@ -108,7 +108,7 @@ all-back json f back (x ∷ xs) = ap (λ y. y ∷ all_of f (items_of (map json x
 
 -- ---- the enumerations
 
-abbrev level_of : Data → HeadingLevel
+abbrev pub level_of : Data → HeadingLevel
 level_of d = pick level.H1 ((codes "H1", level.H1) ∷ (codes "H2", level.H2) ∷ (codes "H3", level.H3) ∷ (codes "H4", level.H4) ∷ (codes "H5", level.H5) ∷ (codes "H6", level.H6) ∷ []) (name_of d)
 
 level-back : (a : HeadingLevel) → level_of (level_json a) ≡ a
@@ -119,7 +119,7 @@ level-back level.H4 = refl
 level-back level.H5 = refl
 level-back level.H6 = refl
 
-abbrev quote_of : Data → BlockQuoteKind
+abbrev pub quote_of : Data → BlockQuoteKind
 quote_of d = pick quote.Note ((codes "Note", quote.Note) ∷ (codes "Tip", quote.Tip) ∷ (codes "Important", quote.Important) ∷ (codes "Warning", quote.Warning) ∷ (codes "Caution", quote.Caution) ∷ []) (name_of d)
 
 quote-back : (a : BlockQuoteKind) → quote_of (quote_json a) ≡ a
@@ -145,7 +145,7 @@ metadata-back : (a : MetadataBlockKind) → metadata_of (metadata_json a) ≡ a
 metadata-back meta.YamlStyle = refl
 metadata-back meta.PlusesStyle = refl
 
-abbrev link_type_of : Data → LinkType
+abbrev pub link_type_of : Data → LinkType
 link_type_of d = pick link.Inline ((codes "Inline", link.Inline) ∷ (codes "Reference", link.Reference) ∷ (codes "ReferenceUnknown", link.ReferenceUnknown) ∷ (codes "Collapsed", link.Collapsed) ∷ (codes "CollapsedUnknown", link.CollapsedUnknown) ∷ (codes "Shortcut", link.Shortcut) ∷ (codes "ShortcutUnknown", link.ShortcutUnknown) ∷ (codes "Autolink", link.Autolink) ∷ (codes "Email", link.Email) ∷ (codes "WikiLink", link.WikiLink (truth_of (content 0 (content 0 d)))) ∷ []) (name_of d)
 
 link_type-back : (a : LinkType) → link_type_of (link_type_json a) ≡ a
@@ -185,7 +185,7 @@ code-back : (k : CodeView) → code_of (code_json k) ≡ k
 code-back view.Indented = refl
 code-back (view.Fenced s) = refl
 
-abbrev attribute_of : Data → List ℕ × Option (List ℕ)
+abbrev pub attribute_of : Data → List ℕ × Option (List ℕ)
 attribute_of d = (text_of (item_at 0 (items_in d)), option_of text_of (item_at 1 (items_in d)))
 
 attribute-back : (a : List ℕ × Option (List ℕ)) → attribute_of (attribute_json a) ≡ a
@@ -203,10 +203,10 @@ heading-back l id cs vs =
     ∙ ap (λ (x : List (List ℕ)). view.Heading l id x (all_of attribute_of (items_of (map attribute_json vs)))) classes
     ∙ ap (λ (x : List (List ℕ × Option (List ℕ))). view.Heading l id cs x) attrs
 
-abbrev tag_of : Data → TagView
+abbrev pub tag_of : Data → TagView
 tag_of d = pick view.Paragraph ((codes "Paragraph", view.Paragraph) ∷ (codes "HtmlBlock", view.HtmlBlock) ∷ (codes "Item", view.Item) ∷ (codes "DefinitionList", view.DefinitionList) ∷ (codes "DefinitionListTitle", view.DefinitionListTitle) ∷ (codes "DefinitionListDefinition", view.DefinitionListDefinition) ∷ (codes "TableHead", view.TableHead) ∷ (codes "TableRow", view.TableRow) ∷ (codes "TableCell", view.TableCell) ∷ (codes "Emphasis", view.Emphasis) ∷ (codes "Strong", view.Strong) ∷ (codes "Strikethrough", view.Strikethrough) ∷ (codes "Superscript", view.Superscript) ∷ (codes "Subscript", view.Subscript) ∷ (codes "Heading", heading_of (content 0 d)) ∷ (codes "BlockQuote", view.BlockQuote (option_of quote_of (content 0 d))) ∷ (codes "CodeBlock", view.CodeBlock (code_of (content 0 d))) ∷ (codes "List", view.ListOf (option_of size_of (content 0 d))) ∷ (codes "FootnoteDefinition", view.FootnoteDefinition (text_of (content 0 d))) ∷ (codes "Table", view.Table (list_of alignment_of (content 0 d))) ∷ (codes "Link", view.Link (link_type_of (content 2 (content 0 d))) (text_of (content 0 (content 0 d))) (text_of (content 3 (content 0 d))) (text_of (content 1 (content 0 d)))) ∷ (codes "Image", view.Image (link_type_of (content 2 (content 0 d))) (text_of (content 0 (content 0 d))) (text_of (content 3 (content 0 d))) (text_of (content 1 (content 0 d)))) ∷ (codes "MetadataBlock", view.MetadataBlock (metadata_of (content 0 d))) ∷ []) (name_of d)
 
-tag-back : (t : TagView) → tag_of (tag_json t) ≡ t
+pub tag-back : (t : TagView) → tag_of (tag_json t) ≡ t
 tag-back view.Paragraph = refl
 tag-back view.HtmlBlock = refl
 tag-back view.Item = refl

@@ -6,3 +6,5 @@ pub mod Located
 pub mod Passing
 pub mod Adding
 pub mod Shallow
+pub mod Refusals
+pub mod Forms

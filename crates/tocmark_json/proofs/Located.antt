@@ -45,7 +45,7 @@ module _ {A : Type 0} (pair_of : A → Pair) (made : List A) (items : List Value
       (so_far.located, ap (λ ds. array (items_of ds)) (sym (copied-all located_json view so_far.located items i so_far.are past)), so_far.seen)
 
   -- an error that names the element behind those that were read stands there
-  pub misplaced : (there : Value) (n : ℕ) (e : JsonError) → n ≡ length made → i < length items → there ≡ get_or items i there → IsAt n e → StandsIn located_json (array (items_view items)) e
+  pub misplaced : (there : Value) (n : ℕ) (e : JsonError) → n ≡ length made → i < length items → there ≡ get_or items i there → IsAt located_json (view there) n e → StandsIn located_json (array (items_view items)) e
   misplaced there n e same lt at h =
       let count : length made ≡ length so_far.located =
       sym (length-map made pair_of) ∙ ap length (sym so_far.seen) ∙ length-map so_far.located (λ (l : Located). l.0) in

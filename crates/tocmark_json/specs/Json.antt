@@ -105,6 +105,10 @@ link_json link_type dest_url title id =
     (member (codes "link_type") (link_type_json link_type)
     (member (codes "title") (string title) no_members))))
 
+-- the same of one value in place of four
+abbrev pub target_json : LinkType × List ℕ × List ℕ × List ℕ → Data
+target_json t = link_json t.0 t.1 t.2 t.3
+
 abbrev pub tag_json : TagView → Data
 tag_json view.Paragraph = string (codes "Paragraph")
 tag_json (view.Heading level id classes attrs) = tagged (codes "Heading") (heading_json level id classes attrs)
@@ -194,6 +198,13 @@ abbrev pub location_json : Option (ℕ × ℕ) → Option Span → Data
 location_json None s = null
 location_json (Some r) None = range_json r
 location_json (Some r) (Some s) = spanned_json r s
+
+-- the same of one value in place of two
+abbrev pub place_json : Option (ℕ × ℕ) × Option Span → Data
+place_json p = location_json p.0 p.1
+
+abbrev pub full_place_json : (ℕ × ℕ) × Span → Data
+full_place_json p = spanned_json p.0 p.1
 
 -- an event whose texts have these bytes, with its range, if it has one
 abbrev pub pair_view : {T : Type 0} → (T → List ℕ) → EventOf T × Option (ℕ × ℕ) → EventView × Option (ℕ × ℕ)

@@ -1,20 +1,45 @@
--- Where a list of events goes wrong.
+-- Why a value is refused, and where a list of events goes wrong.
 use Rattle.std.specs.Prelude.{◌≡◌, ℕ, List, ◌∷◌, ◌++◌, length, map, None}
-use Rattle.serde_json.specs.Data.{Data, array}
+use Rattle.serde_json.specs.Data.{Data, Items, Members, array, object}
+use Rattle.serde_json.specs.Events.{items_len, members_len}
 use Rattle.serde_json.specs.Find.{as_array}
 use Rattle.serde_json.specs.View.{items_of}
+use Rattle.tocmark_json.specs.declared.fault.Fault.{Fault}
+use Rattle.tocmark_json.specs.declared.fault.Fault.TheVariants as fault
 use Rattle.tocmark_json.specs.declared.fault.JsonError.{JsonError}
 use Rattle.tocmark_json.specs.declared.fault.JsonError.TheVariants as error
 
--- the error names the element of this number, or speaks of memory
-abbrev pub IsAt : ℕ → JsonError → Type 0
-IsAt index error.NotAnArray = ⊥
-IsAt index (error.Event at key wanted) = at ≡ index
-IsAt index error.OutOfMemory = Unit {0}
+-- the value is the JSON of nothing of this type
+abbrev pub IsNoneOf : {A : Type 0} → (A → Data) → Data → Type 0
+IsNoneOf {A} json value = (a : A) → value ≡ json a → ⊥
 
--- an element that is named stands in the value, and those before it have the form
+-- the value is no object of so many members
+abbrev pub IsNoObject : ℕ → Data → Type 0
+IsNoObject count value = (ms : Members) → value ≡ object ms → members_len ms ≡ count → ⊥
+
+-- the value is no array of so many items
+abbrev pub IsNoArray : ℕ → Data → Type 0
+IsNoArray count value = (ds : Items) → value ≡ array ds → items_len ds ≡ count → ⊥
+
+-- the value is the JSON of nothing of this type, or memory ran out
+abbrev pub Refuses : {A : Type 0} → (A → Data) → Data → Fault → Type 0
+Refuses json value (fault.Wanted key wanted) = IsNoneOf json value
+Refuses json value fault.OutOfMemory = Unit {0}
+
+-- the error that the element of this number has this fault
+abbrev pub error_at : ℕ → Fault → JsonError
+error_at index (fault.Wanted key wanted) = error.Event index key wanted
+error_at index fault.OutOfMemory = error.OutOfMemory
+
+-- the error names the element of this number, which is the JSON of nothing of this type, or speaks of memory
+abbrev pub IsAt : {A : Type 0} → (A → Data) → Data → ℕ → JsonError → Type 0
+IsAt json value index error.NotAnArray = ⊥
+IsAt json value index (error.Event at key wanted) = (at ≡ index) × IsNoneOf json value
+IsAt json value index error.OutOfMemory = Unit {0}
+
+-- an element that is named stands in the value and hasn't the form, and those before it have
 abbrev pub StandsIn : {A : Type 0} → (A → Data) → Data → JsonError → Type 0
 StandsIn json value error.NotAnArray = as_array value ≡ None
 StandsIn {A} json value (error.Event at key wanted) =
-    (before : List A) × (there : Data) × (after : List Data) × (value ≡ array (items_of (map json before ++ there ∷ after))) × (at ≡ length before)
+    (before : List A) × (there : Data) × (after : List Data) × (value ≡ array (items_of (map json before ++ there ∷ after))) × (at ≡ length before) × IsNoneOf json there
 StandsIn json value error.OutOfMemory = Unit {0}

@@ -1,7 +1,8 @@
 //! Why a JSON value isn't a list of events.
 
 ghost use Rattle.std.specs.Prelude.{◌≡◌};
-ghost use Rattle.tocmark_json.specs.Place.{IsAt};
+ghost use Rattle.tocmark_json.specs.Place.{error_at};
+ghost use Rattle.tocmark_json.specs.declared.fault.Fault.TheVariants.{OutOfMemory as no_memory};
 ghost use Rattle.tocmark_json.specs.declared.fault.JsonError.TheVariants.{OutOfMemory as out_of_memory};
 
 use std::alloc::{AllocError, AllocFailed};
@@ -22,12 +23,16 @@ pub enum Fault {
 }
 
 impl From<AllocError> for Fault {
+    ghost from_gives = { λ _ e. e ≡ no_memory };
+
     fn from(_fault: AllocError) -> Fault {
         Fault::OutOfMemory
     }
 }
 
 impl<T: Drop> From<AllocFailed<T>> for Fault {
+    ghost from_gives = { λ _ e. e ≡ no_memory };
+
     fn from(_fault: AllocFailed<T>) -> Fault {
         Fault::OutOfMemory
     }
@@ -70,7 +75,7 @@ impl<T: Drop> From<AllocFailed<T>> for JsonError {
 impl Fault {
     /// The error that the element of this number has this fault.
     pub fn at(self, index: usize) -> JsonError
-        ensures { IsAt index result }
+        ensures { result ≡ error_at index self }
     {
         match self {
             Fault::Wanted { key, wanted } => JsonError::Event { index, key, wanted },

@@ -1,14 +1,16 @@
 //! The names in JSON of the variants that hold nothing.
 
-ghost use Rattle.std.specs.Prelude.{◌≡◌, IfSome};
+ghost use Rattle.std.specs.Prelude.{◌≡◌, IfNone, IfSome};
 ghost use Rattle.serde_json.specs.Data.{string};
 ghost use Rattle.tocmark_json.specs.Json.{alignment_json, level_json, link_type_json, metadata_json, quote_json};
+ghost use Rattle.tocmark_json.specs.Place.{IsNoneOf};
 
 use tocmark_event::event::{Alignment, BlockQuoteKind, HeadingLevel, LinkType, MetadataBlockKind};
 
 /// The level of a heading that has this name.
 pub fn level_named(name: &str) -> Option<HeadingLevel>
-    ensures { IfSome result (λ level. string name.now ≡ level_json level) }
+    ensures named { IfSome result (λ level. string name.now ≡ level_json level) }
+    ensures unnamed { IfNone result (IsNoneOf level_json (string name.now)) }
 {
     match name {
         "H1" => Some(HeadingLevel::H1),
@@ -37,7 +39,8 @@ pub fn level_name(level: HeadingLevel) -> &'static str
 
 /// The kind of a block quote that has this name.
 pub fn quote_named(name: &str) -> Option<BlockQuoteKind>
-    ensures { IfSome result (λ kind. string name.now ≡ quote_json kind) }
+    ensures named { IfSome result (λ kind. string name.now ≡ quote_json kind) }
+    ensures unnamed { IfNone result (IsNoneOf quote_json (string name.now)) }
 {
     match name {
         "Note" => Some(BlockQuoteKind::Note),
@@ -64,7 +67,8 @@ pub fn quote_name(kind: BlockQuoteKind) -> &'static str
 
 /// The alignment that has this name.
 pub fn alignment_named(name: &str) -> Option<Alignment>
-    ensures { IfSome result (λ alignment. string name.now ≡ alignment_json alignment) }
+    ensures named { IfSome result (λ alignment. string name.now ≡ alignment_json alignment) }
+    ensures unnamed { IfNone result (IsNoneOf alignment_json (string name.now)) }
 {
     match name {
         "None" => Some(Alignment::None),
@@ -89,7 +93,8 @@ pub fn alignment_name(alignment: Alignment) -> &'static str
 
 /// The kind of a block of metadata that has this name.
 pub fn metadata_named(name: &str) -> Option<MetadataBlockKind>
-    ensures { IfSome result (λ kind. string name.now ≡ metadata_json kind) }
+    ensures named { IfSome result (λ kind. string name.now ≡ metadata_json kind) }
+    ensures unnamed { IfNone result (IsNoneOf metadata_json (string name.now)) }
 {
     match name {
         "YamlStyle" => Some(MetadataBlockKind::YamlStyle),
@@ -110,7 +115,8 @@ pub fn metadata_name(kind: MetadataBlockKind) -> &'static str
 
 /// The type of a link that has this name and holds nothing.
 pub fn link_type_named(name: &str) -> Option<LinkType>
-    ensures { IfSome result (λ link_type. string name.now ≡ link_type_json link_type) }
+    ensures named { IfSome result (λ link_type. string name.now ≡ link_type_json link_type) }
+    ensures unnamed { IfNone result (IsNoneOf link_type_json (string name.now)) }
 {
     match name {
         "Inline" => Some(LinkType::Inline),

@@ -1,16 +1,18 @@
 //! Events from their JSON value.
 
-ghost use Rattle.std.specs.Prelude.{◌≡◌, IfErr, IfOk, IfSome, codes, map};
+ghost use Rattle.std.specs.Prelude.{◌≡◌, IfErr, IfNone, IfOk, IfSome, codes, map};
 ghost use Rattle.std.specs.Option.{option_map};
 ghost use Rattle.serde_json.specs.Data.{array, boolean, string};
 ghost use Rattle.serde_json.specs.View.{items_view, view};
+ghost use Rattle.tocmark_event.specs.declared.event.LinkType.TheVariants as link;
+ghost use Rattle.tocmark_event.specs.View as event;
 ghost use Rattle.tocmark_event.specs.View.{attribute_view, code_view, event_view, tag_view};
-ghost use Rattle.tocmark_json.specs.Json.{alignment_json, attribute_json, code_json, end_json, event_json, events_json, heading_json, level_json, link_json, link_type_json, listed, located_json, metadata_json, optional, pair_view, quote_json, size_json, tag_json, tagged, IsPairsJson};
-ghost use Rattle.tocmark_json.specs.Place.{IsAt, StandsIn};
+ghost use Rattle.tocmark_json.specs.Json.{alignment_json, attribute_json, code_json, end_json, event_json, events_json, heading_json, level_json, link_json, link_type_json, listed, located_json, metadata_json, optional, pair_view, quote_json, size_json, tag_json, tagged, target_json, IsPairsJson};
+ghost use Rattle.tocmark_json.specs.Place.{IsAt, IsNoneOf, Refuses, StandsIn};
 
 use crate::fault::{Fault, JsonError};
 use crate::names::{alignment_named, level_named, link_type_named, metadata_named, quote_named};
-use crate::parts::{four_members, number_in, only_member, two_items};
+use crate::parts::{four_named, number_in, one_named, only_member, text_in, two_items};
 use crate::ranges::{Location, location_from};
 use serde_json::Value;
 use std::alloc::Global;
@@ -52,7 +54,8 @@ const A_PAIR: &str = "an array of two, an event and its range";
 const A_NUMBER: &str = "a whole number from 0 to 18446744073709551615";
 
 fn text_from<U: OwnedWords>(alloc: Global, value: &Value, key: &'static str) -> Result<U, Fault>
-    ensures { IfOk result (λ text. view value.now ≡ string (U.Words.bytes text)) }
+    ensures read { IfOk result (λ text. view value.now ≡ string (U.Words.bytes text)) }
+    ensures refused { IfErr result (Refuses string (view value.now)) }
 {
     match value {
         Value::String(text) => Ok(U::from_text(alloc, text.as_str())?),
@@ -65,8 +68,9 @@ fn optional_text_from<U: OwnedWords>(
     value: &Value,
     key: &'static str,
 ) -> Result<Option<U>, Fault>
-    ensures { IfOk result (λ text. view value.now
+    ensures read { IfOk result (λ text. view value.now
         ≡ optional string (option_map U.Words.bytes text)) }
+    ensures refused { IfErr result (Refuses (optional string) (view value.now)) }
 {
     match value {
         Value::Null => Ok(None),
@@ -76,7 +80,8 @@ fn optional_text_from<U: OwnedWords>(
 }
 
 fn truth_from(value: &Value, key: &'static str) -> Result<bool, Fault>
-    ensures { IfOk result (λ b. view value.now ≡ boolean b) }
+    ensures read { IfOk result (λ b. view value.now ≡ boolean b) }
+    ensures refused { IfErr result (Refuses boolean (view value.now)) }
 {
     match value {
         Value::Bool(truth) => Ok(*truth),
@@ -85,7 +90,8 @@ fn truth_from(value: &Value, key: &'static str) -> Result<bool, Fault>
 }
 
 fn level_from(value: &Value, key: &'static str) -> Result<HeadingLevel, Fault>
-    ensures { IfOk result (λ level. view value.now ≡ level_json level) }
+    ensures read { IfOk result (λ level. view value.now ≡ level_json level) }
+    ensures refused { IfErr result (Refuses level_json (view value.now)) }
 {
     let Value::String(name) = value else {
         return Err(wanted(key, A_LEVEL));
@@ -97,7 +103,8 @@ fn level_from(value: &Value, key: &'static str) -> Result<HeadingLevel, Fault>
 }
 
 fn quote_from(value: &Value) -> Result<Option<BlockQuoteKind>, Fault>
-    ensures { IfOk result (λ kind. view value.now ≡ optional quote_json kind) }
+    ensures read { IfOk result (λ kind. view value.now ≡ optional quote_json kind) }
+    ensures refused { IfErr result (Refuses (optional quote_json) (view value.now)) }
 {
     let name = match value {
         Value::Null => return Ok(None),
@@ -111,7 +118,8 @@ fn quote_from(value: &Value) -> Result<Option<BlockQuoteKind>, Fault>
 }
 
 fn alignment_from(value: &Value) -> Result<Alignment, Fault>
-    ensures { IfOk result (λ alignment. view value.now ≡ alignment_json alignment) }
+    ensures read { IfOk result (λ alignment. view value.now ≡ alignment_json alignment) }
+    ensures refused { IfErr result (Refuses alignment_json (view value.now)) }
 {
     let Value::String(name) = value else {
         return Err(wanted("Table", AN_ALIGNMENT));
@@ -123,7 +131,8 @@ fn alignment_from(value: &Value) -> Result<Alignment, Fault>
 }
 
 fn metadata_from(value: &Value) -> Result<MetadataBlockKind, Fault>
-    ensures { IfOk result (λ kind. view value.now ≡ metadata_json kind) }
+    ensures read { IfOk result (λ kind. view value.now ≡ metadata_json kind) }
+    ensures refused { IfErr result (Refuses metadata_json (view value.now)) }
 {
     let Value::String(name) = value else {
         return Err(wanted("MetadataBlock", A_KIND_OF_METADATA));
@@ -135,12 +144,13 @@ fn metadata_from(value: &Value) -> Result<MetadataBlockKind, Fault>
 }
 
 fn wiki_link_from(value: &Value) -> Result<LinkType, Fault>
-    ensures { IfOk result (λ link_type. view value.now ≡ link_type_json link_type) }
+    ensures read { IfOk result (λ link_type. view value.now ≡ link_type_json link_type) }
+    ensures refused { IfErr result (Refuses (λ b. link_type_json (link.WikiLink b)) (view value.now)) }
 {
-    let Some(("WikiLink", content)) = only_member(value) else {
+    let Some(content) = one_named(value, "WikiLink") else {
         return Err(wanted("link_type", A_LINK_TYPE));
     };
-    let Some(("has_pothole", truth)) = only_member(content) else {
+    let Some(truth) = one_named(content, "has_pothole") else {
         return Err(wanted("WikiLink", "an object with the key has_pothole alone"));
     };
     let has_pothole = truth_from(truth, "has_pothole")?;
@@ -148,28 +158,31 @@ fn wiki_link_from(value: &Value) -> Result<LinkType, Fault>
 }
 
 fn link_type_from(value: &Value) -> Result<LinkType, Fault>
-    ensures { IfOk result (λ link_type. view value.now ≡ link_type_json link_type) }
+    ensures read { IfOk result (λ link_type. view value.now ≡ link_type_json link_type) }
+    ensures refused { IfErr result (Refuses link_type_json (view value.now)) }
 {
-    let Value::String(name) = value else {
+    let Some(name) = text_in(value) else {
         return wiki_link_from(value);
     };
-    match link_type_named(name.as_str()) {
+    match link_type_named(name) {
         Some(link_type) => Ok(link_type),
         None => Err(wanted("link_type", A_LINK_TYPE)),
     }
 }
 
 fn fenced_from<U: OwnedWords>(alloc: Global, value: &Value) -> Result<CodeBlockKindOf<U>, Fault>
-    ensures { IfOk result (λ kind. view value.now ≡ code_json (code_view U.Words.bytes kind)) }
+    ensures read { IfOk result (λ kind. view value.now ≡ code_json (code_view U.Words.bytes kind)) }
+    ensures refused { IfErr result (Refuses (λ info. code_json (event.Fenced info)) (view value.now)) }
 {
-    match only_member(value) {
-        Some(("Fenced", info)) => text_from(alloc, info, "Fenced").map(CodeBlockKindOf::Fenced),
-        _ => Err(wanted("CodeBlock", A_KIND_OF_CODE)),
+    match one_named(value, "Fenced") {
+        Some(info) => text_from(alloc, info, "Fenced").map(CodeBlockKindOf::Fenced),
+        None => Err(wanted("CodeBlock", A_KIND_OF_CODE)),
     }
 }
 
 fn code_from<U: OwnedWords>(alloc: Global, value: &Value) -> Result<CodeBlockKindOf<U>, Fault>
-    ensures { IfOk result (λ kind. view value.now ≡ code_json (code_view U.Words.bytes kind)) }
+    ensures read { IfOk result (λ kind. view value.now ≡ code_json (code_view U.Words.bytes kind)) }
+    ensures refused { IfErr result (Refuses code_json (view value.now)) }
 {
     match value {
         Value::String(name) if name.as_str() == "Indented" => Ok(CodeBlockKindOf::Indented),
@@ -178,8 +191,9 @@ fn code_from<U: OwnedWords>(alloc: Global, value: &Value) -> Result<CodeBlockKin
 }
 
 fn classes_from<U: OwnedWords + Drop>(alloc: Global, value: &Value) -> Result<Vec<U>, Fault>
-    ensures { IfOk result (λ classes. view value.now
+    ensures read { IfOk result (λ classes. view value.now
         ≡ listed string (map U.Words.bytes classes.items)) }
+    ensures refused { IfErr result (Refuses (listed string) (view value.now)) }
 {
     let Value::Array(items) = value else {
         return Err(wanted("classes", "an array of strings"));
@@ -195,8 +209,9 @@ fn attribute_from<U: OwnedWords + Drop>(
     alloc: Global,
     value: &Value,
 ) -> Result<(U, Option<U>), Fault>
-    ensures { IfOk result (λ attribute. view value.now
+    ensures read { IfOk result (λ attribute. view value.now
         ≡ attribute_json (attribute_view U.Words.bytes attribute)) }
+    ensures refused { IfErr result (Refuses attribute_json (view value.now)) }
 {
     let Some((key, content)) = two_items(value) else {
         return Err(wanted("attrs", AN_ATTRIBUTE));
@@ -209,8 +224,9 @@ fn attributes_from<U: OwnedWords + Drop>(
     alloc: Global,
     value: &Value,
 ) -> Result<Vec<(U, Option<U>)>, Fault>
-    ensures { IfOk result (λ attributes. view value.now
+    ensures read { IfOk result (λ attributes. view value.now
         ≡ listed attribute_json (map (attribute_view U.Words.bytes) attributes.items)) }
+    ensures refused { IfErr result (Refuses (listed attribute_json) (view value.now)) }
 {
     let Value::Array(items) = value else {
         return Err(wanted("attrs", "an array of attributes"));
@@ -223,8 +239,9 @@ fn attributes_from<U: OwnedWords + Drop>(
 }
 
 fn alignments_from(alloc: Global, value: &Value) -> Result<Vec<Alignment>, Fault>
-    ensures { IfOk result (λ alignments. view value.now
+    ensures read { IfOk result (λ alignments. view value.now
         ≡ listed alignment_json alignments.items) }
+    ensures refused { IfErr result (Refuses (listed alignment_json) (view value.now)) }
 {
     let Value::Array(items) = value else {
         return Err(wanted("Table", AN_ALIGNMENT));
@@ -237,26 +254,21 @@ fn alignments_from(alloc: Global, value: &Value) -> Result<Vec<Alignment>, Fault
 }
 
 fn heading_from<U: OwnedWords + Drop>(alloc: Global, value: &Value) -> Result<TagOf<U>, Fault>
-    ensures { IfOk result (λ tag. tagged (codes "Heading") (view value.now)
+    ensures read { IfOk result (λ tag. tagged (codes "Heading") (view value.now)
         ≡ tag_json (tag_view U.Words.bytes tag)) }
+    ensures refused { IfErr result (Refuses tag_json (tagged (codes "Heading") (view value.now))) }
 {
-    let Some(found) = four_members(value) else {
+    let Some(found) = four_named(value, "attrs", "classes", "id", "level") else {
         return Err(wanted("Heading", A_HEADING));
     };
-    let (("attrs", attrs), ("classes", classes)) = (found.first, found.second) else {
-        return Err(wanted("Heading", A_HEADING));
-    };
-    let (("id", id), ("level", level)) = (found.third, found.fourth) else {
-        return Err(wanted("Heading", A_HEADING));
-    };
-    let level = level_from(level, "level")?;
-    let id = optional_text_from(alloc, id, "id")?;
-    let classes = classes_from(alloc, classes)?;
+    let level = level_from(found.fourth, "level")?;
+    let id = optional_text_from(alloc, found.third, "id")?;
+    let classes = classes_from(alloc, found.second)?;
     Ok(TagOf::Heading {
         level,
         id,
         classes,
-        attrs: attributes_from(alloc, attrs)?,
+        attrs: attributes_from(alloc, found.first)?,
     })
 }
 
@@ -274,33 +286,29 @@ fn target_from<U: OwnedWords + Drop>(
     value: &Value,
     key: &'static str,
 ) -> Result<Target<U>, Fault>
-    ensures { IfOk result (λ target. view value.now
+    ensures read { IfOk result (λ target. view value.now
         ≡ link_json target.link_type (U.Words.bytes target.dest_url)
         (U.Words.bytes target.title) (U.Words.bytes target.id)) }
+    ensures refused { IfErr result (Refuses target_json (view value.now)) }
 {
-    let Some(found) = four_members(value) else {
+    let Some(found) = four_named(value, "dest_url", "id", "link_type", "title") else {
         return Err(wanted(key, A_LINK));
     };
-    let (("dest_url", dest_url), ("id", id)) = (found.first, found.second) else {
-        return Err(wanted(key, A_LINK));
-    };
-    let (("link_type", link_type), ("title", title)) = (found.third, found.fourth) else {
-        return Err(wanted(key, A_LINK));
-    };
-    let link_type = link_type_from(link_type)?;
-    let dest_url = text_from(alloc, dest_url, "dest_url")?;
-    let title = text_from(alloc, title, "title")?;
+    let link_type = link_type_from(found.third)?;
+    let dest_url = text_from(alloc, found.first, "dest_url")?;
+    let title = text_from(alloc, found.fourth, "title")?;
     Ok(Target {
         link_type,
         dest_url,
         title,
-        id: text_from(alloc, id, "id")?,
+        id: text_from(alloc, found.second, "id")?,
     })
 }
 
 fn link_from<U: OwnedWords + Drop>(alloc: Global, value: &Value) -> Result<TagOf<U>, Fault>
-    ensures { IfOk result (λ tag. tagged (codes "Link") (view value.now)
+    ensures read { IfOk result (λ tag. tagged (codes "Link") (view value.now)
         ≡ tag_json (tag_view U.Words.bytes tag)) }
+    ensures refused { IfErr result (Refuses tag_json (tagged (codes "Link") (view value.now))) }
 {
     let Target {
         link_type,
@@ -317,8 +325,9 @@ fn link_from<U: OwnedWords + Drop>(alloc: Global, value: &Value) -> Result<TagOf
 }
 
 fn image_from<U: OwnedWords + Drop>(alloc: Global, value: &Value) -> Result<TagOf<U>, Fault>
-    ensures { IfOk result (λ tag. tagged (codes "Image") (view value.now)
+    ensures read { IfOk result (λ tag. tagged (codes "Image") (view value.now)
         ≡ tag_json (tag_view U.Words.bytes tag)) }
+    ensures refused { IfErr result (Refuses tag_json (tagged (codes "Image") (view value.now))) }
 {
     let Target {
         link_type,
@@ -335,7 +344,8 @@ fn image_from<U: OwnedWords + Drop>(alloc: Global, value: &Value) -> Result<TagO
 }
 
 fn start_from(value: &Value) -> Result<Option<u64>, Fault>
-    ensures { IfOk result (λ start. view value.now ≡ optional size_json start) }
+    ensures read { IfOk result (λ start. view value.now ≡ optional size_json start) }
+    ensures refused { IfErr result (Refuses (optional size_json) (view value.now)) }
 {
     if let Value::Null = value {
         return Ok(None);
@@ -350,7 +360,8 @@ fn start_from(value: &Value) -> Result<Option<u64>, Fault>
 }
 
 fn plain_tag<U: Words>(name: &str) -> Option<TagOf<U>>
-    ensures { IfSome result (λ tag. string name.now ≡ tag_json (tag_view U.bytes tag)) }
+    ensures named { IfSome result (λ tag. string name.now ≡ tag_json (tag_view U.bytes tag)) }
+    ensures unnamed { IfNone result (IsNoneOf tag_json (string name.now)) }
 {
     match name {
         "Paragraph" => Some(TagOf::Paragraph),
@@ -376,8 +387,9 @@ fn tag_with<U: OwnedWords + Drop>(
     name: &str,
     content: &Value,
 ) -> Result<TagOf<U>, Fault>
-    ensures { IfOk result (λ tag. tagged name.now (view content.now)
+    ensures read { IfOk result (λ tag. tagged name.now (view content.now)
         ≡ tag_json (tag_view U.Words.bytes tag)) }
+    ensures refused { IfErr result (Refuses tag_json (tagged name.now (view content.now))) }
 {
     match name {
         "Heading" => heading_from(alloc, content),
@@ -396,10 +408,11 @@ fn tag_with<U: OwnedWords + Drop>(
 }
 
 fn tag_from<U: OwnedWords + Drop>(alloc: Global, value: &Value) -> Result<TagOf<U>, Fault>
-    ensures { IfOk result (λ tag. view value.now ≡ tag_json (tag_view U.Words.bytes tag)) }
+    ensures read { IfOk result (λ tag. view value.now ≡ tag_json (tag_view U.Words.bytes tag)) }
+    ensures refused { IfErr result (Refuses tag_json (view value.now)) }
 {
-    if let Value::String(name) = value {
-        return match plain_tag(name.as_str()) {
+    if let Some(name) = text_in(value) {
+        return match plain_tag(name) {
             Some(tag) => Ok(tag),
             None => Err(wanted("Start", A_TAG)),
         };
@@ -411,7 +424,8 @@ fn tag_from<U: OwnedWords + Drop>(alloc: Global, value: &Value) -> Result<TagOf<
 }
 
 fn plain_end(name: &str) -> Option<TagEnd>
-    ensures { IfSome result (λ end. string name.now ≡ end_json end) }
+    ensures named { IfSome result (λ end. string name.now ≡ end_json end) }
+    ensures unnamed { IfNone result (IsNoneOf end_json (string name.now)) }
 {
     match name {
         "Paragraph" => Some(TagEnd::Paragraph),
@@ -438,7 +452,8 @@ fn plain_end(name: &str) -> Option<TagEnd>
 }
 
 fn end_with(name: &str, content: &Value) -> Result<TagEnd, Fault>
-    ensures { IfOk result (λ end. tagged name.now (view content.now) ≡ end_json end) }
+    ensures read { IfOk result (λ end. tagged name.now (view content.now) ≡ end_json end) }
+    ensures refused { IfErr result (Refuses end_json (tagged name.now (view content.now))) }
 {
     match name {
         "Heading" => level_from(content, "Heading").map(TagEnd::Heading),
@@ -450,10 +465,11 @@ fn end_with(name: &str, content: &Value) -> Result<TagEnd, Fault>
 }
 
 fn end_from(value: &Value) -> Result<TagEnd, Fault>
-    ensures { IfOk result (λ end. view value.now ≡ end_json end) }
+    ensures read { IfOk result (λ end. view value.now ≡ end_json end) }
+    ensures refused { IfErr result (Refuses end_json (view value.now)) }
 {
-    if let Value::String(name) = value {
-        return match plain_end(name.as_str()) {
+    if let Some(name) = text_in(value) {
+        return match plain_end(name) {
             Some(end) => Ok(end),
             None => Err(wanted("End", AN_END)),
         };
@@ -465,7 +481,8 @@ fn end_from(value: &Value) -> Result<TagEnd, Fault>
 }
 
 fn plain_event<U: Words>(name: &str) -> Option<EventOf<U>>
-    ensures { IfSome result (λ event. string name.now ≡ event_json (event_view U.bytes event)) }
+    ensures named { IfSome result (λ event. string name.now ≡ event_json (event_view U.bytes event)) }
+    ensures unnamed { IfNone result (IsNoneOf event_json (string name.now)) }
 {
     match name {
         "SoftBreak" => Some(EventOf::SoftBreak),
@@ -480,8 +497,9 @@ fn event_with<U: OwnedWords + Drop>(
     name: &str,
     content: &Value,
 ) -> Result<EventOf<U>, Fault>
-    ensures { IfOk result (λ event. tagged name.now (view content.now)
+    ensures read { IfOk result (λ event. tagged name.now (view content.now)
         ≡ event_json (event_view U.Words.bytes event)) }
+    ensures refused { IfErr result (Refuses event_json (tagged name.now (view content.now))) }
 {
     match name {
         "Start" => tag_from(alloc, content).map(EventOf::Start),
@@ -506,11 +524,12 @@ pub fn event_from_json<U: OwnedWords + Drop>(
     alloc: Global,
     value: &Value,
 ) -> Result<EventOf<U>, Fault>
-    ensures { IfOk result (λ event. view value.now
+    ensures read { IfOk result (λ event. view value.now
         ≡ event_json (event_view U.Words.bytes event)) }
+    ensures refused { IfErr result (Refuses event_json (view value.now)) }
 {
-    if let Value::String(name) = value {
-        return match plain_event(name.as_str()) {
+    if let Some(name) = text_in(value) {
+        return match plain_event(name) {
             Some(event) => Ok(event),
             None => Err(wanted("event", AN_EVENT)),
         };
@@ -526,8 +545,9 @@ fn pair_from<U: OwnedWords + Drop>(
     alloc: Global,
     value: &Value,
 ) -> Result<(EventOf<U>, Location), Fault>
-    ensures { IfOk result (λ pair. view value.now
+    ensures read { IfOk result (λ pair. view value.now
         ≡ located_json ((event_view U.Words.bytes pair.0, pair.1.range), pair.1.span)) }
+    ensures refused { IfErr result (Refuses located_json (view value.now)) }
 {
     let Some((event, range)) = two_items(value) else {
         return Err(wanted("pair", A_PAIR));
@@ -543,7 +563,7 @@ fn event_at<U: OwnedWords + Drop>(
 ) -> Result<EventOf<U>, JsonError>
     ensures event { IfOk result (λ event. view value.now
         ≡ event_json (event_view U.Words.bytes event)) }
-    ensures place { IfErr result (IsAt index) }
+    ensures place { IfErr result (IsAt event_json (view value.now) index) }
 {
     match event_from_json(alloc, value) {
         Ok(event) => Ok(event),
@@ -558,7 +578,7 @@ fn pair_at<U: OwnedWords + Drop>(
 ) -> Result<(EventOf<U>, Location), JsonError>
     ensures pair { IfOk result (λ pair. view value.now
         ≡ located_json ((event_view U.Words.bytes pair.0, pair.1.range), pair.1.span)) }
-    ensures place { IfErr result (IsAt index) }
+    ensures place { IfErr result (IsAt located_json (view value.now) index) }
 {
     match pair_from(alloc, value) {
         Ok(pair) => Ok(pair),

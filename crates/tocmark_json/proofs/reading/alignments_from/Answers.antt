@@ -1,15 +1,23 @@
-use Rattle.std.proofs.Common.{ap, sym, ◌∙◌}
+use Rattle.std.proofs.Common.{◌≡◌, ap, sym, ◌∙◌}
 use Rattle.serde_json.specs.Data.{array}
 use Rattle.serde_json.proofs.Views.{view-Array}
 use Rattle.serde_json.specs.View.{items_of, items_view, view}
-use Rattle.tocmark_json.specs.Json.{alignment_json}
+use Rattle.tocmark_json.specs.Json.{listed, alignment_json}
 use Rattle.tocmark_event.proofs.Copying.{copied-more, copied-all}
+use Rattle.tocmark_json.proofs.Refusals.{no_list_in, returned}
 use Rattle.tocmark_json.proofs.reading.alignments_from.Goals as goal
 
 pub loop-item-preserved : goal.loop-item-preserved
 loop-item-preserved c =
-    copied-more alignment_json view c.loop-item.alignments.items c.deref-item-items.result.now c.loop-item.item-index c.loop-item.invariant c.push.new.self.items c.in_ok-alignment_from.field-0 c.item-item.result c.loop-item-test.true c.item-item.is c.in_ok-push.ensures.items (sym c.in_ok-alignment_from.ensures)
+    copied-more alignment_json view c.loop-item.alignments.items c.deref-item-items.result.now c.loop-item.item-index c.loop-item.invariant c.push.new.self.items c.in_ok-alignment_from.field-0 c.item-item.result c.loop-item-test.true c.item-item.is c.in_ok-push.ensures.items (sym c.in_ok-alignment_from.ensures.read)
 
-pub returns : goal.returns
-returns c =
+pub returns-clause-read : goal.returns-clause-read
+returns-clause-read c =
     ap view c.in-Array.is ∙ view-Array c.in-Array.items ∙ ap (λ vs. array (items_view vs)) (sym c.deref-item-items.ensures.value) ∙ ap (λ ds. array (items_of ds)) (sym (copied-all alignment_json view c.loop-item.alignments.items c.deref-item-items.result.now c.loop-item.item-index c.loop-item.invariant c.loop-item-test.false))
+
+pub returns-in_err-alignment_from-clause-refused : goal.returns-in_err-alignment_from-clause-refused
+returns-in_err-alignment_from-clause-refused c =
+    let v = view c.args.value.now in
+    let vs = c.deref-item-items.result.now in
+    let same : v ≡ array (items_view vs) = ap view c.in-Array.is ∙ view-Array c.in-Array.items ∙ ap (λ vs. array (items_view vs)) (sym c.deref-item-items.ensures.value) in
+    returned c.from_residual.result c.in_err-alignment_from.field-0.0 c.from_residual.ensures.1 alignment_json (listed alignment_json) (view c.item-item.result) v (no_list_in alignment_json v vs same c.loop-item.item-index c.item-item.result c.loop-item-test.true c.item-item.is) c.in_err-alignment_from.ensures.refused

@@ -1,0 +1,10 @@
+use Rattle.serde_json.specs.View.{view}
+use Rattle.tocmark_json.specs.Json.{tag_json}
+use Rattle.tocmark_json.proofs.Forms.{no_tag_form}
+use Rattle.tocmark_json.proofs.Refusals.{refused}
+use Rattle.tocmark_json.proofs.reading.tag_from.Goals as goal
+
+pub returns-in-None-only_member-clause-refused : goal.returns-in-None-only_member-clause-refused
+returns-in-None-only_member-clause-refused g c =
+    let v = view c.args.value.now in
+    refused tag_json v (no_tag_form v c.in_default.ensures.none c.in-None-only_member.ensures.none) c.wanted-in-None-only_member.result
