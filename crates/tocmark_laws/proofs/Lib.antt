@@ -56,4 +56,13 @@ pub mod TableRows
 pub mod TableBlocks
 pub mod TableNodes
 pub mod TableReading
+pub mod BreakRoles
+pub mod BreakReading
+pub mod InkAtColumn
+pub mod ListBlocks
+pub mod ListReading
+pub mod BulletReading
+pub mod QuoteBlocks
+pub mod QuoteReading
+mod ConstructExamples
 pub mod LiteralLabels

@@ -280,7 +280,7 @@ closed_twice es (a ∷ b ∷ os) =
     take_none [] = refl
     take_none (x ∷ xs) = refl
 
-closed_again : (es : List Marked) (os : List Open) → closed 0 (closed 1 (record { events = es; stack = os })) ≡ closed 0 (record { events = es; stack = os })
+pub closed_again : (es : List Marked) (os : List Open) → closed 0 (closed 1 (record { events = es; stack = os })) ≡ closed 0 (record { events = es; stack = os })
 closed_again es [] = ap (λ (x : List Marked). (let w : Writing = record { events = x ++ []; stack = [] } in w)) (append-nil es)
 closed_again es (b ∷ os) =
     ap (λ (x : List Open). (let w : Writing = record { events = (es ++ map end_event (reverse os)) ++ map end_event (reverse (b ∷ x)); stack = [] } in w)) (take_none os)
@@ -372,7 +372,7 @@ module _ (text : List ℕ) where
 
 -- ---- and what these say
 
-unplaced_both : (xs ys : List Marked) → unplaced (xs ++ ys) ≡ unplaced xs ++ unplaced ys
+pub unplaced_both : (xs ys : List Marked) → unplaced (xs ++ ys) ≡ unplaced xs ++ unplaced ys
 unplaced_both xs ys = map-append (λ (e : Marked). e.0) xs ys
 
 module _ (text : List ℕ) (clean : AreClean text) where

@@ -5,8 +5,10 @@ use Rattle.std.specs.Char.{char_set_contains, is_ascii_alphabetic}
 use Rattle.std.specs.List.{AllByRecursion, list_all}
 use Rattle.tocmark_event.specs.Reading.{ReadingView}
 use Rattle.tocmark_event.specs.View.{EventView}
+use Rattle.tocmark_read_scan.specs.Class.{is_in}
 use Rattle.tocmark_read_scan.specs.Content as content
 use Rattle.tocmark_read_scan.specs.PlainParts.{Part, Bare, Feed, spelled, meant, last_byte}
+use Rattle.tocmark_read_scan.specs.declared.class.Class.TheVariants.{White}
 use Rattle.tocmark_read_scan.specs.declared.syntax.Syntax.{Syntax}
 use Rattle.tocmark_read_scan.proofs.PlainContent.{places_of}
 use Rattle.tocmark_read_scan.proofs.PlainPieces.{feed_joined, content_of_lines}
@@ -56,7 +58,7 @@ abbrev pub AreWords : List ℕ → Type 0
 AreWords [] = ⊥
 AreWords (b ∷ bs) = IsWordLine b bs
 
-words_from : (l : List ℕ) → is_word_line l ≡ true → AreWords l
+pub words_from : (l : List ℕ) → is_word_line l ≡ true → AreWords l
 words_from [] h = true≢false (sym h)
 words_from (b ∷ bs) h =
     let two = both_true (is_ascii_alphabetic b && list_all is_word_byte (b ∷ bs)) (not (last_byte b bs == 32)) h in
@@ -89,7 +91,16 @@ text_byte b h =
     let dollar : (b == 36) ≡ false = differs (char_set_contains marks) b 36 refl h.out in
     rw (i.bracket, i.exclamation, i.closing, i.less, i.backtick, i.star, i.underscore, i.backslash, i.ampersand, i.feed, tilde, caret, dollar) refl
 
-quiet_letter : (b : ℕ) → is_ascii_alphabetic b ≡ true → IsQuiet b
+-- such a byte is white only as a space
+pub ink_byte : (b : ℕ) → IsWordByte b → (b == 32) ≡ false → is_in White b ≡ false
+unfolding is_in
+ink_byte b h k =
+    let low : 32 ≤ b = h.printable.low in
+    let tab : (b == 9) ≡ false = grind (arith, nat_tests) in
+    let feed : (b == 10) ≡ false = grind (arith, nat_tests) in
+    rw (k, tab, feed) refl
+
+pub quiet_letter : (b : ℕ) → is_ascii_alphabetic b ≡ true → IsQuiet b
 quiet_letter b h = record {
   space = turned is_ascii_alphabetic 32 b h refl;
   greater = turned is_ascii_alphabetic 62 b h refl;
@@ -105,7 +116,7 @@ quiet_letter b h = record {
   digit = let low : 65 ≤ b = grind (arith, h, nat_tests) in grind (arith, nat_tests);
 }
 
-free_letter : (b : ℕ) → is_ascii_alphabetic b ≡ true → IsFreeByte b
+pub free_letter : (b : ℕ) → is_ascii_alphabetic b ≡ true → IsFreeByte b
 free_letter b h = record {
   bracket = differs is_ascii_alphabetic 91 b h refl;
   colon = turned is_ascii_alphabetic 58 b h refl;

@@ -16,3 +16,6 @@ pub mod Documents
 pub mod Extensions
 pub mod PlainTables
 pub mod LiteralLabels
+pub mod HardBreaks
+pub mod PlainLists
+pub mod PlainQuotes

@@ -8,6 +8,7 @@
 #![tactic(auto)]
 
 pub mod blocks;
+pub mod constructs;
 pub mod counts;
 pub mod documents;
 pub mod extensions;

@@ -1,0 +1,27 @@
+//! Laws of both readers: the exact events of texts of one kind, under every syntax.
+//!
+//! They speak of `reading_of`, the definition of what `ExtendedReader` reads under a syntax, and `CoreReader` under none.
+//! Each text has one construct of CommonMark, round lines of words: a line begins with a letter, and none of its
+//! characters, from U+0020 to U+007E, is a mark.
+
+ghost use Rattle.tocmark_laws.specs.HardBreaks.{BreaksAreRead};
+ghost use Rattle.tocmark_laws.specs.PlainLists.{BulletListsAreRead};
+ghost use Rattle.tocmark_laws.specs.PlainQuotes.{QuotesAreRead};
+
+/// Under every syntax, lines of words are a paragraph with a text for each line. A line that ends with a backslash, or
+/// with two spaces or more, has a hard break behind it, and any other line a soft one.
+pub fn hard_breaks_are_read()
+    ensures { BreaksAreRead }
+{}
+
+/// Under every syntax, lines of words that each stand behind `-`, `+` or `*` and a space, as `- two words`, are a tight
+/// list without numbers, with an item for each line.
+pub fn bullet_lists_are_read()
+    ensures { BulletListsAreRead }
+{}
+
+/// Under every syntax, lines of words that each stand behind `> ` are a quote without a kind, of one paragraph with a
+/// text for each line, and the breaks of `hard_breaks_are_read` between them.
+pub fn quotes_are_read()
+    ensures { QuotesAreRead }
+{}
