@@ -93,6 +93,7 @@ impl Printer<'_> {
         };
         frame.number = number;
         frame.is_tight = !part.is_loose(at);
+        frame.is_close = part.is_loose_by_definitions(at);
         self.page.open(frame)
     }
 
@@ -165,6 +166,7 @@ impl Printer<'_> {
             .saturating_add(behind.saturating_sub(start))
             .saturating_add(columns.pad);
         frame.is_tight = self.page.top().is_tight;
+        frame.is_close = self.page.top().is_close;
         self.page.open(frame)
     }
 

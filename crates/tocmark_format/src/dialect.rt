@@ -5,18 +5,17 @@ use crate::printer::Printer;
 use std::alloc::AllocError;
 
 /// What begins a line that another dialect takes for more than text.
-const LINE_OPENERS: [&str; 6] = [
+const LINE_OPENERS: [&str; 7] = [
     "!!!", // MkDocs: an admonition
     "???", // MkDocs: one that can be folded
     ":::", // Docusaurus, pandoc: a container, and its end
-    "{:", // kramdown: attributes of the block beside it
-    "{%", // Jekyll: a tag
-    "{{", // Jekyll, Hugo: a value, a shortcode
+    ": ", // kramdown, pandoc, MkDocs: a definition of the line above
+    ":\t", "{", // attributes of the block beside it; Jekyll, Hugo: a tag, a value, a shortcode
+    "$$", // a formula
 ];
 
 /// What begins a block of another dialect, beside the lines above.
-const BLOCK_OPENERS: [&str; 5] = [
-    "{", // MDX: an expression
+const BLOCK_OPENERS: [&str; 4] = [
     "import ", // MDX: what the document imports and exports
     "export ", "=== \"", // MkDocs: a tab
     "--8<-- ", // MkDocs: an included file
@@ -34,10 +33,20 @@ fn begins_with(text: &str, openers: &[&str]) -> bool {
     openers.iter().any(|opener| text.starts_with(*opener))
 }
 
+/// Whether a text begins with a command of Doxygen, as `@param`.
+fn begins_command(text: &str) -> bool {
+    text.as_bytes()
+        .get(1)
+        .is_some_and(|byte| byte.is_ascii_lowercase())
+}
+
 /// Whether a line that begins like this text is one of another dialect.
 pub(crate) fn begins_foreign_line(text: &str) -> bool {
     match text.as_bytes().first() {
-        Some(b'!' | b'?' | b':' | b'{') => begins_with(text, &LINE_OPENERS),
+        Some(b'!' | b'?' | b':' | b'{' | b'$') => begins_with(text, &LINE_OPENERS),
+        Some(b'@') => begins_command(text),
+        // an abbreviation of kramdown and MkDocs
+        Some(b'*') => text.starts_with("*[") && text.contains("]:"),
         _ => false,
     }
 }
@@ -45,23 +54,70 @@ pub(crate) fn begins_foreign_line(text: &str) -> bool {
 /// Whether a block that begins like this text is one of another dialect, but for the lines above.
 fn begins_foreign_block(text: &str) -> bool {
     match text.as_bytes().first() {
-        Some(b'{' | b'i' | b'e' | b'=' | b'-') => begins_with(text, &BLOCK_OPENERS),
+        Some(b'i' | b'e' | b'=' | b'-') => begins_with(text, &BLOCK_OPENERS),
         _ => false,
     }
 }
 
+/// Whether a line is one tag of HTML or MDX. `cmark-gfm` and MDX take such a lazy line for a block behind the list or quote.
+fn is_lone_tag(line: &str) -> bool {
+    let bytes = line.as_bytes();
+    let name = if bytes.starts_with(b"</") { 2 } else { 1 };
+    let letters = bytes
+        .iter()
+        .skip(name)
+        .take_while(|byte| byte.is_ascii_alphanumeric() || matches!(**byte, b'-' | b'.'))
+        .count();
+    let behind = bytes.get(name.saturating_add(letters)).copied();
+    bytes.first() == Some(&b'<')
+        && letters > 0
+        && matches!(behind, Some(b'>' | b'/' | b' ' | b'\t'))
+        && line.trim_end_matches(&[' ', '\t']).ends_with('>')
+}
+
+/// Whether a line could be the delimiter row of a table. GitHub lets a table begin below lines of text.
+fn is_delimiter_row(line: &str) -> bool {
+    let bytes = line.as_bytes();
+    matches!(bytes.first(), Some(b'|' | b':' | b'-'))
+        && bytes.contains(&b'|')
+        && bytes.contains(&b'-')
+        && bytes
+            .iter()
+            .all(|byte| matches!(*byte, b'|' | b':' | b'-' | b' ' | b'\t'))
+}
+
+/// Where a line stands that another dialect could take for more than text.
+#[derive(Clone, Copy, PartialEq, Eq)]
+enum Place {
+    /// In a paragraph or a heading.
+    Text,
+    /// In a table.
+    Table,
+    /// At the front of a line of a list or quote, without the indent and signs of these.
+    Lazy,
+}
+
+impl Place {
+    /// Whether a line, without its indent and the signs of quotes, is one of another dialect here.
+    fn has_foreign(self, line: &str, is_inner: bool) -> bool {
+        match self {
+            Place::Text => begins_foreign_line(line) || is_delimiter_row(line),
+            Place::Table => begins_foreign_line(line),
+            Place::Lazy => !is_inner && (begins_foreign_line(line) || is_lone_tag(line)),
+        }
+    }
+}
+
 impl Printer<'_> {
-    /// Whether a line between two places of the source, but not that of the first one, begins as one of another dialect;
-    /// behind its indent and the signs of quotes, or at its very front.
-    fn has_foreign_line(&self, start: usize, end: usize, is_at_front: bool) -> bool {
+    /// Whether a line between two places of the source, but not that of the first one, is one of another dialect.
+    fn has_foreign_line(&self, start: usize, end: usize, place: Place) -> bool {
         let source = self.source;
         let first = source.line_of(start).saturating_add(1);
         let last = source.line_of(end.saturating_sub(1));
         for line in first..=last {
             let text = source.line(line);
             let bare = text.trim_start_matches(&[' ', '\t', '>']);
-            let is_inner = bare.len() < text.len();
-            if begins_foreign_line(bare) && !(is_inner && is_at_front) {
+            if place.has_foreign(bare, bare.len() < text.len()) {
                 return true;
             }
         }
@@ -76,11 +132,13 @@ impl Printer<'_> {
                 let text = self.source.slice(start, end);
                 begins_foreign_line(text)
                     || begins_foreign_block(text)
-                    || self.has_foreign_line(start, end, false)
+                    || self.has_foreign_line(start, end, Place::Text)
             }
-            Kind::Table => self.has_foreign_line(start, end, false),
+            Kind::Table => self.has_foreign_line(start, end, Place::Table),
             Kind::List | Kind::Quote if self.page.depth() == 0 => self.has_foreign_line(
-                start, end, true,
+                start,
+                end,
+                Place::Lazy,
             ),
             _ => false,
         }
