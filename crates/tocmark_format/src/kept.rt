@@ -1,11 +1,10 @@
 //! Lines that are kept: those that a comment names, and those of blocks that would be read otherwise.
 
 use crate::page::Kind;
-use crate::part::Part;
+use crate::part::{Mark, Opening, Part};
 use crate::printer::Printer;
 use crate::source::without_blanks;
 use std::alloc::AllocError;
-use tocmark_event::event::{Event, Tag};
 
 /// What ends a stretch that a comment keeps.
 #[derive(Clone, Copy, Debug, PartialEq, Eq)]
@@ -54,16 +53,14 @@ fn comment_in(html: &str) -> Option<&str> {
 }
 
 /// What an HTML block at a place says as a comment.
-fn comment_at<'p>(part: &Part<'p>, at: usize) -> Option<&'p str> {
-    let Some(Event::Start(Tag::HtmlBlock)) = part.event(at) else {
+fn comment_at(part: &Part, at: usize) -> Option<&str> {
+    let Some(Mark::Start(Opening::Html)) = part.event(at) else {
         return None;
     };
-    if part.end(at) != at.saturating_add(2) {
-        return None;
-    }
-    match part.event(at.saturating_add(1)) {
-        Some(Event::Html(html)) => comment_in(html.as_ref()),
-        _ => None,
+    if part.end(at) == at.saturating_add(2) {
+        comment_in(part.raw_text(at))
+    } else {
+        None
     }
 }
 
@@ -161,7 +158,7 @@ impl Printer<'_> {
     /// Passes a block or bare text that a comment keeps, or such a comment; the place behind it.
     pub(crate) fn pass_kept(
         &mut self,
-        part: &Part<'_>,
+        part: &Part,
         at: usize,
     ) -> Result<Option<usize>, AllocError> {
         let comment = comment_at(part, at);
