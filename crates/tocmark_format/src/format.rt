@@ -12,7 +12,7 @@ ghost use Rattle.tocmark_format.specs.Summaries.{Sums, SumsFirst};
 
 use crate::answer::{Formatted, Left, Reason};
 use crate::look::Look;
-use crate::part::Part;
+use crate::part::{Part, Placed};
 use crate::parts::{PartReader, PartTaker};
 use crate::printer::{Block, Printer, Step};
 use crate::shape::{Outline, add_apart};
@@ -55,16 +55,40 @@ struct Ladder {
 #[derive(Drop)]
 struct Printing<'d> {
     printer: Printer<'d>,
+    /// The tree that isn't whole yet.
+    tree: Part,
     /// What they say.
     said: Summary,
+}
+
+/// Prints a tree that is whole. Its room stays.
+fn print_tree(printer: &mut Printer<'_>, tree: &mut Part) -> Result<(), AllocError> {
+    tree.find_signs(printer.source)?;
+    printer.print(tree)?;
+    tree.clear();
+    Ok(())
+}
+
+/// Adds events to a tree, and prints each that is whole.
+fn print_events(
+    printer: &mut Printer<'_>,
+    tree: &mut Part,
+    events: &[Placed],
+) -> Result<(), AllocError> {
+    for pair in events {
+        tree.add(printer.source, pair)?;
+        if tree.is_whole() {
+            print_tree(printer, tree)?;
+        }
+    }
+    Ok(())
 }
 
 impl PartTaker for Printing<'_> {
     ghost has_taken = { λ printing events. SumsFirst printing.said events };
 
     fn take(&mut self, alloc: Global, part: &Reading) -> Result<(), AllocError> {
-        let trees = Part::new(alloc, self.printer.source, &part.events)?;
-        self.printer.print(&trees)?;
+        print_events(&mut self.printer, &mut self.tree, &part.events)?;
         self.said.take(alloc, part)
     }
 }
@@ -75,15 +99,18 @@ struct ReadBack {
     says: Summary,
     /// Where each tree at the top begins.
     starts: Vec<usize>,
+    /// How many containers are open.
+    depth: usize,
     definitions: Vec<ReferenceDefinition>,
 }
 
-/// Adds where further trees begin.
+/// Adds where further trees begin, from so many open containers on; how many are open behind them.
 fn add_starts(
     starts: &mut Vec<usize>,
-    events: &[(Event<'static>, (usize, usize))],
-) -> Result<(), AllocError> {
-    let mut depth = 0usize;
+    open: usize,
+    events: &[Placed],
+) -> Result<usize, AllocError> {
+    let mut depth = open;
     for (event, range) in events {
         if depth == 0 {
             starts.push(range.0)?;
@@ -94,7 +121,7 @@ fn add_starts(
             _ => {}
         }
     }
-    Ok(())
+    Ok(depth)
 }
 
 impl ReadBack {
@@ -108,7 +135,7 @@ impl PartTaker for ReadBack {
     ghost has_taken = { λ back events. SumsFirst back.says events };
 
     fn take(&mut self, alloc: Global, part: &Reading) -> Result<(), AllocError> {
-        add_starts(&mut self.starts, &part.events)?;
+        self.depth = add_starts(&mut self.starts, self.depth, &part.events)?;
         self.says.take(alloc, part)
     }
 }
@@ -274,13 +301,20 @@ impl<R: PartReader> Formatter<'_, R> {
                 &ladder.steps,
                 ladder.keeps_definitions,
             ),
+            tree: Part::new(self.alloc),
             said: Summary::new(self.alloc, self.style.wrap),
         };
         let text = source.text;
         let definitions = self
             .reader
             .read_parts(self.alloc, text, self.flags, &mut printing)?;
-        let Printing { mut printer, said } = printing;
+        let Printing {
+            mut printer,
+            mut tree,
+            said,
+        } = printing;
+        print_tree(&mut printer, &mut tree)?;
+        drop(tree);
         printer.end()?;
         let (text, blocks) = printer.into_text();
         Ok(Printed {
@@ -301,6 +335,7 @@ impl<R: PartReader> Formatter<'_, R> {
         let mut back = ReadBack {
             says: Summary::new(self.alloc, self.style.wrap),
             starts: Vec::new(self.alloc),
+            depth: 0,
             definitions: Vec::new(self.alloc),
         };
         back.definitions = self
@@ -533,8 +568,9 @@ impl<R: PartReader> Formatter<'_, R> {
 }
 
 /// Formats a document: one blank line between blocks, and one line feed at its end. HTML and metadata are copied, texts stay as
-/// they are spelled, and all lines end alike: as the first line feed does, or with a carriage return if there is none. If a block would read otherwise, it is printed in its own spelling;
-/// if that doesn't help, it keeps its lines, and the answer names these and the reason.
+/// they are spelled, and all lines end alike: as the first line feed does, or with a carriage return if there is none. If a
+/// block would read otherwise, it is printed in its own spelling; if that doesn't help, it keeps its lines, and the answer
+/// names these and the reason.
 ///
 /// Under these flags the reader finds the same events in the new text as in the old one, if each longest stretch of texts
 /// counts as one (`same`). If the style fills lines, soft breaks count as blanks, and so does each run of white space in a

@@ -4,19 +4,19 @@
 use crate::link::push_tail;
 use crate::look::Look;
 use crate::page::Page;
-use crate::part::Part;
+use crate::part::{Mark, Opening, Part};
 use crate::piece::{Piece, Pieces, ends_with_backslash};
 use crate::source::{Source, without_blanks};
 use crate::style::{HardBreak, Wrap};
 use std::alloc::{AllocError, Global};
-use tocmark_event::event::{Event, LinkType, Tag, TagEnd};
+use tocmark_event::event::{LinkType, TagEnd};
 
 /// What the inlines of a leaf are printed from.
 #[derive(Clone, Copy)]
-pub(crate) struct Context<'d, 'p, 'e, 'g> {
+pub(crate) struct Context<'d, 'p, 'g> {
     pub(crate) alloc: Global,
     pub(crate) source: &'d Source<'d>,
-    pub(crate) part: &'p Part<'e>,
+    pub(crate) part: &'p Part,
     pub(crate) page: &'g Page,
     pub(crate) look: Look,
 }
@@ -30,8 +30,8 @@ struct Open {
 
 /// A cursor over the events of a leaf, and their pieces.
 #[derive(Drop)]
-pub(crate) struct Inlines<'d, 'p, 'e, 'g> {
-    context: Context<'d, 'p, 'e, 'g>,
+pub(crate) struct Inlines<'d, 'p, 'g> {
+    context: Context<'d, 'p, 'g>,
     /// The place in the source behind what is printed.
     pub(crate) at: usize,
     /// Where the leaf begins and ends in the source.
@@ -54,9 +54,9 @@ enum Glue {
 }
 
 /// Whether the text of a link or an image is its label.
-fn is_label(tag: &Tag<'_>) -> bool {
-    let kind = match tag {
-        Tag::Link { link_type, .. } | Tag::Image { link_type, .. } => *link_type,
+fn is_label(opening: Opening) -> bool {
+    let kind = match opening {
+        Opening::Link(kind) | Opening::Image(kind) => kind,
         _ => return false,
     };
     match kind {
@@ -66,10 +66,10 @@ fn is_label(tag: &Tag<'_>) -> bool {
     }
 }
 
-/// Whether a tag is an address between angle brackets.
-fn is_address(tag: &Tag<'_>) -> bool {
-    match tag {
-        Tag::Link { link_type, .. } => matches!(link_type, LinkType::Autolink | LinkType::Email),
+/// Whether a link is an address between angle brackets.
+fn is_address(opening: Opening) -> bool {
+    match opening {
+        Opening::Link(kind) => matches!(kind, LinkType::Autolink | LinkType::Email),
         _ => false,
     }
 }
@@ -121,13 +121,13 @@ fn is_sign(character: Option<char>) -> bool {
     matches!(character, Some('*' | '_'))
 }
 
-impl<'d, 'p, 'e, 'g> Inlines<'d, 'p, 'e, 'g> {
+impl<'d, 'p, 'g> Inlines<'d, 'p, 'g> {
     /// The pieces of no event of the leaf that has this range in the source; `pieces` has room for them.
     pub(crate) fn new(
-        context: Context<'d, 'p, 'e, 'g>,
+        context: Context<'d, 'p, 'g>,
         range: (usize, usize),
         pieces: Pieces,
-    ) -> Inlines<'d, 'p, 'e, 'g> {
+    ) -> Inlines<'d, 'p, 'g> {
         Inlines {
             context,
             at: range.0,
@@ -326,16 +326,17 @@ impl<'d, 'p, 'e, 'g> Inlines<'d, 'p, 'e, 'g> {
     }
 
     /// Opens a container other than emphasis: its sign is the source's.
-    fn open_other(&mut self, tag: &Tag<'_>, start: usize) -> Result<(), AllocError> {
+    fn open_other(&mut self, opening: Opening, start: usize) -> Result<(), AllocError> {
         self.add_gap(start)?;
-        let is_double = match tag {
-            Tag::Image { .. } => true,
-            Tag::Strikethrough => self.context.source.slice(start, start.saturating_add(2)) == "~~",
+        let is_double = match opening {
+            Opening::Image(_) => true,
+            Opening::Strikethrough => self.context.source.slice(start, start.saturating_add(2))
+                == "~~",
             _ => false,
         };
         let behind = start.saturating_add(if is_double { 2 } else { 1 });
-        if matches!(tag, Tag::Link { .. } | Tag::Image { .. }) {
-            let is_label = is_label(tag);
+        if matches!(opening, Opening::Link(_) | Opening::Image(_)) {
+            let is_label = is_label(opening);
             self.links.push(is_label)?;
             self.labels = self.labels.saturating_add(if is_label { 1 } else { 0 });
         }
@@ -430,18 +431,18 @@ impl<'d, 'p, 'e, 'g> Inlines<'d, 'p, 'e, 'g> {
     fn add_start(
         &mut self,
         at: usize,
-        tag: &Tag<'_>,
+        opening: Opening,
         range: (usize, usize),
     ) -> Result<usize, AllocError> {
         let next = at.saturating_add(1);
-        match tag {
-            Tag::Emphasis => self.open_emphasis(range, false)?,
-            Tag::Strong => self.open_emphasis(range, true)?,
-            _ if is_address(tag) => {
+        match opening {
+            Opening::Emphasis => self.open_emphasis(range, false)?,
+            Opening::Strong => self.open_emphasis(range, true)?,
+            _ if is_address(opening) => {
                 self.add_copied(range)?;
                 return Ok(self.context.part.end(at).saturating_add(1));
             }
-            _ => self.open_other(tag, range.0)?,
+            _ => self.open_other(opening, range.0)?,
         }
         Ok(next)
     }
@@ -467,12 +468,12 @@ impl<'d, 'p, 'e, 'g> Inlines<'d, 'p, 'e, 'g> {
             return Ok(next);
         };
         match event {
-            Event::Start(tag) => return self.add_start(at, tag, range),
-            Event::End(end) => self.add_end(*end, range)?,
-            Event::SoftBreak => self.add_soft_break(range)?,
-            Event::HardBreak => self.add_hard_break(range)?,
-            Event::Code(_) => self.add_code(range)?,
-            Event::Text(_) => self.add_text(range)?,
+            Mark::Start(opening) => return self.add_start(at, opening, range),
+            Mark::End(end) => self.add_end(end, range)?,
+            Mark::SoftBreak => self.add_soft_break(range)?,
+            Mark::HardBreak => self.add_hard_break(range)?,
+            Mark::Code => self.add_code(range)?,
+            Mark::Text => self.add_text(range)?,
             _ => self.add_copied(range)?,
         }
         Ok(next)

@@ -2,11 +2,10 @@
 //! matter that isn't at the front.
 
 use crate::page::Kind;
-use crate::part::Part;
+use crate::part::{Mark, Opening, Part};
 use crate::printer::Printer;
 use crate::source::without_blanks;
 use std::alloc::AllocError;
-use tocmark_event::event::{Event, Tag};
 
 /// What ends a stretch that a comment keeps.
 #[derive(Clone, Copy, Debug, PartialEq, Eq)]
@@ -57,16 +56,14 @@ fn comment_in(html: &str) -> Option<&str> {
 }
 
 /// What an HTML block at a place says as a comment.
-fn comment_at<'p>(part: &Part<'p>, at: usize) -> Option<&'p str> {
-    let Some(Event::Start(Tag::HtmlBlock)) = part.event(at) else {
+fn comment_at(part: &Part, at: usize) -> Option<&str> {
+    let Some(Mark::Start(Opening::Html)) = part.event(at) else {
         return None;
     };
-    if part.end(at) != at.saturating_add(2) {
-        return None;
-    }
-    match part.event(at.saturating_add(1)) {
-        Some(Event::Html(html)) => comment_in(html.as_ref()),
-        _ => None,
+    if part.end(at) == at.saturating_add(2) {
+        comment_in(part.raw_text(at))
+    } else {
+        None
     }
 }
 
@@ -164,11 +161,9 @@ impl Printer<'_> {
 
     /// What ends the stretch that begins with a block: one that a comment names, or one of front matter that isn't at the
     /// front. Most programs read a rule there, and all behind it otherwise.
-    fn kept_from(&self, part: &Part<'_>, at: usize, comment: Option<&str>) -> Option<Until> {
+    fn kept_from(&self, part: &Part, at: usize, comment: Option<&str>) -> Option<Until> {
         match part.event(at) {
-            Some(Event::Start(Tag::MetadataBlock(_))) if !self.page.text.is_empty() => Some(
-                Until::End,
-            ),
+            Some(Mark::Start(Opening::Metadata)) if !self.page.text.is_empty() => Some(Until::End),
             _ => comment.and_then(kept_until),
         }
     }
@@ -176,7 +171,7 @@ impl Printer<'_> {
     /// Passes a block or bare text that a comment keeps, or such a comment; the place behind it.
     pub(crate) fn pass_kept(
         &mut self,
-        part: &Part<'_>,
+        part: &Part,
         at: usize,
     ) -> Result<Option<usize>, AllocError> {
         let comment = comment_at(part, at);

@@ -2,17 +2,17 @@
 
 ghost use Rattle.std.specs.Prelude.{◌≡◌, ◌++◌, ◌∷◌, [], IfOk, IfSome, IsTrue, List, None, OnOk, Some, map};
 ghost use Rattle.tocmark_event.specs.Text.{text_of};
-ghost use Rattle.tocmark_event.specs.View.{End, EventView, Start, end_of, event_view};
+ghost use Rattle.tocmark_event.specs.View.{End, EventView, Start, end_of, event_view, tag_view};
+ghost use Rattle.tocmark_spelling.specs.Kinds.{is_inline_end, is_inline_tag};
 ghost use Rattle.tocmark_compare.specs.Digest.{marked, plain_start};
 ghost use Rattle.tocmark_compare.specs.Given.{given_events};
 ghost use Rattle.tocmark_format.specs.Shape.{Outlines, outlined, shape};
 
-use crate::part::{is_inline_end, is_inline_tag};
 use crate::parts::PartTaker;
 use crate::printer::Block;
 use std::alloc::{AllocError, Global};
 use tocmark_compare::number::end_number;
-use tocmark_event::event::{Event, TagEnd};
+use tocmark_event::event::{Event, Tag, TagEnd};
 use tocmark_event::reader::Reading;
 
 /// How many marks the Ends of blocks and inlines have, and as many Starts behind them.
@@ -29,6 +29,29 @@ pub(crate) struct Outline {
     places: Vec<usize>,
     /// Where the last block begins.
     last: usize,
+}
+
+/// Whether a tag stands within a line.
+fn is_inline_tag(tag: &Tag<'_>) -> bool
+    ensures { result ≡ is_inline_tag (tag_view text_of tag.now) }
+{
+    match tag {
+        Tag::Emphasis | Tag::Strong | Tag::Strikethrough | Tag::Superscript | Tag::Subscript =>
+            true,
+        Tag::Link { .. } | Tag::Image { .. } => true,
+        _ => false,
+    }
+}
+
+/// Whether a container that ends so stands within a line.
+pub(crate) fn is_inline_end(end: TagEnd) -> bool
+    ensures { result ≡ is_inline_end end }
+{
+    match end {
+        TagEnd::Emphasis | TagEnd::Strong | TagEnd::Strikethrough => true,
+        TagEnd::Superscript | TagEnd::Subscript | TagEnd::Link | TagEnd::Image => true,
+        _ => false,
+    }
 }
 
 /// The mark of the Start of a block that ends so.

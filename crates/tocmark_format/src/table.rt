@@ -1,11 +1,11 @@
 //! Tables: columns of one width, if the whole isn't too wide, or if the source has them so.
 
-use crate::part::Part;
+use crate::part::{Mark, Opening, Part};
 use crate::printer::Printer;
 use crate::source::without_blanks;
 use crate::width::width;
 use std::alloc::{AllocError, Global};
-use tocmark_event::event::{Alignment, Event, Tag, TagEnd};
+use tocmark_event::event::{Alignment, TagEnd};
 
 /// A cell: its bytes in the text of all cells, and the columns that it takes.
 #[derive(Clone, Copy)]
@@ -185,13 +185,13 @@ impl Cells {
 
 impl Printer<'_> {
     /// The cells of a table; none if a row has more of them than the head, which are in no event.
-    fn cells_of(&mut self, part: &Part<'_>, at: usize) -> Result<Option<Cells>, AllocError> {
+    fn cells_of(&mut self, part: &Part, at: usize) -> Result<Option<Cells>, AllocError> {
         let mut cells = Cells::new(self.alloc);
         let mut cell_end = 0usize;
         for inner in at.saturating_add(1)..part.end(at) {
             let (start, end) = part.range(inner);
             match part.event(inner) {
-                Some(Event::Start(Tag::TableCell)) => {
+                Some(Mark::Start(Opening::TableCell)) => {
                     let text = self.source.past_blanks(start);
                     let events = (inner.saturating_add(1), part.end(inner));
                     let (pieces, _) = self.pieces_of(part, events, text)?;
@@ -199,7 +199,7 @@ impl Printer<'_> {
                     self.keep_room(pieces);
                     cell_end = end;
                 }
-                Some(Event::End(TagEnd::TableHead | TagEnd::TableRow)) => {
+                Some(Mark::End(TagEnd::TableHead | TagEnd::TableRow)) => {
                     let rest = self.source.slice(cell_end, end);
                     if !rest.trim_matches(&['|', ' ', '\t', '\n']).is_empty() {
                         return Ok(None);
@@ -272,15 +272,10 @@ impl Printer<'_> {
         Ok(())
     }
 
-    pub(crate) fn print_table(
-        &mut self,
-        part: &Part<'_>,
-        at: usize,
-        alignments: &[Alignment],
-    ) -> Result<(), AllocError> {
+    pub(crate) fn print_table(&mut self, part: &Part, at: usize) -> Result<(), AllocError> {
         let range = part.range(at);
         match self.cells_of(part, at)? {
-            Some(cells) => self.print_rows(&cells, alignments, range),
+            Some(cells) => self.print_rows(&cells, part.alignments(at), range),
             None => self.print_lines(range.0, range.1),
         }
     }

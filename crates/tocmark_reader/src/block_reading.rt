@@ -1,9 +1,9 @@
 //! Reading block by block.
 
-ghost use Rattle.std.specs.Prelude.{◌≡◌, ◌+◌, ◌<◌, length, IfNone, IfOk, IfSome, IsErr, OnErr, OnOk, map};
+ghost use Rattle.std.specs.Prelude.{◌≡◌, ◌+◌, ◌<◌, false, length, nat_le, true, IfNone, IfOk, IfSome, IsErr, OnErr, OnOk, map};
 ghost use Rattle.tocmark_event.specs.Forest.{IsBalanced};
 ghost use Rattle.tocmark_event.specs.Reading.{reading_view};
-ghost use Rattle.tocmark_reader.specs.Left.{HasFailed, IsAtEnd, IsBetweenTrees, IsHandable, IsPart, begins_tree, goes_on, has_events, is_at_tree, reading_left};
+ghost use Rattle.tocmark_reader.specs.Left.{HasFailed, IsAtEnd, IsBetweenTrees, IsHandable, IsPart, IsReady, begins_tree, goes_on, has_events, is_at_tree, reading_left};
 
 use crate::block_events::{Assembly, Document, is_unwrapped};
 use crate::searched::SearchedText;
@@ -50,6 +50,12 @@ const FEW: usize = 7;
 
 /// How many events fit into the greatest room that is made before there are any.
 const MANY: usize = 64;
+
+/// So many events `next_events` makes at least, if so many are left.
+const STRETCH: usize = 64;
+
+/// Room for so many events is made for them: the last leaf adds some more.
+const STRETCH_ROOM: usize = 128;
 
 /// How many events so many bytes are likely to have, as far as room is made for them at once.
 fn likely_events(bytes: usize) -> usize {
@@ -155,12 +161,41 @@ impl BlockReading<'_> {
         self.assembly.emission.close_to(0)
     }
 
+    /// Ends all containers, if no block is left.
+    #[tactic(auto, using(crate::proofs::BlocksLeft::text_ended))]
+    fn end_text(&mut self) -> Result<(), AllocError>
+        ensures left { OnOk result (reading_left self.new ≡ reading_left self.old) }
+        ensures ready { OnOk result (nat_le (length self.old.blocks.items) self.old.place ≡ true
+            → IsHandable self.new) }
+        ensures more { nat_le (length self.old.blocks.items) self.old.place ≡ false
+            → self.new ≡ self.old }
+    {
+        if self.blocks.len() <= self.place {
+            self.assembly.emission.close_to(0)
+        } else {
+            Ok(())
+        }
+    }
+
+    /// Makes the events of some blocks, or of all that are left.
+    fn take_some(&mut self) -> Result<(), AllocError>
+        ensures left { OnOk result (reading_left self.new ≡ reading_left self.old) }
+        ensures ready { OnOk result (IsReady self.new) }
+    {
+        self.assembly.emission.events.reserve(STRETCH_ROOM)?;
+        while self.place < self.blocks.len() && self.assembly.emission.events.len() < STRETCH {
+            self.take()?;
+        }
+        self.end_text()
+    }
+
     /// Gives back the room of the blocks where none is left: whoever takes the last events may need it.
     /// One stays: where a large list is let go of whole, the C library takes room for such lists from
     /// its heap from then on, and copies each as it grows.
     fn let_go_of_blocks(&mut self)
         ensures left { reading_left self.new ≡ reading_left self.old }
         ensures whole { IsHandable self.old → IsHandable self.new }
+        ensures ready { IsReady self.old → IsReady self.new }
     {
         if self.blocks.len() <= self.place {
             self.blocks.truncate(1);
@@ -172,9 +207,9 @@ impl BlockReading<'_> {
 
     /// Gives away the events that are made, if there are any.
     fn hand_out(&mut self) -> Option<Reading>
-        ensures some { IsHandable self.old → IfSome result (λ block.
-            IsPart (reading_view block) (reading_left self.old) (reading_left self.new)) }
-        ensures none { IsHandable self.old → IfNone result
+        ensures some { IfSome result (λ part.
+            IsPart (reading_view part) (reading_left self.old) (reading_left self.new)) }
+        ensures none { IsReady self.old → IfNone result
             (IsAtEnd (reading_left self.old) (reading_left self.new)) }
         ensures between { IsHandable self.old → IsBetweenTrees self.new }
     {
@@ -230,6 +265,38 @@ impl BlockReading<'_> {
             return Err(AllocError);
         }
         match self.take_tree() {
+            Ok(()) => {
+                self.let_go_of_blocks();
+                Ok(self.hand_out())
+            }
+            Err(error) => {
+                self.failed = true;
+                Err(error)
+            }
+        }
+    }
+
+    /// The next events of the reading, some of those that are left, and no labels. `None` says that no
+    /// events are left.
+    ///
+    /// Where `next` hands out a list or a table as a whole, these calls hand it out bit by bit, so that
+    /// its events take little memory at once. A part has the events of whole leaves, and at most a few
+    /// more of them than 64. It may begin and end within containers.
+    ///
+    /// If memory runs out, what was handed out before stays with the caller, and every later call answers
+    /// an `Err`.
+    pub fn next_events(&mut self) -> Result<Option<Reading>, AllocError>
+        ensures some { IfOk result (λ found. IfSome found (λ part.
+            IsPart (reading_view part) (reading_left self.old) (reading_left self.new))) }
+        ensures none { IfOk result (λ found. IfNone found
+            (IsAtEnd (reading_left self.old) (reading_left self.new))) }
+        ensures failed { OnErr result (HasFailed self.new) }
+        ensures after { HasFailed self.old → IsErr result }
+    {
+        if self.failed {
+            return Err(AllocError);
+        }
+        match self.take_some() {
             Ok(()) => {
                 self.let_go_of_blocks();
                 Ok(self.hand_out())
