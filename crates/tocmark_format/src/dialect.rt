@@ -2,6 +2,7 @@
 
 use crate::page::Kind;
 use crate::printer::Printer;
+use crate::style::Wrap;
 use std::alloc::AllocError;
 
 /// What begins a line that another dialect takes for more than text.
@@ -75,7 +76,7 @@ fn is_lone_tag(line: &str) -> bool {
         && line.trim_end_matches(&[' ', '\t']).ends_with('>')
 }
 
-/// Whether a line could be the delimiter row of a table. GitHub lets a table begin below lines of text.
+/// Whether a line could be the delimiter row of a table.
 fn is_delimiter_row(line: &str) -> bool {
     let bytes = line.as_bytes();
     matches!(bytes.first(), Some(b'|' | b':' | b'-'))
@@ -86,38 +87,37 @@ fn is_delimiter_row(line: &str) -> bool {
             .all(|byte| matches!(*byte, b'|' | b':' | b'-' | b' ' | b'\t'))
 }
 
-/// Where a line stands that another dialect could take for more than text.
-#[derive(Clone, Copy, PartialEq, Eq)]
-enum Place {
-    /// In a paragraph or a heading.
-    Text,
-    /// In a table.
-    Table,
-    /// At the front of a line of a list or quote, without the indent and signs of these.
-    Lazy,
-}
-
-impl Place {
-    /// Whether a line, without its indent and the signs of quotes, is one of another dialect here.
-    fn has_foreign(self, line: &str, is_inner: bool) -> bool {
-        match self {
-            Place::Text => begins_foreign_line(line) || is_delimiter_row(line),
-            Place::Table => begins_foreign_line(line),
-            Place::Lazy => !is_inner && (begins_foreign_line(line) || is_lone_tag(line)),
-        }
-    }
-}
-
 impl Printer<'_> {
-    /// Whether a line between two places of the source, but not that of the first one, is one of another dialect.
-    fn has_foreign_line(&self, start: usize, end: usize, place: Place) -> bool {
+    /// Whether a line between two places of the source, but not that of the first one, is one of another dialect: behind its
+    /// indent and the signs of quotes, or of a list or quote a lazy line.
+    fn has_foreign_line(&self, start: usize, end: usize, is_lazy: bool) -> bool {
         let source = self.source;
         let first = source.line_of(start).saturating_add(1);
         let last = source.line_of(end.saturating_sub(1));
         for line in first..=last {
             let text = source.line(line);
             let bare = text.trim_start_matches(&[' ', '\t', '>']);
-            if place.has_foreign(bare, bare.len() < text.len()) {
+            if is_lazy && bare.len() < text.len() {
+                continue;
+            }
+            if begins_foreign_line(bare) || (is_lazy && is_lone_tag(bare)) {
+                return true;
+            }
+        }
+        false
+    }
+
+    /// Whether a paragraph whose lines don't stay has a line that could be the delimiter row of a table. GitHub lets a table
+    /// begin below the first line of a paragraph.
+    fn has_table(&self, start: usize, end: usize) -> bool {
+        if self.look.wrap == Wrap::Keep {
+            return false;
+        }
+        let source = self.source;
+        let third = source.line_of(start).saturating_add(2);
+        let last = source.line_of(end.saturating_sub(1));
+        for line in third..=last {
+            if is_delimiter_row(source.line(line).trim_start_matches(&[' ', '\t', '>'])) {
                 return true;
             }
         }
@@ -132,9 +132,10 @@ impl Printer<'_> {
                 let text = self.source.slice(start, end);
                 begins_foreign_line(text)
                     || begins_foreign_block(text)
-                    || self.has_foreign_line(start, end, Place::Text)
+                    || self.has_foreign_line(start, end, false)
+                    || self.has_table(start, end)
             }
-            Kind::Table => self.has_foreign_line(start, end, Place::Table),
+            Kind::Table => self.has_foreign_line(start, end, false),
             Kind::List | Kind::Quote if self.page.depth() == 0 => self.has_foreign_line(
                 start,
                 end,
