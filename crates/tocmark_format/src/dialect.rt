@@ -137,9 +137,7 @@ impl Printer<'_> {
             }
             Kind::Table => self.has_foreign_line(start, end, false),
             Kind::List | Kind::Quote if self.page.depth() == 0 => self.has_foreign_line(
-                start,
-                end,
-                Place::Lazy,
+                start, end, true,
             ),
             _ => false,
         }
