@@ -118,7 +118,7 @@ fn destination_in<'e>(event: &'e Event<'static>) -> Option<&'e str> {
     }
 }
 
-/// The same destination by `https:`, if it is one by `http:`.
+/// Returns a destination by `https:` for one by `http:`, and none for any other.
 fn secured(alloc: Global, destination: &str) -> Result<Option<String>, AllocError> {
     match destination.strip_prefix("http:") {
         None => Ok(None),

@@ -28,7 +28,7 @@ pub struct Unit<'u, 'o> {
 }
 
 impl<'u, 'o> Unit<'u, 'o> {
-    /// The same unit from its event at this place on.
+    /// Returns the rest of the unit, from its event at this place on.
     pub fn from(&self, place: usize) -> Unit<'u, 'o> {
         let rest = Rest { place, ..self.rest };
         Unit { rest, ..*self }

@@ -117,7 +117,7 @@ impl<'a> Default for Options<'a> {
 }
 
 impl<T> OptionsOf<T> {
-    /// The same options with another strong token.
+    /// Returns these options with another strong token.
     pub fn with_token<U>(&self, strong_token: U) -> OptionsOf<U>
         ensures { result ≡ with_token strong_token self.now }
     {

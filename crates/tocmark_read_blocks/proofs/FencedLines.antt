@@ -200,14 +200,14 @@ first_place at (x ∷ xs) b end h = by_test (x == 9)
     by_test true = first_kept (cell 32 at) (replicate 3 (cell 32 at)) (plus at 1) xs end
     by_test false = first_kept (cell x at) [] (plus at 1) xs end
 
-untouched : (end line : ℕ) (quotes : List ℕ) (opened : List Opened) → touched_from 0 end line quotes opened ≡ opened
+pub untouched : (end line : ℕ) (quotes : List ℕ) (opened : List Opened) → touched_from 0 end line quotes opened ≡ opened
 untouched end line [] opened = refl
 untouched end line (q ∷ qs) opened =
     let all : nat_le 0 q ≡ true = grind (arith, nat_tests) in
     rw all refl
 
 -- the front of a line, in no container
-abbrev at_front : List Cell → LineStart
+abbrev pub at_front : List Cell → LineStart
 at_front cells = record { cursor = first_cursor cells; depth = 0 }
 
 none_of : (n : ℕ) → plus 0 (min 0 n) ≡ 0
@@ -269,7 +269,7 @@ fenced_line known text line s fence b fenced top indent ink other =
     closes = closes_none cells fence b (begins_behind [] line.start bytes b refl ink) other
 
 -- no container is open
-none_open : (opened : List Opened) → length opened ≡ 0 → opened ≡ []
+pub none_open : (opened : List Opened) → length opened ≡ 0 → opened ≡ []
 none_open [] h = refl
 none_open (o ∷ os) h = absurd (omega (arith, h))
 

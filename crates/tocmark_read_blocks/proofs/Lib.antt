@@ -7,3 +7,4 @@ pub mod PlainTexts
 pub mod PlainFronts
 pub mod CoreStarts
 mod FencedLines
+mod EmptyLines

@@ -53,6 +53,16 @@ leaf_turn text cells line cursor (leaf.Metadata k) =
     if closes_metadata k text line.start then turn.Closes else turn.Takes cursor.column
 leaf_turn text cells line cursor (leaf.Table t) = option_map_or (λ longer. turn.Row longer) (row_turn text cells line cursor t) turn.Passes
 
+-- a leaf ends before each blank line, whatever stands in it
+unfoldable pub ends_at_blank : Leaf → Bool
+ends_at_blank leaf.Nothing = true
+ends_at_blank leaf.Paragraph = true
+ends_at_blank leaf.Indented = false
+ends_at_blank (leaf.Fenced f) = false
+ends_at_blank (leaf.Html k) = false
+ends_at_blank (leaf.Metadata k) = false
+ends_at_blank (leaf.Table t) = false
+
 -- a tag alone on its line cannot interrupt a paragraph
 abbrev pub interrupting : Bool → HtmlKind → Option HtmlKind
 interrupting in_paragraph html.Alone = if in_paragraph then None else Some html.Alone

@@ -3,7 +3,8 @@
 ghost use Rattle.std.specs.Prelude.{◌≡◌, OnOk, ◌==◌, ◌&&◌, not, true, IfOk};
 ghost use Rattle.std.specs.List.{list_any, find, fold};
 ghost use Rattle.tocmark_read_blocks.specs.Blocks.{underline_taken_in, started_in, start_or, leaf_started_in, passed_in, tabled_in, turn_of, turn_in, leaf_ended, touched, cells_taken_in, line_taken_in, extends_starts, page_in, blocks_view, blocks_in};
-ghost use Rattle.tocmark_read_page.specs.Pages.{page, piece_taken};
+ghost use Rattle.tocmark_read_page.specs.Pages.{page, closed_to, piece_taken};
+ghost use Rattle.tocmark_read_blocks.specs.Leaves.{ends_at_blank};
 ghost use Rattle.tocmark_read_page.specs.Pieces.{piece_of};
 
 use crate::code::{start_fence, start_html, start_indented, take_code};
@@ -362,6 +363,40 @@ fn is_fenced(so_far: &BlocksSoFar, source: &Source<'_>, line: Line) -> bool
     }
 }
 
+/// Whether a leaf ends before each blank line, whatever stands in it.
+#[tactic(auto, unfolding(crate::specs::Leaves::ends_at_blank))]
+fn ends_at_blank(leaf: Leaf) -> bool
+    ensures { result ≡ ends_at_blank leaf }
+{
+    match leaf {
+        Leaf::Nothing => true,
+        Leaf::Paragraph => true,
+        Leaf::Indented => false,
+        Leaf::Fenced(_) => false,
+        Leaf::Html(_) => false,
+        Leaf::Metadata(_) => false,
+        Leaf::Table(_) => false,
+    }
+}
+
+/// Whether a line only ends the open leaf: it is empty and stands at the top, and no tables are read.
+fn is_plain_end(so_far: &BlocksSoFar, source: &Source<'_>, line: Line) -> bool
+    ensures { result ≡ true →
+        line_taken_in source.now.known source.now.text.now (page so_far.now) line
+        ≡ closed_to source.now.text.now 0 (page so_far.now) }
+{
+    if line.start < line.end {
+        return false;
+    }
+    if so_far.opened.len() != 0 {
+        return false;
+    }
+    if source.known.syntax.tables {
+        return false;
+    }
+    ends_at_blank(so_far.leaf)
+}
+
 /// Takes a line by its columns, which are written over those of a line before.
 #[tactic(auto, unfolding(crate::specs::Blocks::line_taken_in))]
 fn take_columns(
@@ -385,7 +420,7 @@ fn take_columns(
     take_cells(so_far, alloc, &row)
 }
 
-/// Takes a line. The columns of a line of open fenced code aren't asked for.
+/// Takes a line. The columns of a line of open fenced code aren't asked for, nor those of an empty line at the top.
 fn take_line(
     so_far: &mut BlocksSoFar,
     alloc: Global,
@@ -399,6 +434,8 @@ fn take_line(
 {
     if is_fenced(so_far, source, line) {
         so_far.take_piece(whole_piece(line), line, true)
+    } else if is_plain_end(so_far, source, line) {
+        so_far.close_to(alloc, source.text, 0)
     } else {
         take_columns(so_far, alloc, source, cells, line)
     }

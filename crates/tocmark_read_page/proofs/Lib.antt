@@ -1,2 +1,3 @@
 mod Places
 pub mod Steps
+pub mod Zeros

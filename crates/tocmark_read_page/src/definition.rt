@@ -8,6 +8,7 @@ ghost use Rattle.tocmark_read_scan.specs.Repeat.{repeated};
 use crate::piece::Piece;
 use std::alloc::{AllocError, Global};
 use tocmark_read_scan::basic::{byte_at, bytes_between};
+use tocmark_read_scan::class::has_byte;
 use tocmark_read_tokens::word::{Definition, definition_at};
 
 /// A link reference definition as it is written: escapes and references are not resolved, and line
@@ -47,13 +48,24 @@ fn push_byte(content: &mut Vec<u8>, byte: u8) -> Result<(), AllocError>
     Ok(())
 }
 
-fn push_bytes(content: &mut Vec<u8>, bytes: &[u8]) -> Result<(), AllocError>
+fn push_replaced(content: &mut Vec<u8>, bytes: &[u8]) -> Result<(), AllocError>
     ensures { OnOk result (content.new.items ≡ content.old.items ++ flat_map replaced bytes.now) }
 {
     for byte in bytes {
         push_byte(content, *byte)?;
     }
     Ok(())
+}
+
+#[tactic(auto, using(crate::proofs::Zeros::without_zeros))]
+fn push_bytes(content: &mut Vec<u8>, bytes: &[u8]) -> Result<(), AllocError>
+    ensures { OnOk result (content.new.items ≡ content.old.items ++ flat_map replaced bytes.now) }
+{
+    if has_byte(bytes, 0) {
+        push_replaced(content, bytes)
+    } else {
+        content.extend_from_slice(bytes)
+    }
 }
 
 fn push_line(content: &mut Vec<u8>, text: &[u8], line: Piece) -> Result<(), AllocError>
@@ -64,11 +76,19 @@ fn push_line(content: &mut Vec<u8>, text: &[u8], line: Piece) -> Result<(), Allo
     Ok(())
 }
 
+/// The number of bytes from the front of the first line to behind the last one, and one more.
+fn room_of(lines: &[Piece]) -> usize {
+    match (lines.first(), lines.last()) {
+        (Some(first), Some(last)) => last.next.saturating_sub(first.start).saturating_add(1),
+        _ => 0,
+    }
+}
+
 /// The lines, each with a line feed behind it; U+FFFD stands for U+0000.
 fn joined(alloc: Global, text: &[u8], lines: &[Piece]) -> Result<Vec<u8>, AllocError>
     ensures { IfOk result (λ v. v.items ≡ joined text.now lines.now) }
 {
-    let mut content = Vec::new(alloc);
+    let mut content = Vec::with_capacity(alloc, room_of(lines))?;
     for line in lines {
         push_line(&mut content, text, *line)?;
     }
@@ -157,6 +177,8 @@ fn line_count(content: &[u8], place: usize) -> usize
 }
 
 /// Takes the definitions at the front of lines. The first line begins with a bracket.
+#[cold]
+#[inline(never)]
 fn define_lines(
     alloc: Global,
     text: &[u8],
