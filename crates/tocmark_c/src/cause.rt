@@ -1,4 +1,4 @@
-//! What went wrong, and the codes of that.
+//! The causes of errors, and their codes.
 
 ghost use Rattle.std.specs.Prelude.{◌≡◌};
 ghost use Rattle.tocmark_c.specs.Codes.{code_of, document_cause, error_text, number_of, options_cause, refusal_cause, rewriting_cause, write_cause};
@@ -17,34 +17,34 @@ pub enum Cause {
     SourceNotUtf8,
     /// The options aren't UTF-8.
     OptionsNotUtf8,
-    /// The text is no JSON.
+    /// The text isn't JSON.
     NotJson,
     /// The JSON isn't that of events.
     NotEvents,
-    /// The options are no JSON.
+    /// The options aren't JSON.
     OptionsNotJson,
     /// The JSON of the options isn't that of options.
     NotOptions,
-    /// The options or the flags aren't such that can be written under.
+    /// Nothing can be written under these options and flags.
     InvalidOptions,
-    /// An event stands where it can't.
+    /// An event can't be at its place.
     UnexpectedEvent,
-    /// No spelling of a block reads back.
+    /// No spelling of a block parses back to its events.
     Unrepresentable,
-    /// A range is none of the source.
+    /// A range isn't one of the source.
     InvalidSourceRange,
-    /// Events after the end. No call of this library comes to that.
+    /// Events after the end. No function of this library returns it.
     Finished,
-    /// A call after one that was refused. No call of this library comes to that.
+    /// A call after one that was refused. No function of this library returns it.
     Failed,
     /// The style has another size, or a number that means nothing.
     InvalidStyle,
-    /// The document would say something else than the events.
+    /// The document would parse to other events.
     Changed,
 }
 
 impl Cause {
-    /// The code, as C knows it.
+    /// The code of the cause, as `tocmark.h` has it.
     pub fn code(self) -> isize
         ensures { result ≡ code_of self }
     {
@@ -68,7 +68,7 @@ impl Cause {
         }
     }
 
-    /// Why events aren't written.
+    /// The cause of an error of writing.
     pub fn of_write(error: &WriteError) -> Cause
         ensures { result ≡ write_cause error.now }
     {
@@ -80,7 +80,7 @@ impl Cause {
         }
     }
 
-    /// Why events aren't written as a document that says the same.
+    /// The cause of an error of writing a document that is parsed again.
     pub fn of_document(error: &DocumentError) -> Cause
         ensures { result ≡ document_cause error.now }
     {
@@ -90,7 +90,7 @@ impl Cause {
         }
     }
 
-    /// Why a source isn't rewritten.
+    /// The cause of an error of rewriting.
     pub fn of_rewriting(error: &RewriteError) -> Cause
         ensures { result ≡ rewriting_cause error.now }
     {
@@ -117,7 +117,7 @@ impl Cause {
         }
     }
 
-    /// Why a text has no options.
+    /// The cause of an error of reading options.
     pub fn of_options(error: &OptionsTextError) -> Cause
         ensures { result ≡ options_cause error.now }
     {
@@ -130,14 +130,14 @@ impl Cause {
     }
 }
 
-/// The number of an error's code, and 0 for what is none.
+/// An error's code without its sign; 0 if the number is no code.
 fn number_of(code: isize) -> usize
     ensures { result ≡ number_of code }
 {
     if code < 0 { code.unsigned_abs() } else { 0 }
 }
 
-/// What an error's code means.
+/// What an error's code means, in English.
 pub fn error_text(code: isize) -> &'static str
     ensures { result.now ≡ error_text (number_of code) }
 {

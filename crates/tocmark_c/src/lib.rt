@@ -1,9 +1,11 @@
-//! The library for C. `bindings/c/tocmark.h` says the same for those who call it, `docs/BINDINGS.md` how it is built.
+//! The library for C. `bindings/c/tocmark.h` describes it for callers, and `docs/BINDINGS.md` says how to build it.
 //!
-//! Each function answers a text into room that the caller lends (`room`): how many bytes it takes, or a negative number, the
-//! code of what went wrong (`cause`). Nothing is kept from call to call. `style` is how C says how a text is to look, `place`
-//! how C is told where an error is, and `refusal` why and where. `writing` writes events, and `rewriting` rewrites a source.
-//! Below stand `tocmark_interchange` and `tocmark_format`.
+//! Each function writes its result into a buffer that the caller lends (`room`). It returns the result's length in
+//! bytes, or a negative number, the code of an error (`cause`). If the buffer is too small, nothing is written. No
+//! state is kept between calls. `style` takes a style from C, and `place` tells C where an error is; `refusal` has an
+//! error with its place. `writing` writes events, and `rewriting` rewrites a source.
+//!
+//! The crate stands on `tocmark_interchange` and `tocmark_format`.
 #![tactic(auto)]
 
 mod cause;
@@ -32,7 +34,7 @@ use tocmark_interchange::read_json;
 use tocmark_reader::{ExtendedReader, Names};
 use writing::write;
 
-/// The version: the third number, 256 times the second and 65,536 times the first.
+/// The version: 65,536 times the first number, 256 times the second, and the third.
 #[unsafe(no_mangle)]
 pub extern "C" fn tocmark_version() -> u32
     ensures { result ≡ 256 }
@@ -40,7 +42,7 @@ pub extern "C" fn tocmark_version() -> u32
     256
 }
 
-/// The text of an error's code, and one text for all other numbers, where there is room; answers how many bytes it takes.
+/// Writes what an error's code means, in English, into `out`, and returns its length. All other numbers have one text.
 #[unsafe(no_mangle)]
 #[tactic(auto, using(crate::proofs::Answers::text_answered))]
 pub extern "C" fn tocmark_error_text(code: isize, out: &mut [u8]) -> isize
@@ -49,7 +51,7 @@ pub extern "C" fn tocmark_error_text(code: isize, out: &mut [u8]) -> isize
     lay(error_text(code), out)
 }
 
-/// The JSON of the events of a Markdown text, read under these flags, with their ranges, where there is room.
+/// Parses Markdown under these flags, and writes the JSON of its events with their ranges into `out`.
 #[unsafe(no_mangle)]
 #[tactic(auto, using(crate::proofs::Answers::answered))]
 pub extern "C" fn tocmark_read_json(alloc: Global, text: &[u8], flags: u32, out: &mut [u8]) -> isize
@@ -58,8 +60,8 @@ pub extern "C" fn tocmark_read_json(alloc: Global, text: &[u8], flags: u32, out:
     answer(read(alloc, text, flags), out)
 }
 
-/// The Markdown of events that are given as JSON, over the source of their ranges, under these options, where there is room.
-/// An empty source is none: then the ranges are dropped. Empty options are the default ones.
+/// Writes events that are given as JSON as Markdown into `out`. Ranges are bytes of the source; if that is empty, they
+/// are dropped. Empty options are the default ones.
 #[unsafe(no_mangle)]
 #[tactic(auto, using(crate::proofs::Answers::text_answered, crate::proofs::Answers::cause_answered))]
 pub extern "C" fn tocmark_write_json(
@@ -79,7 +81,7 @@ pub extern "C" fn tocmark_write_json(
     }
 }
 
-/// The same. An error fills `place`.
+/// Writes events as Markdown, as `tocmark_write_json` does. If that fails, `place` is filled with where the error is.
 #[unsafe(no_mangle)]
 #[tactic(auto, using(crate::proofs::Answers::text_answered, crate::proofs::Answers::cause_answered, crate::proofs::Answers::place_kept, crate::proofs::Answers::place_filled))]
 pub extern "C" fn tocmark_write_json_at(
@@ -101,7 +103,8 @@ pub extern "C" fn tocmark_write_json_at(
     }
 }
 
-/// The same, if the reader of extensions finds just these events in it: so the document says what they say.
+/// Writes events as Markdown, as `tocmark_write_json` does, and parses the whole result again. If it doesn't have just
+/// these events, that is an error (`Changed`), and nothing is written.
 #[unsafe(no_mangle)]
 #[tactic(auto, using(crate::proofs::Answers::text_answered, crate::proofs::Answers::cause_answered))]
 pub extern "C" fn tocmark_write_checked(
@@ -121,7 +124,8 @@ pub extern "C" fn tocmark_write_checked(
     }
 }
 
-/// The same. An error fills `place`.
+/// Writes events as Markdown that has just these events, as `tocmark_write_checked` does. If that fails, `place` is
+/// filled with where the error is.
 #[unsafe(no_mangle)]
 #[tactic(auto, using(crate::proofs::Answers::text_answered, crate::proofs::Answers::cause_answered, crate::proofs::Answers::place_kept, crate::proofs::Answers::place_filled))]
 pub extern "C" fn tocmark_write_checked_at(
@@ -143,8 +147,8 @@ pub extern "C" fn tocmark_write_checked_at(
     }
 }
 
-/// The source, rewritten to the events of a JSON text under these options, where there is room. All lines whose events stay
-/// stay as they are. An error fills `place`.
+/// Rewrites a source to the events of a JSON text, and writes the new text into `out`. Lines whose events aren't
+/// edited stay byte for byte. If that fails, `place` is filled with where the error is.
 #[unsafe(no_mangle)]
 #[tactic(auto, using(crate::proofs::Answers::text_answered, crate::proofs::Answers::cause_answered, crate::proofs::Answers::place_kept, crate::proofs::Answers::place_filled))]
 pub extern "C" fn tocmark_rewrite(
@@ -166,7 +170,7 @@ pub extern "C" fn tocmark_rewrite(
     }
 }
 
-/// A Markdown text in one look, where there is room. The reader finds the same in it as in the text that is given.
+/// Formats Markdown in a style, and writes the result into `out`. It parses to the events of the text that is given.
 #[unsafe(no_mangle)]
 #[tactic(auto, using(crate::proofs::Answers::answered))]
 pub extern "C" fn tocmark_format(

@@ -1,4 +1,4 @@
-//! Where an error is, as C is told.
+//! Where an error is, in the form that C gets.
 
 ghost use Rattle.tocmark_c.specs.Place.{IsFilled};
 
@@ -7,7 +7,7 @@ use tocmark_rewrite::Place;
 /// The size of `TocmarkPlace` in bytes.
 const SIZE: u32 = 32;
 
-/// Where an error is.
+/// Where an error is: an event, and lines of the source.
 #[repr(C)]
 #[derive(Clone, Copy)]
 pub struct TocmarkPlace {
@@ -17,12 +17,12 @@ pub struct TocmarkPlace {
     pub event: usize,
     /// The first line of the source that is concerned, counted from 1; 0 if it isn't known.
     pub first_line: usize,
-    /// The last one.
+    /// The last line of the source that is concerned; 0 if it isn't known.
     pub last_line: usize,
 }
 
 impl TocmarkPlace {
-    /// Takes over where an error is. A struct of another size stays as it is.
+    /// Stores where an error is, or that it isn't known. A struct of another size stays as it is.
     pub fn fill(&mut self, place: Option<Place>)
         ensures { IsFilled self.old self.new }
     {

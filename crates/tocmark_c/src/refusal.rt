@@ -1,4 +1,4 @@
-//! Why a call is refused, and where.
+//! Errors with their place.
 
 ghost use Rattle.std.specs.Prelude.{◌≡◌};
 ghost use Rattle.tocmark_c.specs.Codes.{code_of, document_cause, options_cause, rewriting_cause, write_cause};
@@ -18,21 +18,21 @@ pub struct Refusal {
 }
 
 impl Refusal {
-    /// A refusal of no place.
+    /// A refusal without a place.
     pub fn of(cause: Cause) -> Refusal
         ensures { result.cause ≡ cause }
     {
         Refusal { cause, place: None }
     }
 
-    /// Why a text has no options.
+    /// The refusal of options. It has no place.
     pub fn of_options(error: &OptionsTextError) -> Refusal
         ensures { result.cause ≡ options_cause error.now }
     {
         Refusal::of(Cause::of_options(error))
     }
 
-    /// Why events aren't written.
+    /// The refusal of an error of writing, with its place if it has one.
     pub fn of_write(error: &WriteError) -> Refusal
         ensures { result.cause ≡ write_cause error.now }
     {
@@ -42,7 +42,7 @@ impl Refusal {
         }
     }
 
-    /// Why events aren't written as a document that says the same.
+    /// The refusal of an error of writing a document that is parsed again, with its place if it has one.
     pub fn of_document(error: &DocumentError) -> Refusal
         ensures { result.cause ≡ document_cause error.now }
     {
@@ -52,7 +52,7 @@ impl Refusal {
         }
     }
 
-    /// Why a source isn't rewritten.
+    /// The refusal of an error of rewriting, with its place if it has one.
     pub fn of_rewriting(error: &RewriteError) -> Refusal
         ensures { result.cause ≡ rewriting_cause error.now }
     {
@@ -62,7 +62,7 @@ impl Refusal {
         }
     }
 
-    /// The code of the cause. The place is filled.
+    /// Fills the place, and returns the code of the cause.
     pub fn told(self, place: &mut TocmarkPlace) -> isize
         ensures code { result ≡ code_of self.cause }
         ensures filled { IsFilled place.old place.new }
@@ -72,7 +72,7 @@ impl Refusal {
     }
 }
 
-/// The place of an event of which no line is known.
+/// The place of an event whose lines aren't known.
 fn event_alone(event: usize) -> Place {
     Place { event, lines: None }
 }

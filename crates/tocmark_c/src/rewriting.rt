@@ -1,4 +1,4 @@
-//! A source that is rewritten to the events of a JSON text.
+//! Rewrites a source to the events of a JSON text.
 
 ghost use Rattle.std.specs.Prelude.{IfErr, IfOk, string_bytes};
 ghost use Rattle.tocmark_c.specs.Rewriting.{IsRewriteCauseOf, IsRewrittenOf};
@@ -33,7 +33,7 @@ fn rewrite_text(
     }
 }
 
-/// The source, rewritten to the events of a JSON text under these options.
+/// Rewrites a source to the events of a JSON text under these options.
 pub fn rewrite(
     alloc: Global,
     json: &[u8],

@@ -1,4 +1,4 @@
-//! The room that a caller lends.
+//! The buffer that a caller lends.
 
 ghost use Rattle.std.specs.Prelude.{◌≡◌, MatchResult, length, pos, string_bytes};
 ghost use Rattle.tocmark_c.specs.Answer.{laid};
@@ -6,7 +6,7 @@ ghost use Rattle.tocmark_c.specs.Codes.{code_of};
 
 use crate::cause::Cause;
 
-/// Lays a text into the front of the room, where it is large enough; answers how many bytes the text takes.
+/// Copies a text into the front of a buffer if it is large enough, and returns the text's length in bytes.
 pub fn lay(text: &str, out: &mut [u8]) -> isize
     ensures size { result ≡ pos (length text.now) }
     ensures laid { out.new ≡ laid text.now out.old }
@@ -18,7 +18,7 @@ pub fn lay(text: &str, out: &mut [u8]) -> isize
     size as isize
 }
 
-/// Answers a text as `lay` does, or the code of a cause.
+/// Copies a text as `lay` does, or returns the code of a cause and leaves the buffer.
 pub fn answer(said: Result<String, Cause>, out: &mut [u8]) -> isize
     ensures { MatchResult said
         (λ text. (result ≡ pos (length (string_bytes text)))

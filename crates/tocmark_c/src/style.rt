@@ -1,4 +1,4 @@
-//! How a formatted document is to look, as C says it.
+//! The style of a formatted document, in the form that C gives.
 
 ghost use Rattle.std.specs.Prelude.{◌≡◌, IfSome, is_some};
 ghost use Rattle.tocmark_c.specs.Style.{bullet_of, delimiter_of, fence_of, hard_break_of, has_style, list_indent_of, marker_of, numbering_of, rule_of, table_width_of, wrap_of, IsStyleOf};
@@ -10,7 +10,7 @@ use tocmark_format::{
 /// The size of `TocmarkStyle` in bytes.
 const SIZE: u32 = 52;
 
-/// How a document is to look. A character stands for itself, and 0 for what is usual.
+/// The style of a formatted document. A character is its own number, and 0 is the default.
 #[repr(C)]
 #[derive(Clone, Copy)]
 pub struct TocmarkStyle {
@@ -20,7 +20,7 @@ pub struct TocmarkStyle {
     pub bullet: u32,
     /// `.` or `)`; 0: each list as in the source.
     pub delimiter: u32,
-    /// 0: each as in the source; 1: all are the first; 2: they go up.
+    /// 0: each as in the source; 1: all are the first; 2: they count up.
     pub numbering: u32,
     /// `*` or `_`; 0: `*`.
     pub emphasis: u32,
@@ -28,9 +28,9 @@ pub struct TocmarkStyle {
     pub strong: u32,
     /// A backtick or `~`; 0: each as in the source.
     pub fence: u32,
-    /// The least length of a fence: less than 3 is taken for 3, more than 1,000 for 1,000.
+    /// The minimal length of a fence: less than 3 means 3, and more than 1,000 means 1,000.
     pub fence_length: u32,
-    /// 0: each as in the source; 1: a backslash; 2: two blanks.
+    /// 0: each as in the source; 1: a backslash; 2: two spaces.
     pub hard_break: u32,
     /// 0: `---`; 1: each as in the source.
     pub rule: u32,
@@ -145,7 +145,7 @@ fn list_indent_of(columns: u32) -> Option<ListIndent>
     }
 }
 
-/// The style, if the struct has the size that it has here, and each number means something.
+/// Reads a style from C. There is none if the struct has another size, or a number that means nothing.
 pub fn style_of(style: &TocmarkStyle) -> Option<Style>
     ensures there { is_some result ≡ has_style style.now }
     ensures style { IfSome result (λ found. IsStyleOf style.now found) }

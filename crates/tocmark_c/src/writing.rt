@@ -1,4 +1,4 @@
-//! Events of a JSON text that are written as Markdown.
+//! Writes the events of a JSON text as Markdown.
 
 ghost use Rattle.std.specs.Prelude.{◌≡◌, IfErr, IfOk, is_some, string_bytes};
 ghost use Rattle.tocmark_c.specs.Calls.{IsAsked, IsAskedCause, IsDocumentCauseOf, IsMarkdownOf, IsSameMarkdownOf, IsWriteCause, has_source};
@@ -15,7 +15,7 @@ use tocmark_interchange::{
     DocumentError, WriteError, options_from_text, write_checked, write_json,
 };
 
-/// The source that a text stands for: none where it is empty.
+/// The source that a text stands for: none if the text is empty.
 #[tactic(auto, using(tocmark_interchange::proofs::Empty::empty_text))]
 fn source_of(text: &str) -> Option<&str>
     ensures there { is_some result ≡ has_source text.now }
@@ -24,7 +24,7 @@ fn source_of(text: &str) -> Option<&str>
     if text.is_empty() { None } else { Some(text) }
 }
 
-/// The Markdown of events under options that are read, over the source that a text stands for.
+/// Writes events as Markdown under options that were read, over the source that a text stands for.
 fn write_under(
     alloc: Global,
     json: &str,
@@ -40,7 +40,7 @@ fn write_under(
     write_json(alloc, json, source_of(source), flags, options)
 }
 
-/// The same, if just these events are found in it.
+/// Writes events as Markdown that parses to just these events, as `write_under` does, or refuses them.
 fn checked_under(
     alloc: Global,
     json: &str,
@@ -56,7 +56,7 @@ fn checked_under(
     write_checked(alloc, json, source_of(source), flags, options)
 }
 
-/// The Markdown of events under the options that a text has.
+/// Reads the options of a JSON text, and writes events as Markdown under them.
 #[tactic(auto, using(crate::proofs::Causes::options_told, crate::proofs::Causes::write_told))]
 fn write_text(
     alloc: Global,
@@ -81,7 +81,7 @@ fn write_text(
     }
 }
 
-/// The same, if just these events are found in it.
+/// Reads the options of a JSON text, and writes events under them as Markdown that parses to just these events.
 #[tactic(auto, using(crate::proofs::Causes::options_told_of_document, crate::proofs::Causes::document_told))]
 fn checked_text(
     alloc: Global,
@@ -106,7 +106,7 @@ fn checked_text(
     }
 }
 
-/// One of both.
+/// Writes events by `checked_text` if `is_checked` is set, and else by `write_text`.
 fn asked_text(
     alloc: Global,
     json: &str,
@@ -127,7 +127,8 @@ fn asked_text(
     }
 }
 
-/// The Markdown of events under these options, which may have to be found in it again.
+/// Writes events as Markdown under these options. If `is_checked` is set, the Markdown has to parse to just these
+/// events.
 pub fn write(
     alloc: Global,
     json: &[u8],

@@ -77,12 +77,7 @@ impl Printer<'_> {
     }
 
     /// Opens a list. Its items have the style's sign, unless the block before is a list with that.
-    fn open_list(
-        &mut self,
-        part: &Part,
-        at: usize,
-        is_ordered: bool,
-    ) -> Result<(), AllocError> {
+    fn open_list(&mut self, part: &Part, at: usize, is_ordered: bool) -> Result<(), AllocError> {
         let (start, end) = part.range(at);
         let digits = digits_in(self.source.slice(start, end));
         let behind = start.saturating_add(digits);
@@ -105,6 +100,7 @@ impl Printer<'_> {
             frame.number = Some(number_in(self.source.slice(start, behind)));
         }
         frame.is_tight = !part.is_loose(at);
+        frame.is_close = part.is_loose_by_definitions(at);
         self.page.open(frame)
     }
 
@@ -177,6 +173,7 @@ impl Printer<'_> {
             .saturating_add(behind.saturating_sub(start))
             .saturating_add(columns.pad);
         frame.is_tight = self.page.top().is_tight;
+        frame.is_close = self.page.top().is_close;
         self.page.open(frame)
     }
 

@@ -34,6 +34,10 @@ pub(crate) struct Inlines<'d, 'p, 'g> {
     context: Context<'d, 'p, 'g>,
     /// The place in the source behind what is printed.
     pub(crate) at: usize,
+    /// Where the leaf begins and ends in the source.
+    range: (usize, usize),
+    /// Whether the leaf may hold formulas, once that is known.
+    may_hold_formulas: Option<bool>,
     pub(crate) pieces: Pieces,
     open: Vec<Open>,
     /// Of each link and image that is open whether its text is its label.
@@ -92,13 +96,24 @@ fn hinders_underscore(character: Option<char>) -> bool {
 /// How far before the end of emphasis a bare web address is looked for, in bytes.
 const LONGEST_ADDRESS: usize = 256;
 
-/// Whether a text ends with a bare web address. Programs that link such an address would add an underscore behind it.
+/// Whether a text ends with a bare web or mail address. Programs that link such an address would add an underscore behind it.
 fn ends_with_address(text: &str) -> bool {
     let word = match text.rsplit_once(' ') {
         Some((_, word)) => word,
         None => text,
     };
-    word.contains("://") || word.starts_with("www.")
+    word.contains("://") || word.contains("www.") || word.contains('@')
+}
+
+/// Whether a text may hold formulas: programs that know them read their content before emphasis.
+fn may_hold_formulas(text: &str) -> bool {
+    let dollars = text
+        .as_bytes()
+        .iter()
+        .filter(|byte| **byte == b'$')
+        .take(2)
+        .count();
+    dollars == 2 || text.contains("\\(") || text.contains("\\[") || text.contains("\\f")
 }
 
 /// Whether a character is a sign of emphasis.
@@ -107,15 +122,17 @@ fn is_sign(character: Option<char>) -> bool {
 }
 
 impl<'d, 'p, 'g> Inlines<'d, 'p, 'g> {
-    /// The pieces of no event, from this place in the source on; `pieces` has room for them.
+    /// The pieces of no event of the leaf that has this range in the source; `pieces` has room for them.
     pub(crate) fn new(
         context: Context<'d, 'p, 'g>,
-        at: usize,
+        range: (usize, usize),
         pieces: Pieces,
     ) -> Inlines<'d, 'p, 'g> {
         Inlines {
             context,
-            at,
+            at: range.0,
+            range,
+            may_hold_formulas: None,
             pieces,
             open: Vec::new(context.alloc),
             links: Vec::new(context.alloc),
@@ -209,6 +226,9 @@ impl<'d, 'p, 'g> Inlines<'d, 'p, 'g> {
         }
         let (place, is_deep) = self.next_line(end);
         self.at = place;
+        if self.wraps() && self.is_in_badge() {
+            return self.pieces.add_solid(" ");
+        }
         self.pieces.push(Piece::Soft { is_deep })
     }
 
@@ -256,9 +276,20 @@ impl<'d, 'p, 'g> Inlines<'d, 'p, 'g> {
         is_in_changed || !(is_sign(before) || is_sign(behind))
     }
 
+    /// Whether the leaf may hold formulas.
+    fn may_hold_formulas(&mut self) -> bool {
+        if let Some(known) = self.may_hold_formulas {
+            return known;
+        }
+        let (start, end) = self.range;
+        let found = may_hold_formulas(self.context.source.slice(start, end));
+        self.may_hold_formulas = Some(found);
+        found
+    }
+
     /// The sign of emphasis: that of the look, if the source has it neither in nor beside the emphasis, and if it can stand
-    /// there.
-    fn sign(&self, range: (usize, usize), is_strong: bool) -> u8 {
+    /// there. In a leaf that may hold formulas it is the source's, because a formula may begin or end in the emphasis.
+    fn sign(&mut self, range: (usize, usize), is_strong: bool) -> u8 {
         let own = self.context.source.byte(range.0);
         let look = self.context.look;
         let wanted = if is_strong {
@@ -266,9 +297,14 @@ impl<'d, 'p, 'g> Inlines<'d, 'p, 'g> {
         } else {
             look.emphasis
         };
-        match wanted {
-            Some(sign) if sign != own && self.labels == 0 && self.fits(sign, range) => sign,
-            _ => own,
+        let Some(sign) = wanted else {
+            return own;
+        };
+        let fits = sign != own && self.labels == 0 && self.fits(sign, range);
+        if fits && !self.may_hold_formulas() {
+            sign
+        } else {
+            own
         }
     }
 
@@ -294,7 +330,8 @@ impl<'d, 'p, 'g> Inlines<'d, 'p, 'g> {
         self.add_gap(start)?;
         let is_double = match opening {
             Opening::Image(_) => true,
-            Opening::Strikethrough => self.context.source.slice(start, start.saturating_add(2)) == "~~",
+            Opening::Strikethrough => self.context.source.slice(start, start.saturating_add(2))
+                == "~~",
             _ => false,
         };
         let behind = start.saturating_add(if is_double { 2 } else { 1 });
@@ -349,6 +386,23 @@ impl<'d, 'p, 'g> Inlines<'d, 'p, 'g> {
     /// Whether the lines of the leaf are filled or joined.
     fn wraps(&self) -> bool {
         self.context.look.wrap != Wrap::Keep
+    }
+
+    /// Whether an image in a link is open: its text isn't broken.
+    fn is_in_badge(&self) -> bool {
+        self.links.len() > 1
+    }
+
+    /// Adds a text; one of an image in a link isn't broken.
+    fn add_text(&mut self, range: (usize, usize)) -> Result<(), AllocError> {
+        self.add_gap(range.0)?;
+        self.at = range.1;
+        let text = self.context.source.slice(range.0, range.1);
+        if self.is_in_badge() {
+            self.pieces.add_solid(text)
+        } else {
+            self.pieces.add_text(text)
+        }
     }
 
     /// Adds a slice of the source as one line. The reader takes its line feeds for blanks.
@@ -419,12 +473,7 @@ impl<'d, 'p, 'g> Inlines<'d, 'p, 'g> {
             Mark::SoftBreak => self.add_soft_break(range)?,
             Mark::HardBreak => self.add_hard_break(range)?,
             Mark::Code => self.add_code(range)?,
-            Mark::Text => {
-                self.add_gap(range.0)?;
-                self.at = range.1;
-                self.pieces
-                    .add_text(self.context.source.slice(range.0, range.1))?;
-            }
+            Mark::Text => self.add_text(range)?,
             _ => self.add_copied(range)?,
         }
         Ok(next)

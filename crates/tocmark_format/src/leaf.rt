@@ -113,7 +113,8 @@ impl<'d> Printer<'d> {
             page: &self.page,
             look: self.look,
         };
-        let mut inlines = Inlines::new(context, start, room);
+        let end = part.range(events.1.saturating_sub(1)).1;
+        let mut inlines = Inlines::new(context, (start, end), room);
         inlines.add_all(events.0, events.1)?;
         let Inlines { pieces, at, .. } = inlines;
         Ok((pieces, at))
@@ -367,11 +368,13 @@ impl<'d> Printer<'d> {
     /// Prints a rule: not of `-` below a text without a blank line between, nor at the front of a document, where metadata
     /// would begin; and behind a bullet not of its sign.
     pub(crate) fn print_rule(&mut self, range: (usize, usize)) -> Result<(), AllocError> {
+        let top = self.page.top();
         let own = match self.look.rule {
+            // to cmark-gfm it is text below a definition
+            _ if top.last == Some(Kind::Definitions) => self.source.slice(range.0, range.1),
             Rule::Source => self.source.slice(range.0, range.1),
             Rule::Dashes => "---",
         };
-        let top = self.page.top();
         let sign = if top.kind == Kind::Item && !top.is_used {
             top.first.as_bytes().first().copied()
         } else {

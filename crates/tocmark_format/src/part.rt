@@ -156,6 +156,9 @@ enum Spread {
 struct ListSpread {
     at: usize,
     spread: Spread,
+    /// Whether a blank line of the source stands between two of its items, or between two blocks of an item. One beside
+    /// the definitions of links alone is none.
+    has_gap: bool,
 }
 
 /// What a container has of a list that all share: from one place of it to another.
@@ -279,6 +282,13 @@ impl Part {
         }
     }
 
+    /// Notes that a list has a blank line between two of its items, or between two blocks of an item.
+    fn note_gap(&mut self, list: usize) {
+        if let Some(known) = self.lists.get_mut(list) {
+            known.has_gap = true;
+        }
+    }
+
     fn set(&mut self, list: usize, spread: Spread) {
         if let Some(known) = self.lists.get_mut(list) {
             known.spread = spread;
@@ -324,6 +334,7 @@ impl Part {
             && source.has_blank_line(last, start)
         {
             self.tell(list, Spread::Loose);
+            self.note_gap(list);
         }
     }
 
@@ -333,6 +344,7 @@ impl Part {
         self.lists.push(ListSpread {
             at,
             spread: Spread::Unknown,
+            has_gap: false,
         })?;
         Ok(Role::List(list))
     }
@@ -484,12 +496,22 @@ impl Part {
         }
     }
 
+    /// The list whose Start stands at a place.
+    fn list(&self, at: usize) -> Option<ListSpread> {
+        let number = self.lists.partition_point(|one| one.at < at);
+        self.lists.get(number).copied()
+    }
+
     /// Whether a list is loose.
     pub(crate) fn is_loose(&self, list: usize) -> bool {
-        let number = self.lists.partition_point(|one| one.at < list);
-        self.lists
-            .get(number)
+        self.list(list)
             .is_some_and(|one| one.spread == Spread::Loose)
+    }
+
+    /// Whether a list is loose only because definitions of links stand in it: `cmark-gfm` takes it for a tight one.
+    pub(crate) fn is_loose_by_definitions(&self, list: usize) -> bool {
+        self.list(list)
+            .is_some_and(|one| one.spread == Spread::Loose && !one.has_gap)
     }
 
     /// Whether a byte, `*` or `_`, stands in a stretch of the source.

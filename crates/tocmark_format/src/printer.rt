@@ -100,13 +100,15 @@ impl<'d> Printer<'d> {
     }
 
     /// Prints the line between a block and the one before it in its container: none in tight items, and none between some
-    /// blocks that aren't apart in the source.
+    /// blocks that aren't apart in the source. A list that is loose by definitions alone has lines only beside these, so
+    /// that `cmark-gfm` still takes it for a tight one.
     fn separate(&mut self, kind: Kind, is_apart: bool) -> Result<(), AllocError> {
         let top = self.page.top();
         let Some(last) = top.last else {
             return Ok(());
         };
-        if top.is_tight {
+        let is_beside = last == Kind::Definitions || kind == Kind::Definitions;
+        if top.is_tight || (top.is_close && !is_beside) {
             if last == Kind::Quote && matches!(kind, Kind::Paragraph | Kind::Foreign) {
                 // else the text would go on with the quote's paragraph
                 return self.page.line(">");
@@ -117,7 +119,7 @@ impl<'d> Printer<'d> {
             (Kind::Html, Kind::Html) | (Kind::Footnote, Kind::Footnote) => true,
             (Kind::Definition, Kind::Definition) => true,
             (Kind::Title, Kind::Title | Kind::Definition) => true,
-            (Kind::Definitions, _) => self.look.is_literal,
+            (Kind::Definitions, _) => self.look.is_literal || kind == Kind::Rule,
             (Kind::Foreign, _) | (_, Kind::Foreign) => true,
             _ => false,
         };

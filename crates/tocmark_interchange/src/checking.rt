@@ -1,4 +1,4 @@
-//! The JSON text of events in its one form.
+//! The canonical JSON text of events.
 
 ghost use Rattle.std.specs.Prelude.{IfErr, IfOk, string_bytes};
 ghost use Rattle.serde_json.specs.View.{view};
@@ -29,7 +29,7 @@ fn ranged_again(alloc: Global, value: &Value) -> Result<String, JsonError>
     Ok(pairs_to_text(alloc, &pairs)?)
 }
 
-/// The text of the events of a value.
+/// The canonical JSON text of the events of a value.
 fn written_again(alloc: Global, value: &Value) -> Result<String, JsonError>
     ensures again { IfOk result (λ output. IsAgain (view value.now) (string_bytes output)) }
     ensures place { IfErr result (IsNoList (view value.now)) }
@@ -41,10 +41,11 @@ fn written_again(alloc: Global, value: &Value) -> Result<String, JsonError>
     }
 }
 
-/// The JSON text of events in its one form: without spaces, the keys in order. Lines and columns are left out.
+/// Checks that a JSON text is one of events, and returns its canonical form: without spaces, the keys in order, and
+/// without lines and columns.
 ///
-/// An `Err` says that the text is no JSON (`NotJson`) or not that of events (`NotEvents`, with the first one that is none), or
-/// that memory ran out.
+/// It fails if the text isn't JSON (`NotJson`), or not the JSON of events (`NotEvents`, with the number of the first
+/// element that is none), or if memory runs out.
 pub fn check_json(alloc: Global, json: &str) -> Result<String, WriteError>
     ensures again { IfOk result (λ output. IsWrittenAgain json.now (string_bytes output)) }
     ensures cause { IfErr result (IsNoEvents json.now) }

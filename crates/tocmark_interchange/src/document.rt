@@ -1,4 +1,4 @@
-//! Events to Markdown that is read again as a whole.
+//! Writes events as Markdown, and parses the whole result again.
 
 ghost use Rattle.std.specs.Prelude.{◌≡◌, ◌≤◌, ◌↔◌, IfErr, IfOk, IfSome, IsNone, IsTrue, is_some, length, map, string_bytes};
 ghost use Rattle.tocmark_event.specs.Merged.{merged};
@@ -24,7 +24,7 @@ use tocmark_reader::{ExtendedReader, Names};
 /// What a reader found: events with their ranges.
 type Found<'f> = (Event<'f>, (usize, usize));
 
-/// How many events both lists begin with.
+/// How many events two lists have in common at their front.
 fn shared(found: &[Event<'_>], given: &[Event<'_>]) -> usize
     ensures { result
         ≡ shared (map (event_view text_of) found.now) (map (event_view text_of) given.now) }
@@ -50,8 +50,8 @@ fn goes_on(events: &[Placed<'_>]) -> bool
     }
 }
 
-/// The number of the event with which the stretch of this number begins, where texts side by side are one stretch; how many
-/// events there are, if there are no more stretches.
+/// The number of the event with which the stretch of this number begins. Texts side by side are one stretch, and any
+/// other event is one alone. If there is no such stretch, it is the number of all events.
 fn place_of(given: &[Placed<'_>], stretch: usize) -> usize
     ensures { stretch ≤ length (merged (given_events given.now))
         → IsFirstBehind stretch (given_events given.now) result }
@@ -68,7 +68,7 @@ fn place_of(given: &[Placed<'_>], stretch: usize) -> usize
     given.len()
 }
 
-/// The number of the first event that isn't found again, where the lists differ.
+/// The number of the first given event that isn't found again, if the lists differ.
 fn first_lost(alloc: Global, found: &[Found<'_>], given: &[Placed<'_>]) -> Result<usize, AllocError>
     ensures { IfOk result (IsFirstLost (given_events found.now) (given_events given.now)) }
 {
@@ -77,7 +77,8 @@ fn first_lost(alloc: Global, found: &[Found<'_>], given: &[Placed<'_>]) -> Resul
     Ok(place_of(given, shared(&read, &wanted)))
 }
 
-/// The same, if they differ, on either side with each longest stretch of texts as one.
+/// Compares the events that were found with those that were given: none if they are the same, else the number of the
+/// first given event that isn't found again. Texts side by side count as one.
 fn difference(
     alloc: Global,
     found: &[Found<'_>],
@@ -96,7 +97,7 @@ fn difference(
     Ok(Some(first_lost(alloc, found, given)?))
 }
 
-/// The number of the first event that the reader of extensions doesn't find in a text again, if there is one.
+/// Parses a text, and compares its events with those that were given, as `difference` does.
 fn lost(
     alloc: Global,
     text: &str,
@@ -114,11 +115,11 @@ fn lost(
     difference(alloc, &reading.events, given)
 }
 
-/// The Markdown of the events that a JSON text has, as of `write_json`, if the reader of extensions finds just these events in
-/// it, on either side with each longest stretch of texts as one: so the document as a whole says what the events say.
+/// Writes events as Markdown, as `write_json` does, and parses the result again. It has just these events, or it is an
+/// error. Texts side by side count as one.
 ///
-/// An `Err` is one of `write_json` (`Write`), or says which of the events isn't found again in what they would be written as
-/// (`Changed`, counted from 0; the number of all where they are found, and more behind them).
+/// It fails as `write_json` does (`Write`), or if the result has other events (`Changed`, with the number of the first
+/// event that it doesn't have, counted from 0; with the number of all events if it has them all, and then others).
 ///
 /// ```
 /// let json = r#"[{"Start":"Paragraph"},{"Text":"a"},{"End":"Paragraph"}]"#;
@@ -143,7 +144,8 @@ pub fn write_checked(
     }
 }
 
-/// The same, where the ranges are dropped unless `has_source` is set, whatever the source is.
+/// Writes events as Markdown and parses the result again, as `write_checked` does. Without `has_source`, there is no
+/// source: the ranges are dropped.
 pub fn checked_over(
     alloc: Global,
     json: &str,

@@ -1,4 +1,4 @@
-//! Why a text is refused.
+//! The errors.
 
 ghost use Rattle.std.specs.Prelude.{◌≡◌};
 ghost use Rattle.tocmark_interchange.specs.declared.fault.RewriteError.TheVariants.{OutOfMemory as no_memory};
@@ -20,10 +20,10 @@ fn write_place<W: fmt::Write>(f: &mut fmt::Formatter<W>, place: Place) -> fmt::R
     }
 }
 
-/// Why the events that a text has as JSON aren't written.
+/// Why events aren't written.
 #[derive(Debug, Drop)]
 pub enum WriteError {
-    /// The text is no JSON, or nested deeper than the kit's JSON is read.
+    /// The text isn't JSON, or is nested deeper than the kit's JSON reads.
     NotJson(serde_json::Error),
     /// The JSON isn't that of events.
     NotEvents(JsonError),
@@ -65,10 +65,10 @@ impl fmt::Display for WriteError {
 
 impl std::error::Error for WriteError {}
 
-/// Why a document isn't rewritten to the events that a text has as JSON.
+/// Why a source isn't rewritten.
 #[derive(Debug, Drop)]
 pub enum RewriteError {
-    /// The text is no JSON, or nested deeper than the kit's JSON is read.
+    /// The text isn't JSON, or is nested deeper than the kit's JSON reads.
     NotJson(serde_json::Error),
     /// The JSON isn't that of events.
     NotEvents(JsonError),
@@ -116,12 +116,12 @@ impl fmt::Display for RewriteError {
 
 impl std::error::Error for RewriteError {}
 
-/// Why the events that a text has as JSON aren't written as a document that says the same.
+/// Why events aren't written as a document that parses to them.
 #[derive(Debug, Drop)]
 pub enum DocumentError {
-    /// They aren't written at all.
+    /// The writer doesn't write them.
     Write(WriteError),
-    /// The event of this number, counted from 0, isn't found in what they would be written as.
+    /// The document would parse to other events. It wouldn't have the event of this number, counted from 0.
     Changed(usize),
 }
 
@@ -139,12 +139,12 @@ impl fmt::Display for DocumentError {
 
 impl std::error::Error for DocumentError {}
 
-/// Why a text has no options of the writer.
+/// Why options aren't taken.
 #[derive(Debug, Drop)]
 pub enum OptionsTextError {
-    /// The text is no JSON, or nested deeper than the kit's JSON is read.
+    /// The text isn't JSON, or is nested deeper than the kit's JSON reads.
     NotJson(serde_json::Error),
-    /// The JSON isn't that of options: what is wrong, in a line.
+    /// The JSON isn't that of options. The text says in a line what is wrong.
     NotOptions(String),
     /// The writer doesn't take these options under these flags.
     Invalid(OptionsError),
@@ -170,11 +170,11 @@ impl std::error::Error for OptionsTextError {}
 pub enum OptionFault<'a> {
     /// The value isn't an object.
     NotAnObject,
-    /// Something else is wanted at this key, or another key.
+    /// The key is unknown, or its value isn't one that the option can have.
     Wanted {
-        /// The key, as it stands in the object.
+        /// The key in the object.
         key: &'a str,
-        /// What should stand there.
+        /// What is wanted there.
         wanted: &'static str,
     },
 }

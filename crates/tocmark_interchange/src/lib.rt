@@ -1,13 +1,12 @@
-//! Markdown to the JSON text of its events, and such a text to Markdown: what other languages reach, through a library or a
-//! program.
+//! Parses Markdown to events as JSON text, and writes or rewrites Markdown from such a text. Other languages use it
+//! through `tocmark_c` and `tocmark_events_program`.
 //!
-//! Below it stand the library (`tocmark`), the readers, `tocmark_rewrite` and `tocmark_json`; above it stand
-//! `tocmark_events_program` and `tocmark_c`. Enter at `read_json` (`reading`), `rewrite_json` (`rewriting`), which keeps all
-//! that wasn't edited, and `write_json` (`writing`), which writes a whole document anew.
+//! Start with `read_json` (`reading`) and `rewrite_json` (`rewriting`), which keeps all that wasn't edited.
+//! `write_json` (`writing`) writes a whole document anew, and `write_checked` (`document`) parses that again.
 //!
-//! `document` writes what is read again as a whole, and `checking` has events in the one form of their JSON. `options` has the
-//! writer's options from their JSON text, and `option_values` those of a JSON value. `fault` says why a text is refused, and
-//! `refusal` where. `pairs` lends the events that are written, and `aligning` finds ranges for those that have none.
+//! `lines` has JSON by lines, and `checking` the canonical form of events as JSON. `options` reads the writer's
+//! options from a JSON text, and `option_values` from a JSON value. `fault` has the errors, and `refusal` finds their
+//! places. `pairs` lends the events that are written, and `aligning` finds ranges for events that have none.
 //!
 //! ```
 //! let flags = ParserOptions::ENABLE_STRIKETHROUGH;

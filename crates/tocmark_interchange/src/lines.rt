@@ -1,4 +1,4 @@
-//! JSON by lines: each event, or each pair of an event and its range, stands on a line of its own.
+//! JSON by lines: a line for each event, or for each pair of an event and its range.
 
 ghost use Rattle.std.specs.Prelude.{◌≡◌, [], ◌∷◌, ◌++◌, IfOk, OnOk, string_bytes};
 ghost use Rattle.tocmark_interchange.specs.Lines.{array_of, reading_lines, reading_located_lines, with_commas};
@@ -10,8 +10,8 @@ use tocmark_json::locating::located_to_lines;
 use tocmark_json::printing::ranged_to_lines;
 use tocmark_reader::{ExtendedReader, Names};
 
-/// The lines of JSON of the events that the reader of extensions finds in a text under these flags: on each an event with its
-/// range in bytes.
+/// Parses Markdown with the extended reader under these flags, and returns its events as JSON: a line for each event
+/// with its range in bytes.
 ///
 /// It fails if memory runs out.
 pub fn read_lines(alloc: Global, text: &str, flags: ParserOptions) -> Result<String, AllocError>
@@ -23,7 +23,9 @@ pub fn read_lines(alloc: Global, text: &str, flags: ParserOptions) -> Result<Str
     Ok(output)
 }
 
-/// The same, where each range has the lines and columns of its ends, too.
+/// Parses Markdown as `read_lines` does, and adds the lines and columns of each range's ends.
+///
+/// It fails if memory runs out.
 pub fn read_located_lines(
     alloc: Global,
     text: &str,
@@ -37,7 +39,7 @@ pub fn read_located_lines(
     Ok(output)
 }
 
-/// Adds a byte, and a comma before it if it stands behind a line feed.
+/// Adds a byte, and a comma before it if it follows a line feed.
 fn push(json: &mut Vec<u8>, is_behind: bool, byte: u8) -> Result<(), AllocError>
     ensures { OnOk result (json.new.items ≡ json.old.items ++ with_commas is_behind (byte ∷ [])) }
 {
@@ -51,7 +53,7 @@ fn push(json: &mut Vec<u8>, is_behind: bool, byte: u8) -> Result<(), AllocError>
     }
 }
 
-/// The bytes of an array whose items stand on lines of their own.
+/// Makes an array of items that stand on lines of their own.
 fn array_bytes(alloc: Global, lines: &[u8]) -> Result<Vec<u8>, AllocError>
     ensures { IfOk result (λ json. json.items ≡ array_of lines.now) }
 {
@@ -66,7 +68,8 @@ fn array_bytes(alloc: Global, lines: &[u8]) -> Result<Vec<u8>, AllocError>
     Ok(json)
 }
 
-/// The JSON text of an array whose items stand on lines of their own, as `read_lines` writes them. No line is blank.
+/// Makes one JSON array of items that stand on lines of their own, as `read_lines` writes them. A line may not be
+/// blank.
 ///
 /// It fails if memory runs out.
 ///

@@ -96,7 +96,7 @@ fn set_value(options: &mut Options<'static>, key: &str, value: &Value) -> bool
     }
 }
 
-/// What stands at an option's key.
+/// The value at an option's key.
 fn wanted_at(key: &str) -> &'static str {
     match key {
         "code_block_token" => "` or ~",
@@ -121,8 +121,8 @@ fn wanted_at(key: &str) -> &'static str {
     }
 }
 
-/// Sets the option that a key names to the value that stands there. A key that names none and a value that
-/// the option can't have are refused, with the key and what is wanted there, and the options stay.
+/// Sets the option of a key to a value. An unknown key, and a value that the option can't have, are refused: the error
+/// has the key and what is wanted there, and the options stay.
 pub fn set_option<'k>(
     options: &mut Options<'static>,
     key: &'k str,
@@ -141,8 +141,8 @@ pub fn set_option<'k>(
     })
 }
 
-/// The options of a JSON object: those of `Options::default`, but for the fields that have a key there.
-/// Unknown keys and values that a field can't have are refused, with the key and what is wanted there.
+/// Reads options from a JSON object. A field without a key there has its default. An unknown key, and a value that a
+/// field can't have, are refused: the error has the key and what is wanted there.
 pub fn options_from_json(value: &Value) -> Result<Options<'static>, OptionFault<'_>>
     ensures options { IfOk result (λ options.
         IsOptionsJson (view value.now) (options_view options)) }

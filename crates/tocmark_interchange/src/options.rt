@@ -14,10 +14,11 @@ use std::alloc::Global;
 use tocmark::Options;
 use tocmark::event::ParserOptions;
 
-/// The options that a JSON text has, and the default ones of an empty text, which the writer takes under these flags.
+/// Reads the writer's options from a JSON text, and checks that the writer takes them under these flags. An empty text
+/// means the default options.
 ///
-/// An `Err` says that the text is no JSON (`NotJson`), that its value isn't that of options (`NotOptions`), that the writer
-/// doesn't take them under these flags (`Invalid`), or that memory ran out.
+/// It fails if the text isn't JSON (`NotJson`), if its value isn't that of options (`NotOptions`), if the writer
+/// doesn't take them under these flags (`Invalid`), or if memory runs out.
 pub fn options_from_text(
     alloc: Global,
     text: &str,
@@ -34,7 +35,7 @@ pub fn options_from_text(
     }
 }
 
-/// The options that a text has, whatever the writer takes.
+/// Reads options from a JSON text without a check. An empty text means the default options.
 #[tactic(auto, using(crate::proofs::Empty::empty_text))]
 fn options_in(alloc: Global, text: &str) -> Result<Options<'static>, OptionsTextError>
     ensures options { IfOk result (λ options. AreOptions text.now (options_view options)) }
@@ -46,10 +47,9 @@ fn options_in(alloc: Global, text: &str) -> Result<Options<'static>, OptionsText
     options_in_json(alloc, text)
 }
 
-/// The options that a JSON text has, whether the writer takes them or not: those of the default options, but for the fields
-/// that have a key there.
+/// Reads options from a JSON text. A field without a key there has its default. The writer may refuse the options.
 ///
-/// An `Err` says that the text is no JSON (`NotJson`), that its value isn't that of options (`NotOptions`), or that memory ran
+/// It fails if the text isn't JSON (`NotJson`), if its value isn't that of options (`NotOptions`), or if memory runs
 /// out.
 pub fn options_in_json(alloc: Global, text: &str) -> Result<Options<'static>, OptionsTextError>
     ensures options { IfOk result (λ options. HasOptions text.now (options_view options)) }

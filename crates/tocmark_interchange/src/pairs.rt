@@ -12,7 +12,7 @@ use tocmark::event::Event;
 /// An event with its range, if it has one.
 pub type Placed<'a> = (Event<'a>, Option<(usize, usize)>);
 
-/// Events, one after the other, each with its range, if it has one and there is a source that it is of.
+/// An iterator over events with their ranges. Without a source, no event has a range.
 #[derive(Drop)]
 pub struct EventPairs<'a> {
     pairs: std::slice::Iter<'a, (Event<'a>, Option<(usize, usize)>)>,

@@ -1,4 +1,4 @@
-//! Markdown to the JSON text of its events.
+//! Parses Markdown to the JSON text of its events.
 
 ghost use Rattle.std.specs.Prelude.{IfOk, string_bytes};
 ghost use Rattle.serde_json.specs.Written.{IsInOrder};
@@ -11,8 +11,10 @@ use tocmark_json::locating::located_to_text;
 use tocmark_json::printing::ranged_to_text;
 use tocmark_reader::{ExtendedReader, Names};
 
-/// The JSON text of the events that the reader of extensions finds in a text under these flags: an
-/// array of events with their ranges in bytes.
+/// Parses Markdown with the extended reader under these flags, and returns its events as JSON: an array of events with
+/// their ranges in bytes.
+///
+/// It fails if memory runs out.
 pub fn read_json(alloc: Global, text: &str, flags: ParserOptions) -> Result<String, AllocError>
     ensures { IfOk result (λ output.
         IsInOrder (string_bytes output) (reading_json flags text.now)) }
@@ -23,7 +25,9 @@ pub fn read_json(alloc: Global, text: &str, flags: ParserOptions) -> Result<Stri
     Ok(output)
 }
 
-/// The same, where each range has the lines and columns of its ends, too.
+/// Parses Markdown as `read_json` does, and adds the lines and columns of each range's ends.
+///
+/// It fails if memory runs out.
 pub fn read_located(alloc: Global, text: &str, flags: ParserOptions) -> Result<String, AllocError>
     ensures { IfOk result (λ output.
         IsInOrder (string_bytes output) (reading_located flags text.now)) }

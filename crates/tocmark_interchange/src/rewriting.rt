@@ -1,4 +1,4 @@
-//! Documents that are rewritten to the events of a JSON text.
+//! Rewrites documents to the events of a JSON text.
 
 ghost use Rattle.std.specs.Prelude.{ℕ, IfErr, IfOk, List, map};
 ghost use Rattle.tocmark_event.specs.Reading.{ReadingView};
@@ -93,19 +93,19 @@ fn not_events(error: WriteError) -> RewriteError
     }
 }
 
-/// The source, rewritten to the events that a JSON text has: an array of events, or of pairs of an event and its range or
-/// `null`. All that wasn't edited stays byte for byte; the options say how edited blocks are written.
+/// Rewrites a source to the events of a JSON text: an array of events, or of pairs of an event and its range or
+/// `null`. All that wasn't edited stays byte for byte. The options say how edited blocks are written.
 ///
-/// The events are those of `read_json` over the same source under the same flags, in which the caller has changed, added or
-/// taken away some. If no event has a range, blocks of the source are found by their events; else a new event has no range,
-/// or the range of what it replaces.
+/// The events are those of `read_json` over the same source under the same flags; the caller has changed, added or
+/// removed some. If no event has a range, blocks of the source are found by their events. Else a new event has no
+/// range, or the range of what it replaces.
 ///
-/// The answer's text parses to just these events, with neighbouring texts joined, and is the source if nothing was changed.
+/// The new text parses to just these events, with neighbouring texts joined. It is the source if nothing was changed.
 ///
-/// It fails if the text is no JSON (`NotJson`), or not the JSON of events (`NotEvents`, with the number of the first element
-/// that is none), if a block has no text (`Refused` and `ReadOtherwise`, with the number of the block's first event, and with
-/// its lines in the source if it stands for a block there), or if memory runs out. A document that wasn't changed is never
-/// refused (`cause`).
+/// It fails if the text isn't JSON (`NotJson`), or not the JSON of events (`NotEvents`, with the number of the first
+/// element that is none), if a block has no text (`Refused` and `ReadOtherwise`, with the number of the block's first
+/// event, and with its lines in the source if it stands for a block there), or if memory runs out. A document that
+/// wasn't changed is never refused (`cause`).
 ///
 /// ```
 /// let source = "# One\n\n* *a*\n* b\n";

@@ -1,4 +1,4 @@
-//! The JSON text of events to Markdown.
+//! Writes the JSON text of events as Markdown.
 
 ghost use Rattle.std.specs.Prelude.{◌≡◌, IfErr, IfOk, Some, is_some, map, string_bytes};
 ghost use Rattle.serde_json.specs.Read.{read};
@@ -64,7 +64,7 @@ fn ranged_pairs(alloc: Global, value: &Value) -> Result<Vec<Placed<'static>>, Js
     pairs_from_json(alloc, value)
 }
 
-/// The events of a value: of a list of pairs, where its first element is an array, and else of events.
+/// Reads the events of a value: pairs if its first element is an array, and else events alone.
 fn pairs_of(alloc: Global, value: &Value) -> Result<Vec<Placed<'static>>, JsonError>
     ensures value { IfOk result (λ pairs.
         IsJsonOf (view value.now) (map (pair_view text_of) pairs.items)) }
@@ -89,7 +89,7 @@ pub(crate) fn value_in(alloc: Global, json: &str) -> Result<Value, WriteError>
     }
 }
 
-/// The events that a text has as JSON, with the ranges that they have there.
+/// Reads events from a JSON text, with the ranges that they have there.
 pub(crate) fn pairs_in(alloc: Global, json: &str) -> Result<Vec<Placed<'static>>, WriteError>
     ensures pairs { IfOk result (λ pairs.
         IsTextOf json.now (map (pair_view text_of) pairs.items)) }
@@ -184,8 +184,9 @@ pub(crate) fn written_pairs<'a>(
     }
 }
 
-/// The Markdown of the events that a JSON text has, as of `write_json`. Where `has_source` isn't set their ranges are dropped,
-/// whatever the source is. An `Err` says what one of `write_json` does.
+/// Writes events as Markdown, as `write_json` does. Without `has_source`, there is no source: the ranges are dropped.
+///
+/// It fails as `write_json` does.
 pub fn write_over(
     alloc: Global,
     json: &str,
@@ -203,12 +204,13 @@ pub fn write_over(
     written_pairs(alloc, lent(&pairs), source, has_source, flags, options)
 }
 
-/// The Markdown of the events that a JSON text has: an array of events, or of pairs of an event and its range or `null`.
-/// The ranges are bytes of the source; without one they are dropped. Under these flags the text is to read back.
+/// Writes the events of a JSON text as Markdown: an array of events, or of pairs of an event and its range or `null`.
+/// The ranges are bytes of the source; without a source they are dropped. The flags are the extensions under which the
+/// Markdown has to parse back.
 ///
-/// It fails if the text is no JSON (`NotJson`), or not the JSON of events (`NotEvents`, with the number of the first element
-/// that is none), if the writer refuses the events (`Refused`, with the number of the first event of the refused block and,
-/// over a source, with its lines), or if memory runs out.
+/// It fails if the text isn't JSON (`NotJson`), or not the JSON of events (`NotEvents`, with the number of the first
+/// element that is none), if the writer refuses the events (`Refused`, with the number of the first event of the
+/// refused block and, over a source, with its lines), or if memory runs out.
 pub fn write_json(
     alloc: Global,
     json: &str,

@@ -1,9 +1,11 @@
 //! Events as JSON, in the form of pulldown-cmark's feature `serde`, and JSON as events. `docs/JSON.md` has the form.
 //!
-//! Below it stand `tocmark_event` and the kit's `serde_json` and `json`, above it what takes such texts. Enter at `printing`
-//! for events as JSON text, at `locating` for lines and columns too, and at `reading` for the events that a JSON value has. `parts` reads one value of one sort,
-//! `names` has the names that stand in JSON, `fault` what is wrong with a value and where, and `laws` says that different
-//! events have different JSON. `positions` has the lines and columns of a text.
+//! `printing` writes events as JSON text, `locating` does so with lines and columns, and `reading` reads events from a
+//! JSON value. `parts` takes a value apart, and `names` has the names of variants. `positions` finds the lines and
+//! columns of a text. `fault` says what is wrong with a value, and where. `laws` says that different events have
+//! different JSON.
+//!
+//! The crate stands on `tocmark_event` and the kit's `serde_json` and `json`.
 #![tactic(auto)]
 
 pub mod fault;

@@ -85,8 +85,8 @@ fn indexed_to_text<T: Words>(
     text_of(out)
 }
 
-/// The JSON text of a list of events that all have a range in a text, as a reader gives them, without spaces: an array of
-/// arrays of two, the event and its range. A range has the lines and columns of its ends, too.
+/// The JSON text of a list of events with their ranges in a source, as a reader gives them: an array of `[event,
+/// range]`, without spaces. Each range has the lines and columns of its ends, too.
 ///
 /// It fails if memory runs out.
 pub fn located_to_text<T: Words>(
@@ -136,7 +136,10 @@ fn indexed_to_lines<T: Words>(
     Ok(text)
 }
 
-/// The same, a line for each event and no array.
+/// The JSON texts of events with their ranges in a source, as a reader gives them: `[event, range]` on a line for each
+/// event. Each range has the lines and columns of its ends, too.
+///
+/// It fails if memory runs out.
 pub fn located_to_lines<T: Words>(
     alloc: Global,
     source: &str,

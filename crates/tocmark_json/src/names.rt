@@ -1,4 +1,4 @@
-//! The variants that are names alone: their names, and the variants that have these.
+//! The names in JSON of the variants that hold nothing.
 
 ghost use Rattle.std.specs.Prelude.{◌≡◌, IfSome};
 ghost use Rattle.serde_json.specs.Data.{string};

@@ -20,7 +20,7 @@ pub struct Position {
 pub struct Span {
     /// Where it begins.
     pub start: Position,
-    /// The place behind its last byte.
+    /// The place after its last byte.
     pub end: Position,
 }
 
@@ -140,7 +140,7 @@ pub struct Positions<'t> {
 }
 
 impl<'t> Positions<'t> {
-    /// An index of a text's places. It takes half the text's memory, and fails if memory runs out.
+    /// Makes an index of a text's places. It takes half as much memory as the text, and fails if memory runs out.
     pub fn new(alloc: Global, text: &'t str) -> Result<Positions<'t>, AllocError>
         ensures index { IfOk result IsIndex }
         ensures text { IfOk result (λ positions. positions.bytes.now ≡ text.now) }
@@ -163,7 +163,7 @@ impl<'t> Positions<'t> {
         }
     }
 
-    /// The place of a byte. If the text has no such byte, it is the place behind the last one.
+    /// The place of a byte. If the text has no such byte, it is the place after the last one.
     #[tactic(auto, using(crate::proofs::Passing::marked))]
     fn position(&self, offset: usize) -> Position
         requires { IsIndex self.now }

@@ -525,7 +525,7 @@ pub(crate) fn text_of(out: Writer) -> Result<String, AllocError>
     }
 }
 
-/// The JSON text of a list of events, an array, without spaces.
+/// The JSON text of a list of events: an array, without spaces.
 pub fn events_to_text<T: Words>(alloc: Global, events: &[EventOf<T>]) -> Result<String, AllocError>
     ensures text { IfOk result (λ text. string_bytes text
         ≡ compact_text (events_json (map (event_view T.bytes) events.now))) }
@@ -539,8 +539,8 @@ pub fn events_to_text<T: Words>(alloc: Global, events: &[EventOf<T>]) -> Result<
     text_of(out)
 }
 
-/// The JSON text of a list of events with their ranges, or `null` where they have none, without spaces: an
-/// array of arrays of two.
+/// The JSON text of a list of events with their ranges: an array of `[event, range]`, without spaces. The range of an
+/// event that has none is `null`.
 pub fn pairs_to_text<T: Words>(
     alloc: Global,
     pairs: &[(EventOf<T>, Option<(usize, usize)>)],
@@ -557,8 +557,7 @@ pub fn pairs_to_text<T: Words>(
     text_of(out)
 }
 
-/// The JSON text of a list of events that all have a range, as a reader gives them: that of
-/// `pairs_to_text`.
+/// The JSON text of a list of events that all have a range, as a reader gives them, in the form of `pairs_to_text`.
 pub fn ranged_to_text<T: Words>(
     alloc: Global,
     pairs: &[(EventOf<T>, (usize, usize))],
@@ -597,7 +596,7 @@ pub(crate) fn push_line(text: &mut String, line: &String) -> Result<(), AllocErr
     text.push('\n')
 }
 
-/// The JSON texts of events that all have a range, a line each: an array of two, the event and its range, and a line feed.
+/// The JSON texts of events that all have a range: `[event, range]` on a line for each event.
 pub fn ranged_to_lines<T: Words>(
     alloc: Global,
     pairs: &[(EventOf<T>, (usize, usize))],

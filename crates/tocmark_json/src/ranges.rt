@@ -22,7 +22,7 @@ fn no_range() -> Fault {
     }
 }
 
-/// The range of an event, if it has one, and the lines and columns of that, if they are there.
+/// The range of an event, if it has one, with its lines and columns, if it has them.
 #[derive(Clone, Copy)]
 pub struct Location {
     pub range: Option<(usize, usize)>,
@@ -92,7 +92,7 @@ fn spanned_from(value: &Value) -> Result<Location, Fault>
     })
 }
 
-/// The range of a value, with its lines and columns or without, or none of `null`.
+/// Reads the range of a JSON value, with its lines and columns or without; `null` is no range.
 pub fn location_from(value: &Value) -> Result<Location, Fault>
     ensures { IfOk result (λ location. view value.now
         ≡ location_json location.range location.span) }

@@ -500,8 +500,8 @@ fn event_with<U: OwnedWords + Drop>(
     }
 }
 
-/// The event of a JSON value, which is then exactly the event's. Any other value is refused, with the
-/// nearest key and what is wanted there; so are unknown and missing keys.
+/// Reads an event from its JSON value. Any other value is refused, and so are unknown and missing keys: the error has
+/// the nearest key and what is wanted there.
 pub fn event_from_json<U: OwnedWords + Drop>(
     alloc: Global,
     value: &Value,
@@ -599,9 +599,8 @@ fn pairs_in<U: OwnedWords + Drop>(
     Ok(pairs)
 }
 
-/// The events of a JSON value, which is then exactly that of these events. Any other value is refused,
-/// with the number of the first element that is no event (those before it are), the nearest key and what is
-/// wanted there.
+/// Reads events from the JSON value of just these events. Any other value is refused: the error has the number of the
+/// first element that is no event (those before it are), the nearest key and what is wanted there.
 pub fn events_from_json<U: OwnedWords + Drop>(
     alloc: Global,
     value: &Value,
@@ -616,9 +615,8 @@ pub fn events_from_json<U: OwnedWords + Drop>(
     }
 }
 
-/// The events of a JSON value with their ranges, where they have one. The value is then exactly that of
-/// these events and ranges, each with its lines and columns or without; any other one is refused as by
-/// `events_from_json`.
+/// Reads events with their ranges, if they have one, from the JSON value of just these. Each range may have its lines
+/// and columns. Any other value is refused as by `events_from_json`.
 pub fn pairs_from_json<U: OwnedWords + Drop>(
     alloc: Global,
     value: &Value,

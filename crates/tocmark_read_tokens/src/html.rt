@@ -198,7 +198,7 @@ fn last_before(bytes: &[u8], word: &[u8]) -> usize
     place
 }
 
-/// The place behind the first byte of the last word like this one; 0 where there is none.
+/// The place after the first byte of the last word like this one; 0 if there is none.
 #[tactic(auto, unfolding(crate::specs::Html::last_of))]
 fn last_of(bytes: &[u8], word: &[u8]) -> usize
     ensures { result ≡ last_of bytes.now word.now }
@@ -211,8 +211,8 @@ fn last_of(bytes: &[u8], word: &[u8]) -> usize
     }
 }
 
-/// The place behind the first byte of the last `-->`; 0 where there is none. It isn't looked for where
-/// no hyphen stands.
+/// The place after the first byte of the last `-->`; 0 if there is none. It is looked for only if the text has a
+/// hyphen.
 #[tactic(auto, using(crate::proofs::NoWord::no_comment))]
 fn last_comment(bytes: &[u8]) -> usize
     ensures { result ≡ last_of bytes.now (codes "-->") }
@@ -224,7 +224,8 @@ fn last_comment(bytes: &[u8]) -> usize
     }
 }
 
-/// The same for `?>`, by its question mark.
+/// The place after the first byte of the last `?>`; 0 if there is none. It is looked for only if the text has a
+/// question mark.
 #[tactic(auto, using(crate::proofs::NoWord::no_instruction))]
 fn last_instruction(bytes: &[u8]) -> usize
     ensures { result ≡ last_of bytes.now (codes "?>") }
@@ -236,7 +237,7 @@ fn last_instruction(bytes: &[u8]) -> usize
     }
 }
 
-/// The same for `]]>`, by its brackets.
+/// The place after the first byte of the last `]]>`; 0 if there is none. It is looked for only if the text has a `]`.
 #[tactic(auto, using(crate::proofs::NoWord::no_cdata))]
 fn last_cdata(bytes: &[u8]) -> usize
     ensures { result ≡ last_of bytes.now (codes "]]>") }
@@ -248,7 +249,8 @@ fn last_cdata(bytes: &[u8]) -> usize
     }
 }
 
-/// What to know of a text before raw HTML is looked for in it.
+/// Where a text's last comment, instruction, CDATA section and declaration can end. `raw_html` needs it, once for each
+/// text.
 #[tactic(auto, unfolding(crate::specs::Html::last_ends))]
 pub fn last_ends(bytes: &[u8]) -> LastEnds
     ensures { result ≡ last_ends bytes.now }
