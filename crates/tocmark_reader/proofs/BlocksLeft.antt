@@ -291,12 +291,6 @@ tree_ended r e stop is =
     go true false true lt en at h = (stops r.blocks.items r.place at, λ x. absurd (false≢true x))
     go true false false lt en at h = absurd (false≢true (sym h))
 
--- at the end of the text, too
-pub text_ended : (r : BlockReading) (e : Emission) → nat_le (length r.blocks.items) r.place ≡ true → emission_view e ≡ closed 0 (emission_view r.assembly.emission) → (reading_left (with_emission r e) ≡ reading_left r) × IsHandable (with_emission r e)
-text_ended r e over is =
-    let lt : nat_lt r.place (length r.blocks.items) ≡ false = grind (arith, nat_tests) in
-    tree_ended r e (ap (λ b. b && (is_empty r || not (is_at_tree r))) lt) is
-
 -- the events of the next block are made: what is left stays the same
 pub block_made : (r : BlockReading) (b : Block) (unwrapped : Bool) (before after : Progress) → drop r.place r.blocks.items ≡ b ∷ drop (r.place + 1) r.blocks.items → unwrapped ≡ is_unwrapped r.blocks.items b → after ≡ written_by r.text (block_taken_in r.syntax r.text (entry_of r.definitions) r.pieces.items unwrapped b) before → left_taken r.syntax r.text (entry_of r.definitions) r.blocks.items r.pieces.items (drop (r.place + 1) r.blocks.items) after ≡ left_taken r.syntax r.text (entry_of r.definitions) r.blocks.items r.pieces.items (drop r.place r.blocks.items) before
 block_made r b unwrapped before after first u a =

@@ -1,6 +1,6 @@
 //! Reading block by block.
 
-ghost use Rattle.std.specs.Prelude.{◌≡◌, ◌+◌, ◌<◌, false, length, nat_le, true, IfNone, IfOk, IfSome, IsErr, OnErr, OnOk, map};
+ghost use Rattle.std.specs.Prelude.{◌≡◌, ◌+◌, ◌<◌, false, length, true, IfNone, IfOk, IfSome, IsErr, OnErr, OnOk, map};
 ghost use Rattle.tocmark_event.specs.Forest.{IsBalanced};
 ghost use Rattle.tocmark_event.specs.Reading.{reading_view};
 ghost use Rattle.tocmark_reader.specs.Left.{HasFailed, IsAtEnd, IsBetweenTrees, IsHandable, IsPart, IsReady, begins_tree, goes_on, has_events, is_at_tree, reading_left};
@@ -51,11 +51,8 @@ const FEW: usize = 7;
 /// How many events fit into the greatest room that is made before there are any.
 const MANY: usize = 64;
 
-/// So many events `next_events` makes at least, if so many are left.
+/// How many events of a tree are enough for a part of it.
 const STRETCH: usize = 64;
-
-/// Room for so many events is made for them: the last leaf adds some more.
-const STRETCH_ROOM: usize = 128;
 
 /// How many events so many bytes are likely to have, as far as room is made for them at once.
 fn likely_events(bytes: usize) -> usize {
@@ -135,11 +132,11 @@ impl BlockReading<'_> {
         Ok(())
     }
 
-    /// How many events the next tree is likely to have.
+    /// How many events the next tree is likely to have, or the next part of it.
     fn likely_in_tree(&self) -> usize {
         let mut all = 0usize;
         for block in self.blocks.get(self.place..).unwrap_or(&[]) {
-            if all > 0 && begins_tree(*block) {
+            if all >= STRETCH || (all > 0 && begins_tree(*block)) {
                 break;
             }
             all = all.saturating_add(likely_in_block(*block));
@@ -161,32 +158,31 @@ impl BlockReading<'_> {
         self.assembly.emission.close_to(0)
     }
 
-    /// Ends all containers, if no block is left.
-    #[tactic(auto, using(crate::proofs::BlocksLeft::text_ended))]
-    fn end_text(&mut self) -> Result<(), AllocError>
+    /// Ends all containers, unless the next block belongs to the events that are made.
+    #[tactic(auto, using(crate::proofs::BlocksLeft::tree_ended))]
+    fn end_tree(&mut self) -> Result<(), AllocError>
         ensures left { OnOk result (reading_left self.new ≡ reading_left self.old) }
-        ensures ready { OnOk result (nat_le (length self.old.blocks.items) self.old.place ≡ true
-            → IsHandable self.new) }
-        ensures more { nat_le (length self.old.blocks.items) self.old.place ≡ false
-            → self.new ≡ self.old }
+        ensures whole { goes_on self.old ≡ false → OnOk result (IsHandable self.new) }
+        ensures more { goes_on self.old ≡ true → self.new ≡ self.old }
     {
-        if self.blocks.len() <= self.place {
-            self.assembly.emission.close_to(0)
-        } else {
+        if self.goes_on() {
             Ok(())
+        } else {
+            self.assembly.emission.close_to(0)
         }
     }
 
-    /// Makes the events of some blocks, or of all that are left.
+    /// Makes events up to the end of a tree, or enough for a part of it.
     fn take_some(&mut self) -> Result<(), AllocError>
         ensures left { OnOk result (reading_left self.new ≡ reading_left self.old) }
         ensures ready { OnOk result (IsReady self.new) }
     {
-        self.assembly.emission.events.reserve(STRETCH_ROOM)?;
-        while self.place < self.blocks.len() && self.assembly.emission.events.len() < STRETCH {
+        let room = self.likely_in_tree();
+        self.assembly.emission.events.reserve(room)?;
+        while self.goes_on() && self.assembly.emission.events.len() < STRETCH {
             self.take()?;
         }
-        self.end_text()
+        self.end_tree()
     }
 
     /// Gives back the room of the blocks where none is left: whoever takes the last events may need it.
@@ -279,9 +275,8 @@ impl BlockReading<'_> {
     /// The next events of the reading, some of those that are left, and no labels. `None` says that no
     /// events are left.
     ///
-    /// Where `next` hands out a list or a table as a whole, these calls hand it out bit by bit, so that
-    /// its events take little memory at once. A part has the events of whole leaves, and at most a few
-    /// more of them than 64. It may begin and end within containers.
+    /// A part is what `next` would hand out, but a large list or table comes in several parts, so that its
+    /// events aren't in memory all at once. Such a part may begin and end within containers.
     ///
     /// If memory runs out, what was handed out before stays with the caller, and every later call answers
     /// an `Err`.
@@ -296,16 +291,11 @@ impl BlockReading<'_> {
         if self.failed {
             return Err(AllocError);
         }
-        match self.take_some() {
-            Ok(()) => {
-                self.let_go_of_blocks();
-                Ok(self.hand_out())
-            }
-            Err(error) => {
-                self.failed = true;
-                Err(error)
-            }
-        }
+        let made = self.take_some();
+        self.failed = made.is_err();
+        made?;
+        self.let_go_of_blocks();
+        Ok(self.hand_out())
     }
 
     /// All that `next` didn't hand out, at once: the events that are left, and the labels of the whole
