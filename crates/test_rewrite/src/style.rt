@@ -109,6 +109,20 @@ fn flags_of(word: &str) -> ParserOptions {
     }
 }
 
+/// Sets an option of the layout by its name; false if there is none of this name.
+fn set_layout(style: &mut Style, name: &str, word: &str) -> bool {
+    if name == "wrap" {
+        style.wrap = wrap_of(word);
+    } else if name == "list-indent" {
+        style.list_indent = list_indent_of(word);
+    } else if name == "table-width" {
+        style.table_width = word.parse::<usize>().unwrap_or(style.table_width);
+    } else {
+        return false;
+    }
+    true
+}
+
 impl Looks {
     /// Sets an option by its name; false if there is none of this name.
     fn set(&mut self, name: &str, word: &str) -> bool {
@@ -133,12 +147,8 @@ impl Looks {
             style.rule = rule_of(word);
         } else if name == "hard-break" {
             style.hard_break = hard_break_of(word);
-        } else if name == "wrap" {
-            style.wrap = wrap_of(word);
-        } else if name == "list-indent" {
-            style.list_indent = list_indent_of(word);
         } else {
-            return false;
+            return set_layout(style, name, word);
         }
         true
     }

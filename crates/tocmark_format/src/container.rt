@@ -1,12 +1,11 @@
 //! Containers: quotes, lists, footnotes and definition lists.
 
 use crate::page::{Frame, Kind, Lead};
-use crate::part::Part;
+use crate::part::{Opening, Part};
 use crate::printer::Printer;
 use crate::source::without_blanks;
 use crate::style::{ListIndent, Numbering};
 use std::alloc::AllocError;
-use tocmark_event::event::Tag;
 
 /// The longest number that a list may have, in digits.
 const DIGITS: usize = 9;
@@ -27,6 +26,16 @@ fn digits_in(text: &str) -> usize {
         .iter()
         .take_while(|byte| byte.is_ascii_digit())
         .count()
+}
+
+/// The number of these digits.
+fn number_in(digits: &str) -> u64 {
+    let mut number = 0u64;
+    for byte in digits.as_bytes() {
+        let digit = u64::from(byte.saturating_sub(b'0'));
+        number = number.saturating_mul(10).saturating_add(digit);
+    }
+    number
 }
 
 /// What an item has in the source: columns before its marker and behind it, and where its content begins, with its column.
@@ -68,16 +77,12 @@ impl Printer<'_> {
     }
 
     /// Opens a list. Its items have the style's sign, unless the block before is a list with that.
-    fn open_list(
-        &mut self,
-        part: &Part<'_>,
-        at: usize,
-        number: Option<u64>,
-    ) -> Result<(), AllocError> {
+    fn open_list(&mut self, part: &Part, at: usize, is_ordered: bool) -> Result<(), AllocError> {
         let (start, end) = part.range(at);
         let digits = digits_in(self.source.slice(start, end));
-        let own = self.source.byte(start.saturating_add(digits));
-        let wanted = if number.is_some() {
+        let behind = start.saturating_add(digits);
+        let own = self.source.byte(behind);
+        let wanted = if is_ordered {
             self.look.delimiter
         } else {
             self.look.bullet
@@ -91,8 +96,11 @@ impl Printer<'_> {
         } else {
             marker
         };
-        frame.number = number;
+        if is_ordered {
+            frame.number = Some(number_in(self.source.slice(start, behind)));
+        }
         frame.is_tight = !part.is_loose(at);
+        frame.is_close = part.is_loose_by_definitions(at);
         self.page.open(frame)
     }
 
@@ -165,6 +173,7 @@ impl Printer<'_> {
             .saturating_add(behind.saturating_sub(start))
             .saturating_add(columns.pad);
         frame.is_tight = self.page.top().is_tight;
+        frame.is_close = self.page.top().is_close;
         self.page.open(frame)
     }
 
@@ -213,17 +222,17 @@ impl Printer<'_> {
     /// Opens the container that starts at a place.
     pub(crate) fn open_container(
         &mut self,
-        part: &Part<'_>,
+        part: &Part,
         at: usize,
-        tag: &Tag<'_>,
+        opening: Opening,
     ) -> Result<(), AllocError> {
         let range = part.range(at);
-        match tag {
-            Tag::BlockQuote(kind) => self.open_quote(range, kind.is_some()),
-            Tag::List(number) => self.open_list(part, at, *number),
-            Tag::Item => self.open_item(range),
-            Tag::FootnoteDefinition(_) => self.open_footnote(range),
-            Tag::DefinitionListDefinition => self.open_definition(range),
+        match opening {
+            Opening::Quote { has_kind } => self.open_quote(range, has_kind),
+            Opening::List { is_ordered } => self.open_list(part, at, is_ordered),
+            Opening::Item => self.open_item(range),
+            Opening::Footnote => self.open_footnote(range),
+            Opening::Definition => self.open_definition(range),
             _ => {
                 let frame = Frame::new(self.alloc, Kind::DefinitionList, range.0, range.1);
                 self.page.open(frame)

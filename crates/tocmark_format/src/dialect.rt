@@ -2,21 +2,21 @@
 
 use crate::page::Kind;
 use crate::printer::Printer;
+use crate::style::Wrap;
 use std::alloc::AllocError;
 
 /// What begins a line that another dialect takes for more than text.
-const LINE_OPENERS: [&str; 6] = [
+const LINE_OPENERS: [&str; 7] = [
     "!!!", // MkDocs: an admonition
     "???", // MkDocs: one that can be folded
     ":::", // Docusaurus, pandoc: a container, and its end
-    "{:", // kramdown: attributes of the block beside it
-    "{%", // Jekyll: a tag
-    "{{", // Jekyll, Hugo: a value, a shortcode
+    ": ", // kramdown, pandoc, MkDocs: a definition of the line above
+    ":\t", "{", // attributes of the block beside it; Jekyll, Hugo: a tag, a value, a shortcode
+    "$$", // a formula
 ];
 
 /// What begins a block of another dialect, beside the lines above.
-const BLOCK_OPENERS: [&str; 5] = [
-    "{", // MDX: an expression
+const BLOCK_OPENERS: [&str; 4] = [
     "import ", // MDX: what the document imports and exports
     "export ", "=== \"", // MkDocs: a tab
     "--8<-- ", // MkDocs: an included file
@@ -34,10 +34,20 @@ fn begins_with(text: &str, openers: &[&str]) -> bool {
     openers.iter().any(|opener| text.starts_with(*opener))
 }
 
+/// Whether a text begins with a command of Doxygen, as `@param`.
+fn begins_command(text: &str) -> bool {
+    text.as_bytes()
+        .get(1)
+        .is_some_and(|byte| byte.is_ascii_lowercase())
+}
+
 /// Whether a line that begins like this text is one of another dialect.
 pub(crate) fn begins_foreign_line(text: &str) -> bool {
     match text.as_bytes().first() {
-        Some(b'!' | b'?' | b':' | b'{') => begins_with(text, &LINE_OPENERS),
+        Some(b'!' | b'?' | b':' | b'{' | b'$') => begins_with(text, &LINE_OPENERS),
+        Some(b'@') => begins_command(text),
+        // an abbreviation of kramdown and MkDocs
+        Some(b'*') => text.starts_with("*[") && text.contains("]:"),
         _ => false,
     }
 }
@@ -45,23 +55,69 @@ pub(crate) fn begins_foreign_line(text: &str) -> bool {
 /// Whether a block that begins like this text is one of another dialect, but for the lines above.
 fn begins_foreign_block(text: &str) -> bool {
     match text.as_bytes().first() {
-        Some(b'{' | b'i' | b'e' | b'=' | b'-') => begins_with(text, &BLOCK_OPENERS),
+        Some(b'i' | b'e' | b'=' | b'-') => begins_with(text, &BLOCK_OPENERS),
         _ => false,
     }
 }
 
+/// Whether a line is one tag of HTML or MDX. `cmark-gfm` and MDX take such a lazy line for a block behind the list or quote.
+fn is_lone_tag(line: &str) -> bool {
+    let bytes = line.as_bytes();
+    let name = if bytes.starts_with(b"</") { 2 } else { 1 };
+    let letters = bytes
+        .iter()
+        .skip(name)
+        .take_while(|byte| byte.is_ascii_alphanumeric() || matches!(**byte, b'-' | b'.'))
+        .count();
+    let behind = bytes.get(name.saturating_add(letters)).copied();
+    bytes.first() == Some(&b'<')
+        && letters > 0
+        && matches!(behind, Some(b'>' | b'/' | b' ' | b'\t'))
+        && line.trim_end_matches(&[' ', '\t']).ends_with('>')
+}
+
+/// Whether a line could be the delimiter row of a table.
+fn is_delimiter_row(line: &str) -> bool {
+    let bytes = line.as_bytes();
+    matches!(bytes.first(), Some(b'|' | b':' | b'-'))
+        && bytes.contains(&b'|')
+        && bytes.contains(&b'-')
+        && bytes
+            .iter()
+            .all(|byte| matches!(*byte, b'|' | b':' | b'-' | b' ' | b'\t'))
+}
+
 impl Printer<'_> {
-    /// Whether a line between two places of the source, but not that of the first one, begins as one of another dialect;
-    /// behind its indent and the signs of quotes, or at its very front.
-    fn has_foreign_line(&self, start: usize, end: usize, is_at_front: bool) -> bool {
+    /// Whether a line between two places of the source, but not that of the first one, is one of another dialect: behind its
+    /// indent and the signs of quotes, or of a list or quote a lazy line.
+    fn has_foreign_line(&self, start: usize, end: usize, is_lazy: bool) -> bool {
         let source = self.source;
         let first = source.line_of(start).saturating_add(1);
         let last = source.line_of(end.saturating_sub(1));
         for line in first..=last {
             let text = source.line(line);
             let bare = text.trim_start_matches(&[' ', '\t', '>']);
-            let is_inner = bare.len() < text.len();
-            if begins_foreign_line(bare) && !(is_inner && is_at_front) {
+            if is_lazy && bare.len() < text.len() {
+                continue;
+            }
+            if begins_foreign_line(bare) || (is_lazy && is_lone_tag(bare)) {
+                return true;
+            }
+        }
+        false
+    }
+
+    /// Whether a paragraph whose lines don't stay has a line that could be the delimiter row of a table. GitHub lets a table
+    /// begin below the first line of a paragraph.
+    fn has_table(&self, start: usize, end: usize) -> bool {
+        if self.look.wrap == Wrap::Keep {
+            return false;
+        }
+        let source = self.source;
+        let third = source.line_of(start).saturating_add(2);
+        let last = source.line_of(end.saturating_sub(1));
+        for line in third..=last {
+            if is_delimiter_row(source.line(line).trim_start_matches(&[' ', '\t', '>'])) {
                 return true;
             }
         }
@@ -77,6 +133,7 @@ impl Printer<'_> {
                 begins_foreign_line(text)
                     || begins_foreign_block(text)
                     || self.has_foreign_line(start, end, false)
+                    || self.has_table(start, end)
             }
             Kind::Table => self.has_foreign_line(start, end, false),
             Kind::List | Kind::Quote if self.page.depth() == 0 => self.has_foreign_line(

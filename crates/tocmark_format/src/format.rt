@@ -1,21 +1,21 @@
 //! Formats a document: all of it is printed in one pass and read back; what is read otherwise is printed nearer to the source.
 
-ghost use Rattle.std.specs.Prelude.{◌≡◌, IfOk, IfSome, IsTrue, map, string_bytes};
+ghost use Rattle.std.specs.Prelude.{◌≡◌, ℕ, IfOk, IfSome, IsTrue, List, map, string_bytes};
 ghost use Rattle.std.specs.List.{All};
 ghost use Rattle.tocmark_compare.specs.Given.{found_events};
 ghost use Rattle.tocmark_event.specs.declared.event.flags.ParserOptions.{ParserOptions};
 ghost use Rattle.tocmark_format.specs.Alike.{AreAlike};
 ghost use Rattle.tocmark_format.specs.LinkDefinitions.{link_defined};
 ghost use Rattle.tocmark_format.specs.Same.{SaySame};
-ghost use Rattle.tocmark_format.specs.Shape.{HaveSameShapes, has_same_shape, Outlines};
+ghost use Rattle.tocmark_format.specs.Shape.{HaveSameShapes, OutlineUnder, has_same_shape, Outlines};
 ghost use Rattle.tocmark_format.specs.Summaries.{Sums, SumsFirst};
 
 use crate::answer::{Formatted, Left, Reason};
 use crate::look::Look;
-use crate::part::Part;
+use crate::part::{Part, Placed};
 use crate::parts::{PartReader, PartTaker};
 use crate::printer::{Block, Printer, Step};
-use crate::shape::{Outline, add_apart};
+use crate::shape::{Outline, add_apart, are_same};
 use crate::source::Source;
 use crate::style::Style;
 use crate::summary::{Summary, same_definitions};
@@ -55,16 +55,40 @@ struct Ladder {
 #[derive(Drop)]
 struct Printing<'d> {
     printer: Printer<'d>,
+    /// The tree that isn't whole yet.
+    tree: Part,
     /// What they say.
     said: Summary,
+}
+
+/// Prints a tree that is whole. Its room stays.
+fn print_tree(printer: &mut Printer<'_>, tree: &mut Part) -> Result<(), AllocError> {
+    tree.find_signs(printer.source)?;
+    printer.print(tree)?;
+    tree.clear();
+    Ok(())
+}
+
+/// Adds events to a tree, and prints each that is whole.
+fn print_events(
+    printer: &mut Printer<'_>,
+    tree: &mut Part,
+    events: &[Placed],
+) -> Result<(), AllocError> {
+    for pair in events {
+        tree.add(printer.source, pair)?;
+        if tree.is_whole() {
+            print_tree(printer, tree)?;
+        }
+    }
+    Ok(())
 }
 
 impl PartTaker for Printing<'_> {
     ghost has_taken = { λ printing events. SumsFirst printing.said events };
 
     fn take(&mut self, alloc: Global, part: &Reading) -> Result<(), AllocError> {
-        let trees = Part::new(alloc, self.printer.source, &part.events)?;
-        self.printer.print(&trees)?;
+        print_events(&mut self.printer, &mut self.tree, &part.events)?;
         self.said.take(alloc, part)
     }
 }
@@ -75,15 +99,18 @@ struct ReadBack {
     says: Summary,
     /// Where each tree at the top begins.
     starts: Vec<usize>,
+    /// How many containers are open.
+    depth: usize,
     definitions: Vec<ReferenceDefinition>,
 }
 
-/// Adds where further trees begin.
+/// Adds where further trees begin, from so many open containers on; how many are open behind them.
 fn add_starts(
     starts: &mut Vec<usize>,
-    events: &[(Event<'static>, (usize, usize))],
-) -> Result<(), AllocError> {
-    let mut depth = 0usize;
+    open: usize,
+    events: &[Placed],
+) -> Result<usize, AllocError> {
+    let mut depth = open;
     for (event, range) in events {
         if depth == 0 {
             starts.push(range.0)?;
@@ -94,7 +121,7 @@ fn add_starts(
             _ => {}
         }
     }
-    Ok(())
+    Ok(depth)
 }
 
 impl ReadBack {
@@ -108,7 +135,7 @@ impl PartTaker for ReadBack {
     ghost has_taken = { λ back events. SumsFirst back.says events };
 
     fn take(&mut self, alloc: Global, part: &Reading) -> Result<(), AllocError> {
-        add_starts(&mut self.starts, &part.events)?;
+        self.depth = add_starts(&mut self.starts, self.depth, &part.events)?;
         self.says.take(alloc, part)
     }
 }
@@ -231,6 +258,20 @@ impl Ladder {
     }
 }
 
+/// The blocks of a printed document that are others than in its source under other flags.
+fn blocks_apart(
+    alloc: Global,
+    blocks: &[Block],
+    old: &[Outline],
+    new: &[Outline],
+) -> Result<Vec<bool>, AllocError> {
+    let mut apart = Vec::new(alloc);
+    for (said, read) in old.iter().zip(new) {
+        add_apart(&mut apart, blocks, said, read)?;
+    }
+    Ok(apart)
+}
+
 /// What the lines of a text end with: what its first line feed ends with, or a carriage return if it has no line feed.
 fn line_ending(text: &str) -> &'static str {
     match text.find('\n') {
@@ -274,13 +315,20 @@ impl<R: PartReader> Formatter<'_, R> {
                 &ladder.steps,
                 ladder.keeps_definitions,
             ),
+            tree: Part::new(self.alloc),
             said: Summary::new(self.alloc, self.style.wrap),
         };
         let text = source.text;
         let definitions = self
             .reader
             .read_parts(self.alloc, text, self.flags, &mut printing)?;
-        let Printing { mut printer, said } = printing;
+        let Printing {
+            mut printer,
+            mut tree,
+            said,
+        } = printing;
+        print_tree(&mut printer, &mut tree)?;
+        drop(tree);
         printer.end()?;
         let (text, blocks) = printer.into_text();
         Ok(Printed {
@@ -301,6 +349,7 @@ impl<R: PartReader> Formatter<'_, R> {
         let mut back = ReadBack {
             says: Summary::new(self.alloc, self.style.wrap),
             starts: Vec::new(self.alloc),
+            depth: 0,
             definitions: Vec::new(self.alloc),
         };
         back.definitions = self
@@ -334,48 +383,27 @@ impl<R: PartReader> Formatter<'_, R> {
         Ok(outline)
     }
 
-    /// Whether two texts have the same blocks under other flags.
-    fn have_same_shape(
-        &self,
-        one: &str,
-        other: &str,
-        flags: ParserOptions,
-    ) -> Result<bool, AllocError>
-        ensures { IfOk result (λ same. IsTrue same → has_same_shape
-            (R.reading self.now.reader.now one.now flags)
-            (R.reading self.now.reader.now other.now flags)) }
+    /// Which blocks the reader finds in a text under each of the other flags that are asked for.
+    fn outlines_of(&self, text: &str) -> Result<Vec<Outline>, AllocError>
+        ensures { IfOk result (λ outlines. OutlineUnder
+            (R.reading self.now.reader.now) self.now.also.now text.now outlines.items) }
     {
-        let first = self.outline_of(one, flags)?;
-        let second = self.outline_of(other, flags)?;
-        Ok(first.is_same(&second))
+        let mut outlines = Vec::new(self.alloc);
+        for flags in self.also {
+            outlines.push(self.outline_of(text, *flags)?)?;
+        }
+        Ok(outlines)
     }
 
     /// Whether two texts have the same blocks under all other flags that are asked for.
+    #[tactic(auto, using(crate::proofs::Shapes::same_shapes))]
     fn have_same_shapes(&self, one: &str, other: &str) -> Result<bool, AllocError>
         ensures { IfOk result (λ same. IsTrue same → HaveSameShapes
             (R.reading self.now.reader.now) self.now.also.now one.now other.now) }
     {
-        for flags in self.also {
-            if !self.have_same_shape(one, other, *flags)? {
-                return Ok(false);
-            }
-        }
-        Ok(true)
-    }
-
-    /// The blocks of a printed document that are others than in its source under other flags.
-    fn blocks_apart(
-        &self,
-        source: &Source<'_>,
-        printed: &Printed,
-    ) -> Result<Vec<bool>, AllocError> {
-        let mut apart = Vec::new(self.alloc);
-        for flags in self.also {
-            let old = self.outline_of(source.text, *flags)?;
-            let new = self.outline_of(printed.text.as_str(), *flags)?;
-            add_apart(&mut apart, &printed.blocks, &old, &new)?;
-        }
-        Ok(apart)
+        let first = self.outlines_of(one)?;
+        let second = self.outlines_of(other)?;
+        Ok(are_same(&first, &second))
     }
 
     /// Whether the reader finds the same in two texts.
@@ -395,34 +423,35 @@ impl<R: PartReader> Formatter<'_, R> {
         }
     }
 
-    /// Whether a printed document reads as its source.
+    /// Whether a printed document reads as its source, where `old` and `new` are the outlines of both.
+    #[tactic(auto, using(crate::proofs::Shapes::same_shapes))]
     fn reads_as_source(
         &self,
-        source: &Source<'_>,
         printed: &Printed,
         back: &ReadBack,
-    ) -> Result<bool, AllocError>
-        ensures { IfOk result (λ same. IsTrue same
+        old: &[Outline],
+        new: &[Outline],
+    ) -> bool
+        ensures { IsTrue result → (source : List ℕ)
             → Sums printed.now.said (found_events
-            (R.reading self.now.reader.now source.now.text.now self.now.flags))
+            (R.reading self.now.reader.now source self.now.flags))
             → map link_defined printed.now.definitions.items
-            ≡ R.definitions self.now.reader.now source.now.text.now self.now.flags
+            ≡ R.definitions self.now.reader.now source self.now.flags
+            → OutlineUnder (R.reading self.now.reader.now) self.now.also.now source old.now
             → Sums back.now.says (found_events
             (R.reading self.now.reader.now (string_bytes printed.now.text) self.now.flags))
             → map link_defined back.now.definitions.items
             ≡ R.definitions self.now.reader.now (string_bytes printed.now.text) self.now.flags
+            → OutlineUnder (R.reading self.now.reader.now) self.now.also.now
+            (string_bytes printed.now.text) new.now
             → AreAlike
             self.now.style.wrap self.now.flags self.now.also.now
             (R.reading self.now.reader.now) (R.definitions self.now.reader.now)
-            (string_bytes printed.now.text) source.now.text.now) }
+            (string_bytes printed.now.text) source }
     {
-        if back.says.is_same(&printed.said, self.style.wrap)
+        back.says.is_same(&printed.said, self.style.wrap)
             && same_definitions(&back.definitions, &printed.definitions)
-        {
-            self.have_same_shapes(printed.text.as_str(), source.text)
-        } else {
-            Ok(false)
-        }
+            && are_same(new, old)
     }
 
     /// The document that reads as its source, if some round leads there.
@@ -433,15 +462,17 @@ impl<R: PartReader> Formatter<'_, R> {
             (string_bytes answer.text) source.now.text.now)) }
     {
         let mut ladder = Ladder::new(self.alloc, source.text)?;
+        let old = self.outlines_of(source.text)?;
         for _ in 0..ROUNDS {
             let printed = self.print(source, &ladder)?;
             let back = self.read_back(printed.text.as_str())?;
-            if self.reads_as_source(source, &printed, &back)? {
+            let new = self.outlines_of(printed.text.as_str())?;
+            if self.reads_as_source(&printed, &back, &old, &new) {
                 let left = ladder.left(self.alloc, source, &printed.blocks)?;
                 let Printed { text, .. } = printed;
                 return Ok(Some(Formatted { text, left }));
             }
-            let apart = self.blocks_apart(source, &printed)?;
+            let apart = blocks_apart(self.alloc, &printed.blocks, &old, &new)?;
             if !ladder.fall_all(self.alloc, &printed, &back, &apart)? {
                 return Ok(None);
             }
@@ -533,8 +564,9 @@ impl<R: PartReader> Formatter<'_, R> {
 }
 
 /// Formats a document: one blank line between blocks, and one line feed at its end. HTML and metadata are copied, texts stay as
-/// they are spelled, and all lines end alike: as the first line feed does, or with a carriage return if there is none. If a block would read otherwise, it is printed in its own spelling;
-/// if that doesn't help, it keeps its lines, and the answer names these and the reason.
+/// they are spelled, and all lines end alike: as the first line feed does, or with a carriage return if there is none. If a
+/// block would read otherwise, it is printed in its own spelling; if that doesn't help, it keeps its lines, and the answer
+/// names these and the reason.
 ///
 /// Under these flags the reader finds the same events in the new text as in the old one, if each longest stretch of texts
 /// counts as one (`same`). If the style fills lines, soft breaks count as blanks, and so does each run of white space in a

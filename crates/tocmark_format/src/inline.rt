@@ -4,19 +4,19 @@
 use crate::link::push_tail;
 use crate::look::Look;
 use crate::page::Page;
-use crate::part::Part;
+use crate::part::{Mark, Opening, Part};
 use crate::piece::{Piece, Pieces, ends_with_backslash};
 use crate::source::{Source, without_blanks};
 use crate::style::{HardBreak, Wrap};
 use std::alloc::{AllocError, Global};
-use tocmark_event::event::{Event, LinkType, Tag, TagEnd};
+use tocmark_event::event::{LinkType, TagEnd};
 
 /// What the inlines of a leaf are printed from.
 #[derive(Clone, Copy)]
-pub(crate) struct Context<'d, 'p, 'e, 'g> {
+pub(crate) struct Context<'d, 'p, 'g> {
     pub(crate) alloc: Global,
     pub(crate) source: &'d Source<'d>,
-    pub(crate) part: &'p Part<'e>,
+    pub(crate) part: &'p Part,
     pub(crate) page: &'g Page,
     pub(crate) look: Look,
 }
@@ -30,10 +30,14 @@ struct Open {
 
 /// A cursor over the events of a leaf, and their pieces.
 #[derive(Drop)]
-pub(crate) struct Inlines<'d, 'p, 'e, 'g> {
-    context: Context<'d, 'p, 'e, 'g>,
+pub(crate) struct Inlines<'d, 'p, 'g> {
+    context: Context<'d, 'p, 'g>,
     /// The place in the source behind what is printed.
     pub(crate) at: usize,
+    /// Where the leaf begins and ends in the source.
+    range: (usize, usize),
+    /// Whether the leaf may hold formulas, once that is known.
+    may_hold_formulas: Option<bool>,
     pub(crate) pieces: Pieces,
     open: Vec<Open>,
     /// Of each link and image that is open whether its text is its label.
@@ -50,9 +54,9 @@ enum Glue {
 }
 
 /// Whether the text of a link or an image is its label.
-fn is_label(tag: &Tag<'_>) -> bool {
-    let kind = match tag {
-        Tag::Link { link_type, .. } | Tag::Image { link_type, .. } => *link_type,
+fn is_label(opening: Opening) -> bool {
+    let kind = match opening {
+        Opening::Link(kind) | Opening::Image(kind) => kind,
         _ => return false,
     };
     match kind {
@@ -62,10 +66,10 @@ fn is_label(tag: &Tag<'_>) -> bool {
     }
 }
 
-/// Whether a tag is an address between angle brackets.
-fn is_address(tag: &Tag<'_>) -> bool {
-    match tag {
-        Tag::Link { link_type, .. } => matches!(link_type, LinkType::Autolink | LinkType::Email),
+/// Whether a link is an address between angle brackets.
+fn is_address(opening: Opening) -> bool {
+    match opening {
+        Opening::Link(kind) => matches!(kind, LinkType::Autolink | LinkType::Email),
         _ => false,
     }
 }
@@ -92,13 +96,24 @@ fn hinders_underscore(character: Option<char>) -> bool {
 /// How far before the end of emphasis a bare web address is looked for, in bytes.
 const LONGEST_ADDRESS: usize = 256;
 
-/// Whether a text ends with a bare web address. Programs that link such an address would add an underscore behind it.
+/// Whether a text ends with a bare web or mail address. Programs that link such an address would add an underscore behind it.
 fn ends_with_address(text: &str) -> bool {
     let word = match text.rsplit_once(' ') {
         Some((_, word)) => word,
         None => text,
     };
-    word.contains("://") || word.starts_with("www.")
+    word.contains("://") || word.contains("www.") || word.contains('@')
+}
+
+/// Whether a text may hold formulas: programs that know them read their content before emphasis.
+fn may_hold_formulas(text: &str) -> bool {
+    let dollars = text
+        .as_bytes()
+        .iter()
+        .filter(|byte| **byte == b'$')
+        .take(2)
+        .count();
+    dollars == 2 || text.contains("\\(") || text.contains("\\[") || text.contains("\\f")
 }
 
 /// Whether a character is a sign of emphasis.
@@ -106,16 +121,18 @@ fn is_sign(character: Option<char>) -> bool {
     matches!(character, Some('*' | '_'))
 }
 
-impl<'d, 'p, 'e, 'g> Inlines<'d, 'p, 'e, 'g> {
-    /// The pieces of no event, from this place in the source on; `pieces` has room for them.
+impl<'d, 'p, 'g> Inlines<'d, 'p, 'g> {
+    /// The pieces of no event of the leaf that has this range in the source; `pieces` has room for them.
     pub(crate) fn new(
-        context: Context<'d, 'p, 'e, 'g>,
-        at: usize,
+        context: Context<'d, 'p, 'g>,
+        range: (usize, usize),
         pieces: Pieces,
-    ) -> Inlines<'d, 'p, 'e, 'g> {
+    ) -> Inlines<'d, 'p, 'g> {
         Inlines {
             context,
-            at,
+            at: range.0,
+            range,
+            may_hold_formulas: None,
             pieces,
             open: Vec::new(context.alloc),
             links: Vec::new(context.alloc),
@@ -209,6 +226,9 @@ impl<'d, 'p, 'e, 'g> Inlines<'d, 'p, 'e, 'g> {
         }
         let (place, is_deep) = self.next_line(end);
         self.at = place;
+        if self.wraps() && self.is_in_badge() {
+            return self.pieces.add_solid(" ");
+        }
         self.pieces.push(Piece::Soft { is_deep })
     }
 
@@ -256,9 +276,20 @@ impl<'d, 'p, 'e, 'g> Inlines<'d, 'p, 'e, 'g> {
         is_in_changed || !(is_sign(before) || is_sign(behind))
     }
 
+    /// Whether the leaf may hold formulas.
+    fn may_hold_formulas(&mut self) -> bool {
+        if let Some(known) = self.may_hold_formulas {
+            return known;
+        }
+        let (start, end) = self.range;
+        let found = may_hold_formulas(self.context.source.slice(start, end));
+        self.may_hold_formulas = Some(found);
+        found
+    }
+
     /// The sign of emphasis: that of the look, if the source has it neither in nor beside the emphasis, and if it can stand
-    /// there.
-    fn sign(&self, range: (usize, usize), is_strong: bool) -> u8 {
+    /// there. In a leaf that may hold formulas it is the source's, because a formula may begin or end in the emphasis.
+    fn sign(&mut self, range: (usize, usize), is_strong: bool) -> u8 {
         let own = self.context.source.byte(range.0);
         let look = self.context.look;
         let wanted = if is_strong {
@@ -266,9 +297,14 @@ impl<'d, 'p, 'e, 'g> Inlines<'d, 'p, 'e, 'g> {
         } else {
             look.emphasis
         };
-        match wanted {
-            Some(sign) if sign != own && self.labels == 0 && self.fits(sign, range) => sign,
-            _ => own,
+        let Some(sign) = wanted else {
+            return own;
+        };
+        let fits = sign != own && self.labels == 0 && self.fits(sign, range);
+        if fits && !self.may_hold_formulas() {
+            sign
+        } else {
+            own
         }
     }
 
@@ -290,16 +326,17 @@ impl<'d, 'p, 'e, 'g> Inlines<'d, 'p, 'e, 'g> {
     }
 
     /// Opens a container other than emphasis: its sign is the source's.
-    fn open_other(&mut self, tag: &Tag<'_>, start: usize) -> Result<(), AllocError> {
+    fn open_other(&mut self, opening: Opening, start: usize) -> Result<(), AllocError> {
         self.add_gap(start)?;
-        let is_double = match tag {
-            Tag::Image { .. } => true,
-            Tag::Strikethrough => self.context.source.slice(start, start.saturating_add(2)) == "~~",
+        let is_double = match opening {
+            Opening::Image(_) => true,
+            Opening::Strikethrough => self.context.source.slice(start, start.saturating_add(2))
+                == "~~",
             _ => false,
         };
         let behind = start.saturating_add(if is_double { 2 } else { 1 });
-        if matches!(tag, Tag::Link { .. } | Tag::Image { .. }) {
-            let is_label = is_label(tag);
+        if matches!(opening, Opening::Link(_) | Opening::Image(_)) {
+            let is_label = is_label(opening);
             self.links.push(is_label)?;
             self.labels = self.labels.saturating_add(if is_label { 1 } else { 0 });
         }
@@ -351,6 +388,23 @@ impl<'d, 'p, 'e, 'g> Inlines<'d, 'p, 'e, 'g> {
         self.context.look.wrap != Wrap::Keep
     }
 
+    /// Whether an image in a link is open: its text isn't broken.
+    fn is_in_badge(&self) -> bool {
+        self.links.len() > 1
+    }
+
+    /// Adds a text; one of an image in a link isn't broken.
+    fn add_text(&mut self, range: (usize, usize)) -> Result<(), AllocError> {
+        self.add_gap(range.0)?;
+        self.at = range.1;
+        let text = self.context.source.slice(range.0, range.1);
+        if self.is_in_badge() {
+            self.pieces.add_solid(text)
+        } else {
+            self.pieces.add_text(text)
+        }
+    }
+
     /// Adds a slice of the source as one line. The reader takes its line feeds for blanks.
     fn add_joined(&mut self, from: usize, to: usize) -> Result<(), AllocError> {
         let pieces = self.slice_pieces(from, to, Glue::Blank)?;
@@ -377,18 +431,18 @@ impl<'d, 'p, 'e, 'g> Inlines<'d, 'p, 'e, 'g> {
     fn add_start(
         &mut self,
         at: usize,
-        tag: &Tag<'_>,
+        opening: Opening,
         range: (usize, usize),
     ) -> Result<usize, AllocError> {
         let next = at.saturating_add(1);
-        match tag {
-            Tag::Emphasis => self.open_emphasis(range, false)?,
-            Tag::Strong => self.open_emphasis(range, true)?,
-            _ if is_address(tag) => {
+        match opening {
+            Opening::Emphasis => self.open_emphasis(range, false)?,
+            Opening::Strong => self.open_emphasis(range, true)?,
+            _ if is_address(opening) => {
                 self.add_copied(range)?;
                 return Ok(self.context.part.end(at).saturating_add(1));
             }
-            _ => self.open_other(tag, range.0)?,
+            _ => self.open_other(opening, range.0)?,
         }
         Ok(next)
     }
@@ -414,17 +468,12 @@ impl<'d, 'p, 'e, 'g> Inlines<'d, 'p, 'e, 'g> {
             return Ok(next);
         };
         match event {
-            Event::Start(tag) => return self.add_start(at, tag, range),
-            Event::End(end) => self.add_end(*end, range)?,
-            Event::SoftBreak => self.add_soft_break(range)?,
-            Event::HardBreak => self.add_hard_break(range)?,
-            Event::Code(_) => self.add_code(range)?,
-            Event::Text(_) => {
-                self.add_gap(range.0)?;
-                self.at = range.1;
-                self.pieces
-                    .add_text(self.context.source.slice(range.0, range.1))?;
-            }
+            Mark::Start(opening) => return self.add_start(at, opening, range),
+            Mark::End(end) => self.add_end(end, range)?,
+            Mark::SoftBreak => self.add_soft_break(range)?,
+            Mark::HardBreak => self.add_hard_break(range)?,
+            Mark::Code => self.add_code(range)?,
+            Mark::Text => self.add_text(range)?,
             _ => self.add_copied(range)?,
         }
         Ok(next)

@@ -1,11 +1,11 @@
-//! Lines that are kept: those that a comment names, and those of blocks that would be read otherwise.
+//! Lines that are kept: those that a comment names, those of blocks that would be read otherwise, and those behind front
+//! matter that isn't at the front.
 
 use crate::page::Kind;
-use crate::part::Part;
+use crate::part::{Mark, Opening, Part};
 use crate::printer::Printer;
 use crate::source::without_blanks;
 use std::alloc::AllocError;
-use tocmark_event::event::{Event, Tag};
 
 /// What ends a stretch that a comment keeps.
 #[derive(Clone, Copy, Debug, PartialEq, Eq)]
@@ -14,9 +14,11 @@ enum Until {
     Next,
     /// A comment with this text.
     Comment(&'static str),
+    /// The end of the document.
+    End,
 }
 
-/// A stretch of the source that a comment keeps.
+/// A stretch of the source that is kept.
 #[derive(Clone, Copy)]
 pub(crate) struct Stretch {
     from: usize,
@@ -54,16 +56,14 @@ fn comment_in(html: &str) -> Option<&str> {
 }
 
 /// What an HTML block at a place says as a comment.
-fn comment_at<'p>(part: &Part<'p>, at: usize) -> Option<&'p str> {
-    let Some(Event::Start(Tag::HtmlBlock)) = part.event(at) else {
+fn comment_at(part: &Part, at: usize) -> Option<&str> {
+    let Some(Mark::Start(Opening::Html)) = part.event(at) else {
         return None;
     };
-    if part.end(at) != at.saturating_add(2) {
-        return None;
-    }
-    match part.event(at.saturating_add(1)) {
-        Some(Event::Html(html)) => comment_in(html.as_ref()),
-        _ => None,
+    if part.end(at) == at.saturating_add(2) {
+        comment_in(part.raw_text(at))
+    } else {
+        None
     }
 }
 
@@ -117,7 +117,7 @@ impl Printer<'_> {
         }
         let to = match stretch.until {
             Until::Next => stretch.to,
-            Until::Comment(_) => {
+            Until::Comment(_) | Until::End => {
                 let end = self.page.top().end;
                 self.source.slice(0, end).trim_end_matches('\n').len()
             }
@@ -142,6 +142,7 @@ impl Printer<'_> {
         let is_last = match stretch.until {
             Until::Next => true,
             Until::Comment(text) => comment == Some(text),
+            Until::End => false,
         };
         if is_last {
             return self.print_kept(stretch.from, end);
@@ -158,15 +159,24 @@ impl Printer<'_> {
         }
     }
 
+    /// What ends the stretch that begins with a block: one that a comment names, or one of front matter that isn't at the
+    /// front. Most programs read a rule there, and all behind it otherwise.
+    fn kept_from(&self, part: &Part, at: usize, comment: Option<&str>) -> Option<Until> {
+        match part.event(at) {
+            Some(Mark::Start(Opening::Metadata)) if !self.page.text.is_empty() => Some(Until::End),
+            _ => comment.and_then(kept_until),
+        }
+    }
+
     /// Passes a block or bare text that a comment keeps, or such a comment; the place behind it.
     pub(crate) fn pass_kept(
         &mut self,
-        part: &Part<'_>,
+        part: &Part,
         at: usize,
     ) -> Result<Option<usize>, AllocError> {
         let comment = comment_at(part, at);
         let kept = self.kept_here();
-        let until = comment.and_then(kept_until);
+        let until = self.kept_from(part, at, comment);
         if kept.is_none() && until.is_none() {
             return Ok(None);
         }

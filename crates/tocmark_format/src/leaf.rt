@@ -5,14 +5,14 @@ use crate::hazard::is_hazard;
 use crate::inline::{Context, Inlines};
 use crate::lines::{Lines, line_end};
 use crate::page::Kind;
-use crate::part::Part;
+use crate::part::{Mark, Part};
 use crate::piece::{Piece, Pieces};
 use crate::printer::Printer;
 use crate::source::{is_blank, without_blanks};
 use crate::style::{Rule, Wrap};
 use std::alloc::AllocError;
 use std::mem;
-use tocmark_event::event::{CodeBlockKind, Event, HeadingLevel};
+use tocmark_event::event::HeadingLevel;
 
 fn level_number(level: HeadingLevel) -> usize {
     match level {
@@ -100,7 +100,7 @@ impl<'d> Printer<'d> {
     /// from the printer, which gets it back by `keep_room`.
     pub(crate) fn pieces_of(
         &mut self,
-        part: &Part<'_>,
+        part: &Part,
         events: (usize, usize),
         start: usize,
     ) -> Result<(Pieces, usize), AllocError> {
@@ -113,7 +113,8 @@ impl<'d> Printer<'d> {
             page: &self.page,
             look: self.look,
         };
-        let mut inlines = Inlines::new(context, start, room);
+        let end = part.range(events.1.saturating_sub(1)).1;
+        let mut inlines = Inlines::new(context, (start, end), room);
         inlines.add_all(events.0, events.1)?;
         let Inlines { pieces, at, .. } = inlines;
         Ok((pieces, at))
@@ -169,12 +170,12 @@ impl<'d> Printer<'d> {
     }
 
     /// The text of a leaf that is one event, whose text starts here in the source, if its lines are kept.
-    fn only_text(&self, part: &Part<'_>, events: (usize, usize), start: usize) -> Option<&'d str> {
+    fn only_text(&self, part: &Part, events: (usize, usize), start: usize) -> Option<&'d str> {
         let (from, to) = part.range(events.0);
         if events.1.saturating_sub(events.0) == 1
             && from <= start
             && self.look.wrap == Wrap::Keep
-            && matches!(part.event(events.0), Some(Event::Text(_)))
+            && matches!(part.event(events.0), Some(Mark::Text))
         {
             Some(self.source.slice(from, to))
         } else {
@@ -185,7 +186,7 @@ impl<'d> Printer<'d> {
     /// Prints a paragraph's lines.
     pub(crate) fn print_text(
         &mut self,
-        part: &Part<'_>,
+        part: &Part,
         events: (usize, usize),
         start: usize,
     ) -> Result<(), AllocError> {
@@ -209,7 +210,7 @@ impl<'d> Printer<'d> {
     }
 
     /// Prints the title of a definition list. A line more would be a title of its own.
-    pub(crate) fn print_title(&mut self, part: &Part<'_>, at: usize) -> Result<(), AllocError> {
+    pub(crate) fn print_title(&mut self, part: &Part, at: usize) -> Result<(), AllocError> {
         let events = (at.saturating_add(1), part.end(at));
         let (pieces, _) = self.pieces_of(part, events, part.range(at).0)?;
         self.print_kept_lines(&pieces)?;
@@ -227,7 +228,7 @@ impl<'d> Printer<'d> {
     /// Prints a heading behind `#`; underlined if it has several lines or ends in `#`, or behind a task's box.
     pub(crate) fn print_heading(
         &mut self,
-        part: &Part<'_>,
+        part: &Part,
         at: usize,
         level: HeadingLevel,
     ) -> Result<(), AllocError> {
@@ -245,7 +246,7 @@ impl<'d> Printer<'d> {
             lines.add_to_last(" ")?;
             lines.add_to_last(attributes)?;
         }
-        let has_box = matches!(part.event(first), Some(Event::TaskListMarker(_)));
+        let has_box = matches!(part.event(first), Some(Mark::TaskBox));
         let has_signs = signs > 0;
         let is_underlined = lines.len() > 1
             || has_box
@@ -330,24 +331,24 @@ impl<'d> Printer<'d> {
 
     pub(crate) fn print_code(
         &mut self,
-        part: &Part<'_>,
+        part: &Part,
         at: usize,
-        kind: &CodeBlockKind<'_>,
+        is_indented: bool,
     ) -> Result<(), AllocError> {
-        let text = part.raw_text(self.alloc, at)?;
-        if let CodeBlockKind::Indented = kind {
-            return self.print_indented(text.as_str());
+        let text = part.raw_text(at);
+        if is_indented {
+            return self.print_indented(text);
         }
         let (start, end) = part.range(at);
         let head = self
             .source
             .slice(start, end.min(self.source.line_end(start)));
-        let fence = self.fence_of(head, text.as_str())?;
+        let fence = self.fence_of(head, text)?;
         let own = run(head, head.as_bytes().first().copied().unwrap_or(b'`'));
         let mut line = String::from_str(self.alloc, fence.as_str())?;
         line.push_str(without_blanks(head.get(own..).unwrap_or("")))?;
         self.page.line(line.as_str())?;
-        self.print_raw(text.as_str())?;
+        self.print_raw(text)?;
         if self.is_cut {
             Ok(())
         } else {
@@ -355,23 +356,25 @@ impl<'d> Printer<'d> {
         }
     }
 
-    pub(crate) fn print_html(&mut self, part: &Part<'_>, at: usize) -> Result<(), AllocError> {
-        let text = part.raw_text(self.alloc, at)?;
-        if text.as_str().starts_with(' ') && !self.page.top().is_used {
+    pub(crate) fn print_html(&mut self, part: &Part, at: usize) -> Result<(), AllocError> {
+        let text = part.raw_text(at);
+        if text.starts_with(' ') && !self.page.top().is_used {
             // behind a marker its blanks would be the marker's
             self.page.line("")?;
         }
-        self.print_raw(text.as_str())
+        self.print_raw(text)
     }
 
     /// Prints a rule: not of `-` below a text without a blank line between, nor at the front of a document, where metadata
     /// would begin; and behind a bullet not of its sign.
     pub(crate) fn print_rule(&mut self, range: (usize, usize)) -> Result<(), AllocError> {
+        let top = self.page.top();
         let own = match self.look.rule {
+            // to cmark-gfm it is text below a definition
+            _ if top.last == Some(Kind::Definitions) => self.source.slice(range.0, range.1),
             Rule::Source => self.source.slice(range.0, range.1),
             Rule::Dashes => "---",
         };
-        let top = self.page.top();
         let sign = if top.kind == Kind::Item && !top.is_used {
             top.first.as_bytes().first().copied()
         } else {

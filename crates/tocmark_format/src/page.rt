@@ -59,6 +59,8 @@ pub(crate) struct Frame {
     /// The place in the source behind what is printed of it.
     pub(crate) at: usize,
     pub(crate) is_tight: bool,
+    /// Whether blank lines stand only beside definitions of links, in a list and in its items.
+    pub(crate) is_close: bool,
     /// Whether its first line is printed.
     pub(crate) is_used: bool,
     /// The last block in it.
@@ -84,6 +86,7 @@ impl Frame {
             end,
             at: content,
             is_tight: false,
+            is_close: false,
             is_used: false,
             last: None,
             last_marker: 0,

@@ -1,16 +1,147 @@
-//! Trees at the top of a document: where each container ends, and which lists are loose.
+//! Trees at the top of a document, in little memory: what printing needs of each event, where each container ends, and
+//! which lists are loose.
 
-ghost use Rattle.std.specs.Prelude.{◌≡◌};
-ghost use Rattle.tocmark_event.specs.Text.{text_of};
-ghost use Rattle.tocmark_event.specs.View.{tag_view};
-ghost use Rattle.tocmark_spelling.specs.Kinds.{is_inline_end, is_inline_tag};
-
+use crate::shape::is_inline_end;
 use crate::source::Source;
 use std::alloc::{AllocError, Global};
-use tocmark_event::event::{Event, Tag, TagEnd};
+use tocmark_event::event::{Alignment, CodeBlockKind, Event, HeadingLevel, LinkType, Tag, TagEnd};
 
 /// An event, and the bytes of the source that it comes from.
 pub(crate) type Placed = (Event<'static>, (usize, usize));
+
+/// What printing needs of a container's start.
+#[derive(Clone, Copy)]
+pub(crate) enum Opening {
+    Paragraph,
+    Heading(HeadingLevel),
+    Quote {
+        /// Whether it begins with a line like `[!NOTE]`.
+        has_kind: bool,
+    },
+    IndentedCode,
+    FencedCode,
+    Html,
+    Metadata,
+    Table,
+    TableHead,
+    TableRow,
+    TableCell,
+    List {
+        is_ordered: bool,
+    },
+    Item,
+    Footnote,
+    DefinitionList,
+    Title,
+    Definition,
+    Emphasis,
+    Strong,
+    Strikethrough,
+    /// A superscript or a subscript.
+    Script,
+    Link(LinkType),
+    Image(LinkType),
+}
+
+/// What printing needs of an event.
+#[derive(Clone, Copy)]
+pub(crate) enum Mark {
+    Start(Opening),
+    End(TagEnd),
+    Text,
+    Code,
+    SoftBreak,
+    HardBreak,
+    TaskBox,
+    Rule,
+    /// A line of an HTML block.
+    HtmlLine,
+    /// Another event within a line.
+    Other,
+}
+
+/// What printing needs of a container that is no block of its own kind, or stands within a line.
+fn inner_opening(tag: &Tag<'_>) -> Opening {
+    match tag {
+        Tag::TableHead => Opening::TableHead,
+        Tag::TableRow => Opening::TableRow,
+        Tag::TableCell => Opening::TableCell,
+        Tag::Emphasis => Opening::Emphasis,
+        Tag::Strong => Opening::Strong,
+        Tag::Strikethrough => Opening::Strikethrough,
+        Tag::Superscript | Tag::Subscript => Opening::Script,
+        Tag::Link { link_type, .. } => Opening::Link(*link_type),
+        Tag::Image { link_type, .. } => Opening::Image(*link_type),
+        _ => Opening::Paragraph,
+    }
+}
+
+/// What printing needs of a container's start.
+fn opening_of(tag: &Tag<'_>) -> Opening {
+    match tag {
+        Tag::Heading { level, .. } => Opening::Heading(*level),
+        Tag::BlockQuote(kind) => Opening::Quote {
+            has_kind: kind.is_some(),
+        },
+        Tag::CodeBlock(CodeBlockKind::Indented) => Opening::IndentedCode,
+        Tag::CodeBlock(CodeBlockKind::Fenced(_)) => Opening::FencedCode,
+        Tag::HtmlBlock => Opening::Html,
+        Tag::List(first) => Opening::List {
+            is_ordered: first.is_some(),
+        },
+        Tag::Item => Opening::Item,
+        Tag::FootnoteDefinition(_) => Opening::Footnote,
+        Tag::DefinitionList => Opening::DefinitionList,
+        Tag::DefinitionListTitle => Opening::Title,
+        Tag::DefinitionListDefinition => Opening::Definition,
+        Tag::Table(_) => Opening::Table,
+        Tag::MetadataBlock(_) => Opening::Metadata,
+        _ => inner_opening(tag),
+    }
+}
+
+/// What printing needs of an event.
+fn mark_of(event: &Event<'_>) -> Mark {
+    match event {
+        Event::Start(tag) => Mark::Start(opening_of(tag)),
+        Event::End(end) => Mark::End(*end),
+        Event::Text(_) => Mark::Text,
+        Event::Code(_) => Mark::Code,
+        Event::Html(_) => Mark::HtmlLine,
+        Event::SoftBreak => Mark::SoftBreak,
+        Event::HardBreak => Mark::HardBreak,
+        Event::Rule => Mark::Rule,
+        Event::TaskListMarker(_) => Mark::TaskBox,
+        _ => Mark::Other,
+    }
+}
+
+/// Whether a container stands within a line.
+fn is_inline_opening(opening: Opening) -> bool {
+    match opening {
+        Opening::Emphasis | Opening::Strong | Opening::Strikethrough | Opening::Script => true,
+        Opening::Link(_) | Opening::Image(_) => true,
+        _ => false,
+    }
+}
+
+/// Whether an event stands within a line.
+pub(crate) fn is_inline(mark: Mark) -> bool {
+    match mark {
+        Mark::Start(opening) => is_inline_opening(opening),
+        Mark::End(end) => is_inline_end(end),
+        Mark::HtmlLine | Mark::Rule => false,
+        _ => true,
+    }
+}
+
+/// An event, where it stands in the source, and for a Start the place of its End; for every other event its own.
+#[derive(Clone, Copy)]
+struct Node {
+    mark: Mark,
+    range: (usize, usize),
+    end: usize,
+}
 
 /// Whether blank lines stand between the items of a list.
 #[derive(Clone, Copy, PartialEq, Eq)]
@@ -25,51 +156,18 @@ enum Spread {
 struct ListSpread {
     at: usize,
     spread: Spread,
+    /// Whether a blank line of the source stands between two of its items, or between two blocks of an item. One beside
+    /// the definitions of links alone is none.
+    has_gap: bool,
 }
 
-/// Some trees at the top of a document.
-#[derive(Drop)]
-pub(crate) struct Part<'p> {
-    events: &'p [Placed],
-    /// For each Start the place of its End; for every other event its own.
-    ends: Vec<usize>,
-    /// The lists, in order.
-    lists: Vec<ListSpread>,
-    /// The places in the source of `*` and of `_`, in order; both are empty if there is no emphasis.
-    stars: Vec<usize>,
-    scores: Vec<usize>,
-}
-
-/// Whether a tag stands within a line.
-pub(crate) fn is_inline_tag(tag: &Tag<'_>) -> bool
-    ensures { result ≡ is_inline_tag (tag_view text_of tag.now) }
-{
-    match tag {
-        Tag::Emphasis | Tag::Strong | Tag::Strikethrough | Tag::Superscript | Tag::Subscript =>
-            true,
-        Tag::Link { .. } | Tag::Image { .. } => true,
-        _ => false,
-    }
-}
-
-pub(crate) fn is_inline_end(end: TagEnd) -> bool
-    ensures { result ≡ is_inline_end end }
-{
-    match end {
-        TagEnd::Emphasis | TagEnd::Strong | TagEnd::Strikethrough => true,
-        TagEnd::Superscript | TagEnd::Subscript | TagEnd::Link | TagEnd::Image => true,
-        _ => false,
-    }
-}
-
-/// Whether an event stands within a line.
-pub(crate) fn is_inline(event: &Event<'_>) -> bool {
-    match event {
-        Event::Start(tag) => is_inline_tag(tag),
-        Event::End(end) => is_inline_end(*end),
-        Event::Html(_) | Event::Rule => false,
-        _ => true,
-    }
+/// What a container has of a list that all share: from one place of it to another.
+#[derive(Clone, Copy)]
+struct Share {
+    /// The place of its Start.
+    at: usize,
+    from: usize,
+    to: usize,
 }
 
 /// What an open container is.
@@ -78,6 +176,8 @@ enum Role {
     /// A list, with its number.
     List(usize),
     Item,
+    /// Code or HTML, whose texts are kept.
+    Raw,
     /// Another block.
     Block,
     /// It stands within a line.
@@ -94,22 +194,98 @@ struct OpenContainer {
     last: Option<usize>,
 }
 
-/// A look through a part.
+/// Some trees at the top of a document, to which events are added one by one.
 #[derive(Drop)]
-struct Walk {
+pub(crate) struct Part {
+    nodes: Vec<Node>,
+    /// The containers that are open.
     open: Vec<OpenContainer>,
-    ends: Vec<usize>,
+    /// The lists, in order.
     lists: Vec<ListSpread>,
+    /// The texts of code and HTML blocks, and what each of these blocks has of them.
+    raw: String,
+    raw_blocks: Vec<Share>,
+    /// The alignments of columns, and what each table has of them.
+    alignments: Vec<Alignment>,
+    tables: Vec<Share>,
     has_emphasis: bool,
+    /// The places in the source of `*` and of `_`, in order; both are empty if there is no emphasis.
+    stars: Vec<usize>,
+    scores: Vec<usize>,
 }
 
-impl Walk {
+/// Adds the places of a byte between two places of a source.
+fn add_places(
+    places: &mut Vec<usize>,
+    source: &Source<'_>,
+    byte: u8,
+    range: (usize, usize),
+) -> Result<(), AllocError> {
+    let text = source.slice(range.0, range.1).as_bytes();
+    if !text.contains(&byte) {
+        return Ok(());
+    }
+    for (at, other) in text.iter().enumerate() {
+        if *other == byte {
+            places.push(range.0.saturating_add(at))?;
+        }
+    }
+    Ok(())
+}
+
+/// From where to where the container at a place has a list.
+fn share_of(shares: &[Share], at: usize) -> (usize, usize) {
+    let number = shares.partition_point(|share| share.at < at);
+    match shares.get(number) {
+        Some(share) if share.at == at => (share.from, share.to),
+        _ => (0, 0),
+    }
+}
+
+impl Part {
+    /// No trees.
+    pub(crate) fn new(alloc: Global) -> Part {
+        Part {
+            nodes: Vec::new(alloc),
+            open: Vec::new(alloc),
+            lists: Vec::new(alloc),
+            raw: String::new(alloc),
+            raw_blocks: Vec::new(alloc),
+            alignments: Vec::new(alloc),
+            tables: Vec::new(alloc),
+            has_emphasis: false,
+            stars: Vec::new(alloc),
+            scores: Vec::new(alloc),
+        }
+    }
+
+    /// Takes all trees away, and keeps their room.
+    pub(crate) fn clear(&mut self) {
+        self.nodes.truncate(0);
+        self.open.truncate(0);
+        self.lists.truncate(0);
+        self.raw.truncate(0);
+        self.raw_blocks.truncate(0);
+        self.alignments.truncate(0);
+        self.tables.truncate(0);
+        self.has_emphasis = false;
+        self.stars.truncate(0);
+        self.scores.truncate(0);
+    }
+
     /// Says of a list whether it is loose, unless that is known.
     fn tell(&mut self, list: usize, spread: Spread) {
         if let Some(known) = self.lists.get_mut(list)
             && known.spread == Spread::Unknown
         {
             known.spread = spread;
+        }
+    }
+
+    /// Notes that a list has a blank line between two of its items, or between two blocks of an item.
+    fn note_gap(&mut self, list: usize) {
+        if let Some(known) = self.lists.get_mut(list) {
+            known.has_gap = true;
         }
     }
 
@@ -133,7 +309,7 @@ impl Walk {
 
     /// Takes an event that begins something: a list is loose if an item has a paragraph, tight if it has bare text, and
     /// else as blank lines in the source say.
-    fn begin(&mut self, source: &Source<'_>, event: &Event<'_>, start: usize) {
+    fn begin(&mut self, source: &Source<'_>, mark: Mark, start: usize) {
         let Some(container) = self.open.last().copied() else {
             return;
         };
@@ -145,10 +321,10 @@ impl Walk {
         let Some(list) = list else {
             return;
         };
-        let is_inline = is_inline(event);
+        let is_inline = is_inline(mark);
         if let Role::Item = container.role {
-            match event {
-                Event::Start(Tag::Paragraph) => self.set(list, Spread::Loose),
+            match mark {
+                Mark::Start(Opening::Paragraph) => self.set(list, Spread::Loose),
                 _ if is_inline => self.tell(list, Spread::Tight),
                 _ => {}
             }
@@ -158,22 +334,35 @@ impl Walk {
             && source.has_blank_line(last, start)
         {
             self.tell(list, Spread::Loose);
+            self.note_gap(list);
         }
     }
 
+    /// Notes a list that begins here; its role.
+    fn note_list(&mut self, at: usize) -> Result<Role, AllocError> {
+        let list = self.lists.len();
+        self.lists.push(ListSpread {
+            at,
+            spread: Spread::Unknown,
+            has_gap: false,
+        })?;
+        Ok(Role::List(list))
+    }
+
+    /// Notes a block of code or HTML that begins here; its role.
+    fn note_raw(&mut self, at: usize) -> Result<Role, AllocError> {
+        let from = self.raw.len();
+        self.raw_blocks.push(Share { at, from, to: from })?;
+        Ok(Role::Raw)
+    }
+
     /// Opens a container.
-    fn open(&mut self, at: usize, tag: &Tag<'_>) -> Result<(), AllocError> {
-        let role = match tag {
-            Tag::List(_) => {
-                let list = self.lists.len();
-                self.lists.push(ListSpread {
-                    at,
-                    spread: Spread::Unknown,
-                })?;
-                Role::List(list)
-            }
-            Tag::Item => Role::Item,
-            _ if is_inline_tag(tag) => Role::Inline,
+    fn open(&mut self, at: usize, opening: Opening) -> Result<(), AllocError> {
+        let role = match opening {
+            Opening::List { .. } => self.note_list(at)?,
+            Opening::Item => Role::Item,
+            Opening::IndentedCode | Opening::FencedCode | Opening::Html => self.note_raw(at)?,
+            _ if is_inline_opening(opening) => Role::Inline,
             _ => Role::Block,
         };
         self.open.push(OpenContainer {
@@ -184,16 +373,27 @@ impl Walk {
         Ok(())
     }
 
+    /// Keeps the alignments of a table that begins here.
+    fn keep_alignments(&mut self, at: usize, tag: &Tag<'_>) -> Result<(), AllocError> {
+        if let Tag::Table(columns) = tag {
+            let from = self.alignments.len();
+            self.alignments.extend_from_slice(columns)?;
+            let to = self.alignments.len();
+            self.tables.push(Share { at, from, to })?;
+        }
+        Ok(())
+    }
+
     /// Takes the End of the innermost container, which ends here in the source.
-    fn end(&mut self, at: usize, tag: TagEnd, end: usize) {
+    fn close(&mut self, at: usize, tag: TagEnd, end: usize) {
         if let TagEnd::Emphasis | TagEnd::Strong = tag {
             self.has_emphasis = true;
         }
         let Some(container) = self.open.pop() else {
             return;
         };
-        if let Some(place) = self.ends.get_mut(container.at) {
-            *place = at;
+        if let Some(node) = self.nodes.get_mut(container.at) {
+            node.end = at;
         }
         if let Role::Inline = container.role {
             return;
@@ -203,112 +403,115 @@ impl Walk {
         }
     }
 
-    /// Takes the event at a place.
-    fn take(&mut self, source: &Source<'_>, at: usize, pair: &Placed) -> Result<(), AllocError> {
-        let (start, end) = pair.1;
-        self.ends.push(at)?;
-        match &pair.0 {
-            Event::End(tag) => self.end(at, *tag, end),
-            Event::Start(tag) => {
-                self.begin(source, &pair.0, start);
-                self.open(at, tag)?;
+    /// Keeps a text, if it is one of a block of code or HTML.
+    fn keep_text(&mut self, text: &str) -> Result<(), AllocError> {
+        if let Some(container) = self.open.last().copied()
+            && let Role::Raw = container.role
+        {
+            self.raw.push_str(text)?;
+            let to = self.raw.len();
+            if let Some(block) = self.raw_blocks.last_mut() {
+                block.to = to;
             }
-            event => self.begin(source, event, start),
         }
         Ok(())
     }
-}
 
-/// The places of a byte between two places of a source.
-fn places_of(
-    alloc: Global,
-    source: &Source<'_>,
-    byte: u8,
-    range: (usize, usize),
-) -> Result<Vec<usize>, AllocError> {
-    let mut places = Vec::new(alloc);
-    let text = source.slice(range.0, range.1).as_bytes();
-    if !text.contains(&byte) {
-        return Ok(places);
+    /// Adds an event.
+    pub(crate) fn add(&mut self, source: &Source<'_>, pair: &Placed) -> Result<(), AllocError> {
+        let range = pair.1;
+        let at = self.nodes.len();
+        let mark = mark_of(&pair.0);
+        match mark {
+            Mark::End(tag) => self.close(at, tag, range.1),
+            Mark::Start(opening) => {
+                self.begin(source, mark, range.0);
+                self.open(at, opening)?;
+            }
+            _ => self.begin(source, mark, range.0),
+        }
+        match &pair.0 {
+            Event::Text(text) | Event::Html(text) => self.keep_text(text.as_ref())?,
+            Event::Start(tag) => self.keep_alignments(at, tag)?,
+            _ => {}
+        }
+        self.nodes.push(Node {
+            mark,
+            range,
+            end: at,
+        })?;
+        Ok(())
     }
-    for (at, other) in text.iter().enumerate() {
-        if *other == byte {
-            places.push(range.0.saturating_add(at))?;
+
+    /// Whether these are whole trees, and the last one is a block: an inline event would go on with others.
+    pub(crate) fn is_whole(&self) -> bool {
+        match self.nodes.last().copied() {
+            Some(node) => self.open.is_empty() && !is_inline(node.mark),
+            None => false,
         }
     }
-    Ok(places)
-}
 
-/// What some trees cover of the source.
-fn range_of(events: &[Placed]) -> (usize, usize) {
-    match (events.first(), events.last()) {
-        (Some((_, (start, _))), Some((_, (_, end)))) => (*start, *end),
-        _ => (0, 0),
-    }
-}
-
-impl<'p> Part<'p> {
-    pub(crate) fn new(
-        alloc: Global,
-        source: &Source<'_>,
-        events: &'p [Placed],
-    ) -> Result<Part<'p>, AllocError> {
-        let mut walk = Walk {
-            open: Vec::new(alloc),
-            ends: Vec::with_capacity(alloc, events.len())?,
-            lists: Vec::new(alloc),
-            has_emphasis: false,
-        };
-        for (at, pair) in events.iter().enumerate() {
-            walk.take(source, at, pair)?;
+    /// Looks for the signs of emphasis in the source. It is called before the trees are printed.
+    pub(crate) fn find_signs(&mut self, source: &Source<'_>) -> Result<(), AllocError> {
+        if self.has_emphasis {
+            let range = self.range_of_all();
+            add_places(&mut self.stars, source, b'*', range)?;
+            add_places(&mut self.scores, source, b'_', range)?;
         }
-        let range = if walk.has_emphasis {
-            range_of(events)
-        } else {
-            (0, 0)
-        };
-        let Walk { ends, lists, .. } = walk;
-        Ok(Part {
-            events,
-            ends,
-            lists,
-            stars: places_of(alloc, source, b'*', range)?,
-            scores: places_of(alloc, source, b'_', range)?,
-        })
+        Ok(())
+    }
+
+    /// What the trees cover of the source.
+    fn range_of_all(&self) -> (usize, usize) {
+        let last = self.len().saturating_sub(1);
+        (self.range(0).0, self.range(last).1)
     }
 
     /// How many events there are.
     pub(crate) fn len(&self) -> usize {
-        self.events.len()
+        self.nodes.len()
     }
 
     /// The event at a place.
-    pub(crate) fn event(&self, at: usize) -> Option<&'p Event<'static>> {
-        match self.events.get(at) {
-            Some(pair) => Some(&pair.0),
+    pub(crate) fn event(&self, at: usize) -> Option<Mark> {
+        match self.nodes.get(at) {
+            Some(node) => Some(node.mark),
             None => None,
         }
     }
 
     /// Where in the source an event stands; at its front, if there is no such event.
     pub(crate) fn range(&self, at: usize) -> (usize, usize) {
-        match self.events.get(at) {
-            Some(pair) => pair.1,
+        match self.nodes.get(at) {
+            Some(node) => node.range,
             None => (0, 0),
         }
     }
 
     /// The place of the End of a container that starts at a place; a leaf's own place.
     pub(crate) fn end(&self, at: usize) -> usize {
-        self.ends.get(at).copied().unwrap_or(at)
+        match self.nodes.get(at) {
+            Some(node) => node.end,
+            None => at,
+        }
+    }
+
+    /// The list whose Start stands at a place.
+    fn list(&self, at: usize) -> Option<ListSpread> {
+        let number = self.lists.partition_point(|one| one.at < at);
+        self.lists.get(number).copied()
     }
 
     /// Whether a list is loose.
     pub(crate) fn is_loose(&self, list: usize) -> bool {
-        let number = self.lists.partition_point(|one| one.at < list);
-        self.lists
-            .get(number)
+        self.list(list)
             .is_some_and(|one| one.spread == Spread::Loose)
+    }
+
+    /// Whether a list is loose only because definitions of links stand in it: `cmark-gfm` takes it for a tight one.
+    pub(crate) fn is_loose_by_definitions(&self, list: usize) -> bool {
+        self.list(list)
+            .is_some_and(|one| one.spread == Spread::Loose && !one.has_gap)
     }
 
     /// Whether a byte, `*` or `_`, stands in a stretch of the source.
@@ -325,8 +528,8 @@ impl<'p> Part<'p> {
     /// Whether a block begins at a place.
     pub(crate) fn is_block(&self, at: usize) -> bool {
         match self.event(at) {
-            Some(Event::End(_)) | None => false,
-            Some(event) => !is_inline(event),
+            Some(Mark::End(_)) | None => false,
+            Some(mark) => !is_inline(mark),
         }
     }
 
@@ -335,7 +538,7 @@ impl<'p> Part<'p> {
         let mut next = at;
         for _ in at..self.len() {
             match self.event(next) {
-                Some(event) if is_inline(event) => next = self
+                Some(mark) if is_inline(mark) => next = self
                     .end(next)
                     .saturating_add(1)
                     .max(next.saturating_add(1)),
@@ -355,19 +558,14 @@ impl<'p> Part<'p> {
     }
 
     /// The texts of a code block or an HTML block that starts at a place, as one.
-    pub(crate) fn raw_text(&self, alloc: Global, at: usize) -> Result<String, AllocError> {
-        let (start, end) = self.range(at);
-        let mut text = String::with_capacity(alloc, end.saturating_sub(start))?;
-        let inner = self
-            .events
-            .get(at.saturating_add(1)..self.end(at))
-            .unwrap_or(&[]);
-        for (event, _) in inner {
-            match event {
-                Event::Text(words) | Event::Html(words) => text.push_str(words.as_ref())?,
-                _ => {}
-            }
-        }
-        Ok(text)
+    pub(crate) fn raw_text(&self, at: usize) -> &str {
+        let (from, to) = share_of(&self.raw_blocks, at);
+        self.raw.as_str().get(from..to).unwrap_or("")
+    }
+
+    /// The alignments of the columns of a table that starts at a place.
+    pub(crate) fn alignments(&self, at: usize) -> &[Alignment] {
+        let (from, to) = share_of(&self.tables, at);
+        self.alignments.get(from..to).unwrap_or(&[])
     }
 }

@@ -24,7 +24,7 @@ pub trait PartTaker {
     /// Whether these events were taken so far, one part behind the other.
     ghost has_taken: { Self → List EventView → Type 0 };
 
-    /// Takes the next part: trees that stand at the top of the text.
+    /// Takes the next part. It may begin and end within containers.
     fn take(&mut self, alloc: Global, part: &Reading) -> Result<(), AllocError>
         ensures { OnOk result ((before : List EventView) → has_taken self.old before
             → has_taken self.new (before ++ found_events (reading_view part.now))) };
@@ -83,7 +83,7 @@ pub trait PartReader: Reader {
     }
 }
 
-/// Hands out all blocks that are left.
+/// Hands out all events that are left.
 fn hand_blocks<T: PartTaker>(
     alloc: Global,
     blocks: &mut BlockReading<'_>,
@@ -92,7 +92,7 @@ fn hand_blocks<T: PartTaker>(
     ensures { OnOk result ((before : List EventView) → T.has_taken taker.old before
         → T.has_taken taker.new (before ++ found_events (reading_left blocks.old))) }
 {
-    while let Some(part) = blocks.next()? {
+    while let Some(part) = blocks.next_events()? {
         let taken = taker.take(alloc, &part);
         drop(part);
         taken?;

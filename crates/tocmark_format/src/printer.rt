@@ -4,11 +4,10 @@ use crate::dialect::Foreign;
 use crate::kept::Stretch;
 use crate::look::Look;
 use crate::page::{Kind, Page};
-use crate::part::{Part, is_inline};
+use crate::part::{Mark, Opening, Part, is_inline};
 use crate::piece::Pieces;
 use crate::source::Source;
 use std::alloc::{AllocError, Global};
-use tocmark_event::event::{Event, Tag};
 
 /// How near to the source a tree at the top is printed.
 #[derive(Clone, Copy, Debug, PartialEq, Eq)]
@@ -101,13 +100,15 @@ impl<'d> Printer<'d> {
     }
 
     /// Prints the line between a block and the one before it in its container: none in tight items, and none between some
-    /// blocks that aren't apart in the source.
+    /// blocks that aren't apart in the source. A list that is loose by definitions alone has lines only beside these, so
+    /// that `cmark-gfm` still takes it for a tight one.
     fn separate(&mut self, kind: Kind, is_apart: bool) -> Result<(), AllocError> {
         let top = self.page.top();
         let Some(last) = top.last else {
             return Ok(());
         };
-        if top.is_tight {
+        let is_beside = last == Kind::Definitions || kind == Kind::Definitions;
+        if top.is_tight || (top.is_close && !is_beside) {
             if last == Kind::Quote && matches!(kind, Kind::Paragraph | Kind::Foreign) {
                 // else the text would go on with the quote's paragraph
                 return self.page.line(">");
@@ -118,7 +119,7 @@ impl<'d> Printer<'d> {
             (Kind::Html, Kind::Html) | (Kind::Footnote, Kind::Footnote) => true,
             (Kind::Definition, Kind::Definition) => true,
             (Kind::Title, Kind::Title | Kind::Definition) => true,
-            (Kind::Definitions, _) => self.look.is_literal,
+            (Kind::Definitions, _) => self.look.is_literal || kind == Kind::Rule,
             (Kind::Foreign, _) | (_, Kind::Foreign) => true,
             _ => false,
         };
@@ -227,7 +228,7 @@ impl<'d> Printer<'d> {
     }
 
     /// Prints the inlines of a tight item from a place on; the place behind them.
-    fn print_bare_text(&mut self, part: &Part<'_>, at: usize) -> Result<usize, AllocError> {
+    fn print_bare_text(&mut self, part: &Part, at: usize) -> Result<usize, AllocError> {
         let source = self.source;
         let start = part.range(at).0;
         let front = self.page.front(source, start);
@@ -245,25 +246,26 @@ impl<'d> Printer<'d> {
     }
 
     /// Opens a container, or prints a leaf; whether it is a container.
-    fn print_block(&mut self, part: &Part<'_>, at: usize) -> Result<bool, AllocError> {
+    fn print_block(&mut self, part: &Part, at: usize) -> Result<bool, AllocError> {
         let range = part.range(at);
         let Some(event) = part.event(at) else {
             return Ok(false);
         };
         match event {
-            Event::Rule => self.print_rule(range)?,
-            Event::Start(tag) => match tag {
-                Tag::Paragraph => {
+            Mark::Rule => self.print_rule(range)?,
+            Mark::Start(opening) => match opening {
+                Opening::Paragraph => {
                     self.print_text(part, (at.saturating_add(1), part.end(at)), range.0)?;
                 }
-                Tag::DefinitionListTitle => self.print_title(part, at)?,
-                Tag::Heading { level, .. } => self.print_heading(part, at, *level)?,
-                Tag::CodeBlock(kind) => self.print_code(part, at, kind)?,
-                Tag::HtmlBlock => self.print_html(part, at)?,
-                Tag::Table(alignments) => self.print_table(part, at, alignments)?,
-                Tag::MetadataBlock(_) => self.print_lines(range.0, range.1)?,
+                Opening::Title => self.print_title(part, at)?,
+                Opening::Heading(level) => self.print_heading(part, at, level)?,
+                Opening::IndentedCode => self.print_code(part, at, true)?,
+                Opening::FencedCode => self.print_code(part, at, false)?,
+                Opening::Html => self.print_html(part, at)?,
+                Opening::Table => self.print_table(part, at)?,
+                Opening::Metadata => self.print_lines(range.0, range.1)?,
                 _ => {
-                    self.open_container(part, at, tag)?;
+                    self.open_container(part, at, opening)?;
                     return Ok(true);
                 }
             },
@@ -273,7 +275,7 @@ impl<'d> Printer<'d> {
     }
 
     /// Prints a block that no comment keeps; the place behind its event, or behind its End.
-    fn print_next(&mut self, part: &Part<'_>, at: usize, kind: Kind) -> Result<usize, AllocError> {
+    fn print_next(&mut self, part: &Part, at: usize, kind: Kind) -> Result<usize, AllocError> {
         let (start, end) = part.range(at);
         let behind = part.end(at).saturating_add(1);
         if kind == Kind::Item {
@@ -296,12 +298,12 @@ impl<'d> Printer<'d> {
     }
 
     /// Prints the next block, or opens or closes a container; the place behind that.
-    fn print_at(&mut self, part: &Part<'_>, at: usize) -> Result<usize, AllocError> {
+    fn print_at(&mut self, part: &Part, at: usize) -> Result<usize, AllocError> {
         let next = at.saturating_add(1);
         let Some(event) = part.event(at) else {
             return Ok(next);
         };
-        if let Event::End(_) = event {
+        if let Mark::End(_) = event {
             self.close(part.range(at).1)?;
             return Ok(next);
         }
@@ -318,7 +320,7 @@ impl<'d> Printer<'d> {
     }
 
     /// Prints the next trees at the top.
-    pub(crate) fn print(&mut self, part: &Part<'_>) -> Result<(), AllocError> {
+    pub(crate) fn print(&mut self, part: &Part) -> Result<(), AllocError> {
         let mut at = 0usize;
         for _ in 0..part.len() {
             if at >= part.len() {
@@ -367,22 +369,22 @@ impl<'d> Printer<'d> {
 }
 
 /// What kind of block an event begins.
-fn kind_of(event: &Event<'_>) -> Kind {
+fn kind_of(event: Mark) -> Kind {
     match event {
-        Event::Rule => Kind::Rule,
-        Event::Start(tag) => match tag {
-            Tag::Heading { .. } => Kind::Heading,
-            Tag::CodeBlock(_) => Kind::Code,
-            Tag::HtmlBlock => Kind::Html,
-            Tag::Table(_) => Kind::Table,
-            Tag::MetadataBlock(_) => Kind::Metadata,
-            Tag::BlockQuote(_) => Kind::Quote,
-            Tag::List(_) => Kind::List,
-            Tag::Item => Kind::Item,
-            Tag::FootnoteDefinition(_) => Kind::Footnote,
-            Tag::DefinitionList => Kind::DefinitionList,
-            Tag::DefinitionListTitle => Kind::Title,
-            Tag::DefinitionListDefinition => Kind::Definition,
+        Mark::Rule => Kind::Rule,
+        Mark::Start(opening) => match opening {
+            Opening::Heading(_) => Kind::Heading,
+            Opening::IndentedCode | Opening::FencedCode => Kind::Code,
+            Opening::Html => Kind::Html,
+            Opening::Table => Kind::Table,
+            Opening::Metadata => Kind::Metadata,
+            Opening::Quote { .. } => Kind::Quote,
+            Opening::List { .. } => Kind::List,
+            Opening::Item => Kind::Item,
+            Opening::Footnote => Kind::Footnote,
+            Opening::DefinitionList => Kind::DefinitionList,
+            Opening::Title => Kind::Title,
+            Opening::Definition => Kind::Definition,
             _ => Kind::Paragraph,
         },
         _ => Kind::Paragraph,

@@ -2,17 +2,17 @@
 
 ghost use Rattle.std.specs.Prelude.{◌≡◌, ◌++◌, ◌∷◌, [], IfOk, IfSome, IsTrue, List, None, OnOk, Some, map};
 ghost use Rattle.tocmark_event.specs.Text.{text_of};
-ghost use Rattle.tocmark_event.specs.View.{End, EventView, Start, end_of, event_view};
+ghost use Rattle.tocmark_event.specs.View.{End, EventView, Start, end_of, event_view, tag_view};
+ghost use Rattle.tocmark_spelling.specs.Kinds.{is_inline_end, is_inline_tag};
 ghost use Rattle.tocmark_compare.specs.Digest.{marked, plain_start};
 ghost use Rattle.tocmark_compare.specs.Given.{given_events};
-ghost use Rattle.tocmark_format.specs.Shape.{Outlines, outlined, shape};
+ghost use Rattle.tocmark_format.specs.Shape.{Outlines, drawn, outlined};
 
-use crate::part::{is_inline_end, is_inline_tag};
 use crate::parts::PartTaker;
 use crate::printer::Block;
 use std::alloc::{AllocError, Global};
 use tocmark_compare::number::end_number;
-use tocmark_event::event::{Event, TagEnd};
+use tocmark_event::event::{Event, Tag, TagEnd};
 use tocmark_event::reader::Reading;
 
 /// How many marks the Ends of blocks and inlines have, and as many Starts behind them.
@@ -29,6 +29,29 @@ pub(crate) struct Outline {
     places: Vec<usize>,
     /// Where the last block begins.
     last: usize,
+}
+
+/// Whether a tag stands within a line.
+fn is_inline_tag(tag: &Tag<'_>) -> bool
+    ensures { result ≡ is_inline_tag (tag_view text_of tag.now) }
+{
+    match tag {
+        Tag::Emphasis | Tag::Strong | Tag::Strikethrough | Tag::Superscript | Tag::Subscript =>
+            true,
+        Tag::Link { .. } | Tag::Image { .. } => true,
+        _ => false,
+    }
+}
+
+/// Whether a container that ends so stands within a line.
+pub(crate) fn is_inline_end(end: TagEnd) -> bool
+    ensures { result ≡ is_inline_end end }
+{
+    match end {
+        TagEnd::Emphasis | TagEnd::Strong | TagEnd::Strikethrough => true,
+        TagEnd::Superscript | TagEnd::Subscript | TagEnd::Link | TagEnd::Image => true,
+        _ => false,
+    }
 }
 
 /// The mark of the Start of a block that ends so.
@@ -105,9 +128,8 @@ impl Outline {
     }
 
     /// Whether two texts have the same shape.
-    pub(crate) fn is_same(&self, other: &Outline) -> bool
-        ensures { IsTrue result → (one two : List EventView) → Outlines self.now one
-            → Outlines other.now two → shape one ≡ shape two }
+    fn is_same(&self, other: &Outline) -> bool
+        ensures { IsTrue result → drawn self.now ≡ drawn other.now }
     {
         self.marks.as_slice() == other.marks.as_slice()
     }
@@ -125,6 +147,21 @@ impl PartTaker for Outline {
     fn take(&mut self, _alloc: Global, part: &Reading) -> Result<(), AllocError> {
         self.add_all(&part.events)
     }
+}
+
+/// Whether texts have the same shapes as others, in the same order.
+pub(crate) fn are_same(one: &[Outline], other: &[Outline]) -> bool
+    ensures { IsTrue result → map drawn one.now ≡ map drawn other.now }
+{
+    if one.len() != other.len() {
+        return false;
+    }
+    for at in 0..one.len() {
+        if !one[at].is_same(&other[at]) {
+            return false;
+        }
+    }
+    true
 }
 
 /// Marks the blocks in which a printed text has another shape than its source.

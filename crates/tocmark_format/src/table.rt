@@ -1,10 +1,11 @@
-//! Tables: columns of one width, if the whole isn't too wide.
+//! Tables: columns of one width, if the whole isn't too wide, or if the source has them so.
 
-use crate::part::Part;
+use crate::part::{Mark, Opening, Part};
 use crate::printer::Printer;
+use crate::source::without_blanks;
 use crate::width::width;
 use std::alloc::{AllocError, Global};
-use tocmark_event::event::{Alignment, Event, Tag, TagEnd};
+use tocmark_event::event::{Alignment, TagEnd};
 
 /// A cell: its bytes in the text of all cells, and the columns that it takes.
 #[derive(Clone, Copy)]
@@ -72,6 +73,53 @@ fn push_cell(
     line.push_str(" |")
 }
 
+/// Where the first cell of a row ends: at the first bar without a backslash.
+fn cell_end(row: &str) -> usize {
+    let mut is_escaped = false;
+    for (at, byte) in row.as_bytes().iter().enumerate() {
+        if *byte == b'|' && !is_escaped {
+            return at;
+        }
+        is_escaped = *byte == b'\\' && !is_escaped;
+    }
+    row.len()
+}
+
+/// Whether the bars of two rows stand in the same columns.
+fn have_same_bars(first: &str, second: &str) -> bool {
+    let mut rests = (first, second);
+    for _ in 0..=first.len() {
+        let (one, two) = rests;
+        let ends = (cell_end(one), cell_end(two));
+        let cells = (
+            one.get(..ends.0).unwrap_or(""),
+            two.get(..ends.1).unwrap_or(""),
+        );
+        if width(cells.0) != width(cells.1) {
+            return false;
+        }
+        let behind = (
+            one.get(ends.0.saturating_add(1)..),
+            two.get(ends.1.saturating_add(1)..),
+        );
+        rests = match behind {
+            (Some(one), Some(two)) => (one, two),
+            (None, None) => return true,
+            _ => return false,
+        };
+    }
+    true
+}
+
+/// Whether a row with columns of these widths is wider than this.
+fn is_wider(widths: &[usize], limit: usize) -> bool {
+    let mut whole = 1usize;
+    for width in widths {
+        whole = whole.saturating_add(*width).saturating_add(3);
+    }
+    whole > limit
+}
+
 impl Cells {
     fn new(alloc: Global) -> Cells {
         Cells {
@@ -106,13 +154,8 @@ impl Cells {
         self.list.get(start..end).unwrap_or(&[])
     }
 
-    /// The width of each column; 0 for all if the whole would be wider than this.
-    fn widths(
-        &self,
-        alloc: Global,
-        columns: usize,
-        limit: usize,
-    ) -> Result<Vec<usize>, AllocError> {
+    /// The width of each column.
+    fn widths(&self, alloc: Global, columns: usize) -> Result<Vec<usize>, AllocError> {
         let mut widths = Vec::with_capacity(alloc, columns)?;
         for _ in 0..columns {
             widths.push(3usize)?;
@@ -120,15 +163,6 @@ impl Cells {
         for at in 0..self.ends.len() {
             for (width, cell) in widths.iter_mut().zip(self.row(at)) {
                 *width = (*width).max(cell.width);
-            }
-        }
-        let mut whole = 1usize;
-        for width in &widths {
-            whole = whole.saturating_add(*width).saturating_add(3);
-        }
-        if whole > limit {
-            for width in widths.iter_mut() {
-                *width = 0;
             }
         }
         Ok(widths)
@@ -151,13 +185,13 @@ impl Cells {
 
 impl Printer<'_> {
     /// The cells of a table; none if a row has more of them than the head, which are in no event.
-    fn cells_of(&mut self, part: &Part<'_>, at: usize) -> Result<Option<Cells>, AllocError> {
+    fn cells_of(&mut self, part: &Part, at: usize) -> Result<Option<Cells>, AllocError> {
         let mut cells = Cells::new(self.alloc);
         let mut cell_end = 0usize;
         for inner in at.saturating_add(1)..part.end(at) {
             let (start, end) = part.range(inner);
             match part.event(inner) {
-                Some(Event::Start(Tag::TableCell)) => {
+                Some(Mark::Start(Opening::TableCell)) => {
                     let text = self.source.past_blanks(start);
                     let events = (inner.saturating_add(1), part.end(inner));
                     let (pieces, _) = self.pieces_of(part, events, text)?;
@@ -165,7 +199,7 @@ impl Printer<'_> {
                     self.keep_room(pieces);
                     cell_end = end;
                 }
-                Some(Event::End(TagEnd::TableHead | TagEnd::TableRow)) => {
+                Some(Mark::End(TagEnd::TableHead | TagEnd::TableRow)) => {
                     let rest = self.source.slice(cell_end, end);
                     if !rest.trim_matches(&['|', ' ', '\t', '\n']).is_empty() {
                         return Ok(None);
@@ -178,13 +212,47 @@ impl Printer<'_> {
         Ok(Some(cells))
     }
 
-    fn print_rows(&mut self, cells: &Cells, alignments: &[Alignment]) -> Result<(), AllocError> {
-        let limit = if self.look.is_literal {
-            0
-        } else {
-            self.look.table_width
-        };
-        let widths = cells.widths(self.alloc, alignments.len(), limit)?;
+    /// Whether the bars of a table stand below one another in the source.
+    fn is_aligned(&self, start: usize, end: usize) -> bool {
+        let source = self.source;
+        let head = without_blanks(source.slice(start, source.line_end(start)));
+        let first = source.line_of(start).saturating_add(1);
+        let last = source.line_of(end.saturating_sub(1));
+        for line in first..=last {
+            let row = source.line(line).trim_start_matches(&[' ', '\t', '>']);
+            if !have_same_bars(head, without_blanks(row)) {
+                return false;
+            }
+        }
+        true
+    }
+
+    /// The width of each column; 0 for all if they aren't aligned.
+    fn column_widths(
+        &self,
+        cells: &Cells,
+        columns: usize,
+        range: (usize, usize),
+    ) -> Result<Vec<usize>, AllocError> {
+        let mut widths = cells.widths(self.alloc, columns)?;
+        let look = self.look;
+        let is_aligned = !look.is_literal
+            && (!is_wider(&widths, look.table_width) || self.is_aligned(range.0, range.1));
+        if !is_aligned {
+            for width in widths.iter_mut() {
+                *width = 0;
+            }
+        }
+        Ok(widths)
+    }
+
+    fn print_rows(
+        &mut self,
+        cells: &Cells,
+        alignments: &[Alignment],
+        range: (usize, usize),
+    ) -> Result<(), AllocError> {
+        let widths = self.column_widths(cells, alignments.len(), range)?;
         let mut line = String::new(self.alloc);
         for row in 0..cells.ends.len() {
             line.truncate(0);
@@ -204,18 +272,11 @@ impl Printer<'_> {
         Ok(())
     }
 
-    pub(crate) fn print_table(
-        &mut self,
-        part: &Part<'_>,
-        at: usize,
-        alignments: &[Alignment],
-    ) -> Result<(), AllocError> {
+    pub(crate) fn print_table(&mut self, part: &Part, at: usize) -> Result<(), AllocError> {
+        let range = part.range(at);
         match self.cells_of(part, at)? {
-            Some(cells) => self.print_rows(&cells, alignments),
-            None => {
-                let (start, end) = part.range(at);
-                self.print_lines(start, end)
-            }
+            Some(cells) => self.print_rows(&cells, part.alignments(at), range),
+            None => self.print_lines(range.0, range.1),
         }
     }
 }

@@ -140,7 +140,7 @@ const STYLE: [CommandOption<'static>; 13] = [
         name: "table-width",
         letter: None,
         takes: Takes::Value("N"),
-        help: "Pad tables up to this many columns (default 120)",
+        help: "Align tables up to this many columns (default 120),\nand wider ones that are aligned",
     },
     CommandOption {
         name: "list-indent",

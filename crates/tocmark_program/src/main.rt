@@ -23,26 +23,26 @@ use tocmark::event::ParserOptions;
 use tocmark::reader::Reading;
 use tocmark::{Error, Options, Progress, State};
 
-/// Writes the events of one block.
-fn write_block(
+/// Writes some events of a text.
+fn write_part(
     state: &mut State<CoreReader>,
     spelling: Spelling,
     text: &str,
-    block: Reading,
+    part: Reading,
     output: &mut String,
 ) -> Result<Progress, Error>
     ensures { (done : List Pair) → IsWritten text.now done state.old (string_bytes output.old)
         → OnOk result (IsWritten text.now
-        (done ++ as_pairs spelling (reading_view block).events)
+        (done ++ as_pairs spelling (reading_view part).events)
         state.new (string_bytes output.new)) }
 {
     match spelling {
-        Spelling::Escaped => state.process_reading(block, output),
-        Spelling::FromSource => { state.process_reading_with_source_range(block, text, output) }
+        Spelling::Escaped => state.process_reading(part, output),
+        Spelling::FromSource => { state.process_reading_with_source_range(part, text, output) }
     }
 }
 
-/// Writes the events of all blocks that are left.
+/// Writes all events that are left.
 #[tactic(auto, using(crate::proofs::Written::goes_on, crate::proofs::Written::goes_to_end, crate::proofs::Written::fewer_left))]
 fn write_blocks(
     state: &mut State<CoreReader>,
@@ -55,13 +55,13 @@ fn write_blocks(
         → IsWriting spelling text.now all state.old blocks.old (string_bytes output.old)
         → OnOk result (IsWritten text.now all state.new (string_bytes output.new)) }
 {
-    while let Some(block) = blocks.next()? {
-        write_block(state, spelling, text, block, output)?;
+    while let Some(part) = blocks.next_events()? {
+        write_part(state, spelling, text, part, output)?;
     }
     Ok(())
 }
 
-/// Writes the events of all blocks that are left, and their end.
+/// Writes all events that are left, and their end.
 fn write_all(
     state: &mut State<CoreReader>,
     spelling: Spelling,
