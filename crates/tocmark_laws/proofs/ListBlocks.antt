@@ -38,7 +38,7 @@ use Rattle.tocmark_read_constructs.specs.Metadata.{known_of, metadata_in, is_fro
 use Rattle.tocmark_read_constructs.specs.Quotes.{quote_kind_in, is_new_quote, is_first_line, tag_in}
 use Rattle.tocmark_read_constructs.specs.Tables.{may_delimit, delimiters_taken, header_of}
 use Rattle.tocmark_read_constructs.specs.Tasks.{task_in, box_at}
-use Rattle.tocmark_read_blocks.specs.Blocks.{BlocksView, blocks_in, page_in, start_or, leaf_started_in, started_in, started_at_in, tabled_in, tabled_as, noted, is_lazy, passed_in, turn_in, turn_of, touched, taken_at_in, turn_taken_in, cells_taken_in, line_taken_in}
+use Rattle.tocmark_read_blocks.specs.Blocks.{BlocksView, blocks_in, page_in, start_or, leaf_started_in, started_in, started_at_in, tabled_in, tabled_as, is_lazy, passed_in, turn_in, turn_of, touched, taken_at_in, turn_taken_in, cells_taken_in, line_taken_in}
 use Rattle.tocmark_read_blocks.specs.Containers.{container_once_in, containers_opened_in, goes_directly, begun_at, item_opened, list_started, is_in_list}
 use Rattle.tocmark_read_blocks.specs.Leaves.{leaf_at, leaf_turn, metadata_or, task_or, quote_kind_or, tag_or}
 use Rattle.tocmark_read_blocks.specs.Paragraphs.{text_taken, text_started}
