@@ -1,10 +1,9 @@
 -- Lines of words with hard and soft breaks between them are read as a paragraph with these breaks.
-use Rattle.std.proofs.Common.{◌≡◌, ℕ, zero, suc, ◌+◌, ◌-◌, ◌^◌, ◌<◌, ◌≤◌, true, false, ◌==◌, List, [], ◌∷◌, ◌++◌, length, map, replicate, slice_get, refl, ap, sym, subst, ◌∙◌, arith, append_assoc, append-nil, length-append, Option, None, Some}
-use Rattle.std.proofs.lemmas.Bool.Decides.{nat_tests}
+use Rattle.std.proofs.Common.{◌≡◌, ℕ, zero, suc, ◌+◌, ◌-◌, ◌^◌, ◌<◌, ◌≤◌, true, false, ◌==◌, List, [], ◌∷◌, ◌++◌, length, map, replicate, slice_get, refl, ap, sym, subst, ◌∙◌, arith, append_assoc, append-nil, length-append, Option, Some}
 use Rattle.std.specs.Char.{is_ascii_alphabetic}
 use Rattle.std.specs.List.{AllByRecursion, fold, list_all}
 use Rattle.tocmark_event.specs.Merged.{merged}
-use Rattle.tocmark_event.specs.View.{EventView, Start, End, Leaf, LeafView, Paragraph, Text}
+use Rattle.tocmark_event.specs.View.{EventView, Start, End, Leaf, Paragraph, Text}
 use Rattle.tocmark_event.specs.declared.event.TagEnd.TheVariants as end
 use Rattle.tocmark_read_scan.specs.Basic.{byte_at}
 use Rattle.tocmark_read_scan.specs.Class.{is_in}
@@ -26,7 +25,7 @@ use Rattle.tocmark_read_inlines.specs.declared.write.InlineKind.{InlineKind}
 use Rattle.tocmark_read_inlines.specs.declared.write.InlineKind.TheVariants as item
 use Rattle.tocmark_read_inlines.specs.declared.write.Node.{Node}
 use Rattle.tocmark_read_inlines.proofs.PlainNodes.{node}
-use Rattle.tocmark_reader.specs.Emitted.{NodeView, Given, Writing, emitted, step, closed}
+use Rattle.tocmark_reader.specs.Emitted.{NodeView, Writing, emitted, step, closed}
 use Rattle.tocmark_reader.specs.Inlines.{inline_node, inline_item, leaf_of}
 use Rattle.tocmark_reader.specs.Pages.{with_block, block_tag, task_nodes}
 use Rattle.tocmark_reader.specs.PlainTexts.{IsReadAs}
@@ -39,9 +38,9 @@ use Rattle.tocmark_reader.proofs.PlainSources.{IsClean, AreClean, all_implied, s
 use Rattle.tocmark_reader.proofs.QuietContent.{split_last}
 use Rattle.tocmark_laws.specs.Extensions.{is_word_line}
 use Rattle.tocmark_laws.specs.HardBreaks.{LineEnd, Softly, ByBackslash, BySpaces, NextLine, end_bytes, break_of, broken_text, broken_lines, broken_paragraph, lines_behind}
-use Rattle.tocmark_laws.proofs.BreakRoles.{leaf_of_end, width_of, line_roles, line_nodes, plain, with_roles, scan_lines, write_lines}
+use Rattle.tocmark_laws.proofs.BreakRoles.{leaf_of_end, width_of, line_roles, line_nodes, with_roles, scan_lines, write_lines}
 use Rattle.tocmark_laws.proofs.ExtensionBlocks.{IsFreeText}
-use Rattle.tocmark_laws.proofs.ExtensionParagraphs.{begins_freely, no_inlines, found_of, paragraph_found, last_of, within_byte, clean_byte, clean_feed, no_returns, at_start}
+use Rattle.tocmark_laws.proofs.ExtensionParagraphs.{begins_freely, no_inlines, found_of, paragraph_found, last_of, within_byte, clean_byte, clean_feed, no_returns}
 use Rattle.tocmark_laws.proofs.WordsReading.{IsWordByte, AreWords, words_from, ink_byte, quiet_letter, free_letter}
 
 -- ---- bytes

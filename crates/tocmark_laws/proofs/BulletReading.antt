@@ -1,17 +1,14 @@
 -- Lines of words behind bullets are read as a tight list.
-use Rattle.std.proofs.Common.{◌≡◌, ℕ, suc, ◌+◌, ◌^◌, ◌<◌, ◌≤◌, min, Bool, true, false, ◌==◌, ◌||◌, nat_lt, nat_le, List, [], ◌∷◌, ◌++◌, length, map, refl, ap, sym, subst, ◌∙◌, arith, Option, None, Some, ◌⊎◌, inl, inr, true≢false}
+use Rattle.std.proofs.Common.{◌≡◌, ℕ, ◌+◌, ◌^◌, ◌<◌, min, true, false, ◌==◌, nat_le, List, [], ◌∷◌, ◌++◌, length, map, refl, ap, sym, subst, ◌∙◌, arith, None, Some, ◌⊎◌, inl, inr, true≢false}
 use Rattle.std.proofs.lemmas.Bool.Decides.{nat_tests}
 use Rattle.std.specs.Char.{is_ascii_alphabetic}
 use Rattle.std.specs.List.{AllByRecursion, list_all}
 use Rattle.tocmark_event.specs.View.{EventView}
-use Rattle.tocmark_read_scan.specs.Basic.{starts_at}
 use Rattle.tocmark_read_scan.specs.declared.syntax.Syntax.{Syntax}
 use Rattle.tocmark_read_scan.proofs.PlainTests.{differs, turned, all_from, one_of_three, eq_of}
-use Rattle.tocmark_read_tokens.specs.Notes.{note_label}
 use Rattle.tocmark_read_lines.specs.Cells.{cell, first_cursor}
 use Rattle.tocmark_read_lines.specs.Containers.{container_at, item_at, item_gap}
 use Rattle.tocmark_read_lines.specs.Marks.{is_rule, marker_at, bullet_at, is_behind, tail_of}
-use Rattle.tocmark_read_lines.specs.Notes.{note_at}
 use Rattle.tocmark_read_lines.specs.declared.cell.Cell.{Cell}
 use Rattle.tocmark_read_lines.specs.declared.container.ContainerStart.TheVariants as begins
 use Rattle.tocmark_read_blocks.proofs.PlainLines.{IsWithin, numbered}

@@ -1,5 +1,5 @@
 -- Examples: texts with a construct of CommonMark, and the events that the laws give them.
-use Rattle.std.proofs.Common.{◌≡◌, false, [], ◌∷◌, codes, refl, arith, None}
+use Rattle.std.proofs.Common.{false, [], ◌∷◌, codes, refl, arith, true, None, Some}
 use Rattle.tocmark_event.specs.View.{Start, End, Leaf, BlockQuote, Item, ListOf, Paragraph, Text, SoftBreak, HardBreak}
 use Rattle.tocmark_event.specs.declared.event.TagEnd.TheVariants as end
 use Rattle.tocmark_read_scan.specs.declared.syntax.Syntax.{Syntax}
@@ -8,6 +8,7 @@ use Rattle.tocmark_reader.specs.Reading.{reading_of}
 use Rattle.tocmark_laws.specs.HardBreaks.{Softly, ByBackslash, BySpaces}
 use Rattle.tocmark_laws.proofs.BreakReading.{breaks_read}
 use Rattle.tocmark_laws.proofs.BulletReading.{bullets_read}
+use Rattle.tocmark_laws.proofs.OrderedReading.{ordered_read}
 use Rattle.tocmark_laws.proofs.QuoteReading.{quotes_read}
 
 breaks : (syntax : Syntax) → IsReadAs (reading_of syntax (codes "two\nwords\\\non four   \nlines")) (Start Paragraph ∷ Leaf (Text (codes "two")) ∷ Leaf SoftBreak ∷ Leaf (Text (codes "words")) ∷ Leaf HardBreak ∷ Leaf (Text (codes "on four")) ∷ Leaf HardBreak ∷ Leaf (Text (codes "lines")) ∷ End end.Paragraph ∷ [])
@@ -18,3 +19,6 @@ bullets syntax = bullets_read syntax 42 (codes "two words") (codes "a - b -" ∷
 
 quote : (syntax : Syntax) → IsReadAs (reading_of syntax (codes "> two words\n> on\\\n> lines")) (Start (BlockQuote None) ∷ Start Paragraph ∷ Leaf (Text (codes "two words")) ∷ Leaf SoftBreak ∷ Leaf (Text (codes "on")) ∷ Leaf HardBreak ∷ Leaf (Text (codes "lines")) ∷ End end.Paragraph ∷ End (end.BlockQuote None) ∷ [])
 quote syntax = quotes_read syntax (codes "two words") (record { behind = Softly; line = codes "on" } ∷ record { behind = ByBackslash; line = codes "lines" } ∷ []) refl (omega arith)
+
+numbers : (syntax : Syntax) → IsReadAs (reading_of syntax (codes "3) two words\n3) a. b")) (Start (ListOf (Some 3)) ∷ Start Item ∷ Leaf (Text (codes "two words")) ∷ End end.Item ∷ Start Item ∷ Leaf (Text (codes "a. b")) ∷ End end.Item ∷ End (end.List true) ∷ [])
+numbers syntax = ordered_read syntax 41 (record { number = 3; line = codes "two words" }) (record { number = 3; line = codes "a. b" } ∷ []) refl refl (omega arith)

@@ -1,19 +1,18 @@
 -- A letter behind a mark: at its column no container begins, and no leaf but a paragraph.
-use Rattle.std.proofs.Common.{◌≡◌, ℕ, zero, suc, ◌+◌, ◌-◌, ◌^◌, ◌<◌, ◌≤◌, Bool, true, false, not, ◌==◌, ◌&&◌, ◌||◌, if◌then◌else◌, nat_lt, nat_le, List, [], ◌∷◌, ◌++◌, length, map, drop, reverse, slice_get, refl, ap, sym, subst, ◌∙◌, arith, append_assoc, length-append, Option, None, Some}
+use Rattle.std.proofs.Common.{◌≡◌, ℕ, suc, ◌+◌, ◌-◌, ◌^◌, ◌<◌, ◌≤◌, Bool, true, false, ◌==◌, ◌&&◌, ◌||◌, if◌then◌else◌, nat_lt, nat_le, List, [], ◌∷◌, ◌++◌, length, drop, reverse, slice_get, refl, ap, sym, ◌∙◌, arith, append_assoc, length-append, Option, None, Some}
 use Rattle.std.proofs.lemmas.Bool.Decides.{nat_tests}
 use Rattle.std.proofs.lemmas.List.{reverse-append}
 use Rattle.std.proofs.lemmas.List.Sums.{take_while-cons}
 use Rattle.std.specs.Char.{is_ascii_alphabetic, is_ascii_digit}
-use Rattle.std.specs.List.{AllByRecursion, take_while}
+use Rattle.std.specs.List.{take_while}
 use Rattle.std.specs.Option.{option_map_or}
-use Rattle.tocmark_read_scan.specs.Basic.{plus, byte_at, bytes_between, starts_at}
+use Rattle.tocmark_read_scan.specs.Basic.{plus, starts_at}
 use Rattle.tocmark_read_scan.specs.declared.syntax.Syntax.{Syntax}
-use Rattle.tocmark_read_scan.proofs.PlainTests.{eq_of, turned}
+use Rattle.tocmark_read_scan.proofs.PlainTests.{eq_of}
 use Rattle.tocmark_read_tokens.specs.Notes.{note_label}
 use Rattle.tocmark_read_lines.specs.Cells.{cell, bytes_of, cell_byte, cell_place, run_of, count_of, moved}
 use Rattle.tocmark_read_lines.specs.Containers.{container_at, container_in, item_at}
 use Rattle.tocmark_read_lines.specs.DefinitionLists.{begins_definition, definition_start}
-use Rattle.tocmark_read_lines.specs.Html.{html_kind}
 use Rattle.tocmark_read_lines.specs.Marks.{is_rule, is_rule_byte, marker_at, bullet_at, ordered_at, digit_count, is_behind, heading_at, fence_at, is_fence_byte, underline_at, is_underline_byte, tail_of, tail_length}
 use Rattle.tocmark_read_lines.specs.Notes.{note_at, note_start}
 use Rattle.tocmark_read_lines.specs.declared.beginnings.Tail.{Tail}

@@ -62,6 +62,7 @@ pub mod InkAtColumn
 pub mod ListBlocks
 pub mod ListReading
 pub mod BulletReading
+pub mod OrderedReading
 pub mod QuoteBlocks
 pub mod QuoteReading
 mod ConstructExamples

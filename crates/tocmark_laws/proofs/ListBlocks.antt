@@ -1,5 +1,5 @@
 -- The blocks of a tight list of one-line items.
-use Rattle.std.proofs.Common.{◌≡◌, ℕ, zero, suc, ◌+◌, ◌-◌, ◌^◌, ◌<◌, ◌≤◌, min, max, Bool, true, false, not, ◌==◌, ◌&&◌, ◌||◌, if◌then◌else◌, nat_lt, nat_le, List, [], ◌∷◌, ◌++◌, length, map, drop, slice_get, slice_set, refl, ap, sym, subst, ◌∙◌, arith, append_assoc, append-nil, length-append, Option, None, Some}
+use Rattle.std.proofs.Common.{◌≡◌, ℕ, suc, ◌+◌, ◌-◌, ◌^◌, ◌<◌, ◌≤◌, max, Bool, true, false, ◌==◌, if◌then◌else◌, nat_lt, nat_le, List, [], ◌∷◌, ◌++◌, length, map, slice_get, slice_set, refl, ap, sym, subst, ◌∙◌, arith, append_assoc, append-nil, length-append, Option, None, Some}
 use Rattle.std.proofs.Math.Seq.{take-length}
 use Rattle.std.proofs.lemmas.Bool.Decides.{nat_tests}
 use Rattle.std.specs.Char.{is_ascii_alphabetic}
@@ -11,11 +11,10 @@ use Rattle.tocmark_read_scan.proofs.PlainPieces.{drop_behind, piece_between}
 use Rattle.tocmark_read_scan.proofs.PlainTests.{turned}
 use Rattle.tocmark_read_scan.proofs.Repeats.{repeated_more, repeated_stop}
 use Rattle.tocmark_read_lines.specs.Cells.{cells_of, cell_byte, cell_place, first_cursor, moved}
-use Rattle.tocmark_read_lines.specs.Containers.{container_at, container_in, going_on, item_goes_on, matched, passed, stopped, raised, raised_at, is_empty_item}
-use Rattle.tocmark_read_lines.specs.Lines.{lines_of, line}
+use Rattle.tocmark_read_lines.specs.Containers.{container_at, container_in, going_on, item_goes_on, matched, passed, stopped, raised, raised_at}
+use Rattle.tocmark_read_lines.specs.Lines.{line}
 use Rattle.tocmark_read_lines.specs.Marks.{tail_of}
 use Rattle.tocmark_read_lines.specs.Notes.{note_at}
-use Rattle.tocmark_read_lines.specs.declared.beginnings.Tail.{Tail}
 use Rattle.tocmark_read_lines.specs.declared.cell.Cell.{Cell}
 use Rattle.tocmark_read_lines.specs.declared.cell.Cursor.{Cursor}
 use Rattle.tocmark_read_lines.specs.declared.container.Container.TheVariants as container
@@ -39,11 +38,10 @@ use Rattle.tocmark_read_constructs.specs.Metadata.{known_of, metadata_in, is_fro
 use Rattle.tocmark_read_constructs.specs.Quotes.{quote_kind_in, is_new_quote, is_first_line, tag_in}
 use Rattle.tocmark_read_constructs.specs.Tables.{may_delimit, delimiters_taken, header_of}
 use Rattle.tocmark_read_constructs.specs.Tasks.{task_in, box_at}
-use Rattle.tocmark_read_blocks.specs.Blocks.{BlocksView, blocks_in, page_in, start_or, leaf_started_in, started_in, started_at_in, tabled_in, tabled_as, noted, is_lazy, passed_in, turn_in, turn_of, touched, taken_at_in, turn_taken_in, cells_taken_in, line_taken_in}
+use Rattle.tocmark_read_blocks.specs.Blocks.{BlocksView, blocks_in, page_in, start_or, leaf_started_in, started_in, started_at_in, tabled_in, tabled_as, is_lazy, passed_in, turn_in, turn_of, touched, taken_at_in, turn_taken_in, cells_taken_in, line_taken_in}
 use Rattle.tocmark_read_blocks.specs.Containers.{container_once_in, containers_opened_in, goes_directly, begun_at, item_opened, list_started, is_in_list}
 use Rattle.tocmark_read_blocks.specs.Leaves.{leaf_at, leaf_turn, metadata_or, task_or, quote_kind_or, tag_or}
 use Rattle.tocmark_read_blocks.specs.Paragraphs.{text_taken, text_started}
-use Rattle.tocmark_read_blocks.specs.declared.leaf.LeafStart.{LeafStart}
 use Rattle.tocmark_read_blocks.specs.declared.leaf.LeafStart.TheVariants as start
 use Rattle.tocmark_read_blocks.specs.declared.leaf.Turn.TheVariants as turn
 use Rattle.tocmark_read_blocks.proofs.PlainLines.{IsWithin, cells_within, numbered}

@@ -1,9 +1,8 @@
 -- Lines of words behind marks of one sort are read as a tight list.
-use Rattle.std.proofs.Common.{◌≡◌, ℕ, zero, suc, ◌+◌, ◌-◌, ◌^◌, ◌<◌, ◌≤◌, min, Bool, true, false, not, ◌==◌, ◌&&◌, ◌||◌, if◌then◌else◌, nat_lt, nat_le, List, [], ◌∷◌, ◌++◌, length, map, take, drop, reverse, refl, ap, sym, subst, ◌∙◌, arith, append_assoc, append-nil, length-append, Option, None, Some, inl, true≢false}
+use Rattle.std.proofs.Common.{◌≡◌, ℕ, suc, ◌+◌, ◌-◌, ◌^◌, ◌<◌, ◌≤◌, Bool, true, false, if◌then◌else◌, nat_le, List, [], ◌∷◌, ◌++◌, length, map, refl, ap, sym, subst, ◌∙◌, arith, append_assoc, append-nil, length-append, Option, inl}
 use Rattle.std.proofs.lemmas.Bool.Decides.{nat_tests}
 use Rattle.std.proofs.lemmas.List.Sums.{fold-append}
-use Rattle.std.specs.Char.{is_ascii_alphabetic}
-use Rattle.std.specs.List.{AllByRecursion, fold, list_all}
+use Rattle.std.specs.List.{AllByRecursion, fold}
 use Rattle.tocmark_event.specs.Merged.{merged}
 use Rattle.tocmark_event.specs.View.{EventView, Start, End, Leaf, TagView, Item, ListOf, Text, end_of as tag_end}
 use Rattle.tocmark_event.specs.declared.event.TagEnd.TheVariants as end
@@ -17,7 +16,7 @@ use Rattle.tocmark_read_scan.proofs.PlainContent.{places_of}
 use Rattle.tocmark_read_scan.proofs.PlainPieces.{drop_behind, piece_between}
 use Rattle.tocmark_read_page.specs.declared.page.Block.{Block}
 use Rattle.tocmark_read_page.specs.declared.piece.Piece.{Piece}
-use Rattle.tocmark_read_blocks.specs.Blocks.{BlocksView, blocks_in}
+use Rattle.tocmark_read_blocks.specs.Blocks.{BlocksView}
 use Rattle.tocmark_read_spans.specs.Definitions as defs
 use Rattle.tocmark_read_spans.specs.declared.definitions.Entry.{Entry}
 use Rattle.tocmark_read_inlines.specs.Inlines as inlines
@@ -37,14 +36,14 @@ use Rattle.tocmark_reader.specs.Reading.{FoundView, collected_in, collected_from
 use Rattle.tocmark_reader.specs.declared.emit.Open.{Open}
 use Rattle.tocmark_reader.proofs.FormulaLines.{one_line}
 use Rattle.tocmark_reader.proofs.PlainEvents.{Marked, unplaced, source_of}
-use Rattle.tocmark_reader.proofs.PlainSources.{IsClean, AreClean, all_implied, source_between}
+use Rattle.tocmark_reader.proofs.PlainSources.{AreClean, all_implied, source_between}
 use Rattle.tocmark_reader.proofs.PlacedParts.{parts_inlines_at}
 use Rattle.tocmark_reader.proofs.QuietContent.{IsQuietLine, content_of_quiet}
 use Rattle.tocmark_reader.proofs.QuietInlines.{IsTextOrFeed, read_alike}
 use Rattle.tocmark_laws.specs.Extensions.{lined}
 use Rattle.tocmark_laws.specs.PlainLists.{items_events}
 use Rattle.tocmark_laws.proofs.AttributedHeadings.{text_and_some, nodes_on}
-use Rattle.tocmark_laws.proofs.ExtensionParagraphs.{found_with, found_from, no_inlines, last_of, no_returns}
+use Rattle.tocmark_laws.proofs.ExtensionParagraphs.{found_from, no_inlines, last_of, no_returns}
 use Rattle.tocmark_laws.proofs.ListBlocks.{list_block, item_block, text_block, ended_item, ItemLine, item_bytes, AreItems, end_of, piece_at, items_blocks, items_pieces, list_blocks}
 use Rattle.tocmark_laws.proofs.TableNodes.{so_far, container}
 use Rattle.tocmark_laws.proofs.TableReading.{closed_again, unplaced_both}

@@ -1,5 +1,5 @@
 -- The blocks of a quote of a paragraph.
-use Rattle.std.proofs.Common.{◌≡◌, ℕ, zero, suc, ◌+◌, ◌-◌, ◌^◌, ◌<◌, ◌≤◌, min, max, Bool, true, false, not, ◌==◌, ◌&&◌, ◌||◌, if◌then◌else◌, nat_lt, nat_le, bytes_eq, List, [], ◌∷◌, ◌++◌, length, map, take, drop, slice_get, refl, ap, sym, subst, ◌∙◌, arith, append_assoc, append-nil, length-append, Option, None, Some, ◌⊎◌, inl, inr, codes}
+use Rattle.std.proofs.Common.{◌≡◌, ℕ, zero, suc, ◌+◌, ◌-◌, ◌^◌, ◌<◌, ◌≤◌, max, Bool, true, false, ◌==◌, if◌then◌else◌, nat_lt, nat_le, List, [], ◌∷◌, ◌++◌, length, map, take, refl, ap, sym, ◌∙◌, arith, append_assoc, append-nil, length-append, Option, None, Some, ◌⊎◌, inl, inr}
 use Rattle.std.proofs.Math.Seq.{take-length}
 use Rattle.std.proofs.lemmas.Bool.Decides.{nat_tests}
 use Rattle.std.specs.Char.{is_ascii_alphabetic, to_ascii_lowercase}
@@ -11,13 +11,12 @@ use Rattle.tocmark_read_scan.proofs.PlainContent.{byte_behind}
 use Rattle.tocmark_read_scan.proofs.PlainPieces.{piece_between}
 use Rattle.tocmark_read_scan.proofs.PlainTests.{turned}
 use Rattle.tocmark_read_scan.proofs.Repeats.{repeated_more, repeated_stop}
-use Rattle.tocmark_read_lines.specs.Cells.{cells_of, cell_byte, cell_place, first_cursor, moved, run_of}
-use Rattle.tocmark_read_lines.specs.Containers.{container_at, container_in, going_on, after_quote, matched, passed, stopped, raised, raised_at}
+use Rattle.tocmark_read_lines.specs.Cells.{cells_of, cell_place, first_cursor, moved}
+use Rattle.tocmark_read_lines.specs.Containers.{container_at, container_in, going_on, after_quote, matched, passed, raised, raised_at}
 use Rattle.tocmark_read_lines.specs.Html.{same_word, html_kind}
-use Rattle.tocmark_read_lines.specs.Lines.{lines_of, line}
+use Rattle.tocmark_read_lines.specs.Lines.{line}
 use Rattle.tocmark_read_lines.specs.Marks.{tail_of}
 use Rattle.tocmark_read_lines.specs.declared.cell.Cell.{Cell}
-use Rattle.tocmark_read_lines.specs.declared.cell.Cursor.{Cursor}
 use Rattle.tocmark_read_lines.specs.declared.container.Container.TheVariants as container
 use Rattle.tocmark_read_lines.specs.declared.container.ContainerStart.TheVariants as begins
 use Rattle.tocmark_read_lines.specs.declared.container.Opened.{Opened}
@@ -36,14 +35,13 @@ use Rattle.tocmark_read_page.specs.declared.page.HeaderLine.TheVariants.{Never}
 use Rattle.tocmark_read_page.specs.declared.piece.Piece.{Piece}
 use Rattle.tocmark_read_constructs.specs.Blanks.{trailing_blanks}
 use Rattle.tocmark_read_constructs.specs.Metadata.{known_of, metadata_in, is_front}
-use Rattle.tocmark_read_constructs.specs.Quotes.{quote_opened, quote_kind_in, quote_kind_of, kind_named, is_new_quote, tag_in}
+use Rattle.tocmark_read_constructs.specs.Quotes.{quote_opened, quote_kind_in, quote_kind_of, kind_named, tag_in}
 use Rattle.tocmark_read_constructs.specs.Tables.{may_delimit, delimiters_taken, header_of, is_delimiter_row}
 use Rattle.tocmark_read_constructs.specs.Tasks.{task_in, box_at}
-use Rattle.tocmark_read_blocks.specs.Blocks.{BlocksView, blocks_in, page_in, start_or, leaf_started_in, started_in, started_at_in, tabled_in, tabled_as, noted, is_lazy, passed_in, turn_in, turn_of, touched, taken_at_in, turn_taken_in, cells_taken_in, line_taken_in}
+use Rattle.tocmark_read_blocks.specs.Blocks.{BlocksView, blocks_in, page_in, start_or, leaf_started_in, started_in, started_at_in, tabled_in, tabled_as, is_lazy, passed_in, turn_in, turn_of, touched, taken_at_in, turn_taken_in, cells_taken_in, line_taken_in}
 use Rattle.tocmark_read_blocks.specs.Containers.{container_once_in, containers_opened_in, goes_directly, begun_at}
 use Rattle.tocmark_read_blocks.specs.Leaves.{leaf_at, leaf_turn, metadata_or, task_or, quote_kind_or, tag_or}
 use Rattle.tocmark_read_blocks.specs.Paragraphs.{text_taken, text_started}
-use Rattle.tocmark_read_blocks.specs.declared.leaf.LeafStart.{LeafStart}
 use Rattle.tocmark_read_blocks.specs.declared.leaf.LeafStart.TheVariants as start
 use Rattle.tocmark_read_blocks.specs.declared.leaf.Turn.TheVariants as turn
 use Rattle.tocmark_read_blocks.proofs.PlainLines.{IsWithin, cells_within, numbered}
@@ -55,7 +53,7 @@ use Rattle.tocmark_laws.proofs.ExtensionBlocks.{never, here, no_definition, no_n
 use Rattle.tocmark_laws.proofs.ExtensionParagraphs.{free_note, free_row, free_html}
 use Rattle.tocmark_laws.proofs.FrontMatterBlocks.{IsLineText, lines_split}
 use Rattle.tocmark_laws.proofs.InkAtColumn.{StandsAt, at_column, stands_at, letter_opens_none, letter_begins_text, moved_to, place_numbered, piece_there}
-use Rattle.tocmark_laws.proofs.WordsReading.{quiet_letter, free_letter}
+use Rattle.tocmark_laws.proofs.WordsReading.{free_letter}
 
 -- ---- blocks and pages
 

@@ -1,20 +1,17 @@
 -- Lines of words behind `> ` are read as a quote of a paragraph.
-use Rattle.std.proofs.Common.{◌≡◌, ℕ, zero, suc, ◌+◌, ◌-◌, ◌^◌, ◌<◌, ◌≤◌, Bool, true, false, ◌==◌, if◌then◌else◌, nat_lt, nat_le, List, [], ◌∷◌, ◌++◌, length, map, replicate, slice_get, refl, ap, sym, subst, ◌∙◌, arith, append_assoc, append-nil, length-append, Option, None, Some, true≢false}
+use Rattle.std.proofs.Common.{◌≡◌, ℕ, zero, suc, ◌+◌, ◌-◌, ◌^◌, ◌<◌, ◌≤◌, Bool, true, false, ◌==◌, if◌then◌else◌, nat_lt, nat_le, List, [], ◌∷◌, ◌++◌, length, map, slice_get, refl, ap, sym, subst, ◌∙◌, arith, append_assoc, append-nil, length-append, Option, None, Some}
 use Rattle.std.proofs.lemmas.Bool.Decides.{nat_tests}
 use Rattle.std.specs.List.{AllByRecursion, fold, list_all, list_any}
 use Rattle.tocmark_event.specs.Merged.{merged}
-use Rattle.tocmark_event.specs.View.{EventView, Start, End, Leaf, TagView, BlockQuote, Paragraph, Text, end_of as tag_end}
+use Rattle.tocmark_event.specs.View.{EventView, Start, End, Leaf, TagView, BlockQuote, Paragraph, Text}
 use Rattle.tocmark_event.specs.declared.event.TagEnd.TheVariants as end
 use Rattle.tocmark_read_scan.specs.Basic.{bytes_between}
-use Rattle.tocmark_read_scan.specs.Class.{is_in}
 use Rattle.tocmark_read_scan.specs.Content as content
-use Rattle.tocmark_read_scan.specs.declared.class.Class.TheVariants.{White}
 use Rattle.tocmark_read_scan.specs.declared.content.ContentLine.{ContentLine}
 use Rattle.tocmark_read_scan.specs.declared.syntax.Syntax.{Syntax}
 use Rattle.tocmark_read_scan.proofs.PlainContent.{places_of, put_bytes_plain, get_behind, trimmed_feed, length_places}
 use Rattle.tocmark_read_scan.proofs.PlainPieces.{AreNoZeros, piece_between}
 use Rattle.tocmark_read_scan.proofs.PlainTests.{all_from}
-use Rattle.tocmark_read_page.specs.declared.page.Block.{Block}
 use Rattle.tocmark_read_page.specs.declared.piece.Piece.{Piece}
 use Rattle.tocmark_read_blocks.specs.Blocks.{BlocksView, blocks_in}
 use Rattle.tocmark_read_blocks.proofs.PlainLines.{IsWithin}
@@ -39,15 +36,15 @@ use Rattle.tocmark_reader.specs.declared.emit.Open.{Open}
 use Rattle.tocmark_reader.proofs.FormulaLines.{one_line, bare_lines}
 use Rattle.tocmark_reader.proofs.PlainEvents.{Marked, unplaced, source_of, leaf_event, viewed}
 use Rattle.tocmark_reader.proofs.PlainReading.{IsPrintable}
-use Rattle.tocmark_reader.proofs.PlainSources.{IsClean, AreClean, all_front, all_implied, source_between}
+use Rattle.tocmark_reader.proofs.PlainSources.{IsClean, AreClean, all_implied, source_between}
 use Rattle.tocmark_laws.specs.Extensions.{lined, is_word_line}
 use Rattle.tocmark_laws.specs.HardBreaks.{LineEnd, Softly, ByBackslash, BySpaces, NextLine, end_bytes, break_of, broken_text, broken_lines, lines_behind}
 use Rattle.tocmark_laws.specs.PlainQuotes.{quoted_text, quoted_paragraph}
-use Rattle.tocmark_laws.proofs.BreakReading.{lines_scanned, clean_text, ends_in_ink, end_shown, words_shown, merged_break, inlines_with}
+use Rattle.tocmark_laws.proofs.BreakReading.{lines_scanned, ends_in_ink, end_shown, words_shown, merged_break, inlines_with}
 use Rattle.tocmark_laws.proofs.BreakRoles.{leaf_of_end, width_of, line_roles, line_nodes, write_lines}
-use Rattle.tocmark_laws.proofs.ExtensionParagraphs.{found_with, found_from, whole_pieces, no_inlines, within_byte, clean_byte, clean_feed, no_returns}
-use Rattle.tocmark_laws.proofs.QuoteBlocks.{QuoteLine, quoted_bytes, IsQuoteLine, AreQuoteLines, quote_block, inner_block, quote_blocks, end_of, piece_at, quote_pieces, quote_is_read}
-use Rattle.tocmark_laws.proofs.WordsReading.{IsWordByte, IsWordLine, AreWords, words_from}
+use Rattle.tocmark_laws.proofs.ExtensionParagraphs.{found_from, whole_pieces, no_inlines, within_byte, clean_byte, clean_feed, no_returns}
+use Rattle.tocmark_laws.proofs.QuoteBlocks.{QuoteLine, quoted_bytes, IsQuoteLine, AreQuoteLines, inner_block, quote_blocks, end_of, piece_at, quote_pieces, quote_is_read}
+use Rattle.tocmark_laws.proofs.WordsReading.{AreWords, words_from}
 
 abbrev AreLines : List ℕ → List NextLine → Type 0
 AreLines l ms = AllByRecursion AreWords (l ∷ lines_behind ms)

@@ -18,4 +18,5 @@ pub mod PlainTables
 pub mod LiteralLabels
 pub mod HardBreaks
 pub mod PlainLists
+pub mod OrderedLists
 pub mod PlainQuotes

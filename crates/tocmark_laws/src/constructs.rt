@@ -5,6 +5,7 @@
 //! characters, from U+0020 to U+007E, is a mark.
 
 ghost use Rattle.tocmark_laws.specs.HardBreaks.{BreaksAreRead};
+ghost use Rattle.tocmark_laws.specs.OrderedLists.{OrderedListsAreRead};
 ghost use Rattle.tocmark_laws.specs.PlainLists.{BulletListsAreRead};
 ghost use Rattle.tocmark_laws.specs.PlainQuotes.{QuotesAreRead};
 
@@ -18,6 +19,12 @@ pub fn hard_breaks_are_read()
 /// list without numbers, with an item for each line.
 pub fn bullet_lists_are_read()
     ensures { BulletListsAreRead }
+{}
+
+/// Under every syntax, lines of words that each stand behind a digit, `.` or `)` for all of them, and a space, as
+/// `3. two words`, are a tight list with an item for each line. The first digit is its number, and the others may be any.
+pub fn ordered_lists_are_read()
+    ensures { OrderedListsAreRead }
 {}
 
 /// Under every syntax, lines of words that each stand behind `> ` are a quote without a kind, of one paragraph with a

@@ -1,8 +1,8 @@
 //! Laws of what is handed, each the contract of a function that does nothing: of the walk over events (`walk`), of
 //! single blocks (`blocks`), of whole documents of plain lines that are read back (`documents`), of what calls count
 //! (`counts`), of the line feeds that end what is written (`feeds`), of units that read back (`written`), and of why a
-//! unit has no spelling (`misplaced_nodes`). Beside them stand laws of what is read: of texts with one construct of an
-//! extension (`extensions`).
+//! unit has no spelling (`misplaced_nodes`). Beside them stand laws of what is read: of texts with one construct of
+//! CommonMark (`constructs`) or of an extension (`extensions`).
 //!
 //! Below it stand `tocmark_state` and `tocmark_reader`, above it the library, for the words of its clauses.
 #![tactic(auto)]
