@@ -207,11 +207,11 @@ fold_front text es (n ∷ ns) w =
     ap (λ x. fold (step text) x ns) first ∙ fold_front text es ns (step text w n)
 
 -- events that are handed out stand in front of those that are made behind them
-handed_first : (text : List ℕ) (es : List Marked) (nodes : List NodeView) → (closed 0 (fold (step text) (writing [] es) nodes)).events ≡ es ++ (closed 0 (fold (step text) (writing [] []) nodes)).events
-handed_first text es nodes =
-    ap (λ l. (closed 0 (fold (step text) (writing [] l) nodes)).events) (sym (append-nil es))
-    ∙ ap (λ w. (closed 0 w).events) (fold_front text es nodes (writing [] []))
-    ∙ ap (λ (w : Writing). w.events) (closed_front es 0 (fold (step text) (writing [] []) nodes))
+handed_first : (text : List ℕ) (stack : List Open) (es : List Marked) (nodes : List NodeView) → (closed 0 (fold (step text) (writing stack es) nodes)).events ≡ es ++ (closed 0 (fold (step text) (writing stack []) nodes)).events
+handed_first text stack es nodes =
+    ap (λ l. (closed 0 (fold (step text) (writing stack l) nodes)).events) (sym (append-nil es))
+    ∙ ap (λ w. (closed 0 w).events) (fold_front text es nodes (writing stack []))
+    ∙ ap (λ (w : Writing). w.events) (closed_front es 0 (fold (step text) (writing stack []) nodes))
 
 -- the same reading with other events written
 abbrev with_emission : BlockReading → Emission → BlockReading
@@ -222,14 +222,13 @@ abbrev pub nodes_left : BlockReading → State
 nodes_left r = some_taken r.syntax r.text (entry_of r.definitions) r.blocks.items r.pieces.items (drop r.place r.blocks.items) (no_nodes (inlines.inlines_view r.assembly.inlines))
 
 -- the events that are made are handed out: those that are left come behind them
-pub handed : (r : BlockReading) (e : Emission) → r.assembly.emission.stack.items ≡ [] → emission_view e ≡ writing [] [] → reading_left r ≡ behind (map shown r.assembly.emission.events.items) (reading_left (with_emission r e))
-handed r e none empty =
+pub handed : (r : BlockReading) (e : Emission) → emission_view e ≡ writing r.assembly.emission.stack.items [] → reading_left r ≡ behind (map shown r.assembly.emission.events.items) (reading_left (with_emission r e))
+handed r e empty =
     let es : List Marked = map shown r.assembly.emission.events.items in
     let text : List ℕ = r.text in
     let nodes : List NodeView = (nodes_left r).nodes in
     ap (λ (l : List Marked). shows r l)
-    (ap (λ (s : List Open). (closed 0 (fold (step text) (writing s es) nodes)).events) none
-    ∙ handed_first text es nodes
+    (handed_first text r.assembly.emission.stack.items es nodes
     ∙ ap (λ (w : Writing). es ++ (closed 0 (fold (step text) w nodes)).events) (sym empty))
   where
     shows : BlockReading → List Marked → ReadingView

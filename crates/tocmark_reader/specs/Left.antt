@@ -73,6 +73,10 @@ pub record IsHandable (r : BlockReading) : Type 0 where
   pub closed : r.assembly.emission.stack.items ≡ []
   pub last : is_empty r ≡ true → drop r.place r.blocks.items ≡ []
 
+-- some events are made, or none are to come
+abbrev pub IsReady : BlockReading → Type 0
+IsReady r = is_empty r ≡ true → IsHandable r
+
 -- no container is open, and all events that are made are handed out
 pub record IsBetweenTrees (r : BlockReading) : Type 0 where
   pub events : r.assembly.emission.events.items ≡ []

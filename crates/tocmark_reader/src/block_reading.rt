@@ -1,9 +1,9 @@
 //! Reading block by block.
 
-ghost use Rattle.std.specs.Prelude.{◌≡◌, ◌+◌, ◌<◌, length, IfNone, IfOk, IfSome, IsErr, OnErr, OnOk, map};
+ghost use Rattle.std.specs.Prelude.{◌≡◌, ◌+◌, ◌<◌, false, length, true, IfNone, IfOk, IfSome, IsErr, OnErr, OnOk, map};
 ghost use Rattle.tocmark_event.specs.Forest.{IsBalanced};
 ghost use Rattle.tocmark_event.specs.Reading.{reading_view};
-ghost use Rattle.tocmark_reader.specs.Left.{HasFailed, IsAtEnd, IsBetweenTrees, IsHandable, IsPart, begins_tree, goes_on, has_events, is_at_tree, reading_left};
+ghost use Rattle.tocmark_reader.specs.Left.{HasFailed, IsAtEnd, IsBetweenTrees, IsHandable, IsPart, IsReady, begins_tree, goes_on, has_events, is_at_tree, reading_left};
 
 use crate::block_events::{Assembly, Document, is_unwrapped};
 use crate::searched::SearchedText;
@@ -50,6 +50,9 @@ const FEW: usize = 7;
 
 /// How many events fit into the greatest room that is made before there are any.
 const MANY: usize = 64;
+
+/// How many events of a tree are enough for a part of it.
+const STRETCH: usize = 64;
 
 /// How many events so many bytes are likely to have, as far as room is made for them at once.
 fn likely_events(bytes: usize) -> usize {
@@ -129,11 +132,11 @@ impl BlockReading<'_> {
         Ok(())
     }
 
-    /// How many events the next tree is likely to have.
+    /// How many events the next tree is likely to have, or the next part of it.
     fn likely_in_tree(&self) -> usize {
         let mut all = 0usize;
         for block in self.blocks.get(self.place..).unwrap_or(&[]) {
-            if all > 0 && begins_tree(*block) {
+            if all >= STRETCH || (all > 0 && begins_tree(*block)) {
                 break;
             }
             all = all.saturating_add(likely_in_block(*block));
@@ -155,12 +158,40 @@ impl BlockReading<'_> {
         self.assembly.emission.close_to(0)
     }
 
+    /// Ends all containers, unless the next block belongs to the events that are made.
+    #[tactic(auto, using(crate::proofs::BlocksLeft::tree_ended))]
+    fn end_tree(&mut self) -> Result<(), AllocError>
+        ensures left { OnOk result (reading_left self.new ≡ reading_left self.old) }
+        ensures whole { goes_on self.old ≡ false → OnOk result (IsHandable self.new) }
+        ensures more { goes_on self.old ≡ true → self.new ≡ self.old }
+    {
+        if self.goes_on() {
+            Ok(())
+        } else {
+            self.assembly.emission.close_to(0)
+        }
+    }
+
+    /// Makes events up to the end of a tree, or enough for a part of it.
+    fn take_some(&mut self) -> Result<(), AllocError>
+        ensures left { OnOk result (reading_left self.new ≡ reading_left self.old) }
+        ensures ready { OnOk result (IsReady self.new) }
+    {
+        let room = self.likely_in_tree();
+        self.assembly.emission.events.reserve(room)?;
+        while self.goes_on() && self.assembly.emission.events.len() < STRETCH {
+            self.take()?;
+        }
+        self.end_tree()
+    }
+
     /// Gives back the room of the blocks where none is left: whoever takes the last events may need it.
     /// One stays: where a large list is let go of whole, the C library takes room for such lists from
     /// its heap from then on, and copies each as it grows.
     fn let_go_of_blocks(&mut self)
         ensures left { reading_left self.new ≡ reading_left self.old }
         ensures whole { IsHandable self.old → IsHandable self.new }
+        ensures ready { IsReady self.old → IsReady self.new }
     {
         if self.blocks.len() <= self.place {
             self.blocks.truncate(1);
@@ -172,9 +203,9 @@ impl BlockReading<'_> {
 
     /// Gives away the events that are made, if there are any.
     fn hand_out(&mut self) -> Option<Reading>
-        ensures some { IsHandable self.old → IfSome result (λ block.
-            IsPart (reading_view block) (reading_left self.old) (reading_left self.new)) }
-        ensures none { IsHandable self.old → IfNone result
+        ensures some { IfSome result (λ part.
+            IsPart (reading_view part) (reading_left self.old) (reading_left self.new)) }
+        ensures none { IsReady self.old → IfNone result
             (IsAtEnd (reading_left self.old) (reading_left self.new)) }
         ensures between { IsHandable self.old → IsBetweenTrees self.new }
     {
@@ -239,6 +270,32 @@ impl BlockReading<'_> {
                 Err(error)
             }
         }
+    }
+
+    /// The next events of the reading, some of those that are left, and no labels. `None` says that no
+    /// events are left.
+    ///
+    /// A part is what `next` would hand out, but a large list or table comes in several parts, so that its
+    /// events aren't in memory all at once. Such a part may begin and end within containers.
+    ///
+    /// If memory runs out, what was handed out before stays with the caller, and every later call answers
+    /// an `Err`.
+    pub fn next_events(&mut self) -> Result<Option<Reading>, AllocError>
+        ensures some { IfOk result (λ found. IfSome found (λ part.
+            IsPart (reading_view part) (reading_left self.old) (reading_left self.new))) }
+        ensures none { IfOk result (λ found. IfNone found
+            (IsAtEnd (reading_left self.old) (reading_left self.new))) }
+        ensures failed { OnErr result (HasFailed self.new) }
+        ensures after { HasFailed self.old → IsErr result }
+    {
+        if self.failed {
+            return Err(AllocError);
+        }
+        let made = self.take_some();
+        self.failed = made.is_err();
+        made?;
+        self.let_go_of_blocks();
+        Ok(self.hand_out())
     }
 
     /// All that `next` didn't hand out, at once: the events that are left, and the labels of the whole

@@ -13,16 +13,16 @@ use Rattle.tocmark_reader.proofs.block_reading.BlockReading.hand_out.Goals as go
 pub returns-then-is_empty-clause-none : goal.returns-then-is_empty-clause-none
 returns-then-is_empty-clause-none c h =
     let empty : is_empty c.args.self.now ≡ true = search rules in
-    record { events = none_left c.args.self.now h empty; same = refl }
+    record { events = none_left c.args.self.now (h empty) empty; same = refl }
 
 pub returns-clause-some : goal.returns-clause-some
-returns-clause-some c h =
+returns-clause-some c =
     let r : BlockReading = c.args.self.now in
     let some : (length r.assembly.emission.events.items == 0) ≡ false = search rules in
     let left : Emission = record { events = c.new.result; stack = r.assembly.emission.stack } in
-    let none : emission_view left ≡ writing [] [] = ap (λ s. writing s (map shown c.new.result.items)) h.closed ∙ ap (λ l. writing [] (map shown l)) c.new.ensures.items in
+    let none : emission_view left ≡ writing r.assembly.emission.stack.items [] = ap (λ l. writing r.assembly.emission.stack.items (map shown l)) c.new.ensures.items in
     rw (c.replace.ensures.value, c.replace.ensures.after) (record {
-      first = handed r left h.closed none;
+      first = handed r left none;
       some = some_shown r.assembly.emission.events.items some;
       defined = ap (map string_bytes) c.new-2.ensures.items;
       unresolved = ap (map string_bytes) c.new-3.ensures.items;
