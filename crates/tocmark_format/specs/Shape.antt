@@ -1,5 +1,5 @@
 -- The shape of a document: which blocks begin and end in it, without texts and inlines.
-use Rattle.std.specs.Prelude.{ℕ, ◌≡◌, if◌then◌else◌, List, [], ◌∷◌, ◌++◌, map, Option, Some}
+use Rattle.std.specs.Prelude.{ℕ, ◌≡◌, if◌then◌else◌, List, [], ◌∷◌, ◌++◌, map, Some}
 use Rattle.std.specs.List.{All}
 use Rattle.tocmark_event.specs.Reading.{ReadingView}
 use Rattle.tocmark_event.specs.View.{EventView, Start, End, Leaf, Rule, end_of}
@@ -28,14 +28,6 @@ has_same_shape one other = shape (found_events one) ≡ shape (found_events othe
 abbrev pub HaveSameShapes : (List ℕ → ParserOptions → ReadingView) → List ParserOptions → List ℕ → List ℕ → Type 0
 HaveSameShapes reading also one other = All (λ flags. has_same_shape (reading one flags) (reading other flags)) also
 
--- what the marks of an outline say
-abbrev pub drawn : Outline → List (Option EventView)
-drawn o = map marked o.marks.items
-
 -- an outline has the shape of these events
 abbrev pub Outlines : Outline → List EventView → Type 0
-Outlines o events = drawn o ≡ map Some (shape events)
-
--- outlines have the shapes of what a reader finds in a text, one under each of these flags
-abbrev pub OutlineUnder : (List ℕ → ParserOptions → ReadingView) → List ParserOptions → List ℕ → List Outline → Type 0
-OutlineUnder reading flags text outlines = map drawn outlines ≡ map (λ f. map Some (shape (found_events (reading text f)))) flags
+Outlines o events = map marked o.marks.items ≡ map Some (shape events)

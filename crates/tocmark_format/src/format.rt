@@ -1,13 +1,13 @@
 //! Formats a document: all of it is printed in one pass and read back; what is read otherwise is printed nearer to the source.
 
-ghost use Rattle.std.specs.Prelude.{◌≡◌, ℕ, IfOk, IfSome, IsTrue, List, map, string_bytes};
+ghost use Rattle.std.specs.Prelude.{◌≡◌, IfOk, IfSome, IsTrue, map, string_bytes};
 ghost use Rattle.std.specs.List.{All};
 ghost use Rattle.tocmark_compare.specs.Given.{found_events};
 ghost use Rattle.tocmark_event.specs.declared.event.flags.ParserOptions.{ParserOptions};
 ghost use Rattle.tocmark_format.specs.Alike.{AreAlike};
 ghost use Rattle.tocmark_format.specs.LinkDefinitions.{link_defined};
 ghost use Rattle.tocmark_format.specs.Same.{SaySame};
-ghost use Rattle.tocmark_format.specs.Shape.{HaveSameShapes, OutlineUnder, has_same_shape, Outlines};
+ghost use Rattle.tocmark_format.specs.Shape.{HaveSameShapes, has_same_shape, Outlines};
 ghost use Rattle.tocmark_format.specs.Summaries.{Sums, SumsFirst};
 
 use crate::answer::{Formatted, Left, Reason};
@@ -15,7 +15,7 @@ use crate::look::Look;
 use crate::part::{Part, Placed};
 use crate::parts::{PartReader, PartTaker};
 use crate::printer::{Block, Printer, Step};
-use crate::shape::{Outline, add_apart, are_same};
+use crate::shape::{Outline, add_apart};
 use crate::source::Source;
 use crate::style::Style;
 use crate::summary::{Summary, same_definitions};
@@ -258,20 +258,6 @@ impl Ladder {
     }
 }
 
-/// The blocks of a printed document that are others than in its source under other flags.
-fn blocks_apart(
-    alloc: Global,
-    blocks: &[Block],
-    old: &[Outline],
-    new: &[Outline],
-) -> Result<Vec<bool>, AllocError> {
-    let mut apart = Vec::new(alloc);
-    for (said, read) in old.iter().zip(new) {
-        add_apart(&mut apart, blocks, said, read)?;
-    }
-    Ok(apart)
-}
-
 /// What the lines of a text end with: what its first line feed ends with, or a carriage return if it has no line feed.
 fn line_ending(text: &str) -> &'static str {
     match text.find('\n') {
@@ -383,27 +369,48 @@ impl<R: PartReader> Formatter<'_, R> {
         Ok(outline)
     }
 
-    /// Which blocks the reader finds in a text under each of the other flags that are asked for.
-    fn outlines_of(&self, text: &str) -> Result<Vec<Outline>, AllocError>
-        ensures { IfOk result (λ outlines. OutlineUnder
-            (R.reading self.now.reader.now) self.now.also.now text.now outlines.items) }
+    /// Whether two texts have the same blocks under other flags.
+    fn have_same_shape(
+        &self,
+        one: &str,
+        other: &str,
+        flags: ParserOptions,
+    ) -> Result<bool, AllocError>
+        ensures { IfOk result (λ same. IsTrue same → has_same_shape
+            (R.reading self.now.reader.now one.now flags)
+            (R.reading self.now.reader.now other.now flags)) }
     {
-        let mut outlines = Vec::new(self.alloc);
-        for flags in self.also {
-            outlines.push(self.outline_of(text, *flags)?)?;
-        }
-        Ok(outlines)
+        let first = self.outline_of(one, flags)?;
+        let second = self.outline_of(other, flags)?;
+        Ok(first.is_same(&second))
     }
 
     /// Whether two texts have the same blocks under all other flags that are asked for.
-    #[tactic(auto, using(crate::proofs::Shapes::same_shapes))]
     fn have_same_shapes(&self, one: &str, other: &str) -> Result<bool, AllocError>
         ensures { IfOk result (λ same. IsTrue same → HaveSameShapes
             (R.reading self.now.reader.now) self.now.also.now one.now other.now) }
     {
-        let first = self.outlines_of(one)?;
-        let second = self.outlines_of(other)?;
-        Ok(are_same(&first, &second))
+        for flags in self.also {
+            if !self.have_same_shape(one, other, *flags)? {
+                return Ok(false);
+            }
+        }
+        Ok(true)
+    }
+
+    /// The blocks of a printed document that are others than in its source under other flags.
+    fn blocks_apart(
+        &self,
+        source: &Source<'_>,
+        printed: &Printed,
+    ) -> Result<Vec<bool>, AllocError> {
+        let mut apart = Vec::new(self.alloc);
+        for flags in self.also {
+            let old = self.outline_of(source.text, *flags)?;
+            let new = self.outline_of(printed.text.as_str(), *flags)?;
+            add_apart(&mut apart, &printed.blocks, &old, &new)?;
+        }
+        Ok(apart)
     }
 
     /// Whether the reader finds the same in two texts.
@@ -423,35 +430,34 @@ impl<R: PartReader> Formatter<'_, R> {
         }
     }
 
-    /// Whether a printed document reads as its source, where `old` and `new` are the outlines of both.
-    #[tactic(auto, using(crate::proofs::Shapes::same_shapes))]
+    /// Whether a printed document reads as its source.
     fn reads_as_source(
         &self,
+        source: &Source<'_>,
         printed: &Printed,
         back: &ReadBack,
-        old: &[Outline],
-        new: &[Outline],
-    ) -> bool
-        ensures { IsTrue result → (source : List ℕ)
+    ) -> Result<bool, AllocError>
+        ensures { IfOk result (λ same. IsTrue same
             → Sums printed.now.said (found_events
-            (R.reading self.now.reader.now source self.now.flags))
+            (R.reading self.now.reader.now source.now.text.now self.now.flags))
             → map link_defined printed.now.definitions.items
-            ≡ R.definitions self.now.reader.now source self.now.flags
-            → OutlineUnder (R.reading self.now.reader.now) self.now.also.now source old.now
+            ≡ R.definitions self.now.reader.now source.now.text.now self.now.flags
             → Sums back.now.says (found_events
             (R.reading self.now.reader.now (string_bytes printed.now.text) self.now.flags))
             → map link_defined back.now.definitions.items
             ≡ R.definitions self.now.reader.now (string_bytes printed.now.text) self.now.flags
-            → OutlineUnder (R.reading self.now.reader.now) self.now.also.now
-            (string_bytes printed.now.text) new.now
             → AreAlike
             self.now.style.wrap self.now.flags self.now.also.now
             (R.reading self.now.reader.now) (R.definitions self.now.reader.now)
-            (string_bytes printed.now.text) source }
+            (string_bytes printed.now.text) source.now.text.now) }
     {
-        back.says.is_same(&printed.said, self.style.wrap)
+        if back.says.is_same(&printed.said, self.style.wrap)
             && same_definitions(&back.definitions, &printed.definitions)
-            && are_same(new, old)
+        {
+            self.have_same_shapes(printed.text.as_str(), source.text)
+        } else {
+            Ok(false)
+        }
     }
 
     /// The document that reads as its source, if some round leads there.
@@ -462,17 +468,15 @@ impl<R: PartReader> Formatter<'_, R> {
             (string_bytes answer.text) source.now.text.now)) }
     {
         let mut ladder = Ladder::new(self.alloc, source.text)?;
-        let old = self.outlines_of(source.text)?;
         for _ in 0..ROUNDS {
             let printed = self.print(source, &ladder)?;
             let back = self.read_back(printed.text.as_str())?;
-            let new = self.outlines_of(printed.text.as_str())?;
-            if self.reads_as_source(&printed, &back, &old, &new) {
+            if self.reads_as_source(source, &printed, &back)? {
                 let left = ladder.left(self.alloc, source, &printed.blocks)?;
                 let Printed { text, .. } = printed;
                 return Ok(Some(Formatted { text, left }));
             }
-            let apart = blocks_apart(self.alloc, &printed.blocks, &old, &new)?;
+            let apart = self.blocks_apart(source, &printed)?;
             if !ladder.fall_all(self.alloc, &printed, &back, &apart)? {
                 return Ok(None);
             }

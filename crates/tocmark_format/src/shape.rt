@@ -6,7 +6,7 @@ ghost use Rattle.tocmark_event.specs.View.{End, EventView, Start, end_of, event_
 ghost use Rattle.tocmark_spelling.specs.Kinds.{is_inline_end, is_inline_tag};
 ghost use Rattle.tocmark_compare.specs.Digest.{marked, plain_start};
 ghost use Rattle.tocmark_compare.specs.Given.{given_events};
-ghost use Rattle.tocmark_format.specs.Shape.{Outlines, drawn, outlined};
+ghost use Rattle.tocmark_format.specs.Shape.{Outlines, outlined, shape};
 
 use crate::parts::PartTaker;
 use crate::printer::Block;
@@ -128,8 +128,9 @@ impl Outline {
     }
 
     /// Whether two texts have the same shape.
-    fn is_same(&self, other: &Outline) -> bool
-        ensures { IsTrue result → drawn self.now ≡ drawn other.now }
+    pub(crate) fn is_same(&self, other: &Outline) -> bool
+        ensures { IsTrue result → (one two : List EventView) → Outlines self.now one
+            → Outlines other.now two → shape one ≡ shape two }
     {
         self.marks.as_slice() == other.marks.as_slice()
     }
@@ -147,21 +148,6 @@ impl PartTaker for Outline {
     fn take(&mut self, _alloc: Global, part: &Reading) -> Result<(), AllocError> {
         self.add_all(&part.events)
     }
-}
-
-/// Whether texts have the same shapes as others, in the same order.
-pub(crate) fn are_same(one: &[Outline], other: &[Outline]) -> bool
-    ensures { IsTrue result → map drawn one.now ≡ map drawn other.now }
-{
-    if one.len() != other.len() {
-        return false;
-    }
-    for at in 0..one.len() {
-        if !one[at].is_same(&other[at]) {
-            return false;
-        }
-    }
-    true
 }
 
 /// Marks the blocks in which a printed text has another shape than its source.
