@@ -326,6 +326,7 @@ static void nulls(void) {
   expect(tocmark_write_checked((const uint8_t *)"[]", 2, NULL, 0, 0, NULL, 0, NULL, 0), 0, "no events");
   expect(tocmark_format(NULL, 0, 0, NULL, NULL, 0), 0, "no text in no style");
   expect(tocmark_format((const uint8_t *)"+  a", 4, 0, NULL, NULL, 0), 4, "a text in no style");
+  expect(tocmark_format_also((const uint8_t *)"+  a", 4, 0, NULL, 0, NULL, NULL, 0), 4, "a text under no other flags");
 }
 
 static ptrdiff_t formats(const char *text, struct tocmark_style style, const char *wanted) {
@@ -334,6 +335,19 @@ static ptrdiff_t formats(const char *text, struct tocmark_style style, const cha
   if (size >= 0 && ((size_t)size != strlen(wanted) || memcmp(out, wanted, (size_t)size) != 0))
     wrong("another text in a style", &(struct text){out, (size_t)size});
   return size;
+}
+
+/* A table right below text is a table of its own to GFM, and text to CommonMark. */
+static void other_syntaxes(void) {
+  static const char text[] = "a\n|b|\n|-|\n";
+  static const uint32_t also[] = {0};
+  uint8_t out[100];
+  ptrdiff_t size = tocmark_format((const uint8_t *)text, strlen(text), TOCMARK_GFM, NULL, out, sizeof out);
+  if (size < 3 || memcmp(out, "a\n\n", 3) != 0)
+    wrong("a table isn't parted from the text above it", NULL);
+  size = tocmark_format_also((const uint8_t *)text, strlen(text), TOCMARK_GFM, also, 1, NULL, out, sizeof out);
+  if (size != (ptrdiff_t)strlen(text) || memcmp(out, text, strlen(text)) != 0)
+    wrong("a table leaves the paragraph that it is part of to CommonMark", NULL);
 }
 
 static void styles(void) {
@@ -507,6 +521,7 @@ int main(void) {
   places();
   nulls();
   styles();
+  other_syntaxes();
   refusals();
   pthread_t threads[2];
   uint64_t sums[2];

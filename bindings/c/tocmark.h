@@ -155,6 +155,13 @@ struct tocmark_style {
 ptrdiff_t tocmark_format(const uint8_t *text, size_t text_len, uint32_t flags, const struct tocmark_style *style, uint8_t *out,
                          size_t out_len);
 
+/* Formats as tocmark_format does, and the result also has the same blocks under each of the flags in `also`, of which there
+ * are also_len. For CommonMark, 0, a table right below text is part of that paragraph, so it stays there.
+ *
+ * Errors: those of tocmark_format. */
+ptrdiff_t tocmark_format_also(const uint8_t *text, size_t text_len, uint32_t flags, const uint32_t *also, size_t also_len,
+                              const struct tocmark_style *style, uint8_t *out, size_t out_len);
+
 /* The functions in the library take no NULL. So each name above stands for one of the following, which replaces NULL. A program
  * that calls the library without this header passes other pointers. */
 static inline const uint8_t *tocmark_text_(const uint8_t *text) {
@@ -221,6 +228,15 @@ static inline ptrdiff_t tocmark_format_(const uint8_t *text, size_t text_len, ui
   return tocmark_format(tocmark_text_(text), text_len, flags, style ? style : &plain, tocmark_room_(out), out_len);
 }
 
+static inline ptrdiff_t tocmark_format_also_(const uint8_t *text, size_t text_len, uint32_t flags, const uint32_t *also,
+                                             size_t also_len, const struct tocmark_style *style, uint8_t *out,
+                                             size_t out_len) {
+  static const struct tocmark_style plain = {sizeof plain, 0, 0, 0, 0, 0, 0, 0, 0, 0, 0, 0, 0};
+  static const uint32_t none = 0; /* never read, since its length is 0 */
+  return tocmark_format_also(tocmark_text_(text), text_len, flags, also ? also : &none, also_len, style ? style : &plain,
+                             tocmark_room_(out), out_len);
+}
+
 #define tocmark_error_text tocmark_error_text_
 #define tocmark_read_json tocmark_read_json_
 #define tocmark_write_json tocmark_write_json_
@@ -229,6 +245,7 @@ static inline ptrdiff_t tocmark_format_(const uint8_t *text, size_t text_len, ui
 #define tocmark_write_checked_at tocmark_write_checked_at_
 #define tocmark_rewrite tocmark_rewrite_
 #define tocmark_format tocmark_format_
+#define tocmark_format_also tocmark_format_also_
 
 #ifdef __cplusplus
 }

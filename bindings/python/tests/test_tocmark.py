@@ -294,6 +294,14 @@ class Formatting(unittest.TestCase):
         self.assertEqual(tocmark.format("*a* **b**", emphasis="_", strong="_"), "_a_ __b__\n")
         self.assertEqual(tocmark.format("~~~\na\n~~~", fence="`", fence_length=4), "````\na\n````\n")
 
+    def test_blocks_of_other_syntaxes_stay(self):
+        text = "a\n|b|\n|-|\n"
+        self.assertTrue(tocmark.format(text).startswith("a\n\n|"))
+        for also in ("commonmark", ["commonmark"], ("gfm", "commonmark")):
+            self.assertEqual(tocmark.format(text, also=also), text)
+        with self.assertRaisesRegex(ValueError, "'x' is none of commonmark, gfm, all"):
+            tocmark.format(text, also=["x"])
+
     def test_front_matter_stays(self):
         self.assertEqual(tocmark.format(FRONT + "a\n=\n"), FRONT + "# a\n")
 

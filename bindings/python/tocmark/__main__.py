@@ -37,12 +37,12 @@ def _format(words: argparse.Namespace) -> int:
     style = {name: value for name in ("bullet", "delimiter", "numbering", "emphasis", "strong", "fence", "hard_break", "rule",
                                       "fence_length", "table_width", "wrap", "list_indent") if (value := getattr(words, name)) is not None}
     if not words.file:
-        _print(format(_read_input(), **style, **_syntax_of(words)))
+        _print(format(_read_input(), also=words.also, **style, **_syntax_of(words)))
         return 0
     status = 0
     for path in words.file:
         try:
-            if format_file(path, check=words.check, **style, **_syntax_of(words)) and words.check:
+            if format_file(path, check=words.check, also=words.also, **style, **_syntax_of(words)) and words.check:
                 print(path)
                 status = 1
         except (OSError, UnicodeDecodeError, Error) as error:
@@ -103,6 +103,8 @@ def _parser() -> argparse.ArgumentParser:
         one.add_argument(f"--{name}", type=int, metavar="N", help="see the function format")
     for name in ("wrap", "list-indent"):
         one.add_argument(f"--{name}", type=_word_or_number, metavar="WORD|N", help="see the function format")
+    one.add_argument("--also", action="append", default=[], choices=list(SYNTAXES),
+                     help="keep the blocks that this syntax has, too; repeatable")
     one.set_defaults(run=_format)
 
     one = commands.add_parser("read", help="print the events of a file or of standard input as JSON")

@@ -4,7 +4,7 @@ from typing import TYPE_CHECKING, Any, Iterable, List, Sequence, Tuple, Union
 
 from . import _library
 from ._errors import error_of
-from ._options import flags_of, options_of, style_of
+from ._options import flags_of, flags_of_each, options_of, style_of
 from .events import Change, Event, Options, Placed, Style
 
 if TYPE_CHECKING:
@@ -185,9 +185,10 @@ def edit(source: str, change: Change, *, syntax: str = "gfm", extensions: Iterab
     return rewrite(source, events, syntax=syntax, extensions=extensions, **options)
 
 
-def format(text: str, *, syntax: str = "gfm", extensions: Iterable[str] = (), **style: "Unpack[Style]") -> str:
+def format(text: str, *, syntax: str = "gfm", extensions: Iterable[str] = (), also: Union[str, Iterable[str]] = (),
+           **style: "Unpack[Style]") -> str:
     """Returns a Markdown text in one style. It parses to the same events; texts side by side count as one. A block that would
-    parse otherwise keeps its lines.
+    parse otherwise keeps its lines. Under the syntaxes in `also`, a name or several, the text has the same blocks as before.
 
     `bullet` is "*", "-" or "+", `delimiter` "." or ")", and `fence` "`" or "~"; "", the default, keeps what the source has.
     `emphasis` and `strong` are "*" (the default) or "_", `numbering` "source" (the default), "first" or "increment",
@@ -199,12 +200,14 @@ def format(text: str, *, syntax: str = "gfm", extensions: Iterable[str] = (), **
     >>> import tocmark
     >>> tocmark.format("Title\\n=====\\n*  a\\n*  b", bullet="-")
     '# Title\\n\\n- a\\n- b\\n'
+    >>> tocmark.format("a\\n|b|\\n|-|\\n", also="commonmark")
+    'a\\n|b|\\n|-|\\n'
     >>> tocmark.format("a", bullet="x")
     Traceback (most recent call last):
     tocmark.InvalidStyle: the style has another size, or a number that means nothing
 
     Raises `InvalidStyle`; `ValueError` for another name or number; `UnicodeEncodeError` as `read`; `MemoryError`.
     """
-    data = encoded("text", text)
-    return _text(*_library.answer(_library.format_text, data, len(data), flags_of(syntax, extensions), style_of(**style),
-                                  guess=2 * len(data) + 256))
+    data, others = encoded("text", text), flags_of_each(also)
+    return _text(*_library.answer(_library.format_text, data, len(data), flags_of(syntax, extensions), others, len(others),
+                                  style_of(**style), guess=2 * len(data) + 256))

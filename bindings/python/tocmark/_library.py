@@ -59,7 +59,8 @@ class Place(ctypes.Structure):
 
 
 error_text = _function("tocmark_error_text", ctypes.c_ssize_t, *_room)
-format_text = _function("tocmark_format", *_text, ctypes.c_uint32, ctypes.POINTER(Style), *_room)
+format_text = _function("tocmark_format_also", *_text, ctypes.c_uint32, ctypes.POINTER(ctypes.c_uint32), ctypes.c_size_t,
+                        ctypes.POINTER(Style), *_room)
 read_json = _function("tocmark_read_json", *_text, ctypes.c_uint32, *_room)
 rewrite = _function("tocmark_rewrite", *_text, *_text, ctypes.c_uint32, *_text, ctypes.POINTER(Place), *_room)
 write_checked = _function("tocmark_write_checked_at", *_text, *_text, ctypes.c_uint32, *_text, ctypes.POINTER(Place), *_room)

@@ -49,6 +49,13 @@ def flags_of(syntax: str, extensions: Iterable[str]) -> int:
     return flags
 
 
+def flags_of_each(syntaxes: str | Iterable[str]) -> Any:
+    """Returns an array of the flags of each of some syntaxes, or of one."""
+    names = [syntaxes] if isinstance(syntaxes, str) else list(syntaxes)
+    flags = [flags_of(name, ()) for name in names]
+    return (_library.ctypes.c_uint32 * len(flags))(*flags)
+
+
 def _wanted(name: str, value: Any) -> str:
     """Returns what an option must be, or "" if the value is such."""
     if name in _TOKENS:

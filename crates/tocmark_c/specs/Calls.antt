@@ -19,6 +19,7 @@ use Rattle.tocmark_read_scan.specs.declared.syntax.Names.TheVariants.{All}
 use Rattle.tocmark_event.specs.Reading.{ReadingView}
 use Rattle.tocmark_format.specs.LinkDefinitions.{DefinedLink, unplaced}
 use Rattle.tocmark_format.specs.Same.{SaySame}
+use Rattle.tocmark_format.specs.Shape.{HaveSameShapes}
 use Rattle.tocmark_reader.specs.Definitions.{definitions_of}
 use Rattle.tocmark_c.specs.Style.{has_style, wrap_of}
 use Rattle.tocmark_c.specs.declared.style.TocmarkStyle.{TocmarkStyle}
@@ -52,6 +53,16 @@ abbrev pub IsSameDocument : ℕ → TocmarkStyle → List ℕ → List ℕ → T
 IsSameDocument bits style text output =
     SaySame (wrap_of style.wrap) (read_under bits output) (read_under bits text)
     × (defined_under bits output ≡ defined_under bits text)
+
+-- both texts have the same blocks under each of these flags
+abbrev pub HaveSameBlocks : List ℕ → List ℕ → List ℕ → Type 0
+HaveSameBlocks also text output =
+    HaveSameShapes (λ t flags. reading_of (syntax_of All flags) t) (map flags_of also) output text
+
+-- both texts say the same under a style, and have the same blocks under further flags
+abbrev pub IsSameToAll : ℕ → List ℕ → TocmarkStyle → List ℕ → List ℕ → Type 0
+IsSameToAll bits also style text output =
+    IsSameDocument bits style text output × HaveSameBlocks also text output
 
 -- why a text is not formatted
 abbrev pub IsFormatCause : List ℕ → TocmarkStyle → Cause → Type 0

@@ -16,9 +16,9 @@ mod room;
 mod style;
 mod writing;
 
-ghost use Rattle.std.specs.Prelude.{◌≡◌, IfErr, IfOk, string_bytes};
+ghost use Rattle.std.specs.Prelude.{◌≡◌, ◌×◌, IfErr, IfOk, map, string_bytes};
 ghost use Rattle.tocmark_c.specs.Answer.{IsAnswer, IsErrorText, IsNever};
-ghost use Rattle.tocmark_c.specs.Calls.{IsDocumentCauseOf, IsFormatCause, IsMarkdownOf, IsReadCause, IsReadFrom, IsSameDocument, IsSameMarkdownOf, IsWriteCause};
+ghost use Rattle.tocmark_c.specs.Calls.{IsDocumentCauseOf, IsFormatCause, IsMarkdownOf, IsReadCause, IsReadFrom, IsSameDocument, IsSameMarkdownOf, IsSameToAll, IsWriteCause, flags_of};
 ghost use Rattle.tocmark_c.specs.Place.{IsTold};
 ghost use Rattle.tocmark_c.specs.Rewriting.{IsRewriteCauseOf, IsRewrittenOf};
 
@@ -26,7 +26,7 @@ use cause::{Cause, error_text};
 use place::TocmarkPlace;
 use rewriting::rewrite;
 use room::{answer, lay};
-use std::alloc::Global;
+use std::alloc::{AllocError, Global};
 use style::{TocmarkStyle, style_of};
 use tocmark::event::ParserOptions;
 use tocmark_format::formatted;
@@ -183,12 +183,46 @@ pub extern "C" fn tocmark_format(
     ensures { IsAnswer (IsSameDocument flags style.now text.now)
         (IsFormatCause text.now style.now) result out.old out.new }
 {
-    answer(format(alloc, text, flags, style), out)
+    answer(format(alloc, text, flags, &[], style), out)
 }
 
-fn format(alloc: Global, text: &[u8], flags: u32, style: &TocmarkStyle) -> Result<String, Cause>
+/// Formats Markdown as `tocmark_format` does, and keeps the same blocks under each of the other flags, too.
+#[unsafe(no_mangle)]
+#[tactic(auto, using(crate::proofs::Answers::answered))]
+pub extern "C" fn tocmark_format_also(
+    alloc: Global,
+    text: &[u8],
+    flags: u32,
+    also: &[u32],
+    style: &TocmarkStyle,
+    out: &mut [u8],
+) -> isize
+    ensures { IsAnswer (IsSameToAll flags also.now style.now text.now)
+        (IsFormatCause text.now style.now) result out.old out.new }
+{
+    answer(format(alloc, text, flags, also, style), out)
+}
+
+/// Makes flags of bits, one after the other.
+fn all_flags(alloc: Global, all: &[u32]) -> Result<Vec<ParserOptions>, AllocError>
+    ensures { IfOk result (λ list. list.items ≡ map flags_of all.now) }
+{
+    let mut list = Vec::with_capacity(alloc, all.len())?;
+    for bits in all {
+        list.push(ParserOptions(*bits))?;
+    }
+    Ok(list)
+}
+
+fn format(
+    alloc: Global,
+    text: &[u8],
+    flags: u32,
+    also: &[u32],
+    style: &TocmarkStyle,
+) -> Result<String, Cause>
     ensures text { IfOk result (λ output.
-        IsSameDocument flags style.now text.now (string_bytes output)) }
+        IsSameToAll flags also.now style.now text.now (string_bytes output)) }
     ensures cause { IfErr result (IsFormatCause text.now style.now) }
 {
     let text = match std::str::from_utf8(text) {
@@ -199,8 +233,12 @@ fn format(alloc: Global, text: &[u8], flags: u32, style: &TocmarkStyle) -> Resul
         Some(style) => style,
         None => return Err(Cause::InvalidStyle),
     };
+    let also = match all_flags(alloc, also) {
+        Ok(also) => also,
+        Err(_) => return Err(Cause::OutOfMemory),
+    };
     let reader = ExtendedReader { names: Names::All };
-    match formatted(alloc, text, &reader, ParserOptions(flags), style, &[]) {
+    match formatted(alloc, text, &reader, ParserOptions(flags), style, &also) {
         Ok(answer) => Ok(answer.text),
         Err(_) => Err(Cause::OutOfMemory),
     }
