@@ -222,6 +222,8 @@ fn format(
     style: &TocmarkStyle,
 ) -> Result<String, Cause>
     ensures text { IfOk result (λ output.
+        IsSameDocument flags style.now text.now (string_bytes output)) }
+    ensures also { IfOk result (λ output.
         IsSameToAll flags also.now style.now text.now (string_bytes output)) }
     ensures cause { IfErr result (IsFormatCause text.now style.now) }
 {
