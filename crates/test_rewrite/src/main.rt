@@ -9,7 +9,9 @@
 //! block N, which is counted from 0, and past the last one from the first one on again. `@without N` takes that block out.
 //! `@shout` puts a word in front of each item and cell that begins with a text. `@join` moves each heading one level down,
 //! and joins the lines of those below level 2. `@say WORD` puts WORD in place of each `baz` in a text; `@merge WORD` does so,
-//! too, after it has joined neighbouring texts. Behind `@definitions` there is a line for each definition of a label: what it
+//! too, after it has joined neighbouring texts. `@emphasis WORD`, `@strong WORD`, `@strike WORD`, `@link WORD` and
+//! `@code WORD` make each WORD one of these, after neighbouring texts were joined; `@plain` takes the first three away. `@tick` ticks each box that isn't,
+//! and the other way round. Behind `@definitions` there is a line for each definition of a label: what it
 //! says, and the ranges of all of it, its destination and its title. Behind
 //! `@blocks` a text, which may have tables, is read block by block: a line has how many events each of them has. Behind
 //! `@format` and options of a style, as `bullet=-`, there is a line for each text: what it becomes in that style, and how
@@ -27,7 +29,7 @@ use std::env;
 use std::io::{self, ErrorKind, Read, Write};
 use tocmark::Options;
 use tocmark::core_reader::CoreReader;
-use tocmark::event::{CowStr, Event, ParserOptions, Tag, TagEnd};
+use tocmark::event::{CowStr, Event, LinkType, ParserOptions, Tag, TagEnd};
 use tocmark::reader::Reader;
 use tocmark_format::{Formatted, formatted};
 use tocmark_reader::{ExtendedReader, GFM};
@@ -54,6 +56,19 @@ enum Edit<'l> {
     Join,
     Say(&'l str),
     Merge(&'l str),
+    Wrap(Wrapping, &'l str),
+    Plain,
+    Tick,
+}
+
+/// What a word is put in.
+#[derive(Clone, Copy)]
+enum Wrapping {
+    Emphasis,
+    Strong,
+    Strikethrough,
+    Link,
+    Code,
 }
 
 /// What is said of a text.
@@ -75,8 +90,30 @@ fn number_in(text: &str) -> io::Result<usize> {
     }
 }
 
+/// What a word is put in by the edit with a name.
+const WRAPPINGS: [(&str, Wrapping); 5] = [
+    ("emphasis ", Wrapping::Emphasis),
+    ("strong ", Wrapping::Strong),
+    ("strike ", Wrapping::Strikethrough),
+    ("link ", Wrapping::Link),
+    ("code ", Wrapping::Code),
+];
+
+/// The edit that puts a word in something, if this names it.
+fn wrap_named(name: &str) -> Option<Edit<'_>> {
+    for (front, wrapping) in WRAPPINGS {
+        if let Some(word) = name.strip_prefix(front) {
+            return Some(Edit::Wrap(wrapping, word));
+        }
+    }
+    None
+}
+
 /// The edit that is named with a word or a block's number.
 fn longer_edit_named(name: &str) -> io::Result<Edit<'_>> {
+    if let Some(wrap) = wrap_named(name) {
+        return Ok(wrap);
+    }
     if let Some(word) = name.strip_prefix("say ") {
         return Ok(Edit::Say(word));
     }
@@ -105,6 +142,8 @@ fn edit_named(name: &str) -> io::Result<Edit<'_>> {
         "front" => Ok(Edit::Front),
         "shout" => Ok(Edit::Shout),
         "join" => Ok(Edit::Join),
+        "plain" => Ok(Edit::Plain),
+        "tick" => Ok(Edit::Tick),
         _ => longer_edit_named(name),
     }
 }
@@ -338,6 +377,113 @@ fn merged(
     Ok(all)
 }
 
+/// The events of a word that is put in something.
+fn wrapped_word(
+    alloc: Global,
+    word: &str,
+    wrapping: Wrapping,
+) -> Result<Vec<Event<'static>>, AllocError> {
+    let text = CowStr::Owned(String::from_str(alloc, word)?);
+    let mut all = Vec::new(alloc);
+    let (tag, end) = match wrapping {
+        Wrapping::Emphasis => (Tag::Emphasis, TagEnd::Emphasis),
+        Wrapping::Strong => (Tag::Strong, TagEnd::Strong),
+        Wrapping::Strikethrough => (Tag::Strikethrough, TagEnd::Strikethrough),
+        Wrapping::Link => (
+            Tag::Link {
+                link_type: LinkType::Inline,
+                dest_url: CowStr::Borrowed("/u"),
+                title: CowStr::Borrowed(""),
+                id: CowStr::Borrowed(""),
+            },
+            TagEnd::Link,
+        ),
+        Wrapping::Code => {
+            all.push(Event::Code(text))?;
+            return Ok(all);
+        }
+    };
+    all.push(Event::Start(tag))?;
+    all.push(Event::Text(text))?;
+    all.push(Event::End(end))?;
+    Ok(all)
+}
+
+/// A text of which each of these words is put in something.
+fn wrapped_text(
+    alloc: Global,
+    text: &str,
+    word: &str,
+    wrapping: Wrapping,
+) -> Result<Vec<Event<'static>>, AllocError> {
+    let mut all = Vec::new(alloc);
+    for (number, part) in text.split(word).enumerate() {
+        if number > 0 {
+            for event in &wrapped_word(alloc, word, wrapping)? {
+                all.push(event.to_static(alloc)?)?;
+            }
+        }
+        if !part.is_empty() {
+            all.push(Event::Text(CowStr::Owned(String::from_str(alloc, part)?)))?;
+        }
+    }
+    Ok(all)
+}
+
+/// The events with each of these words in a text put in something.
+fn wrapped(
+    alloc: Global,
+    events: &[(Event<'static>, (usize, usize))],
+    word: &str,
+    wrapping: Wrapping,
+) -> Result<Vec<(Event<'static>, (usize, usize))>, AllocError> {
+    let mut all = Vec::new(alloc);
+    for (event, range) in events {
+        match event {
+            Event::Text(text) => {
+                for part in &wrapped_text(alloc, text.as_ref(), word, wrapping)? {
+                    all.push((part.to_static(alloc)?, *range))?;
+                }
+            }
+            _ => all.push((event.to_static(alloc)?, *range))?,
+        }
+    }
+    Ok(all)
+}
+
+/// Whether an event begins or ends emphasis, strong emphasis or a strikethrough.
+fn is_stress(event: &Event<'static>) -> bool {
+    match event {
+        Event::Start(Tag::Emphasis) | Event::Start(Tag::Strong) => true,
+        Event::End(TagEnd::Emphasis) | Event::End(TagEnd::Strong) => true,
+        Event::Start(Tag::Strikethrough) | Event::End(TagEnd::Strikethrough) => true,
+        _ => false,
+    }
+}
+
+/// The events without emphasis, strong emphasis and strikethroughs.
+fn plain(
+    alloc: Global,
+    events: &[(Event<'static>, (usize, usize))],
+) -> Result<Vec<(Event<'static>, (usize, usize))>, AllocError> {
+    let mut all = Vec::new(alloc);
+    for (event, range) in events {
+        if !is_stress(event) {
+            all.push((event.to_static(alloc)?, *range))?;
+        }
+    }
+    Ok(all)
+}
+
+/// Ticks each box that isn't, and the other way round.
+fn tick(events: &mut [(Event<'static>, (usize, usize))]) {
+    for (event, _range) in events.iter_mut() {
+        if let Event::TaskListMarker(is_ticked) = event {
+            *is_ticked = !*is_ticked;
+        }
+    }
+}
+
 fn make_edit(
     alloc: Global,
     events: &mut Vec<(Event<'static>, (usize, usize))>,
@@ -364,6 +510,12 @@ fn make_edit(
             }
         }
         Edit::Stress => *events = stressed(alloc, events)?,
+        Edit::Wrap(wrapping, word) => {
+            *events = merged(alloc, events)?;
+            *events = wrapped(alloc, events, word, wrapping)?;
+        }
+        Edit::Plain => *events = plain(alloc, events)?,
+        Edit::Tick => tick(events),
         Edit::Lower => shift_headings(events, Shift::Down(1)),
         Edit::Secure | Edit::Mark => {
             for (event, _range) in events.iter_mut() {

@@ -1,4 +1,4 @@
-//! Single events that are replaced by themselves: raw HTML, info strings, levels of headings.
+//! Single events that are replaced by themselves: raw HTML, info strings, levels of headings, boxes of tasks.
 
 use crate::edits::number_of;
 use crate::patch::Patch;
@@ -8,7 +8,7 @@ use std::alloc::{AllocError, Global};
 use tocmark_event::event::{CodeBlockKindOf, Event, HeadingLevel, Tag};
 
 /// So many of a character.
-fn repeated(alloc: Global, mark: char, count: usize) -> Result<String, AllocError> {
+pub(crate) fn repeated(alloc: Global, mark: char, count: usize) -> Result<String, AllocError> {
     let mut text = String::new(alloc);
     for _ in 0..count {
         text.push(mark)?;
@@ -92,9 +92,23 @@ fn html_patch(
     }))
 }
 
+/// A task's box that is ticked, or isn't any more.
+fn box_patch(
+    alloc: Global,
+    range: (usize, usize),
+    is_ticked: bool,
+) -> Result<Option<Patch>, AllocError> {
+    Ok(Some(Patch {
+        from: range.0.saturating_add(1),
+        to: range.1.saturating_sub(1),
+        text: String::from_str(alloc, if is_ticked { "x" } else { " " })?,
+    }))
+}
+
 /// What of an event can be replaced by itself.
 #[derive(Clone, Copy)]
 enum ReplaceablePart<'t> {
+    Box(bool),
     Html(&'t str),
     Info(&'t str),
     Level(HeadingLevel),
@@ -113,6 +127,7 @@ fn replaceable_part<'t>(event: &'t Event<'_>) -> Option<ReplaceablePart<'t>> {
         Event::Start(tag) => replaceable_part_of_tag(tag),
         Event::Html(text) => Some(ReplaceablePart::Html(text.as_ref())),
         Event::InlineHtml(text) => Some(ReplaceablePart::Html(text.as_ref())),
+        Event::TaskListMarker(is_ticked) => Some(ReplaceablePart::Box(*is_ticked)),
         _ => None,
     }
 }
@@ -129,6 +144,9 @@ pub(crate) fn event_patch(
         return Ok(None);
     };
     match (before, after) {
+        (ReplaceablePart::Box(_), ReplaceablePart::Box(is_ticked)) => {
+            box_patch(alloc, range, is_ticked)
+        }
         (ReplaceablePart::Html(_), ReplaceablePart::Html(text)) => html_patch(alloc, range, text),
         (ReplaceablePart::Info(_), ReplaceablePart::Info(info)) => info_patch(
             alloc, source, range.0, info,

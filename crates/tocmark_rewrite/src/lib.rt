@@ -5,12 +5,12 @@
 //! (`rewrite`).
 //!
 //! `trees` cuts events into their trees, and finds the lines of these; `line_end` says what ends them. `plan` finds which
-//! trees are in the source as they are. `patch` replaces the bytes of single events (`event`), of texts (`wording`, where
-//! `hunks` differ) and of links (`link`), with their `destination` and `title`, or those of the `label`'s definition, which
-//! `definition_reader` finds. `inner` writes the changed blocks in a tree. `pieces` writes changed trees, which `given`
-//! lends to a state, whose reader is that of `unit_reader`. `joint` decides how trees stand behind one another, and `join`
-//! puts them side by side. All leave a list of parts (`output`), whose text is parsed; `labels` compares the labels that it
-//! defines. `answer` says what became of each tree, and `fault` why there is no text.
+//! trees are in the source as they are. `patch` replaces the bytes of single events (`event`), of `inlines` (`wording`,
+//! where `hunks` differ; a `marker` spells new ones) and of links (`link`), with their `destination` and `title`, or those
+//! of the `label`'s definition, which `definition_reader` finds. `inner` writes the changed blocks in a tree. `pieces`
+//! writes changed trees, which `given` lends to a state, whose reader is that of `unit_reader`. `joint` decides how trees
+//! stand behind one another, and `join` puts them side by side. All leave a list of parts (`output`), whose text is parsed;
+//! `labels` compares the labels that it defines. `answer` says what became of each tree, and `fault` why there is no text.
 //!
 //! ```
 //! let mut reading = CoreReader.read(alloc, source, flags)?;
@@ -28,6 +28,7 @@ mod event;
 pub mod fault;
 mod given;
 mod hunks;
+mod inlines;
 mod inner;
 mod join;
 mod joint;
@@ -35,6 +36,7 @@ mod label;
 mod labels;
 pub mod line_end;
 mod link;
+mod marker;
 pub mod output;
 pub mod patch;
 pub mod pieces;

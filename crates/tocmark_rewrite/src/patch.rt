@@ -4,9 +4,11 @@
 //! that were given.
 
 use crate::event::event_patch;
+use crate::inlines::{Inlines, is_inline};
 use crate::label::DefinitionChange;
 use crate::link::{LinkChange, is_address, is_reference, link_parts, text_start};
-use crate::wording::{Run, Spelling, joined_texts};
+use crate::marker::Markers;
+use crate::wording::{Manner, Run, Spelling};
 use std::alloc::{AllocError, Global};
 use std::collections::HashMap;
 use tocmark_compare::event::same_event;
@@ -43,11 +45,10 @@ pub struct Patches {
     pub written: Vec<usize>,
     /// Whether blocks in trees may be written by themselves.
     pub allows_inner: bool,
-    /// Whether some are.
-    pub has_inner: bool,
-    /// How texts are spelled.
+    /// How new inlines are spelled, and what they are put between.
     pub spelling: Spelling,
-    /// Whether the spelling of some text is a choice.
+    pub markers: Markers,
+    /// Whether the spelling of some inline is a choice.
     pub has_texts: bool,
     /// The Starts that are open: where each stands in the events that the reader found, and in those that were given.
     open: Vec<(usize, usize)>,
@@ -55,7 +56,7 @@ pub struct Patches {
     is_raw: bool,
 }
 
-/// What stands in the place of one event, or of a run of texts.
+/// What stands in the place of one event, or of a run of neighbours.
 #[derive(Clone, Copy)]
 struct Step {
     /// The stretch of the events that the reader found.
@@ -95,6 +96,13 @@ impl Step {
     }
 }
 
+/// Which neighbours are one run.
+#[derive(Clone, Copy, PartialEq, Eq)]
+enum Runs {
+    Inlines,
+    Texts,
+}
+
 fn is_text_at(events: &[(Event<'_>, (usize, usize))], at: usize) -> bool {
     match events.get(at) {
         Some(pair) => is_text(&pair.0),
@@ -102,21 +110,33 @@ fn is_text_at(events: &[(Event<'_>, (usize, usize))], at: usize) -> bool {
     }
 }
 
-/// The end of the run of texts that begins at a place, or else of the one event there.
-fn step_end(events: &[(Event<'_>, (usize, usize))], first: usize) -> usize {
+fn is_inline_at(events: &[(Event<'_>, (usize, usize))], at: usize) -> bool {
+    match events.get(at) {
+        Some(pair) => is_inline(&pair.0),
+        None => false,
+    }
+}
+
+/// The end of the run that begins at a place, or else of the one event there.
+fn step_end(events: &[(Event<'_>, (usize, usize))], first: usize, runs: Runs) -> usize {
     for at in first..events.len() {
-        if !is_text_at(events, at) {
+        let goes_on = match runs {
+            Runs::Inlines => is_inline_at(events, at),
+            Runs::Texts => is_text_at(events, at),
+        };
+        if !goes_on {
             return at.max(first.saturating_add(1));
         }
     }
     events.len()
 }
 
-/// What stands in the place of each event, and of each run of texts; none if these aren't as many.
+/// What stands in the place of each event, and of each run; none if these aren't as many.
 fn steps(
     alloc: Global,
     old: &[(Event<'_>, (usize, usize))],
     new: &[(Event<'_>, (usize, usize))],
+    runs: Runs,
 ) -> Result<Option<Vec<Step>>, AllocError> {
     let mut all = Vec::new(alloc);
     let (mut at, mut other) = (0usize, 0usize);
@@ -124,7 +144,7 @@ fn steps(
         if at >= old.len() || other >= new.len() {
             break;
         }
-        let (past, next) = (step_end(old, at), step_end(new, other));
+        let (past, next) = (step_end(old, at, runs), step_end(new, other, runs));
         all.push(Step {
             old: (at, past),
             new: (other, next),
@@ -138,14 +158,14 @@ fn steps(
 }
 
 impl Patches {
-    pub fn new(alloc: Global, allows_inner: bool) -> Patches {
+    pub fn new(alloc: Global, markers: Markers) -> Patches {
         Patches {
             list: Vec::new(alloc),
             definitions: HashMap::new(alloc),
             written: Vec::new(alloc),
-            allows_inner,
-            has_inner: false,
+            allows_inner: true,
             spelling: Spelling::Literal,
+            markers,
             has_texts: false,
             open: Vec::new(alloc),
             is_raw: false,
@@ -266,82 +286,151 @@ impl Patches {
         self.take(patch)
     }
 
+    /// How new inlines are spelled.
+    fn manner(&self) -> Manner {
+        Manner {
+            spelling: self.spelling,
+            markers: self.markers,
+        }
+    }
+
     /// A run of texts, and the texts that were given in its place.
-    fn texts(
+    fn texts<'e>(
         &mut self,
         alloc: Global,
         source: &str,
-        old: &[(Event<'_>, (usize, usize))],
-        new: &[(Event<'_>, (usize, usize))],
+        old: &'e [(Event<'e>, (usize, usize))],
+        new: &'e [(Event<'e>, (usize, usize))],
         step: Step,
-    ) -> Result<(), AllocError> {
+    ) -> Result<bool, AllocError> {
         let before = old.get(step.old.0..step.old.1).unwrap_or(&[]);
         let after = new.get(step.new.0..step.new.1).unwrap_or(&[]);
         let run = Run::of(alloc, source, self.is_raw, before)?;
-        let text = joined_texts(alloc, after)?;
-        if run.says(text.as_str()) {
-            return Ok(());
+        let texts = Inlines::of(alloc, after)?;
+        if run.says(texts.text.as_str()) {
+            return Ok(true);
         }
         self.has_texts = self.has_texts || !self.is_raw;
-        for patch in &run.patches(alloc, source, text.as_str(), self.spelling)? {
-            self.list.push(patch.copied(alloc)?)?;
-        }
-        Ok(())
+        let manner = self.manner();
+        run.add_patches(alloc, source, &texts, manner, &mut self.list)
     }
 
     /// Texts that stand as they are, as in code: each by itself if there are as many.
-    fn raw_texts(
+    fn raw_texts<'e>(
         &mut self,
         alloc: Global,
         source: &str,
-        old: &[(Event<'_>, (usize, usize))],
-        new: &[(Event<'_>, (usize, usize))],
+        old: &'e [(Event<'e>, (usize, usize))],
+        new: &'e [(Event<'e>, (usize, usize))],
         step: Step,
-    ) -> Result<(), AllocError> {
+    ) -> Result<bool, AllocError> {
         if step.count() != step.other_count() {
             return self.texts(alloc, source, old, new, step);
         }
         for number in 0..step.count() {
             self.texts(alloc, source, old, new, step.single(number))?;
         }
-        Ok(())
+        Ok(true)
     }
 
     /// What was given in the place of an event or a run of texts; false if that can't be patched.
-    fn step(
+    fn step<'e>(
         &mut self,
         alloc: Global,
         source: &str,
-        old: &[(Event<'_>, (usize, usize))],
-        new: &[(Event<'_>, (usize, usize))],
+        old: &'e [(Event<'e>, (usize, usize))],
+        new: &'e [(Event<'e>, (usize, usize))],
         step: Step,
     ) -> Result<bool, AllocError> {
         if !is_text_at(old, step.old.0) || !is_text_at(new, step.new.0) {
             return self.pair(alloc, source, old, new, (step.old.0, step.new.0));
         }
         if self.is_raw {
-            self.raw_texts(alloc, source, old, new, step)?;
-        } else {
-            self.texts(alloc, source, old, new, step)?;
+            return self.raw_texts(alloc, source, old, new, step);
         }
-        Ok(true)
+        self.texts(alloc, source, old, new, step)
     }
 
-    /// The patches of a tree; false if it can't be patched. The lists are the events that the reader
-    /// found, and those that were given in their place.
-    pub fn tree(
+    /// The patches of inlines, each by that in its place; false if they can't be patched so.
+    fn one_by_one<'e>(
         &mut self,
         alloc: Global,
         source: &str,
-        old: &[(Event<'_>, (usize, usize))],
-        new: &[(Event<'_>, (usize, usize))],
+        old: &'e [(Event<'e>, (usize, usize))],
+        new: &'e [(Event<'e>, (usize, usize))],
     ) -> Result<bool, AllocError> {
-        self.open.clear();
-        let Some(steps) = steps(alloc, old, new)? else {
+        let Some(steps) = steps(alloc, old, new, Runs::Texts)? else {
             return Ok(false);
         };
         for step in &steps {
             if !self.step(alloc, source, old, new, *step)? {
+                return Ok(false);
+            }
+        }
+        Ok(true)
+    }
+
+    /// The patches of inlines of which some came or went; false if they can't be patched.
+    fn together<'e>(
+        &mut self,
+        alloc: Global,
+        source: &str,
+        old: &'e [(Event<'e>, (usize, usize))],
+        new: &'e [(Event<'e>, (usize, usize))],
+    ) -> Result<bool, AllocError> {
+        self.has_texts = true;
+        if self.spelling == Spelling::Anew {
+            return Ok(false);
+        }
+        let run = Run::of(alloc, source, false, old)?;
+        let inlines = Inlines::of(alloc, new)?;
+        let manner = self.manner();
+        run.add_patches(alloc, source, &inlines, manner, &mut self.list)
+    }
+
+    /// The patches of the inlines of a leaf; false if they can't be patched.
+    fn leaf<'e>(
+        &mut self,
+        alloc: Global,
+        source: &str,
+        old: &'e [(Event<'e>, (usize, usize))],
+        new: &'e [(Event<'e>, (usize, usize))],
+    ) -> Result<bool, AllocError> {
+        let (before, depth) = (self.list.len(), self.open.len());
+        let is_raw = self.is_raw;
+        if self.one_by_one(alloc, source, old, new)? {
+            return Ok(true);
+        }
+        self.list.truncate(before);
+        self.open.truncate(depth);
+        if is_raw {
+            return Ok(false);
+        }
+        self.together(alloc, source, old, new)
+    }
+
+    /// The patches of a tree; false if it can't be patched. The lists are the events that the reader
+    /// found, and those that were given in their place.
+    pub fn tree<'e>(
+        &mut self,
+        alloc: Global,
+        source: &str,
+        old: &'e [(Event<'e>, (usize, usize))],
+        new: &'e [(Event<'e>, (usize, usize))],
+    ) -> Result<bool, AllocError> {
+        self.open.clear();
+        let Some(steps) = steps(alloc, old, new, Runs::Inlines)? else {
+            return Ok(false);
+        };
+        for step in &steps {
+            let is_patched = if is_inline_at(old, step.old.0) && is_inline_at(new, step.new.0) {
+                let before = old.get(step.old.0..step.old.1).unwrap_or(&[]);
+                let after = new.get(step.new.0..step.new.1).unwrap_or(&[]);
+                self.leaf(alloc, source, before, after)?
+            } else {
+                self.pair(alloc, source, old, new, (step.old.0, step.new.0))?
+            };
+            if !is_patched {
                 return Ok(false);
             }
         }

@@ -26,6 +26,7 @@ use crate::join::{Manner, Written, joined, patched};
 use crate::joint::{Joint, Row, mark_patches};
 use crate::labels::has_all;
 use crate::line_end::LineEnd;
+use crate::marker::Markers;
 use crate::output::{Output, Part};
 use crate::patch::{Patch, Patches};
 use crate::pieces::{Definitions, Piece, Tools, events_of, make_pieces, write_tree};
@@ -109,7 +110,7 @@ fn add_small<'a>(
     alloc: Global,
     source: &str,
     patches: &mut Patches,
-    old: &[(Event<'_>, (usize, usize))],
+    old: &'a [(Event<'a>, (usize, usize))],
     new: &'a [(Event<'a>, (usize, usize))],
 ) -> Result<bool, AllocError> {
     let before = patches.list.len();
@@ -126,7 +127,7 @@ fn add_inner<'a, R: Reader>(
     tools: &Tools<'_, '_, R>,
     source: &str,
     patches: &mut Patches,
-    old: &[(Event<'_>, (usize, usize))],
+    old: &'a [(Event<'a>, (usize, usize))],
     new: &'a [(Event<'a>, (usize, usize))],
 ) -> Result<bool, AllocError> {
     let before = patches.list.len();
@@ -138,7 +139,6 @@ fn add_inner<'a, R: Reader>(
             return Ok(false);
         }
     }
-    patches.has_inner = true;
     Ok(true)
 }
 
@@ -147,7 +147,7 @@ fn add_block<'a, R: Reader>(
     tools: &Tools<'_, '_, R>,
     source: &str,
     patches: &mut Patches,
-    old: &[(Event<'_>, (usize, usize))],
+    old: &'a [(Event<'a>, (usize, usize))],
     new: &'a [(Event<'a>, (usize, usize))],
 ) -> Result<bool, AllocError> {
     if add_small(tools.alloc, source, patches, old, new)? {
@@ -184,13 +184,42 @@ fn add_written<'a, R: Reader>(
     Ok(true)
 }
 
+/// How a tree is changed. The ways are tried in this order.
+#[derive(Clone, Copy, Debug, PartialEq, Eq)]
+enum Way {
+    Literal,
+    Escaped,
+    Anew,
+    /// It is written as a whole, if it has more changes than those of single events and texts.
+    Whole,
+}
+
+impl Way {
+    fn spelling(self) -> Spelling {
+        match self {
+            Way::Literal => Spelling::Literal,
+            Way::Escaped => Spelling::Escaped,
+            _ => Spelling::Anew,
+        }
+    }
+
+    /// The way that is tried behind this one, by whether new inlines can be spelled in several ways.
+    fn next(self, has_texts: bool) -> Way {
+        match self {
+            Way::Literal if has_texts => Way::Escaped,
+            Way::Escaped if has_texts => Way::Anew,
+            _ => Way::Whole,
+        }
+    }
+}
+
 /// Adds the patches of a tree, the smallest that there are: those of events, of blocks in it if these may be
 /// written by themselves, or of all of it; false if it is refused.
 fn add_tree<'a, R: Reader>(
     tools: &Tools<'_, '_, R>,
     source: &str,
     patches: &mut Patches,
-    work: &Work<'_>,
+    work: &Work<'a>,
     at: usize,
     events: &'a [(Event<'a>, (usize, usize))],
 ) -> Result<bool, AllocError> {
@@ -214,37 +243,26 @@ fn add_tree<'a, R: Reader>(
     add_written(tools, source, patches, *block, plan.tree, events)
 }
 
-/// How changes are made: whether blocks in trees may be written by themselves, how texts are spelled, and of which trees, if
-/// not of all. The texts of the others are literal.
-#[derive(Clone, Copy)]
-struct Attempt<'a> {
-    allows_inner: bool,
-    spelling: Spelling,
-    trees: Option<&'a [bool]>,
-}
-
-impl Attempt<'_> {
-    /// How the texts of a tree are spelled.
-    fn spelling_in(&self, tree: usize) -> Spelling {
-        match self.trees {
-            Some(trees) if trees.get(tree).copied() != Some(true) => Spelling::Literal,
-            _ => self.spelling,
-        }
-    }
-}
-
 /// The patches of all trees, where each stands for the block in its place; none if one is refused.
 fn all_patches<'a, R: DefinitionReader>(
     tools: &Tools<'_, '_, R>,
     source: &str,
-    work: &Work<'_>,
+    work: &Work<'a>,
     events: &'a [(Event<'a>, (usize, usize))],
-    attempt: Attempt<'_>,
+    ways: &[Way],
 ) -> Result<Option<Patches>, AllocError> {
     let alloc = tools.alloc;
-    let mut patches = Patches::new(alloc, attempt.allows_inner);
+    let markers = Markers::of(&tools.options);
+    let mut patches = Patches::new(alloc, markers);
     for at in 0..work.plans.len() {
-        patches.spelling = attempt.spelling_in(at);
+        let way = ways.get(at).copied().unwrap_or(Way::Whole);
+        patches.allows_inner = way != Way::Whole;
+        patches.spelling = way.spelling();
+        patches.markers = if way == Way::Escaped {
+            markers.others()
+        } else {
+            markers
+        };
         if !add_tree(tools, source, &mut patches, work, at, events)? {
             return Ok(None);
         }
@@ -369,20 +387,42 @@ fn misread_trees<R: Reader>(
     Ok(misread)
 }
 
-/// The ways in which changes are made, as they are tried: whether blocks in trees may be written by themselves, and how texts
-/// are spelled.
-const ATTEMPTS: [(bool, Spelling); 4] = [
-    (true, Spelling::Literal),
-    (true, Spelling::Escaped),
-    (true, Spelling::Anew),
-    (false, Spelling::Anew),
-];
+/// The first way for each tree.
+fn first_ways(alloc: Global, work: &Work<'_>) -> Result<Vec<Way>, AllocError> {
+    let mut ways = Vec::new(alloc);
+    for _plan in work.plans {
+        ways.push(Way::Literal)?;
+    }
+    Ok(ways)
+}
+
+/// The next way for each tree that a text reads otherwise; for all trees if it reads none so.
+fn next_ways<R: Reader>(
+    tools: &Tools<'_, '_, R>,
+    work: &Work<'_>,
+    text: &str,
+    events: &[(Event<'_>, (usize, usize))],
+    ways: &[Way],
+    has_texts: bool,
+) -> Result<Vec<Way>, AllocError> {
+    let misread = misread_trees(tools, work, text, events)?;
+    let is_none = !misread.contains(&true);
+    let mut next = Vec::new(tools.alloc);
+    for (way, is_misread) in ways.iter().zip(&misread) {
+        let goes_on = is_none || *is_misread;
+        next.push(if goes_on { way.next(has_texts) } else { *way })?;
+    }
+    Ok(next)
+}
+
+/// How many ways are tried.
+const ROUNDS: usize = 4;
 
 /// The source with just what was edited replaced, in the first way in which it is read as the events.
 fn patched_text<'a, R: DefinitionReader>(
     tools: &Tools<'_, '_, R>,
     source: &str,
-    work: &Work<'_>,
+    work: &Work<'a>,
     events: &'a [(Event<'a>, (usize, usize))],
 ) -> Result<Option<Output>, AllocError>
     ensures says { IfOk result (λ answer. IfSome answer (λ output.
@@ -394,34 +434,23 @@ fn patched_text<'a, R: DefinitionReader>(
     if !are_in_place(work) {
         return Ok(None);
     }
-    let mut misread = Vec::new(tools.alloc);
-    let (mut has_texts, mut has_inner) = (true, true);
-    for (allows_inner, spelling) in ATTEMPTS {
-        if allows_inner && !has_texts || !allows_inner && !has_inner {
-            continue;
-        }
-        let attempt = Attempt {
-            allows_inner,
-            spelling,
-            trees: if spelling == Spelling::Escaped {
-                Some(&misread)
-            } else {
-                None
-            },
-        };
-        let Some(patches) = all_patches(tools, source, work, events, attempt)? else {
+    let mut ways = first_ways(tools.alloc, work)?;
+    for _round in 0..ROUNDS {
+        let Some(patches) = all_patches(tools, source, work, events, &ways)? else {
             return Ok(None);
         };
         let output = patched(tools.alloc, source, &patches.list, &patches.written)?;
-        (has_texts, has_inner) = (patches.has_texts, patches.has_inner);
+        let has_texts = patches.has_texts;
         drop(patches);
         match refusal(tools, work, output.text.as_str(), events)? {
             None => return Ok(Some(output)),
             Some(_place) => {}
         }
-        if spelling == Spelling::Literal && has_texts {
-            misread = misread_trees(tools, work, output.text.as_str(), events)?;
+        let next = next_ways(tools, work, output.text.as_str(), events, &ways, has_texts)?;
+        if next == ways {
+            break;
         }
+        ways = next;
     }
     Ok(None)
 }
@@ -542,7 +571,7 @@ fn joined_text<'a, R: DefinitionReader>(
 fn new_text<'a, R: DefinitionReader>(
     tools: &Tools<'_, '_, R>,
     source: &str,
-    work: &Work<'_>,
+    work: &Work<'a>,
     events: &'a [(Event<'a>, (usize, usize))],
 ) -> Result<Output, Fault>
     requires found { given_events work.now.found.now
@@ -640,8 +669,9 @@ pub fn rewritten_slice<'a, R: DefinitionReader>(
 /// that you edited in place. The options say how blocks are written that can't be patched.
 ///
 /// - If nothing was changed, the answer is the source.
-/// - If a destination, a title, a text, a heading's level or an info string was changed, just those bytes are replaced. The
-///   destination of a link by label is replaced in the label's definition.
+/// - If a destination, a title, a text, a heading's level, a task's box or an info string was changed, just those bytes are
+///   replaced. The destination of a link by label is replaced in the label's definition.
+/// - If a word was made strong, emphasized, struck through, code or a link, or isn't any more, just the delimiters change.
 /// - If more was changed, the innermost block or item with a change is written again, or else the block at the top.
 /// - If blocks at the top were added or removed, the others keep their lines, and so does what stands between them.
 ///

@@ -1,9 +1,12 @@
-//! Texts that say something else: the characters that stay keep their spelling in the source.
+//! Leaves that say something else: the characters and the marks that stay keep their spelling in the source.
 
 use crate::event::spelled_text;
 use crate::hunks::{Hunk, common_front, hunks};
+use crate::inlines::Inlines;
 use crate::inner::{behind_prefix, prefix_of};
 use crate::line_end::LineEnd;
+use crate::link::text_start;
+use crate::marker::Markers;
 use crate::patch::Patch;
 use crate::source_bytes::byte_at;
 use std::alloc::{AllocError, Global};
@@ -40,10 +43,10 @@ struct Cut {
     source: usize,
 }
 
-/// A run of neighbouring texts of the source.
+/// Neighbouring inlines of the source.
 #[derive(Drop)]
-pub(crate) struct Run {
-    text: String,
+pub(crate) struct Run<'e> {
+    inlines: Inlines<'e>,
     stretches: Vec<Stretch>,
     /// The bytes of the source that spell it, with a backslash before it if that escapes its first character.
     from: usize,
@@ -52,59 +55,102 @@ pub(crate) struct Run {
     is_raw: bool,
 }
 
-/// What a text says; nothing for another event.
-fn text_in<'t>(event: &'t Event<'_>) -> &'t str {
+/// How the new inlines of a run are spelled.
+#[derive(Clone, Copy)]
+pub(crate) struct Manner {
+    pub(crate) spelling: Spelling,
+    pub(crate) markers: Markers,
+}
+
+/// Where an event begins: a text with the backslash that escapes its first character, an End behind the text of its link.
+fn start_of(source: &str, pair: &(Event<'_>, (usize, usize))) -> usize {
+    let begins = pair.1.0;
+    let before = begins.saturating_sub(1);
+    match &pair.0 {
+        Event::End(_) => text_start(source, begins),
+        Event::Text(_) if begins > 0 && byte_at(source, before) == b'\\' => before,
+        _ => begins,
+    }
+}
+
+/// Whether the bytes up to the next event belong to an event: the marker of a Start, the prefix of a line.
+fn goes_on(event: &Event<'_>) -> bool {
     match event {
-        Event::Text(text) => text.as_ref(),
-        _ => "",
+        Event::Start(_) | Event::SoftBreak | Event::HardBreak => true,
+        _ => false,
     }
 }
 
-/// The texts of some events as one.
-pub(crate) fn joined_texts(
-    alloc: Global,
-    events: &[(Event<'_>, (usize, usize))],
-) -> Result<String, AllocError> {
-    let mut text = String::new(alloc);
-    for pair in events {
-        text.push_str(text_in(&pair.0))?;
-    }
-    Ok(text)
-}
-
-impl Run {
+impl<'e> Run<'e> {
     /// The run of these events.
     pub(crate) fn of(
         alloc: Global,
         source: &str,
         is_raw: bool,
-        events: &[(Event<'_>, (usize, usize))],
-    ) -> Result<Run, AllocError> {
+        events: &'e [(Event<'e>, (usize, usize))],
+    ) -> Result<Run<'e>, AllocError> {
         let (first, last) = match (events.first(), events.last()) {
-            (Some(first), Some(last)) => (first.1.0, last.1.1),
+            (Some(first), Some(last)) if is_raw => (first.1.0, last.1.1),
+            (Some(first), Some(last)) => (start_of(source, first), last.1.1),
             _ => (0, 0),
         };
-        let before = first.saturating_sub(1);
-        let is_escaped = !is_raw && first > 0 && byte_at(source, before) == b'\\';
         let mut run = Run {
-            text: String::new(alloc),
+            inlines: Inlines::none(alloc),
             stretches: Vec::new(alloc),
-            from: if is_escaped { before } else { first },
+            from: first,
             to: last,
             is_raw,
         };
-        for pair in events {
-            run.add(source, text_in(&pair.0), pair.1)?;
+        for at in 0..events.len() {
+            run.add(source, &events[at], events.get(at.saturating_add(1)))?;
         }
         Ok(run)
     }
 
-    /// Adds a text that is spelled by these bytes. A line's end may be spelled otherwise than the line.
-    fn add(&mut self, source: &str, text: &str, range: (usize, usize)) -> Result<(), AllocError> {
+    /// Adds an event, by the one behind it.
+    fn add(
+        &mut self,
+        source: &str,
+        pair: &'e (Event<'e>, (usize, usize)),
+        next: Option<&(Event<'e>, (usize, usize))>,
+    ) -> Result<(), AllocError> {
+        let begins = self.inlines.text.len();
+        self.inlines.add(&pair.0)?;
+        if let Event::Text(text) = &pair.0 {
+            return self.add_text(source, text.as_ref(), begins, pair.1);
+        }
+        let (mut from, mut to) = pair.1;
+        if let Event::End(_) = &pair.0
+            && let Some(before) = self.stretches.last()
+        {
+            from = before.to;
+        }
+        if let Some(next) = next
+            && goes_on(&pair.0)
+        {
+            to = start_of(source, next);
+        }
+        self.stretches.push(Stretch {
+            begins,
+            ends: self.inlines.text.len(),
+            from,
+            to,
+            is_literal: false,
+        })?;
+        Ok(())
+    }
+
+    /// Adds the stretch of a text, which begins at a place and is spelled by these bytes. A line's end may be spelled
+    /// otherwise than the line.
+    fn add_text(
+        &mut self,
+        source: &str,
+        text: &str,
+        begins: usize,
+        range: (usize, usize),
+    ) -> Result<(), AllocError> {
         let (from, to) = range;
-        let begins = self.text.len();
-        self.text.push_str(text)?;
-        let ends = self.text.len();
+        let ends = begins.saturating_add(text.len());
         let spelled = source.get(from..to).unwrap_or("");
         let same = common_front(text, spelled);
         let is_line = text.len() == same.saturating_add(1)
@@ -134,9 +180,9 @@ impl Run {
         Ok(())
     }
 
-    /// Whether it is this text.
+    /// Whether it is a run of texts with this text.
     pub(crate) fn says(&self, text: &str) -> bool {
-        self.text.as_str() == text
+        self.inlines.text.as_str() == text
     }
 
     /// The cut before the stretch with a number: in code where the line begins, else behind what stands before it.
@@ -199,10 +245,10 @@ impl Run {
         }
     }
 
-    /// Where the text differs from another one, each time between cuts. Hunks that meet in a character are one.
-    fn hunks(&self, alloc: Global, new: &str) -> Result<Vec<Hunk>, AllocError> {
+    /// Where the run differs from other inlines, each time between cuts. Hunks that meet in a character are one.
+    fn hunks(&self, alloc: Global, new: &Inlines<'_>) -> Result<Vec<Hunk>, AllocError> {
         let mut all: Vec<Hunk> = Vec::new(alloc);
-        for hunk in &hunks(alloc, self.text.as_str(), new)? {
+        for hunk in &hunks(alloc, &self.inlines, new)? {
             let wide = self.at_cuts(*hunk);
             match all.pop() {
                 Some(last) if last.old.1 > wide.old.0 => {
@@ -223,66 +269,87 @@ impl Run {
         Ok(all)
     }
 
-    /// The patches that make the run another text. As much as can be keeps its spelling.
-    pub(crate) fn patches(
+    /// Adds the patches that make the run other inlines; false if one can't be spelled. As much as can be keeps its spelling.
+    pub(crate) fn add_patches(
         &self,
         alloc: Global,
         source: &str,
-        new: &str,
-        spelling: Spelling,
-    ) -> Result<Vec<Patch>, AllocError> {
-        let mut all = Vec::new(alloc);
+        new: &Inlines<'_>,
+        manner: Manner,
+        list: &mut Vec<Patch>,
+    ) -> Result<bool, AllocError> {
+        let mut hunks = Vec::new(alloc);
         if self.is_raw {
-            let hunk = self.at_cuts(Hunk::whole(self.text.as_str(), new));
-            all.push(self.patch(alloc, source, new, hunk, spelling)?)?;
-        } else if spelling == Spelling::Anew {
-            all.push(Patch {
-                from: self.from,
-                to: self.to,
-                text: spelled_text(alloc, new)?,
+            let (old, new) = (self.inlines.text.as_str(), new.text.as_str());
+            hunks.push(self.at_cuts(Hunk::whole(old, new)))?;
+        } else if manner.spelling == Spelling::Anew {
+            hunks.push(Hunk {
+                old: (0, self.inlines.text.len()),
+                new: (0, new.text.len()),
             })?;
         } else {
-            for hunk in &self.hunks(alloc, new)? {
-                all.push(self.patch(alloc, source, new, *hunk, spelling)?)?;
-            }
+            hunks = self.hunks(alloc, new)?;
         }
-        Ok(all)
+        for hunk in &hunks {
+            let Some(text) = self.spelled(alloc, source, new, hunk.new, manner)? else {
+                return Ok(false);
+            };
+            list.push(Patch {
+                from: self.cuts(hunk.old.0).0.source,
+                to: self.cuts(hunk.old.1).1.source,
+                text,
+            })?;
+        }
+        Ok(true)
     }
 
-    /// The patch for a stretch between two cuts.
-    fn patch(
-        &self,
-        alloc: Global,
-        source: &str,
-        new: &str,
-        hunk: Hunk,
-        spelling: Spelling,
-    ) -> Result<Patch, AllocError> {
-        let added = new.get(hunk.new.0..hunk.new.1).unwrap_or("");
-        Ok(Patch {
-            from: self.cuts(hunk.old.0).0.source,
-            to: self.cuts(hunk.old.1).1.source,
-            text: self.spelled(alloc, source, added, spelling)?,
-        })
-    }
-
-    /// New characters as they are spelled.
+    /// New inlines between two places as they are spelled; none if a mark can't be.
     fn spelled(
         &self,
         alloc: Global,
         source: &str,
-        added: &str,
-        spelling: Spelling,
-    ) -> Result<String, AllocError> {
-        if self.is_raw {
-            let prefix = prefix_of(alloc, source, self.from)?;
-            let lines = behind_prefix(alloc, added, prefix.as_str())?;
-            let line_end = LineEnd::beside(source.as_bytes(), self.from, self.to, LineEnd::Feed);
-            return line_end.ending(alloc, lines.as_str());
+        new: &Inlines<'_>,
+        places: (usize, usize),
+        manner: Manner,
+    ) -> Result<Option<String>, AllocError> {
+        let mut text = String::new(alloc);
+        let mut at = places.0;
+        let marks = new.first_mark(places.0)..new.first_mark(places.1);
+        for mark in new.marks.get(marks).unwrap_or(&[]) {
+            self.push_text(alloc, new.text.as_str().get(at..mark.at), manner, &mut text)?;
+            let Some(spelled) = manner.markers.mark(alloc, *mark)? else {
+                return Ok(None);
+            };
+            text.push_str(spelled.as_str())?;
+            at = mark.at.saturating_add(1);
         }
-        match spelling {
-            Spelling::Literal => String::from_str(alloc, added),
-            _ => spelled_text(alloc, added),
+        self.push_text(
+            alloc,
+            new.text.as_str().get(at..places.1),
+            manner,
+            &mut text,
+        )?;
+        if !text.contains('\n') {
+            return Ok(Some(text));
         }
+        let prefix = prefix_of(alloc, source, self.from)?;
+        let lines = behind_prefix(alloc, text.as_str(), prefix.as_str())?;
+        let line_end = LineEnd::beside(source.as_bytes(), self.from, self.to, LineEnd::Feed);
+        Ok(Some(line_end.ending(alloc, lines.as_str())?))
+    }
+
+    /// Adds new characters as they are spelled.
+    fn push_text(
+        &self,
+        alloc: Global,
+        added: Option<&str>,
+        manner: Manner,
+        text: &mut String,
+    ) -> Result<(), AllocError> {
+        let added = added.unwrap_or("");
+        if self.is_raw || manner.spelling == Spelling::Literal {
+            return text.push_str(added);
+        }
+        text.push_str(spelled_text(alloc, added)?.as_str())
     }
 }
