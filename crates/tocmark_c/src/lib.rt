@@ -16,7 +16,7 @@ mod room;
 mod style;
 mod writing;
 
-ghost use Rattle.std.specs.Prelude.{◌≡◌, ◌×◌, IfErr, IfOk, map, string_bytes};
+ghost use Rattle.std.specs.Prelude.{◌≡◌, IfErr, IfOk, map, string_bytes};
 ghost use Rattle.tocmark_c.specs.Answer.{IsAnswer, IsErrorText, IsNever};
 ghost use Rattle.tocmark_c.specs.Calls.{IsDocumentCauseOf, IsFormatCause, IsMarkdownOf, IsReadCause, IsReadFrom, IsSameDocument, IsSameMarkdownOf, IsSameToAll, IsWriteCause, flags_of};
 ghost use Rattle.tocmark_c.specs.Place.{IsTold};
