@@ -365,7 +365,7 @@ static void styles(void) {
          "fences");
   expect(formats("a\\\nb\n\n* * *\n", (struct tocmark_style){.size = size, .hard_break = 2, .rule = 1}, "a  \nb\n\n* * *\n"), 13,
          "breaks");
-  expect(formats("|a|\n|-|\n", (struct tocmark_style){.size = size, .table_width = 1}, "| a |\n| --- |\n"), 14, "tables");
+  expect(formats("|ab|\n|-|\n", (struct tocmark_style){.size = size, .table_width = 1}, "| ab |\n| --- |\n"), 15, "tables");
   expect(formats("a\nb c\n", (struct tocmark_style){.size = size, .wrap = 3}, "a b\nc\n"), 6, "filled lines");
   expect(formats("a\nb\n", (struct tocmark_style){.size = size, .wrap = UINT32_MAX}, "a b\n"), 4, "joined lines");
   expect(formats("- a\n\n  b\n", (struct tocmark_style){.size = size, .list_indent = 4}, "-   a\n\n    b\n"), 13,
