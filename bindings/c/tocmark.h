@@ -142,7 +142,7 @@ struct tocmark_style {
   uint32_t fence_length; /* minimal length of a fence; below 3 means 3, above 1,000 means 1,000 */
   uint32_t hard_break;   /* a line break: 0: as in the source; 1: a backslash; 2: two spaces */
   uint32_t rule;         /* a thematic break: 0: ---; 1: as in the source */
-  uint32_t table_width;  /* tables are padded up to this many columns; 0: up to 120 */
+  uint32_t table_width;  /* tables are padded up to this many columns, and wider ones if they are aligned; 0: up to 120 */
   uint32_t wrap;         /* lines of paragraphs: 0: as in the source; UINT32_MAX: joined; else filled up to this many columns */
   uint32_t list_indent;  /* columns before the content of items: 0: as many as the marker takes; 4: four */
 };
