@@ -194,8 +194,9 @@ def format(text: str, *, syntax: str = "gfm", extensions: Iterable[str] = (), al
     `emphasis` and `strong` are "*" (the default) or "_", `numbering` "source" (the default), "first" or "increment",
     `hard_break` "source" (the default), "backslash" or "spaces", and `rule` "---" (the default) or "source". A fence has at
     least `fence_length` characters, from 3 (the default) to 1,000. Tables are padded up to `table_width` columns, from 1 to
-    1,000 (the default is 120), and wider ones if they are aligned. `wrap` is "keep" (the default), "no", which joins the lines of a paragraph, or a number of columns
-    up to which lines are filled. `list_indent` is "marker" (the default), or 4 columns before the content of items.
+    1,000 (the default is 120), and wider ones if they are aligned. `wrap` is "keep" (the default), "no", which joins the lines
+    of a paragraph, or a number of columns up to which lines are filled. `list_indent` is "marker" (the default), or 4 columns
+    before the content of items.
 
     >>> import tocmark
     >>> tocmark.format("Title\\n=====\\n*  a\\n*  b", bullet="-")
