@@ -1,5 +1,5 @@
 -- What is an event is a string, or an object with one member.
-use Rattle.std.proofs.Common.{◌≡◌, List, ℕ, codes, refl}
+use Rattle.std.proofs.Common.{codes, refl}
 use Rattle.serde_json.specs.Data.{Data, boolean, member, no_members, string}
 use Rattle.tocmark_event.specs.View as event
 use Rattle.tocmark_event.specs.declared.event.TagEnd.TheVariants as end

@@ -1,8 +1,10 @@
 pub mod Lists
-pub mod Numbers
+pub mod Nodes
+pub mod Members
+pub mod Turns
+pub mod Taking
+pub mod Whole
 pub mod Inverse
-pub mod Places
-pub mod Located
 pub mod Passing
 pub mod Adding
 pub mod Shallow

@@ -1,8 +1,9 @@
 -- What is no part of a value is no whole either.
 use Rattle.std.proofs.Common.{◌≡◌, ◌∙◌, ◌<◌, ℕ, zero, suc, Bool, List, [], ◌∷◌, IfErr, IfNone, IsErrAnd, Option, None, Some, Result, Ok, Err, ap, arith, codes, get_or, length, map, subst, sym}
 use Rattle.serde_json.specs.Data.{Data, null, string, array, item, object, member, no_members}
-use Rattle.serde_json.specs.View.{items_of, items_view, view}
-use Rattle.serde_json.specs.declared.value.Value.{Value}
+use Rattle.serde_json.specs.View.{items_of}
+use Rattle.tocmark_json.specs.Node.{items_view, view}
+use Rattle.tocmark_json.specs.declared.node.Node.{Node}
 use Rattle.tocmark_event.specs.View.{TagView}
 use Rattle.tocmark_event.specs.declared.event.HeadingLevel.{HeadingLevel}
 use Rattle.tocmark_event.specs.declared.event.LinkType.TheVariants as link
@@ -38,7 +39,7 @@ none_given (Some x) P p = tt
 
 -- ---- arrays
 
-no-item : {A : Type 0} (json : A → Data) (vs : List Value) (i : ℕ) (there : Value) → i < length vs → there ≡ get_or vs i there → (xs : List A) → items_view vs ≡ items_of (map json xs) → IsNoneOf json (view there) → ⊥
+no-item : {A : Type 0} (json : A → Data) (vs : List Node) (i : ℕ) (there : Node) → i < length vs → there ≡ get_or vs i there → (xs : List A) → items_view vs ≡ items_of (map json xs) → IsNoneOf json (view there) → ⊥
 no-item json [] i there lt at xs is lacks = absurd (omega arith)
 no-item json (v ∷ vs) i there lt at [] is lacks = absurd cc
 no-item json (v ∷ vs) zero there lt at (x ∷ xs) is lacks =
@@ -51,12 +52,12 @@ no-item json (v ∷ vs) (suc i) there lt at (x ∷ xs) is lacks =
     no-item json vs i there (omega arith) at xs rest lacks
 
 -- a list with an item of another form is no list of the form
-pub no_list : {A : Type 0} (json : A → Data) (vs : List Value) (i : ℕ) (there : Value) → i < length vs → there ≡ get_or vs i there → IsNoneOf json (view there) → IsNoneOf (listed json) (array (items_view vs))
+pub no_list : {A : Type 0} (json : A → Data) (vs : List Node) (i : ℕ) (there : Node) → i < length vs → there ≡ get_or vs i there → IsNoneOf json (view there) → IsNoneOf (listed json) (array (items_view vs))
 no_list json vs i there lt at lacks xs is =
     let inner : items_view vs ≡ items_of (map json xs) = cc in
     no-item json vs i there lt at xs inner lacks
 
-pub no_list_in : {A : Type 0} (json : A → Data) (v : Data) (vs : List Value) → v ≡ array (items_view vs) → (i : ℕ) (there : Value) → i < length vs → there ≡ get_or vs i there → IsNoneOf json (view there) → IsNoneOf (listed json) v
+pub no_list_in : {A : Type 0} (json : A → Data) (v : Data) (vs : List Node) → v ≡ array (items_view vs) → (i : ℕ) (there : Node) → i < length vs → there ≡ get_or vs i there → IsNoneOf json (view there) → IsNoneOf (listed json) v
 no_list_in json v vs is i there lt at lacks xs h = no_list json vs i there lt at lacks xs (sym is ∙ h)
 
 -- ---- cases

@@ -105,7 +105,7 @@ link_json link_type dest_url title id =
     (member (codes "link_type") (link_type_json link_type)
     (member (codes "title") (string title) no_members))))
 
--- the same of one value in place of four
+-- a link's type, destination, title and id as one value
 abbrev pub target_json : LinkType × List ℕ × List ℕ × List ℕ → Data
 target_json t = link_json t.0 t.1 t.2 t.3
 
@@ -199,7 +199,7 @@ location_json None s = null
 location_json (Some r) None = range_json r
 location_json (Some r) (Some s) = spanned_json r s
 
--- the same of one value in place of two
+-- a range with its lines and columns as one value
 abbrev pub place_json : Option (ℕ × ℕ) × Option Span → Data
 place_json p = location_json p.0 p.1
 
@@ -210,7 +210,7 @@ full_place_json p = spanned_json p.0 p.1
 abbrev pub pair_view : {T : Type 0} → (T → List ℕ) → EventOf T × Option (ℕ × ℕ) → EventView × Option (ℕ × ℕ)
 pair_view bytes p = (view.event_view bytes p.0, p.1)
 
--- the same of an event that has a range
+-- an event whose texts have these bytes, with its range
 abbrev pub ranged_view : {T : Type 0} → (T → List ℕ) → EventOf T × (ℕ × ℕ) → EventView × Option (ℕ × ℕ)
 ranged_view bytes p = (view.event_view bytes p.0, Some p.1)
 

@@ -1,4 +1,6 @@
+pub mod Elements
 pub mod Json
+pub mod Node
 pub mod Place
 pub mod Positions
 pub mod Printed

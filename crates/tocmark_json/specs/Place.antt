@@ -8,6 +8,10 @@ use Rattle.tocmark_json.specs.declared.fault.Fault.{Fault}
 use Rattle.tocmark_json.specs.declared.fault.Fault.TheVariants as fault
 use Rattle.tocmark_json.specs.declared.fault.JsonError.{JsonError}
 use Rattle.tocmark_json.specs.declared.fault.JsonError.TheVariants as error
+use Rattle.tocmark_json.specs.declared.fault.ReadError.{ReadError}
+use Rattle.tocmark_json.specs.declared.fault.ReadError.TheVariants as read_error
+use Rattle.tocmark_json.specs.declared.fault.TextError.{TextError}
+use Rattle.tocmark_json.specs.declared.fault.TextError.TheVariants as text_error
 
 -- the value is the JSON of nothing of this type
 abbrev pub IsNoneOf : {A : Type 0} → (A → Data) → Data → Type 0
@@ -26,20 +30,13 @@ abbrev pub Refuses : {A : Type 0} → (A → Data) → Data → Fault → Type 0
 Refuses json value (fault.Wanted key wanted) = IsNoneOf json value
 Refuses json value fault.OutOfMemory = Unit {0}
 
--- the error that the element of this number has this fault
-abbrev pub error_at : ℕ → Fault → JsonError
-error_at index (fault.Wanted key wanted) = error.Event index key wanted
-error_at index fault.OutOfMemory = error.OutOfMemory
-
--- the error names the element of this number, which is the JSON of nothing of this type, or speaks of memory
-abbrev pub IsAt : {A : Type 0} → (A → Data) → Data → ℕ → JsonError → Type 0
-IsAt json value index error.NotAnArray = ⊥
-IsAt json value index (error.Event at key wanted) = (at ≡ index) × IsNoneOf json value
-IsAt json value index error.OutOfMemory = Unit {0}
+-- the error of a text that is not read as a value
+abbrev pub read_error_of : TextError → ReadError
+read_error_of text_error.NotJson = read_error.NotJson
+read_error_of text_error.OutOfMemory = read_error.OutOfMemory
 
 -- an element that is named stands in the value and hasn't the form, and those before it have
 abbrev pub StandsIn : {A : Type 0} → (A → Data) → Data → JsonError → Type 0
 StandsIn json value error.NotAnArray = as_array value ≡ None
 StandsIn {A} json value (error.Event at key wanted) =
     (before : List A) × (there : Data) × (after : List Data) × (value ≡ array (items_of (map json before ++ there ∷ after))) × (at ≡ length before) × IsNoneOf json there
-StandsIn json value error.OutOfMemory = Unit {0}

@@ -1,9 +1,10 @@
-//! Why a JSON value isn't a list of events.
+//! Why a JSON text isn't read, and why a value is no event.
 
 ghost use Rattle.std.specs.Prelude.{◌≡◌};
-ghost use Rattle.tocmark_json.specs.Place.{error_at};
+ghost use Rattle.tocmark_json.specs.Place.{read_error_of};
 ghost use Rattle.tocmark_json.specs.declared.fault.Fault.TheVariants.{OutOfMemory as no_memory};
-ghost use Rattle.tocmark_json.specs.declared.fault.JsonError.TheVariants.{OutOfMemory as out_of_memory};
+ghost use Rattle.tocmark_json.specs.declared.fault.ReadError.TheVariants.{OutOfMemory as out_of_memory};
+ghost use Rattle.tocmark_json.specs.declared.fault.TextError.TheVariants.{NotJson as not_json, OutOfMemory as memory};
 
 use std::alloc::{AllocError, AllocFailed};
 use std::fmt;
@@ -52,36 +53,6 @@ pub enum JsonError {
         /// What should stand there.
         wanted: &'static str,
     },
-    /// Memory ran out.
-    OutOfMemory,
-}
-
-impl From<AllocError> for JsonError {
-    ghost from_gives = { λ _ e. e ≡ out_of_memory };
-
-    fn from(_fault: AllocError) -> JsonError {
-        JsonError::OutOfMemory
-    }
-}
-
-impl<T: Drop> From<AllocFailed<T>> for JsonError {
-    ghost from_gives = { λ _ e. e ≡ out_of_memory };
-
-    fn from(_fault: AllocFailed<T>) -> JsonError {
-        JsonError::OutOfMemory
-    }
-}
-
-impl Fault {
-    /// The error that the element of this number has this fault.
-    pub fn at(self, index: usize) -> JsonError
-        ensures { result ≡ error_at index self }
-    {
-        match self {
-            Fault::Wanted { key, wanted } => JsonError::Event { index, key, wanted },
-            Fault::OutOfMemory => JsonError::OutOfMemory,
-        }
-    }
 }
 
 impl fmt::Display for JsonError {
@@ -91,9 +62,71 @@ impl fmt::Display for JsonError {
             JsonError::Event { index, key, wanted } => {
                 write!(f, "event {index}: {key}: expected {wanted}")
             }
-            JsonError::OutOfMemory => write!(f, "out of memory"),
         }
     }
 }
 
 impl std::error::Error for JsonError {}
+
+/// Why a text isn't read as a JSON value.
+#[derive(Clone, Copy, Debug, Drop, PartialEq, Eq)]
+pub enum TextError {
+    /// The text isn't JSON, has a number out of range, or is nested deeper than 127.
+    NotJson,
+    /// Memory ran out.
+    OutOfMemory,
+}
+
+impl From<json::Invalid> for TextError {
+    ghost from_gives = { λ _ e. e ≡ not_json };
+
+    fn from(_invalid: json::Invalid) -> TextError {
+        TextError::NotJson
+    }
+}
+
+impl From<AllocError> for TextError {
+    ghost from_gives = { λ _ e. e ≡ memory };
+
+    fn from(_fault: AllocError) -> TextError {
+        TextError::OutOfMemory
+    }
+}
+
+impl<T: Drop> From<AllocFailed<T>> for TextError {
+    ghost from_gives = { λ _ e. e ≡ memory };
+
+    fn from(_fault: AllocFailed<T>) -> TextError {
+        TextError::OutOfMemory
+    }
+}
+
+/// Why a text isn't the JSON of events.
+#[derive(Clone, Copy, Debug, Drop, PartialEq, Eq)]
+pub enum ReadError {
+    /// The text isn't JSON, has a number out of range, or is nested deeper than 127.
+    NotJson,
+    /// The JSON isn't that of events.
+    NotEvents(JsonError),
+    /// Memory ran out.
+    OutOfMemory,
+}
+
+impl From<AllocError> for ReadError {
+    ghost from_gives = { λ _ e. e ≡ out_of_memory };
+
+    fn from(_fault: AllocError) -> ReadError {
+        ReadError::OutOfMemory
+    }
+}
+
+impl From<TextError> for ReadError {
+    ghost from_gives = { λ fault e. e ≡ read_error_of fault };
+
+    fn from(fault: TextError) -> ReadError {
+        match fault {
+            TextError::NotJson => ReadError::NotJson,
+            TextError::OutOfMemory => ReadError::OutOfMemory,
+        }
+    }
+}

@@ -119,7 +119,10 @@ fn located_line<T: Words>(
     text_of(out)
 }
 
-fn indexed_to_lines<T: Words>(
+/// `located_to_lines` over an index of the source's places, which serves many calls.
+///
+/// It fails if memory runs out.
+pub fn indexed_to_lines<T: Words>(
     alloc: Global,
     pairs: &[(EventOf<T>, (usize, usize))],
     positions: &Positions<'_>,

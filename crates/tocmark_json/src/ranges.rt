@@ -2,14 +2,14 @@
 
 ghost use Rattle.std.specs.Prelude.{◌≡◌, IfErr, IfNone, IfOk, IfSome, codes};
 ghost use Rattle.serde_json.specs.Data.{member, no_members, object};
-ghost use Rattle.serde_json.specs.View.{view};
 ghost use Rattle.tocmark_json.specs.Json.{full_place_json, location_json, place_json, range_json, size_json};
+ghost use Rattle.tocmark_json.specs.Node.{view};
 ghost use Rattle.tocmark_json.specs.Place.{IsNoneOf, Refuses};
 
 use crate::fault::Fault;
-use crate::parts::{is_null, number_in, six_members, two_named, value_named};
+use crate::node::Node;
+use crate::parts::{Keys, has_only, is_null, members_in, number_in, two_named, value_at};
 use crate::positions::{Position, Span};
-use serde_json::Value;
 
 const A_RANGE: &str =
     "null, or an object with the keys start and end, alone or with lines and columns";
@@ -30,7 +30,7 @@ pub struct Location {
     pub span: Option<Span>,
 }
 
-fn place_in(value: &Value, key: &'static str) -> Result<usize, Fault>
+fn place_in(value: &Node<'_>, key: &'static str) -> Result<usize, Fault>
     ensures read { IfOk result (λ place. view value.now ≡ size_json place) }
     ensures refused { IfErr result (Refuses size_json (view value.now)) }
 {
@@ -49,7 +49,7 @@ fn place_in(value: &Value, key: &'static str) -> Result<usize, Fault>
     }
 }
 
-fn plain_from(start: &Value, end: &Value) -> Result<Location, Fault>
+fn plain_from(start: &Node<'_>, end: &Node<'_>) -> Result<Location, Fault>
     ensures read { IfOk result (λ location. object (member (codes "end") (view end.now)
         (member (codes "start") (view start.now) no_members))
         ≡ location_json location.range location.span) }
@@ -67,16 +67,16 @@ fn plain_from(start: &Value, end: &Value) -> Result<Location, Fault>
 
 /// What stands in a range with lines and columns.
 #[derive(Clone, Copy)]
-struct Spanned<'a> {
-    end: &'a Value,
-    end_column: &'a Value,
-    end_line: &'a Value,
-    start: &'a Value,
-    start_column: &'a Value,
-    start_line: &'a Value,
+struct Spanned<'n, 'a> {
+    end: &'n Node<'a>,
+    end_column: &'n Node<'a>,
+    end_line: &'n Node<'a>,
+    start: &'n Node<'a>,
+    start_column: &'n Node<'a>,
+    start_line: &'n Node<'a>,
 }
 
-fn spanned_in(value: &Value) -> Option<Spanned<'_>>
+fn spanned_in<'n, 'a>(value: &'n Node<'a>) -> Option<Spanned<'n, 'a>>
     ensures found { IfSome result (λ found. view value.now
         ≡ object (member (codes "end") (view found.end.now)
         (member (codes "end_column") (view found.end_column.now)
@@ -86,13 +86,24 @@ fn spanned_in(value: &Value) -> Option<Spanned<'_>>
         (member (codes "start_line") (view found.start_line.now) no_members))))))) }
     ensures none { IfNone result (IsNoneOf full_place_json (view value.now)) }
 {
-    let found = six_members(value)?;
-    let end = value_named(found.first.0, found.first.1, "end")?;
-    let end_column = value_named(found.second.0, found.second.1, "end_column")?;
-    let end_line = value_named(found.third.0, found.third.1, "end_line")?;
-    let start = value_named(found.fourth.0, found.fourth.1, "start")?;
-    let start_column = value_named(found.fifth.0, found.fifth.1, "start_column")?;
-    let start_line = value_named(found.sixth.0, found.sixth.1, "start_line")?;
+    let members = members_in(value)?;
+    let keys = Keys {
+        first: "end",
+        second: "end_column",
+        third: "end_line",
+        fourth: "start",
+        fifth: "start_column",
+        sixth: "start_line",
+    };
+    if !has_only(members, keys) {
+        return None;
+    }
+    let end = value_at(members, "end")?;
+    let end_column = value_at(members, "end_column")?;
+    let end_line = value_at(members, "end_line")?;
+    let start = value_at(members, "start")?;
+    let start_column = value_at(members, "start_column")?;
+    let start_line = value_at(members, "start_line")?;
     Some(Spanned {
         end,
         end_column,
@@ -103,7 +114,7 @@ fn spanned_in(value: &Value) -> Option<Spanned<'_>>
     })
 }
 
-fn spanned_from(value: &Value) -> Result<Location, Fault>
+fn spanned_from(value: &Node<'_>) -> Result<Location, Fault>
     ensures read { IfOk result (λ location. view value.now
         ≡ location_json location.range location.span) }
     ensures refused { IfErr result (Refuses full_place_json (view value.now)) }
@@ -127,7 +138,7 @@ fn spanned_from(value: &Value) -> Result<Location, Fault>
 }
 
 /// Reads the range of a JSON value, with its lines and columns or without; `null` is no range.
-pub fn location_from(value: &Value) -> Result<Location, Fault>
+pub fn location_from(value: &Node<'_>) -> Result<Location, Fault>
     ensures read { IfOk result (λ location. view value.now
         ≡ location_json location.range location.span) }
     ensures refused { IfErr result (Refuses place_json (view value.now)) }

@@ -2,19 +2,19 @@
 
 ghost use Rattle.std.specs.Prelude.{◌≡◌, IfErr, IfNone, IfOk, IfSome, codes, map};
 ghost use Rattle.std.specs.Option.{option_map};
-ghost use Rattle.serde_json.specs.Data.{array, boolean, string};
-ghost use Rattle.serde_json.specs.View.{items_view, view};
+ghost use Rattle.serde_json.specs.Data.{boolean, string};
 ghost use Rattle.tocmark_event.specs.declared.event.LinkType.TheVariants as link;
 ghost use Rattle.tocmark_event.specs.View as event;
 ghost use Rattle.tocmark_event.specs.View.{attribute_view, code_view, event_view, tag_view};
-ghost use Rattle.tocmark_json.specs.Json.{alignment_json, attribute_json, code_json, end_json, event_json, events_json, heading_json, level_json, link_json, link_type_json, listed, located_json, metadata_json, optional, pair_view, quote_json, size_json, tag_json, tagged, target_json, IsPairsJson};
-ghost use Rattle.tocmark_json.specs.Place.{IsAt, IsNoneOf, Refuses, StandsIn};
+ghost use Rattle.tocmark_json.specs.Json.{alignment_json, attribute_json, code_json, end_json, event_json, heading_json, level_json, link_json, link_type_json, listed, located_json, metadata_json, optional, quote_json, size_json, tag_json, tagged, target_json};
+ghost use Rattle.tocmark_json.specs.Node.{view};
+ghost use Rattle.tocmark_json.specs.Place.{IsNoneOf, Refuses};
 
-use crate::fault::{Fault, JsonError};
+use crate::fault::Fault;
 use crate::names::{alignment_named, level_named, link_type_named, metadata_named, quote_named};
+use crate::node::Node;
 use crate::parts::{four_named, number_in, one_named, only_member, text_in, two_items};
 use crate::ranges::{Location, location_from};
-use serde_json::Value;
 use std::alloc::Global;
 use tocmark_event::event::{
     Alignment, BlockQuoteKind, CodeBlockKindOf, EventOf, HeadingLevel, LinkType, MetadataBlockKind,
@@ -51,21 +51,19 @@ const AN_EVENT: &str = "an event, by its name or as an object with its name as t
 
 const A_PAIR: &str = "an array of two, an event and its range";
 
-const A_NUMBER: &str = "a whole number from 0 to 18446744073709551615";
-
-fn text_from<U: OwnedWords>(alloc: Global, value: &Value, key: &'static str) -> Result<U, Fault>
+fn text_from<U: OwnedWords>(alloc: Global, value: &Node<'_>, key: &'static str) -> Result<U, Fault>
     ensures read { IfOk result (λ text. view value.now ≡ string (U.Words.bytes text)) }
     ensures refused { IfErr result (Refuses string (view value.now)) }
 {
     match value {
-        Value::String(text) => Ok(U::from_text(alloc, text.as_str())?),
+        Node::String(text) => Ok(U::from_text(alloc, *text)?),
         _ => Err(wanted(key, "a string")),
     }
 }
 
 fn optional_text_from<U: OwnedWords>(
     alloc: Global,
-    value: &Value,
+    value: &Node<'_>,
     key: &'static str,
 ) -> Result<Option<U>, Fault>
     ensures read { IfOk result (λ text. view value.now
@@ -73,79 +71,80 @@ fn optional_text_from<U: OwnedWords>(
     ensures refused { IfErr result (Refuses (optional string) (view value.now)) }
 {
     match value {
-        Value::Null => Ok(None),
-        Value::String(text) => Ok(Some(U::from_text(alloc, text.as_str())?)),
+        Node::Null => Ok(None),
+        Node::String(text) => Ok(Some(U::from_text(alloc, *text)?)),
         _ => Err(wanted(key, "a string or null")),
     }
 }
 
-fn truth_from(value: &Value, key: &'static str) -> Result<bool, Fault>
+fn truth_from(value: &Node<'_>, key: &'static str) -> Result<bool, Fault>
     ensures read { IfOk result (λ b. view value.now ≡ boolean b) }
     ensures refused { IfErr result (Refuses boolean (view value.now)) }
 {
     match value {
-        Value::Bool(truth) => Ok(*truth),
+        Node::Bool(truth) => Ok(*truth),
         _ => Err(wanted(key, "true or false")),
     }
 }
 
-fn level_from(value: &Value, key: &'static str) -> Result<HeadingLevel, Fault>
+fn level_from(value: &Node<'_>, key: &'static str) -> Result<HeadingLevel, Fault>
     ensures read { IfOk result (λ level. view value.now ≡ level_json level) }
     ensures refused { IfErr result (Refuses level_json (view value.now)) }
 {
-    let Value::String(name) = value else {
+    let Node::String(name) = value else {
         return Err(wanted(key, A_LEVEL));
     };
-    match level_named(name.as_str()) {
+    match level_named(name) {
         Some(level) => Ok(level),
         None => Err(wanted(key, A_LEVEL)),
     }
 }
 
-fn quote_from(value: &Value) -> Result<Option<BlockQuoteKind>, Fault>
+fn quote_from(value: &Node<'_>) -> Result<Option<BlockQuoteKind>, Fault>
     ensures read { IfOk result (λ kind. view value.now ≡ optional quote_json kind) }
     ensures refused { IfErr result (Refuses (optional quote_json) (view value.now)) }
 {
     let name = match value {
-        Value::Null => return Ok(None),
-        Value::String(name) => name,
+        Node::Null => return Ok(None),
+        Node::String(name) => *name,
         _ => return Err(wanted("BlockQuote", A_QUOTE)),
     };
-    match quote_named(name.as_str()) {
+    match quote_named(name) {
         Some(kind) => Ok(Some(kind)),
         None => Err(wanted("BlockQuote", A_QUOTE)),
     }
 }
 
-fn alignment_from(value: &Value) -> Result<Alignment, Fault>
+fn alignment_from(value: &Node<'_>) -> Result<Alignment, Fault>
     ensures read { IfOk result (λ alignment. view value.now ≡ alignment_json alignment) }
     ensures refused { IfErr result (Refuses alignment_json (view value.now)) }
 {
-    let Value::String(name) = value else {
+    let Node::String(name) = value else {
         return Err(wanted("Table", AN_ALIGNMENT));
     };
-    match alignment_named(name.as_str()) {
+    match alignment_named(name) {
         Some(alignment) => Ok(alignment),
         None => Err(wanted("Table", AN_ALIGNMENT)),
     }
 }
 
-fn metadata_from(value: &Value) -> Result<MetadataBlockKind, Fault>
+fn metadata_from(value: &Node<'_>) -> Result<MetadataBlockKind, Fault>
     ensures read { IfOk result (λ kind. view value.now ≡ metadata_json kind) }
     ensures refused { IfErr result (Refuses metadata_json (view value.now)) }
 {
-    let Value::String(name) = value else {
+    let Node::String(name) = value else {
         return Err(wanted("MetadataBlock", A_KIND_OF_METADATA));
     };
-    match metadata_named(name.as_str()) {
+    match metadata_named(name) {
         Some(kind) => Ok(kind),
         None => Err(wanted("MetadataBlock", A_KIND_OF_METADATA)),
     }
 }
 
-fn wiki_link_from(value: &Value) -> Result<LinkType, Fault>
+fn wiki_link_from(value: &Node<'_>) -> Result<LinkType, Fault>
     ensures read { IfOk result (λ link_type. view value.now ≡ link_type_json link_type) }
-    ensures refused { IfErr result (Refuses (λ b. link_type_json (link.WikiLink b)) (view value.now)) }
+    ensures refused { IfErr result
+        (Refuses (λ b. link_type_json (link.WikiLink b)) (view value.now)) }
 {
     let Some(content) = one_named(value, "WikiLink") else {
         return Err(wanted("link_type", A_LINK_TYPE));
@@ -157,7 +156,7 @@ fn wiki_link_from(value: &Value) -> Result<LinkType, Fault>
     Ok(LinkType::WikiLink { has_pothole })
 }
 
-fn link_type_from(value: &Value) -> Result<LinkType, Fault>
+fn link_type_from(value: &Node<'_>) -> Result<LinkType, Fault>
     ensures read { IfOk result (λ link_type. view value.now ≡ link_type_json link_type) }
     ensures refused { IfErr result (Refuses link_type_json (view value.now)) }
 {
@@ -170,9 +169,10 @@ fn link_type_from(value: &Value) -> Result<LinkType, Fault>
     }
 }
 
-fn fenced_from<U: OwnedWords>(alloc: Global, value: &Value) -> Result<CodeBlockKindOf<U>, Fault>
+fn fenced_from<U: OwnedWords>(alloc: Global, value: &Node<'_>) -> Result<CodeBlockKindOf<U>, Fault>
     ensures read { IfOk result (λ kind. view value.now ≡ code_json (code_view U.Words.bytes kind)) }
-    ensures refused { IfErr result (Refuses (λ info. code_json (event.Fenced info)) (view value.now)) }
+    ensures refused { IfErr result
+        (Refuses (λ info. code_json (event.Fenced info)) (view value.now)) }
 {
     match one_named(value, "Fenced") {
         Some(info) => text_from(alloc, info, "Fenced").map(CodeBlockKindOf::Fenced),
@@ -180,22 +180,22 @@ fn fenced_from<U: OwnedWords>(alloc: Global, value: &Value) -> Result<CodeBlockK
     }
 }
 
-fn code_from<U: OwnedWords>(alloc: Global, value: &Value) -> Result<CodeBlockKindOf<U>, Fault>
+fn code_from<U: OwnedWords>(alloc: Global, value: &Node<'_>) -> Result<CodeBlockKindOf<U>, Fault>
     ensures read { IfOk result (λ kind. view value.now ≡ code_json (code_view U.Words.bytes kind)) }
     ensures refused { IfErr result (Refuses code_json (view value.now)) }
 {
     match value {
-        Value::String(name) if name.as_str() == "Indented" => Ok(CodeBlockKindOf::Indented),
+        Node::String(name) if *name == "Indented" => Ok(CodeBlockKindOf::Indented),
         _ => fenced_from(alloc, value),
     }
 }
 
-fn classes_from<U: OwnedWords + Drop>(alloc: Global, value: &Value) -> Result<Vec<U>, Fault>
+fn classes_from<U: OwnedWords + Drop>(alloc: Global, value: &Node<'_>) -> Result<Vec<U>, Fault>
     ensures read { IfOk result (λ classes. view value.now
         ≡ listed string (map U.Words.bytes classes.items)) }
     ensures refused { IfErr result (Refuses (listed string) (view value.now)) }
 {
-    let Value::Array(items) = value else {
+    let Node::Array(items) = value else {
         return Err(wanted("classes", "an array of strings"));
     };
     let mut classes = Vec::new(alloc);
@@ -207,7 +207,7 @@ fn classes_from<U: OwnedWords + Drop>(alloc: Global, value: &Value) -> Result<Ve
 
 fn attribute_from<U: OwnedWords + Drop>(
     alloc: Global,
-    value: &Value,
+    value: &Node<'_>,
 ) -> Result<(U, Option<U>), Fault>
     ensures read { IfOk result (λ attribute. view value.now
         ≡ attribute_json (attribute_view U.Words.bytes attribute)) }
@@ -222,13 +222,13 @@ fn attribute_from<U: OwnedWords + Drop>(
 
 fn attributes_from<U: OwnedWords + Drop>(
     alloc: Global,
-    value: &Value,
+    value: &Node<'_>,
 ) -> Result<Vec<(U, Option<U>)>, Fault>
     ensures read { IfOk result (λ attributes. view value.now
         ≡ listed attribute_json (map (attribute_view U.Words.bytes) attributes.items)) }
     ensures refused { IfErr result (Refuses (listed attribute_json) (view value.now)) }
 {
-    let Value::Array(items) = value else {
+    let Node::Array(items) = value else {
         return Err(wanted("attrs", "an array of attributes"));
     };
     let mut attributes = Vec::new(alloc);
@@ -238,12 +238,12 @@ fn attributes_from<U: OwnedWords + Drop>(
     Ok(attributes)
 }
 
-fn alignments_from(alloc: Global, value: &Value) -> Result<Vec<Alignment>, Fault>
+fn alignments_from(alloc: Global, value: &Node<'_>) -> Result<Vec<Alignment>, Fault>
     ensures read { IfOk result (λ alignments. view value.now
         ≡ listed alignment_json alignments.items) }
     ensures refused { IfErr result (Refuses (listed alignment_json) (view value.now)) }
 {
-    let Value::Array(items) = value else {
+    let Node::Array(items) = value else {
         return Err(wanted("Table", AN_ALIGNMENT));
     };
     let mut alignments = Vec::new(alloc);
@@ -253,7 +253,7 @@ fn alignments_from(alloc: Global, value: &Value) -> Result<Vec<Alignment>, Fault
     Ok(alignments)
 }
 
-fn heading_from<U: OwnedWords + Drop>(alloc: Global, value: &Value) -> Result<TagOf<U>, Fault>
+fn heading_from<U: OwnedWords + Drop>(alloc: Global, value: &Node<'_>) -> Result<TagOf<U>, Fault>
     ensures read { IfOk result (λ tag. tagged (codes "Heading") (view value.now)
         ≡ tag_json (tag_view U.Words.bytes tag)) }
     ensures refused { IfErr result (Refuses tag_json (tagged (codes "Heading") (view value.now))) }
@@ -283,7 +283,7 @@ struct Target<U> {
 
 fn target_from<U: OwnedWords + Drop>(
     alloc: Global,
-    value: &Value,
+    value: &Node<'_>,
     key: &'static str,
 ) -> Result<Target<U>, Fault>
     ensures read { IfOk result (λ target. view value.now
@@ -305,7 +305,7 @@ fn target_from<U: OwnedWords + Drop>(
     })
 }
 
-fn link_from<U: OwnedWords + Drop>(alloc: Global, value: &Value) -> Result<TagOf<U>, Fault>
+fn link_from<U: OwnedWords + Drop>(alloc: Global, value: &Node<'_>) -> Result<TagOf<U>, Fault>
     ensures read { IfOk result (λ tag. tagged (codes "Link") (view value.now)
         ≡ tag_json (tag_view U.Words.bytes tag)) }
     ensures refused { IfErr result (Refuses tag_json (tagged (codes "Link") (view value.now))) }
@@ -324,7 +324,7 @@ fn link_from<U: OwnedWords + Drop>(alloc: Global, value: &Value) -> Result<TagOf
     })
 }
 
-fn image_from<U: OwnedWords + Drop>(alloc: Global, value: &Value) -> Result<TagOf<U>, Fault>
+fn image_from<U: OwnedWords + Drop>(alloc: Global, value: &Node<'_>) -> Result<TagOf<U>, Fault>
     ensures read { IfOk result (λ tag. tagged (codes "Image") (view value.now)
         ≡ tag_json (tag_view U.Words.bytes tag)) }
     ensures refused { IfErr result (Refuses tag_json (tagged (codes "Image") (view value.now))) }
@@ -343,11 +343,11 @@ fn image_from<U: OwnedWords + Drop>(alloc: Global, value: &Value) -> Result<TagO
     })
 }
 
-fn start_from(value: &Value) -> Result<Option<u64>, Fault>
+fn start_from(value: &Node<'_>) -> Result<Option<u64>, Fault>
     ensures read { IfOk result (λ start. view value.now ≡ optional size_json start) }
     ensures refused { IfErr result (Refuses (optional size_json) (view value.now)) }
 {
-    if let Value::Null = value {
+    if let Node::Null = value {
         return Ok(None);
     }
     match number_in(value) {
@@ -385,7 +385,7 @@ fn plain_tag<U: Words>(name: &str) -> Option<TagOf<U>>
 fn tag_with<U: OwnedWords + Drop>(
     alloc: Global,
     name: &str,
-    content: &Value,
+    content: &Node<'_>,
 ) -> Result<TagOf<U>, Fault>
     ensures read { IfOk result (λ tag. tagged name.now (view content.now)
         ≡ tag_json (tag_view U.Words.bytes tag)) }
@@ -407,7 +407,7 @@ fn tag_with<U: OwnedWords + Drop>(
     }
 }
 
-fn tag_from<U: OwnedWords + Drop>(alloc: Global, value: &Value) -> Result<TagOf<U>, Fault>
+fn tag_from<U: OwnedWords + Drop>(alloc: Global, value: &Node<'_>) -> Result<TagOf<U>, Fault>
     ensures read { IfOk result (λ tag. view value.now ≡ tag_json (tag_view U.Words.bytes tag)) }
     ensures refused { IfErr result (Refuses tag_json (view value.now)) }
 {
@@ -451,7 +451,7 @@ fn plain_end(name: &str) -> Option<TagEnd>
     }
 }
 
-fn end_with(name: &str, content: &Value) -> Result<TagEnd, Fault>
+fn end_with(name: &str, content: &Node<'_>) -> Result<TagEnd, Fault>
     ensures read { IfOk result (λ end. tagged name.now (view content.now) ≡ end_json end) }
     ensures refused { IfErr result (Refuses end_json (tagged name.now (view content.now))) }
 {
@@ -464,7 +464,7 @@ fn end_with(name: &str, content: &Value) -> Result<TagEnd, Fault>
     }
 }
 
-fn end_from(value: &Value) -> Result<TagEnd, Fault>
+fn end_from(value: &Node<'_>) -> Result<TagEnd, Fault>
     ensures read { IfOk result (λ end. view value.now ≡ end_json end) }
     ensures refused { IfErr result (Refuses end_json (view value.now)) }
 {
@@ -481,7 +481,8 @@ fn end_from(value: &Value) -> Result<TagEnd, Fault>
 }
 
 fn plain_event<U: Words>(name: &str) -> Option<EventOf<U>>
-    ensures named { IfSome result (λ event. string name.now ≡ event_json (event_view U.bytes event)) }
+    ensures named { IfSome result (λ event. string name.now
+        ≡ event_json (event_view U.bytes event)) }
     ensures unnamed { IfNone result (IsNoneOf event_json (string name.now)) }
 {
     match name {
@@ -495,7 +496,7 @@ fn plain_event<U: Words>(name: &str) -> Option<EventOf<U>>
 fn event_with<U: OwnedWords + Drop>(
     alloc: Global,
     name: &str,
-    content: &Value,
+    content: &Node<'_>,
 ) -> Result<EventOf<U>, Fault>
     ensures read { IfOk result (λ event. tagged name.now (view content.now)
         ≡ event_json (event_view U.Words.bytes event)) }
@@ -522,7 +523,7 @@ fn event_with<U: OwnedWords + Drop>(
 /// the nearest key and what is wanted there.
 pub fn event_from_json<U: OwnedWords + Drop>(
     alloc: Global,
-    value: &Value,
+    value: &Node<'_>,
 ) -> Result<EventOf<U>, Fault>
     ensures read { IfOk result (λ event. view value.now
         ≡ event_json (event_view U.Words.bytes event)) }
@@ -540,10 +541,11 @@ pub fn event_from_json<U: OwnedWords + Drop>(
     }
 }
 
-/// An event and its range, with the lines and columns of that or without.
-fn pair_from<U: OwnedWords + Drop>(
+/// Reads an event and its range from their JSON value, an array of both. The range may have its lines and columns, or
+/// be `null`. Any other value is refused as by `event_from_json`.
+pub fn pair_from_json<U: OwnedWords + Drop>(
     alloc: Global,
-    value: &Value,
+    value: &Node<'_>,
 ) -> Result<(EventOf<U>, Location), Fault>
     ensures read { IfOk result (λ pair. view value.now
         ≡ located_json ((event_view U.Words.bytes pair.0, pair.1.range), pair.1.span)) }
@@ -554,99 +556,4 @@ fn pair_from<U: OwnedWords + Drop>(
     };
     let location = location_from(range)?;
     Ok((event_from_json(alloc, event)?, location))
-}
-
-fn event_at<U: OwnedWords + Drop>(
-    alloc: Global,
-    value: &Value,
-    index: usize,
-) -> Result<EventOf<U>, JsonError>
-    ensures event { IfOk result (λ event. view value.now
-        ≡ event_json (event_view U.Words.bytes event)) }
-    ensures place { IfErr result (IsAt event_json (view value.now) index) }
-{
-    match event_from_json(alloc, value) {
-        Ok(event) => Ok(event),
-        Err(fault) => Err(fault.at(index)),
-    }
-}
-
-fn pair_at<U: OwnedWords + Drop>(
-    alloc: Global,
-    value: &Value,
-    index: usize,
-) -> Result<(EventOf<U>, Location), JsonError>
-    ensures pair { IfOk result (λ pair. view value.now
-        ≡ located_json ((event_view U.Words.bytes pair.0, pair.1.range), pair.1.span)) }
-    ensures place { IfErr result (IsAt located_json (view value.now) index) }
-{
-    match pair_from(alloc, value) {
-        Ok(pair) => Ok(pair),
-        Err(fault) => Err(fault.at(index)),
-    }
-}
-
-fn events_in<U: OwnedWords + Drop>(
-    alloc: Global,
-    items: &[Value],
-) -> Result<Vec<EventOf<U>>, JsonError>
-    ensures events { IfOk result (λ events. array (items_view items.now)
-        ≡ events_json (map (event_view U.Words.bytes) events.items)) }
-    ensures place { IfErr result (StandsIn event_json (array (items_view items.now))) }
-{
-    let mut events = Vec::new(alloc);
-    for item in items {
-        let index = events.len();
-        events.push(event_at(alloc, item, index)?)?;
-    }
-    Ok(events)
-}
-
-fn pairs_in<U: OwnedWords + Drop>(
-    alloc: Global,
-    items: &[Value],
-) -> Result<Vec<(EventOf<U>, Option<(usize, usize)>)>, JsonError>
-    ensures pairs { IfOk result (λ pairs. IsPairsJson (array (items_view items.now))
-        (map (pair_view U.Words.bytes) pairs.items)) }
-    ensures place { IfErr result (StandsIn located_json (array (items_view items.now))) }
-{
-    let mut pairs = Vec::new(alloc);
-    for item in items {
-        let index = pairs.len();
-        let (event, location) = pair_at(alloc, item, index)?;
-        pairs.push((event, location.range))?;
-    }
-    Ok(pairs)
-}
-
-/// Reads events from the JSON value of just these events. Any other value is refused: the error has the number of the
-/// first element that is no event (those before it are), the nearest key and what is wanted there.
-pub fn events_from_json<U: OwnedWords + Drop>(
-    alloc: Global,
-    value: &Value,
-) -> Result<Vec<EventOf<U>>, JsonError>
-    ensures events { IfOk result (λ events. view value.now
-        ≡ events_json (map (event_view U.Words.bytes) events.items)) }
-    ensures place { IfErr result (StandsIn event_json (view value.now)) }
-{
-    match value {
-        Value::Array(items) => events_in(alloc, items),
-        _ => Err(JsonError::NotAnArray),
-    }
-}
-
-/// Reads events with their ranges, if they have one, from the JSON value of just these. Each range may have its lines
-/// and columns. Any other value is refused as by `events_from_json`.
-pub fn pairs_from_json<U: OwnedWords + Drop>(
-    alloc: Global,
-    value: &Value,
-) -> Result<Vec<(EventOf<U>, Option<(usize, usize)>)>, JsonError>
-    ensures pairs { IfOk result (λ pairs. IsPairsJson (view value.now)
-        (map (pair_view U.Words.bytes) pairs.items)) }
-    ensures place { IfErr result (StandsIn located_json (view value.now)) }
-{
-    match value {
-        Value::Array(items) => pairs_in(alloc, items),
-        _ => Err(JsonError::NotAnArray),
-    }
 }

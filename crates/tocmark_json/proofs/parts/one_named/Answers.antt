@@ -1,6 +1,6 @@
 use Rattle.std.proofs.Common.{refl}
 use Rattle.serde_json.specs.Data.{member, no_members}
-use Rattle.serde_json.specs.View.{view}
+use Rattle.tocmark_json.specs.Node.{view}
 use Rattle.tocmark_json.specs.Json.{tagged}
 use Rattle.tocmark_json.specs.Place.{IsNoneOf}
 use Rattle.tocmark_json.proofs.Refusals.{none_given}

@@ -1,4 +1,4 @@
-use Rattle.serde_json.specs.View.{view}
+use Rattle.tocmark_json.specs.Node.{view}
 use Rattle.tocmark_json.specs.Json.{full_place_json, place_json}
 use Rattle.tocmark_json.proofs.Refusals.{handed_on, no_place}
 use Rattle.tocmark_json.proofs.ranges.location_from.Goals as goal

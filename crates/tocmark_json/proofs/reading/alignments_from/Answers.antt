@@ -1,7 +1,8 @@
 use Rattle.std.proofs.Common.{◌≡◌, ap, sym, ◌∙◌}
 use Rattle.serde_json.specs.Data.{array}
-use Rattle.serde_json.proofs.Views.{view-Array}
-use Rattle.serde_json.specs.View.{items_of, items_view, view}
+use Rattle.tocmark_json.proofs.Nodes.{view-Array}
+use Rattle.serde_json.specs.View.{items_of}
+use Rattle.tocmark_json.specs.Node.{items_view, view}
 use Rattle.tocmark_json.specs.Json.{listed, alignment_json}
 use Rattle.tocmark_event.proofs.Copying.{copied-more, copied-all}
 use Rattle.tocmark_json.proofs.Refusals.{no_list_in, returned}

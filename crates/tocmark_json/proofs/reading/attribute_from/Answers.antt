@@ -1,6 +1,6 @@
 use Rattle.std.proofs.Common.{refl}
 use Rattle.serde_json.specs.Data.{item, no_items, string}
-use Rattle.serde_json.specs.View.{view}
+use Rattle.tocmark_json.specs.Node.{view}
 use Rattle.tocmark_json.specs.Json.{attribute_json, optional}
 use Rattle.tocmark_json.proofs.Refusals.{refused}
 use Rattle.tocmark_json.proofs.reading.attribute_from.Goals as goal

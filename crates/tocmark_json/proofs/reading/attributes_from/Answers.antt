@@ -1,7 +1,7 @@
 use Rattle.std.proofs.Common.{◌≡◌, ap, sym, ◌∙◌}
 use Rattle.serde_json.specs.Data.{array}
-use Rattle.serde_json.proofs.Views.{view-Array}
-use Rattle.serde_json.specs.View.{items_view, view}
+use Rattle.tocmark_json.proofs.Nodes.{view-Array}
+use Rattle.tocmark_json.specs.Node.{items_view, view}
 use Rattle.tocmark_event.specs.View.{attribute_view}
 use Rattle.tocmark_json.specs.Json.{listed, attribute_json}
 use Rattle.tocmark_event.proofs.Copying.{copied-more, copied-all}

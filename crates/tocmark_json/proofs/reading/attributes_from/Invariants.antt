@@ -1,5 +1,5 @@
 use Rattle.std.proofs.Common.{◌≡◌, map, take}
-use Rattle.serde_json.specs.View.{view}
+use Rattle.tocmark_json.specs.Node.{view}
 use Rattle.tocmark_event.specs.View.{attribute_view}
 use Rattle.tocmark_json.specs.Json.{attribute_json}
 use Rattle.tocmark_json.proofs.reading.attributes_from.Given as goal

@@ -1,6 +1,6 @@
 use Rattle.std.proofs.Common.{◌≡◌, ap, sym, ◌∙◌}
-use Rattle.serde_json.proofs.Views.{view-Array}
-use Rattle.serde_json.specs.View.{items_view, view}
+use Rattle.tocmark_json.proofs.Nodes.{view-Array}
+use Rattle.tocmark_json.specs.Node.{items_view, view}
 use Rattle.serde_json.specs.Data.{array, string}
 use Rattle.tocmark_json.specs.Json.{listed}
 use Rattle.tocmark_event.proofs.Copying.{copied-more, copied-all}

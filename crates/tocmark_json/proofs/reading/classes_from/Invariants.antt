@@ -1,5 +1,5 @@
 use Rattle.std.proofs.Common.{◌≡◌, map, take}
-use Rattle.serde_json.specs.View.{view}
+use Rattle.tocmark_json.specs.Node.{view}
 use Rattle.serde_json.specs.Data.{string}
 use Rattle.tocmark_json.proofs.reading.classes_from.Given as goal
 

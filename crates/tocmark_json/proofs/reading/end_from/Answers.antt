@@ -1,4 +1,4 @@
-use Rattle.serde_json.specs.View.{view}
+use Rattle.tocmark_json.specs.Node.{view}
 use Rattle.tocmark_json.specs.Json.{end_json}
 use Rattle.tocmark_json.proofs.Forms.{no_end_form}
 use Rattle.tocmark_json.proofs.Refusals.{refused}

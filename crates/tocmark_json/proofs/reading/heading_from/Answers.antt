@@ -1,6 +1,6 @@
 use Rattle.std.proofs.Common.{codes}
 use Rattle.serde_json.specs.Data.{string}
-use Rattle.serde_json.specs.View.{view}
+use Rattle.tocmark_json.specs.Node.{view}
 use Rattle.tocmark_json.specs.Json.{attribute_json, level_json, listed, optional, tag_json, tagged}
 use Rattle.tocmark_json.proofs.Refusals.{no_heading, refused}
 use Rattle.tocmark_json.proofs.reading.heading_from.Goals as goal

@@ -1,5 +1,5 @@
 use Rattle.std.proofs.Common.{codes}
-use Rattle.serde_json.specs.View.{view}
+use Rattle.tocmark_json.specs.Node.{view}
 use Rattle.tocmark_json.specs.Json.{tag_json, tagged, target_json}
 use Rattle.tocmark_json.proofs.Refusals.{no_image, returned}
 use Rattle.tocmark_json.proofs.reading.image_from.Goals as goal

@@ -1,4 +1,4 @@
-use Rattle.serde_json.specs.View.{view}
+use Rattle.tocmark_json.specs.Node.{view}
 use Rattle.tocmark_json.specs.Json.{tag_json}
 use Rattle.tocmark_json.proofs.Forms.{no_tag_form}
 use Rattle.tocmark_json.proofs.Refusals.{refused}

@@ -1,5 +1,5 @@
 use Rattle.std.proofs.Common.{◌≡◌, List, ℕ, codes, subst, sym}
-use Rattle.serde_json.specs.View.{view}
+use Rattle.tocmark_json.specs.Node.{view}
 use Rattle.tocmark_json.specs.Json.{optional, quote_json, tag_json, tagged}
 use Rattle.tocmark_json.specs.Place.{IsNoneOf}
 use Rattle.tocmark_json.proofs.Refusals.{no_quote, returned}

@@ -1,5 +1,5 @@
 use Rattle.serde_json.specs.Data.{string}
-use Rattle.serde_json.specs.View.{view}
+use Rattle.tocmark_json.specs.Node.{view}
 use Rattle.tocmark_json.specs.Json.{link_type_json, target_json}
 use Rattle.tocmark_json.proofs.Refusals.{refused}
 use Rattle.tocmark_json.proofs.reading.target_from.Goals as goal

@@ -1,10 +1,10 @@
 use Rattle.std.proofs.Common.{◌∙◌, ap, refl, sym}
 use Rattle.serde_json.specs.Data.{item, no_items}
-use Rattle.serde_json.specs.View.{view}
+use Rattle.tocmark_json.specs.Node.{view}
 use Rattle.tocmark_json.specs.Json.{event_json, located_json, location_json, place_json}
 use Rattle.tocmark_json.proofs.Inverse.{item_at, items_in}
 use Rattle.tocmark_json.proofs.Refusals.{refused, returned}
-use Rattle.tocmark_json.proofs.reading.pair_from.Goals as goal
+use Rattle.tocmark_json.proofs.reading.pair_from_json.Goals as goal
 
 pub returns-in_default-clause-refused : goal.returns-in_default-clause-refused
 returns-in_default-clause-refused g c =
