@@ -5,3 +5,11 @@ mod FoundAgain
 mod Stretches
 mod Rewritten
 mod Commas
+mod Again
+mod LinesPassed
+mod LinesTaken
+mod LinesStreamed
+mod PackedCuts
+mod PackedPairs
+mod PackedRefusals
+mod PackedWholes

@@ -2,4 +2,8 @@ pub mod Document
 pub mod Interchange
 pub mod Lines
 pub mod Options
+pub mod Packed
+pub mod PackedWriting
 pub mod Rewriting
+pub mod LineWriting
+pub mod Unpacked

@@ -1,43 +1,60 @@
 //! The canonical JSON text of events.
 
-ghost use Rattle.std.specs.Prelude.{IfErr, IfOk, string_bytes};
-ghost use Rattle.serde_json.specs.View.{view};
-ghost use Rattle.tocmark_interchange.specs.Interchange.{IsAgain, IsNoEvents, IsNoList, IsWrittenAgain};
+ghost use Rattle.std.specs.Prelude.{◌≡◌, IfErr, IfOk, false, map, string_bytes, true};
+ghost use Rattle.serde_json.specs.Data.{Data};
+ghost use Rattle.tocmark_event.specs.Text.{text_of};
+ghost use Rattle.tocmark_event.specs.View.{event_view};
+ghost use Rattle.tocmark_json.specs.Elements.{IsListOf};
+ghost use Rattle.tocmark_json.specs.Json.{pair_view};
+ghost use Rattle.tocmark_interchange.specs.Interchange.{IsAgain, IsNoEvents, IsWrittenAgain};
 
 use crate::fault::WriteError;
-use crate::writing::{has_ranges, value_in};
-use serde_json::Value;
-use std::alloc::Global;
-use tocmark::event::Event;
-use tocmark_json::fault::JsonError;
+use crate::pairs::Placed;
+use crate::writing::list_in;
+use std::alloc::{AllocError, Global};
+use tocmark::event::{CowStr, Event};
+use tocmark_json::elements::EventList;
 use tocmark_json::printing::{events_to_text, pairs_to_text};
-use tocmark_json::reading::{events_from_json, pairs_from_json};
 
-fn plain_again(alloc: Global, value: &Value) -> Result<String, JsonError>
-    ensures again { IfOk result (λ output. IsAgain (view value.now) (string_bytes output)) }
-    ensures place { IfErr result (IsNoList (view value.now)) }
+/// The events of a list without their ranges.
+fn events_of(alloc: Global, pairs: Vec<Placed<'static>>) -> Result<Vec<Event<'static>>, AllocError>
+    ensures { IfOk result (λ events. map (event_view text_of) events.items
+        ≡ map (λ p. p.0) (map (pair_view text_of) pairs.entry.items)) }
 {
-    let events: Vec<Event<'static>> = events_from_json(alloc, value)?;
-    Ok(events_to_text(alloc, &events)?)
+    let mut events = Vec::new(alloc);
+    for (event, _range) in pairs {
+        events.push(event)?;
+    }
+    Ok(events)
 }
 
-fn ranged_again(alloc: Global, value: &Value) -> Result<String, JsonError>
-    ensures again { IfOk result (λ output. IsAgain (view value.now) (string_bytes output)) }
-    ensures place { IfErr result (IsNoList (view value.now)) }
+fn plain_again(alloc: Global, pairs: Vec<Placed<'static>>) -> Result<String, AllocError>
+    ensures { IfOk result (λ output. (value : Data)
+        → IsListOf false value (map (pair_view text_of) pairs.entry.items)
+        → IsAgain value (string_bytes output)) }
 {
-    let pairs: Vec<(Event<'static>, Option<(usize, usize)>)> = pairs_from_json(alloc, value)?;
-    Ok(pairs_to_text(alloc, &pairs)?)
+    let events = events_of(alloc, pairs)?;
+    events_to_text(alloc, &events)
 }
 
-/// The canonical JSON text of the events of a value.
-fn written_again(alloc: Global, value: &Value) -> Result<String, JsonError>
-    ensures again { IfOk result (λ output. IsAgain (view value.now) (string_bytes output)) }
-    ensures place { IfErr result (IsNoList (view value.now)) }
+fn ranged_again(alloc: Global, pairs: &[Placed<'static>]) -> Result<String, AllocError>
+    ensures { IfOk result (λ output. (value : Data)
+        → IsListOf true value (map (pair_view text_of) pairs.now)
+        → IsAgain value (string_bytes output)) }
 {
-    if has_ranges(value) {
-        ranged_again(alloc, value)
+    pairs_to_text(alloc, pairs)
+}
+
+/// The canonical JSON text of a list.
+fn written_again(alloc: Global, list: EventList<CowStr<'static>>) -> Result<String, AllocError>
+    ensures { IfOk result (λ output. (value : Data)
+        → IsListOf list.entry.has_ranges value (map (pair_view text_of) list.entry.events.items)
+        → IsAgain value (string_bytes output)) }
+{
+    if list.has_ranges {
+        ranged_again(alloc, &list.events)
     } else {
-        plain_again(alloc, value)
+        plain_again(alloc, list.events)
     }
 }
 
@@ -50,10 +67,6 @@ pub fn check_json(alloc: Global, json: &str) -> Result<String, WriteError>
     ensures again { IfOk result (λ output. IsWrittenAgain json.now (string_bytes output)) }
     ensures cause { IfErr result (IsNoEvents json.now) }
 {
-    let value = value_in(alloc, json)?;
-    match written_again(alloc, &value) {
-        Ok(output) => Ok(output),
-        Err(JsonError::OutOfMemory) => Err(WriteError::OutOfMemory),
-        Err(error) => Err(WriteError::NotEvents(error)),
-    }
+    let list = list_in(alloc, json)?;
+    Ok(written_again(alloc, list)?)
 }

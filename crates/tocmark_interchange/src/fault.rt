@@ -11,7 +11,7 @@ use tocmark_json::fault::JsonError;
 use tocmark_rewrite::Place;
 
 /// Writes where an error is: the number of the event, and its lines if they are known.
-fn write_place<W: fmt::Write>(f: &mut fmt::Formatter<W>, place: Place) -> fmt::Result {
+pub(crate) fn write_place<W: fmt::Write>(f: &mut fmt::Formatter<W>, place: Place) -> fmt::Result {
     let event = place.event;
     match place.lines {
         None => write!(f, "event {event}: "),

@@ -4,9 +4,11 @@
 //! Start with `read_json` (`reading`) and `rewrite_json` (`rewriting`), which keeps all that wasn't edited.
 //! `write_json` (`writing`) writes a whole document anew, and `write_checked` (`document`) parses that again.
 //!
-//! `lines` has JSON by lines, and `checking` the canonical form of events as JSON. `options` reads the writer's
-//! options from a JSON text, and `option_values` from a JSON value. `fault` has the errors, and `refusal` finds their
-//! places. `pairs` lends the events that are written, and `aligning` finds ranges for events that have none.
+//! `lines` writes events as JSON by lines, and `line_writing` writes such lines as Markdown (`line_events` reads them).
+//! `packed` reads events from their compact form, and `packed_writing` writes these as Markdown. `checking` has the
+//! canonical form of events as JSON. `options` reads the writer's options from a JSON text, and `option_values` from a
+//! JSON value. `fault` has the errors, and `refusal` finds their places. `pairs` lends the events that are written, and
+//! `aligning` finds ranges for events that have none.
 //!
 //! ```
 //! let flags = ParserOptions::ENABLE_STRIKETHROUGH;
@@ -20,9 +22,13 @@ mod aligning;
 pub mod checking;
 pub mod document;
 pub mod fault;
+mod line_events;
+pub mod line_writing;
 pub mod lines;
 pub mod option_values;
 pub mod options;
+pub mod packed;
+pub mod packed_writing;
 mod pairs;
 pub mod reading;
 mod refusal;
@@ -32,9 +38,12 @@ pub mod writing;
 pub use checking::check_json;
 pub use document::{checked_over, write_checked};
 pub use fault::{DocumentError, OptionFault, OptionsTextError, RewriteError, WriteError};
-pub use lines::{array_of, read_lines, read_located_lines};
+pub use line_writing::write_lines;
+pub use lines::{StreamError, array_of, stream_lines, stream_located_lines, write_bytes};
 pub use option_values::{options_from_json, set_option};
 pub use options::{options_from_text, options_in_json};
+pub use packed::{PackedError, pairs_from_packed};
+pub use packed_writing::{PackedWriteError, write_packed};
 pub use reading::{read_json, read_located};
 pub use rewriting::rewrite_json;
 pub use writing::{write_json, write_over};

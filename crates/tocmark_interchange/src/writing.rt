@@ -1,91 +1,46 @@
 //! Writes the JSON text of events as Markdown.
 
-ghost use Rattle.std.specs.Prelude.{◌≡◌, IfErr, IfOk, Some, is_some, map, string_bytes};
+ghost use Rattle.std.specs.Prelude.{◌≡◌, IfErr, IfOk, None, is_some, map, string_bytes};
 ghost use Rattle.serde_json.specs.Read.{read};
-ghost use Rattle.serde_json.specs.View.{view};
 ghost use Rattle.tocmark_event.specs.Options.{options_view};
 ghost use Rattle.tocmark_event.specs.Text.{text_of};
-ghost use Rattle.tocmark_event.specs.View.{event_view};
+ghost use Rattle.tocmark_json.specs.Elements.{IsListIn};
 ghost use Rattle.tocmark_json.specs.Json.{pair_view};
-ghost use Rattle.tocmark_state.specs.Ranges.{unranged};
-ghost use Rattle.tocmark_interchange.specs.Interchange.{IsCause, IsJsonOf, IsNoEvents, IsNoList, IsPairsCause, IsRefusal, IsTextOf, IsWritten, IsWrittenFrom, in_source, places_left, source_text, writing};
+ghost use Rattle.tocmark_interchange.specs.Interchange.{IsCause, IsNoEvents, IsPairsCause, IsRefusal, IsTextOf, IsWritten, IsWrittenFrom, in_source, places_left, source_text, writing};
 
 use crate::fault::WriteError;
 use crate::pairs::{EventPairs, Placed};
 use crate::refusal::{place_at, refused_at};
 use serde_json::Value;
 use std::alloc::{AllocError, Global};
-use tocmark::event::{Event, ParserOptions};
+use tocmark::event::{CowStr, Event, ParserOptions};
 use tocmark::{Error, Options, cmark_with_source_range_and_options};
-use tocmark_json::fault::JsonError;
-use tocmark_json::reading::{events_from_json, pairs_from_json};
+use tocmark_json::elements::{EventList, events_from_text};
+use tocmark_json::fault::ReadError;
 use tocmark_reader::{Names, UnitReader};
 use tocmark_rewrite::Place;
 
-fn without_ranges(
-    alloc: Global,
-    events: Vec<Event<'static>>,
-) -> Result<Vec<Placed<'static>>, AllocError>
-    ensures { IfOk result (λ pairs. map (pair_view text_of) pairs.items
-        ≡ map unranged (map (event_view text_of) events.entry.items)) }
-{
-    let mut pairs = Vec::new(alloc);
-    for event in events {
-        pairs.push((event, None))?;
-    }
-    Ok(pairs)
-}
-
-/// Whether the value is a list of pairs: whether its first element is an array.
-pub(crate) fn has_ranges(value: &Value) -> bool {
-    match value {
-        Value::Array(items) => match items.first() {
-            Some(Value::Array(_)) => true,
-            _ => false,
-        },
-        _ => false,
-    }
-}
-
-fn plain_pairs(alloc: Global, value: &Value) -> Result<Vec<Placed<'static>>, JsonError>
-    ensures value { IfOk result (λ pairs.
-        IsJsonOf (view value.now) (map (pair_view text_of) pairs.items)) }
-    ensures place { IfErr result (IsNoList (view value.now)) }
-{
-    let events = events_from_json(alloc, value)?;
-    Ok(without_ranges(alloc, events)?)
-}
-
-fn ranged_pairs(alloc: Global, value: &Value) -> Result<Vec<Placed<'static>>, JsonError>
-    ensures value { IfOk result (λ pairs.
-        IsJsonOf (view value.now) (map (pair_view text_of) pairs.items)) }
-    ensures place { IfErr result (IsNoList (view value.now)) }
-{
-    pairs_from_json(alloc, value)
-}
-
-/// Reads the events of a value: pairs if its first element is an array, and else events alone.
-fn pairs_of(alloc: Global, value: &Value) -> Result<Vec<Placed<'static>>, JsonError>
-    ensures value { IfOk result (λ pairs.
-        IsJsonOf (view value.now) (map (pair_view text_of) pairs.items)) }
-    ensures place { IfErr result (IsNoList (view value.now)) }
-{
-    if has_ranges(value) {
-        ranged_pairs(alloc, value)
-    } else {
-        plain_pairs(alloc, value)
-    }
-}
-
-/// The value of a JSON text.
-pub(crate) fn value_in(alloc: Global, json: &str) -> Result<Value, WriteError>
-    ensures value { IfOk result (λ value. read json.now ≡ Some (view value)) }
-    ensures cause { IfErr result (IsNoEvents json.now) }
+/// Why a text isn't JSON, with the place of the fault. The text is read once more for it.
+fn not_json(alloc: Global, json: &str) -> WriteError
+    ensures { read json.now ≡ None → IsNoEvents json.now result }
 {
     match Value::from_str(alloc, json) {
-        Ok(value) => Ok(value),
-        Err(error) if error.is_memory() => Err(WriteError::OutOfMemory),
-        Err(error) => Err(WriteError::NotJson(error)),
+        Err(error) if !error.is_memory() => WriteError::NotJson(error),
+        _ => WriteError::OutOfMemory,
+    }
+}
+
+/// Reads the events of a JSON text, and whether they have ranges there.
+pub(crate) fn list_in(alloc: Global, json: &str) -> Result<EventList<CowStr<'static>>, WriteError>
+    ensures list { IfOk result (λ list. IsListIn list.has_ranges json.now
+        (map (pair_view text_of) list.events.items)) }
+    ensures cause { IfErr result (IsNoEvents json.now) }
+{
+    match events_from_text(alloc, json) {
+        Ok(list) => Ok(list),
+        Err(ReadError::NotJson) => Err(not_json(alloc, json)),
+        Err(ReadError::NotEvents(error)) => Err(WriteError::NotEvents(error)),
+        Err(ReadError::OutOfMemory) => Err(WriteError::OutOfMemory),
     }
 }
 
@@ -95,11 +50,9 @@ pub(crate) fn pairs_in(alloc: Global, json: &str) -> Result<Vec<Placed<'static>>
         IsTextOf json.now (map (pair_view text_of) pairs.items)) }
     ensures cause { IfErr result (IsNoEvents json.now) }
 {
-    let value = value_in(alloc, json)?;
-    match pairs_of(alloc, &value) {
-        Ok(pairs) => Ok(pairs),
-        Err(JsonError::OutOfMemory) => Err(WriteError::OutOfMemory),
-        Err(error) => Err(WriteError::NotEvents(error)),
+    match list_in(alloc, json) {
+        Ok(list) => Ok(list.events),
+        Err(error) => Err(error),
     }
 }
 
