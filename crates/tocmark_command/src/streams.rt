@@ -1,6 +1,6 @@
 //! Reads and writes whole texts.
 
-ghost use Rattle.std.specs.Prelude.{◌≡◌, IfOk, IfSome, OnOk, string_bytes};
+ghost use Rattle.std.specs.Prelude.{◌≡◌, Err, IfOk, IfSome, IsUtf8, OnOk, string_bytes};
 ghost use Rattle.std.specs.Io.KnownBytes.{Appends};
 
 use std::alloc::Global;
@@ -18,8 +18,10 @@ pub enum InputError {
 
 /// All that an input has, as text.
 pub fn text_in<I: Read>(alloc: Global, input: &mut I) -> Result<String, InputError>
-    ensures { IfSome (I.remaining input.old) (λ bytes.
+    ensures text { IfSome (I.remaining input.old) (λ bytes.
         IfOk result (λ text. string_bytes text ≡ bytes)) }
+    ensures refused { IfSome (I.remaining input.old) (λ bytes.
+        result ≡ Err InputError.NotUtf8 → ¬ IsUtf8 bytes) }
 {
     let mut bytes = Vec::new(alloc);
     if let Err(error) = input.read_to_end(&mut bytes) {

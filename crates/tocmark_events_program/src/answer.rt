@@ -5,7 +5,7 @@ ghost use Rattle.serde_json.specs.Written.{IsInOrder};
 ghost use Rattle.tocmark_event.specs.Options.{options_view};
 ghost use Rattle.tocmark_interchange.specs.Document.{IsWrittenTheSame};
 ghost use Rattle.tocmark_interchange.specs.Interchange.{IsWrittenAgain, IsWrittenFrom, reading_json, reading_located};
-ghost use Rattle.tocmark_interchange.specs.Lines.{array_of, reading_lines, reading_located_lines};
+ghost use Rattle.tocmark_interchange.specs.Lines.{IsWrittenFromLines, array_of};
 ghost use Rattle.tocmark_interchange.specs.Rewriting.{IsRewrittenText};
 ghost use Rattle.tocmark_events_program.specs.Events.{IsAnswer, IsMade, IsReadAs, IsWriteFault};
 
@@ -15,8 +15,8 @@ use std::alloc::Global;
 use tocmark::Options;
 use tocmark::event::ParserOptions;
 use tocmark_interchange::{
-    array_of, check_json, checked_over, read_json, read_lines, read_located, read_located_lines,
-    rewrite_json, write_over,
+    array_of, check_json, checked_over, read_json, read_located, rewrite_json, write_lines,
+    write_over,
 };
 use tocmark_rewrite::RewrittenTree;
 
@@ -49,15 +49,6 @@ fn read_events(alloc: Global, text: &str, flags: ParserOptions) -> Result<Answer
     Ok(only(alloc, output))
 }
 
-/// The lines of JSON of the events of a text under these flags, with their ranges.
-fn read_event_lines(alloc: Global, text: &str, flags: ParserOptions) -> Result<Answer, Fault>
-    ensures fault { IfErr result (λ fault. ¬ (IsWriteFault fault)) }
-    ensures read { IfOk result (λ answer. string_bytes answer.text ≡ reading_lines flags text.now) }
-{
-    let output = read_lines(alloc, text, flags)?;
-    Ok(only(alloc, output))
-}
-
 /// The JSON of the events of a text under these flags, with lines and columns.
 fn read_located_events(alloc: Global, text: &str, flags: ParserOptions) -> Result<Answer, Fault>
     ensures fault { IfErr result (λ fault. ¬ (IsWriteFault fault)) }
@@ -68,37 +59,21 @@ fn read_located_events(alloc: Global, text: &str, flags: ParserOptions) -> Resul
     Ok(only(alloc, output))
 }
 
-/// The lines of JSON of the events of a text under these flags, with lines and columns.
-fn read_located_event_lines(
-    alloc: Global,
-    text: &str,
-    flags: ParserOptions,
-) -> Result<Answer, Fault>
-    ensures fault { IfErr result (λ fault. ¬ (IsWriteFault fault)) }
-    ensures read { IfOk result (λ answer.
-        string_bytes answer.text ≡ reading_located_lines flags text.now) }
-{
-    let output = read_located_lines(alloc, text, flags)?;
-    Ok(only(alloc, output))
-}
-
-/// The events of a text under these flags, as an array or by lines, with lines and columns or without.
+/// The events of a text under these flags, with lines and columns or without.
 fn read_as(
     alloc: Global,
     text: &str,
     flags: ParserOptions,
-    lines: bool,
     positions: bool,
 ) -> Result<Answer, Fault>
     ensures fault { IfErr result (λ fault. ¬ (IsWriteFault fault)) }
     ensures read { IfOk result (λ answer.
-        IsReadAs flags lines positions text.now (string_bytes answer.text)) }
+        IsReadAs flags positions text.now (string_bytes answer.text)) }
 {
-    match (lines, positions) {
-        (false, false) => read_events(alloc, text, flags),
-        (true, false) => read_event_lines(alloc, text, flags),
-        (false, true) => read_located_events(alloc, text, flags),
-        (true, true) => read_located_event_lines(alloc, text, flags),
+    if positions {
+        read_located_events(alloc, text, flags)
+    } else {
+        read_events(alloc, text, flags)
     }
 }
 
@@ -125,6 +100,23 @@ fn write_events(
         has_source source.now text.now (string_bytes answer.text)) }
 {
     let output = write_over(alloc, text, source, has_source, flags, options)?;
+    Ok(only(alloc, output))
+}
+
+/// The Markdown of the events that a text has as JSON by lines. Without a source their ranges are dropped.
+fn write_event_lines(
+    alloc: Global,
+    lines: &str,
+    source: &str,
+    has_source: bool,
+    flags: ParserOptions,
+    options: Options<'static>,
+) -> Result<Answer, Fault>
+    ensures fault { IfErr result (λ fault. ¬ (IsWriteFault fault)) }
+    ensures written { IfOk result (λ answer. IsWrittenFromLines (options_view options.entry) flags
+        has_source source.now lines.now (string_bytes answer.text)) }
+{
+    let output = write_lines(alloc, lines, source, has_source, flags, options)?;
     Ok(only(alloc, output))
 }
 
@@ -164,26 +156,29 @@ fn rewrite_events(
     })
 }
 
-/// What a job makes of a text, which is no JSON by lines.
+/// What a job makes of a text whose lines aren't joined.
 fn made(alloc: Global, job: Job<'_>, source: &str, text: &str) -> Result<Answer, Fault>
     ensures fault { IfErr result (λ fault. ¬ (IsWriteFault fault)) }
     ensures makes { IfOk result (λ answer.
         IsMade job.entry source.now text.now (string_bytes answer.text)) }
 {
     match job {
-        Job::Read {
-            flags,
-            lines,
-            positions,
-        } => read_as(alloc, text, flags, lines, positions),
+        Job::Read { flags, positions } => read_as(alloc, text, flags, positions),
         Job::Check => checked_events(alloc, text),
         Job::Write {
             flags,
             options,
             source: file,
             is_document: false,
-            ..
+            lines: false,
         } => write_events(alloc, text, source, file.is_some(), flags, options),
+        Job::Write {
+            flags,
+            options,
+            source: file,
+            is_document: false,
+            lines: true,
+        } => write_event_lines(alloc, text, source, file.is_some(), flags, options),
         Job::Write {
             flags,
             options,
@@ -195,7 +190,7 @@ fn made(alloc: Global, job: Job<'_>, source: &str, text: &str) -> Result<Answer,
     }
 }
 
-/// What a job makes of JSON by lines.
+/// What a job makes of lines that are joined into an array.
 fn made_of_lines(alloc: Global, job: Job<'_>, source: &str, lines: &str) -> Result<Answer, Fault>
     ensures fault { IfErr result (λ fault. ¬ (IsWriteFault fault)) }
     ensures makes { IfOk result (λ answer.
@@ -211,7 +206,7 @@ pub fn answered(alloc: Global, job: Job<'_>, source: &str, input: &str) -> Resul
     ensures answers { IfOk result (λ answer.
         IsAnswer job.entry source.now input.now (string_bytes answer.text)) }
 {
-    if job.takes_lines() {
+    if job.joins_lines() {
         made_of_lines(alloc, job, source, input)
     } else {
         made(alloc, job, source, input)

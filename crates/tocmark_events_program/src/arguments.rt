@@ -10,14 +10,25 @@ use tocmark_command::options::{CommandOption, Takes, with_options};
 use tocmark_command::syntax::{extended, syntax_named, with_syntax};
 use tocmark_interchange::OptionFault;
 
-/// What is to be done.
+/// What a call asks for.
+#[derive(Clone, Copy, Drop)]
+pub enum Call<'a> {
+    /// Markdown, read under these flags, to lines of events, which are written as they come.
+    Stream {
+        flags: ParserOptions,
+        /// Whether ranges have lines and columns.
+        positions: bool,
+    },
+    /// What is written once all of it is there.
+    Whole(Job<'a>),
+}
+
+/// What is made as a whole.
 #[derive(Clone, Copy, Drop)]
 pub enum Job<'a> {
-    /// Markdown, read under these flags, to events.
+    /// Markdown, read under these flags, to an array of events.
     Read {
         flags: ParserOptions,
-        /// Whether each event stands on a line of its own.
-        lines: bool,
         /// Whether ranges have lines and columns.
         positions: bool,
     },
@@ -47,15 +58,19 @@ pub enum Job<'a> {
 
 impl<'a> Job<'a> {
     ghost use Rattle.std.specs.Prelude.{◌≡◌};
-    ghost use Rattle.tocmark_events_program.specs.Events.{takes_lines};
+    ghost use Rattle.tocmark_events_program.specs.Events.{joins_lines};
 
-    /// Whether the input is JSON by lines.
-    pub fn takes_lines(&self) -> bool
-        ensures { result ≡ takes_lines self.now }
+    /// Whether the lines of the input are joined into an array.
+    pub fn joins_lines(&self) -> bool
+        ensures { result ≡ joins_lines self.now }
     {
         match self {
             Job::Read { .. } | Job::Check => false,
-            Job::Write { lines, .. } => *lines,
+            Job::Write {
+                is_document,
+                lines,
+                ..
+            } => *is_document && *lines,
             Job::Rewrite { lines, .. } => *lines,
         }
     }
@@ -113,7 +128,7 @@ const LINES: CommandOption<'static> = CommandOption {
     name: "lines",
     letter: None,
     takes: Takes::Nothing,
-    help: "One line of JSON for each event, and no array",
+    help: "One line of JSON for each event, and no array:\nread and write keep few events in memory",
 };
 
 /// The options of `read`.
@@ -289,51 +304,69 @@ pub fn file_in_place<'a>(matches: &ArgMatches<'a>) -> Option<&'a str> {
     }
 }
 
+/// What `read` asks for.
+fn reading_asked<'a>(matches: &ArgMatches<'a>, flags: ParserOptions) -> Call<'a> {
+    let positions = matches.get_flag("positions");
+    if matches.get_flag("lines") {
+        Call::Stream { flags, positions }
+    } else {
+        Call::Whole(Job::Read { flags, positions })
+    }
+}
+
+/// The options of the writer that the arguments of `write` or `rewrite` set, beginning with these.
+fn valid_options<'a>(
+    alloc: Global,
+    matches: &ArgMatches<'a>,
+    name: &str,
+    flags: ParserOptions,
+    given: Options<'static>,
+) -> Result<Options<'static>, Refusal<'a>> {
+    let mut options = options_of(alloc, matches, given)?;
+    if name == "write" && matches.get_flag("check-plain-blocks") {
+        options.check_plain_blocks = true;
+    }
+    match options.validate(flags) {
+        Ok(()) => Ok(options),
+        Err(error) => Err(Refusal::Invalid(error)),
+    }
+}
+
 /// What the arguments ask for, beginning with these options, or why they are wrong.
 pub fn asked<'a>(
     alloc: Global,
     matches: &ArgMatches<'a>,
     given: Options<'static>,
-) -> Result<Job<'a>, Refusal<'a>> {
+) -> Result<Call<'a>, Refusal<'a>> {
     let Some((name, matches)) = matches.subcommand() else {
         return Err(Refusal::NoVerb);
     };
     if name == "check" {
-        return Ok(Job::Check);
+        return Ok(Call::Whole(Job::Check));
     }
     let flags = flags_of(matches)?;
-    let lines = matches.get_flag("lines");
     if name == "read" {
-        return Ok(Job::Read {
-            flags,
-            lines,
-            positions: matches.get_flag("positions"),
-        });
+        return Ok(reading_asked(matches, flags));
     }
-    let mut options = options_of(alloc, matches, given)?;
-    if name == "write" && matches.get_flag("check-plain-blocks") {
-        options.check_plain_blocks = true;
-    }
-    if let Err(error) = options.validate(flags) {
-        return Err(Refusal::Invalid(error));
-    }
+    let options = valid_options(alloc, matches, name, flags, given)?;
+    let lines = matches.get_flag("lines");
     if name == "write" {
-        return Ok(Job::Write {
+        return Ok(Call::Whole(Job::Write {
             flags,
             options,
             source: matches.get_str("source"),
             is_document: matches.get_flag("check-document"),
             lines,
-        });
+        }));
     }
     let Some(source) = matches.get_str("source") else {
         return Err(Refusal::NoSource);
     };
-    Ok(Job::Rewrite {
+    Ok(Call::Whole(Job::Rewrite {
         flags,
         options,
         source,
         reports: matches.get_flag("report"),
         lines,
-    })
+    }))
 }

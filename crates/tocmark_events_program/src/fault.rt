@@ -9,7 +9,7 @@ use std::io;
 use thiserror::Error;
 use tocmark_command::replace::ReplaceError;
 use tocmark_command::streams::InputError;
-use tocmark_interchange::{DocumentError, OptionsTextError, RewriteError, WriteError};
+use tocmark_interchange::{DocumentError, OptionsTextError, RewriteError, StreamError, WriteError};
 use tocmark_json::fault::JsonError;
 
 /// A fault, shown as one line on standard error, behind the name of the program.
@@ -66,6 +66,15 @@ impl From<InputError> for Fault {
         match error {
             InputError::Unreadable(_) => Fault::Read,
             InputError::NotUtf8 => Fault::NotUtf8,
+        }
+    }
+}
+
+impl From<StreamError> for Fault {
+    fn from(error: StreamError) -> Fault {
+        match error {
+            StreamError::Output(_) => Fault::Write,
+            StreamError::OutOfMemory => Fault::OutOfMemory,
         }
     }
 }

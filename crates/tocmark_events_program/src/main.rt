@@ -12,12 +12,13 @@ mod edited;
 mod fault;
 mod settings;
 
-ghost use Rattle.std.specs.Prelude.{◌≡◌, ◌≤◌, IfErr, IfOk, IfSome, OnErr, OnOk, string_bytes};
+ghost use Rattle.std.specs.Prelude.{◌≡◌, ◌≤◌, IfErr, IfSome, OnErr, OnOk, Some, string_bytes};
 ghost use Rattle.std.specs.Io.KnownBytes.{Appends};
-ghost use Rattle.tocmark_events_program.specs.Events.{IsAnswer, IsAnswered, IsWriteFault, WritesLate};
+ghost use Rattle.tocmark_interchange.specs.Lines.{AppendsFront};
+ghost use Rattle.tocmark_events_program.specs.Events.{IsAnswered, IsWriteFault, WritesLate, lines_read};
 
-use answer::{Answer, answered};
-use arguments::{Job, NAME, asked, command, file_in_place, options_file};
+use answer::answered;
+use arguments::{Call, Job, NAME, asked, command, file_in_place, options_file};
 use clap::ArgMatches;
 use edited::Edited;
 use fault::Fault;
@@ -26,10 +27,13 @@ use std::fs;
 use std::io::{Read, Write};
 use std::process::ExitCode;
 use tocmark::Options;
+use tocmark::event::ParserOptions;
 use tocmark_command::program::{Program, words_of};
-use tocmark_command::streams::{text_in, write_out};
+use tocmark_command::streams::text_in;
 use tocmark_command::syntax::syntax_help;
-use tocmark_interchange::options_in_json;
+use tocmark_interchange::{
+    StreamError, options_in_json, stream_lines, stream_located_lines, write_bytes,
+};
 use tocmark_rewrite::{Fate, RewrittenTree};
 
 /// This program.
@@ -38,45 +42,93 @@ const EVENTS: Program = Program { name: NAME };
 /// The first line of what `--help` says of `--syntax`.
 const SYNTAX: &str = "Kind of Markdown: commonmark, gfm (default) or all";
 
-/// The answer to a job, over the text of the input.
-fn converted<I: Read>(
+/// Writes the lines of the events of a text as they come.
+fn stream<O: Write>(
     alloc: Global,
-    job: Job<'_>,
-    source: &str,
-    input: &mut I,
-) -> Result<Answer, Fault>
-    ensures fault { IfErr result (λ fault. ¬ (IsWriteFault fault)) }
-    ensures answers { IfSome (I.remaining input.old) (λ bytes.
-        IfOk result (λ answer. IsAnswer job.entry source.now bytes (string_bytes answer.text))) }
+    text: &str,
+    flags: ParserOptions,
+    positions: bool,
+    output: &mut O,
+) -> Result<(), StreamError>
+    ensures whole { OnOk result (Appends (O.contents output.old) (O.contents output.new)
+        (lines_read flags positions text.now)) }
+    ensures front { OnErr result (AppendsFront (O.contents output.old) (O.contents output.new)
+        (lines_read flags positions text.now)) }
 {
-    let text = text_in(alloc, input)?;
-    answered(alloc, job, source, text.as_str())
+    if positions {
+        stream_located_lines(alloc, text, flags, output)
+    } else {
+        stream_lines(alloc, text, flags, output)
+    }
 }
 
 /// Writes the answer to a job, once all of it is there. Returns the blocks of a rewritten document.
-fn convert<I: Read, O: Write>(
+fn write_answer<O: Write>(
     alloc: Global,
     job: Job<'_>,
     source: &str,
-    input: &mut I,
+    input: &str,
     output: &mut O,
 ) -> Result<Vec<RewrittenTree>, Fault>
     ensures unwritten { IfErr result (λ fault. ¬ (IsWriteFault fault) → output.new ≡ output.old) }
-    ensures answered { IfSome (I.remaining input.old) (λ bytes. OnOk result
-        (IsAnswered job.entry source.now bytes (O.contents output.old) (O.contents output.new))) }
-    ensures late { OnErr result
-        (WritesLate job.entry source.now (I.remaining input.old) output.old output.new) }
+    ensures answered { OnOk result (IsAnswered (Call.Whole job.entry) source.now input.now
+        (O.contents output.old) (O.contents output.new)) }
+    ensures late { OnErr result (WritesLate O.contents (Call.Whole job.entry) source.now
+        (Some input.now) output.old output.new) }
 {
-    let answer = converted(alloc, job, source, input)?;
-    match write_out(output, answer.text.as_str()) {
+    let answer = answered(alloc, job, source, input)?;
+    match write_bytes(output, answer.text.as_bytes()) {
         Ok(()) => Ok(answer.blocks),
         Err(_error) => Err(Fault::Write),
     }
 }
 
+/// Writes the output of a call. Returns the blocks of a rewritten document.
+fn respond<O: Write>(
+    alloc: Global,
+    call: Call<'_>,
+    source: &str,
+    input: &str,
+    output: &mut O,
+) -> Result<Vec<RewrittenTree>, Fault>
+    ensures answered { OnOk result (IsAnswered call.entry source.now input.now
+        (O.contents output.old) (O.contents output.new)) }
+    ensures late { OnErr result (WritesLate O.contents call.entry source.now (Some input.now)
+        output.old output.new) }
+{
+    match call {
+        Call::Stream { flags, positions } => {
+            stream(alloc, input, flags, positions, output)?;
+            Ok(Vec::new(alloc))
+        }
+        Call::Whole(job) => write_answer(alloc, job, source, input, output),
+    }
+}
+
+/// Writes the output of a call over the text of the input, and flushes it. Returns the blocks of a rewritten document.
+fn convert<I: Read, O: Write>(
+    alloc: Global,
+    call: Call<'_>,
+    source: &str,
+    input: &mut I,
+    output: &mut O,
+) -> Result<Vec<RewrittenTree>, Fault>
+    ensures answered { IfSome (I.remaining input.old) (λ bytes. OnOk result
+        (IsAnswered call.entry source.now bytes (O.contents output.old) (O.contents output.new))) }
+    ensures late { OnErr result (WritesLate O.contents call.entry source.now
+        (I.remaining input.old) output.old output.new) }
+{
+    let text = text_in(alloc, input)?;
+    let blocks = respond(alloc, call, source, text.as_str(), output)?;
+    match output.flush() {
+        Ok(()) => Ok(blocks),
+        Err(_error) => Err(Fault::Write),
+    }
+}
+
 /// Writes a line about each block of a rewritten document, if the call asks for that.
-fn report<F: Write>(faults: &mut F, job: Job<'_>, blocks: &[RewrittenTree]) {
-    if let Job::Rewrite { reports: true, .. } = job {
+fn report<F: Write>(faults: &mut F, call: Call<'_>, blocks: &[RewrittenTree]) {
+    if let Call::Whole(Job::Rewrite { reports: true, .. }) = call {
         for block in blocks {
             tell(faults, block);
         }
@@ -97,10 +149,11 @@ fn tell<F: Write>(faults: &mut F, block: &RewrittenTree) {
     };
 }
 
-/// The program after its arguments: the status that it ends with. It writes nothing before the whole answer is there.
+/// The program after its arguments: the status that it ends with. `read --lines` writes lines as they come. Any other call
+/// writes nothing before its whole answer is there.
 pub fn run<I: Read, O: Write, F: Write>(
     alloc: Global,
-    job: Job<'_>,
+    call: Call<'_>,
     source: &str,
     input: &mut I,
     output: &mut O,
@@ -108,13 +161,13 @@ pub fn run<I: Read, O: Write, F: Write>(
 ) -> u8
     ensures status { result ≤ 1 }
     ensures answered { IfSome (I.remaining input.old) (λ bytes. result ≡ 0
-        → IsAnswered job.entry source.now bytes (O.contents output.old) (O.contents output.new)) }
-    ensures late { result ≡ 1
-        → WritesLate job.entry source.now (I.remaining input.old) output.old output.new }
+        → IsAnswered call.entry source.now bytes (O.contents output.old) (O.contents output.new)) }
+    ensures late { result ≡ 1 → WritesLate O.contents call.entry source.now
+        (I.remaining input.old) output.old output.new }
 {
-    match convert(alloc, job, source, input, output) {
+    match convert(alloc, call, source, input, output) {
         Ok(blocks) => {
-            report(faults, job, &blocks);
+            report(faults, call, &blocks);
             0
         }
         Err(fault) => {
@@ -135,12 +188,12 @@ fn text_of(rt: &HostRuntime, file: &str) -> Result<String, Fault> {
     }
 }
 
-/// The text of the source that a job names; an empty one if it names none.
-fn source_of(rt: &HostRuntime, job: Job<'_>) -> Result<String, Fault> {
-    let file = match job {
-        Job::Read { .. } | Job::Check => None,
-        Job::Write { source, .. } => source,
-        Job::Rewrite { source, .. } => Some(source),
+/// The text of the source that a call names; an empty one if it names none.
+fn source_of(rt: &HostRuntime, call: Call<'_>) -> Result<String, Fault> {
+    let file = match call {
+        Call::Whole(Job::Write { source, .. }) => source,
+        Call::Whole(Job::Rewrite { source, .. }) => Some(source),
+        _ => None,
     };
     match file {
         Some(file) => text_of(rt, file),
@@ -193,7 +246,7 @@ fn perform_in_place(rt: &HostRuntime, job: Job<'_>, file: &str, source: &str) ->
     let mut faults = rt.stderr();
     match rewrite_in_place(rt, job, file, source) {
         Ok(blocks) => {
-            report(&mut faults, job, &blocks);
+            report(&mut faults, Call::Whole(job), &blocks);
             ExitCode::from(0)
         }
         Err(fault) => {
@@ -203,9 +256,9 @@ fn perform_in_place(rt: &HostRuntime, job: Job<'_>, file: &str, source: &str) ->
     }
 }
 
-fn perform(rt: &HostRuntime, job: Job<'_>, in_place: Option<&str>) -> ExitCode {
+fn perform(rt: &HostRuntime, call: Call<'_>, in_place: Option<&str>) -> ExitCode {
     let mut faults = rt.stderr();
-    let source = match source_of(rt, job) {
+    let source = match source_of(rt, call) {
         Ok(source) => source,
         Err(fault) => {
             EVENTS.complain(&mut faults, &fault);
@@ -213,14 +266,16 @@ fn perform(rt: &HostRuntime, job: Job<'_>, in_place: Option<&str>) -> ExitCode {
         }
     };
     if let Some(file) = in_place {
-        return perform_in_place(rt, job, file, source.as_str());
+        if let Call::Whole(job) = call {
+            return perform_in_place(rt, job, file, source.as_str());
+        }
     }
     let mut input = rt.stdin();
     let mut output = rt.stdout();
     let alloc = rt.alloc();
     ExitCode::from(run(
         alloc,
-        job,
+        call,
         source.as_str(),
         &mut input,
         &mut output,
@@ -238,7 +293,7 @@ fn start(rt: &HostRuntime, matches: &ArgMatches<'_>) -> ExitCode {
         }
     };
     match asked(rt.alloc(), matches, options) {
-        Ok(job) => perform(rt, job, file_in_place(matches)),
+        Ok(call) => perform(rt, call, file_in_place(matches)),
         Err(refusal) => {
             EVENTS.complain(&mut rt.stderr(), &refusal);
             ExitCode::from(2)
