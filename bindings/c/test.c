@@ -317,6 +317,52 @@ static void places(void) {
   is_at(0, 0, 0);
 }
 
+/* --- packed events --- */
+
+/* Writes packed events over a source, where what is wanted is a text, or an error's code. */
+static void packs(const uint8_t *bytes, size_t size, const char *source, const char *wanted, ptrdiff_t code) {
+  uint8_t out[100];
+  place = (struct tocmark_place){sizeof place, 7, 8, 9};
+  ptrdiff_t written = tocmark_write_packed_at(bytes, size, (const uint8_t *)source, strlen(source), TOCMARK_GFM, NULL, 0,
+                                              &place, out, sizeof out);
+  expect(written, code < 0 ? code : (ptrdiff_t)strlen(wanted), "packed events");
+  if (written >= 0 && memcmp(out, wanted, (size_t)written) != 0)
+    wrong("packed events are written as another text", &(struct text){out, (size_t)written});
+  if (written >= 0)
+    is_at(7, 8, 9);
+}
+
+#define PACKS(source, wanted, code, ...) \
+  packs((const uint8_t[]){__VA_ARGS__}, sizeof((const uint8_t[]){__VA_ARGS__}), source, wanted, code)
+#define NUMBER(n) n, 0, 0, 0, 0, 0, 0, 0
+
+static void packed(void) {
+  /* A paragraph: "hi ", and "you" in strong emphasis. */
+  PACKS("", "hi **you**", 0, 0, 0, 0, 0, 6, NUMBER(3), 'h', 'i', ' ', 0, 0, 10, 0, 6, NUMBER(3), 'y', 'o', 'u', 0, 1, 10, 0, 1,
+        0);
+  /* A heading of the second level, and a link with a title in it. */
+  PACKS("", "## [a](/b \"c\")", 0, 0, 0, 19, 2, 0, NUMBER(0), NUMBER(0), 0, 0, 17, 0, NUMBER(2), '/', 'b', NUMBER(1), 'c',
+        NUMBER(0), 0, 6, NUMBER(1), 'a', 0, 1, 17, 0, 1, 19, 2);
+  PACKS("* * *\n", "---", 0, 1, NUMBER(0), NUMBER(5), 4);
+  packs(NULL, 0, "", "", 0);
+  PACKS("", "", TOCMARK_NOT_EVENTS, 0, 4, 0, 13);
+  is_at(1, 0, 0);
+  PACKS("", "", TOCMARK_NOT_EVENTS, 0, 4, 0, 0, 0, 0, 6, NUMBER(1), 0xFF, 0, 1, 0);
+  is_at(2, 0, 0);
+  PACKS("", "", TOCMARK_NOT_EVENTS, 0, 6, NUMBER(2), 'a');
+  is_at(0, 0, 0);
+  PACKS("", "", TOCMARK_NOT_EVENTS, 0, 0, 16, NUMBER(255), 0);
+  is_at(0, 0, 0);
+  PACKS("", "", TOCMARK_UNEXPECTED_EVENT, 0, 4, 0, 1, 0);
+  is_at(1, 0, 0);
+  PACKS("a\nb\n", "", TOCMARK_INVALID_SOURCE_RANGE, 0, 4, 1, NUMBER(2), NUMBER(9), 4);
+  is_at(1, 2, 3);
+  PACKS("\xFF", "", TOCMARK_SOURCE_NOT_UTF8, 0, 4);
+  is_at(SIZE_MAX, 0, 0);
+  expect(tocmark_write_packed_at(NULL, 0, NULL, 0, 0, (const uint8_t *)"{", 1, NULL, NULL, 0), TOCMARK_OPTIONS_NOT_JSON,
+         "options and no place");
+}
+
 /* NULL is an empty text, a buffer without room, and the default style. */
 static void nulls(void) {
   expect(tocmark_error_text(TOCMARK_OUT_OF_MEMORY, NULL, 0), 13, "the text of an error for no room");
@@ -519,6 +565,7 @@ int main(void) {
   errors();
   rewriting();
   places();
+  packed();
   nulls();
   styles();
   other_syntaxes();

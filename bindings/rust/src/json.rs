@@ -1,60 +1,31 @@
-//! Events as JSON, appended to one text.
+//! Events as JSON, appended to one text, and strings of options.
 
 use pulldown_cmark::{CodeBlockKind, CowStr, Event, HeadingLevel, LinkType, Tag, TagEnd};
 use std::fmt::Write;
-use std::ops::Range;
 
-/// A list of events with their ranges, as it grows.
-#[derive(Clone, Debug)]
-pub struct Pairs {
+/// A list of events, as it grows.
+pub struct Events {
     text: String,
 }
 
-impl Pairs {
-    pub fn new() -> Pairs {
-        Pairs {
+impl Events {
+    pub fn new() -> Events {
+        Events {
             text: String::from("["),
         }
     }
 
-    pub fn push(&mut self, event: &Event<'_>, range: Option<Range<usize>>) {
-        let text = &mut self.text;
-        if text.len() > 1 {
-            text.push(',');
+    pub fn push(&mut self, event: &Event<'_>) {
+        if self.text.len() > 1 {
+            self.text.push(',');
         }
-        text.push('[');
-        put_event(text, event);
-        match range {
-            Some(Range { start, end }) => {
-                text.push_str(",{\"start\":");
-                put_number(text, start);
-                text.push_str(",\"end\":");
-                put_number(text, end);
-                text.push_str("}]");
-            }
-            None => text.push_str(",null]"),
-        }
+        put_event(&mut self.text, event);
     }
 
     pub fn finish(mut self) -> String {
         self.text.push(']');
         self.text
     }
-}
-
-/// Appends a number. This takes fewer instructions than `write!`.
-fn put_number(out: &mut String, number: usize) {
-    if number >= 10 {
-        let mut power = 1;
-        while number / power >= 10 {
-            power *= 10;
-        }
-        while power > 1 {
-            out.push(char::from(b'0' + (number / power % 10) as u8));
-            power /= 10;
-        }
-    }
-    out.push(char::from(b'0' + (number % 10) as u8));
 }
 
 /// A text as a JSON string.

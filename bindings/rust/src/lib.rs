@@ -35,6 +35,7 @@ mod error;
 mod json;
 mod library;
 mod options;
+mod packed;
 mod state;
 
 pub use count::{calculate_code_block_token_count, DEFAULT_CODE_BLOCK_TOKEN_COUNT};
@@ -66,12 +67,13 @@ where
 {
     let flags = options::written_flags(flags);
     options.validate(flags)?;
-    let mut pairs = json::Pairs::new();
+    let mut json = json::Events::new();
     for event in events {
-        pairs.push(event.borrow(), None);
+        json.push(event.borrow());
     }
+    let json = json.finish();
     let given = library::Given {
-        json: &pairs.finish(),
+        events: json.as_bytes(),
         source,
         flags: flags.bits(),
         options: &options.to_json(),

@@ -12,15 +12,27 @@ struct PlaceInC {
     last_line: usize,
 }
 
+impl PlaceInC {
+    fn unknown() -> PlaceInC {
+        PlaceInC {
+            size: size_of::<PlaceInC>() as u32,
+            event: 0,
+            first_line: 0,
+            last_line: 0,
+        }
+    }
+}
+
 extern "C" {
-    fn tocmark_write_json(
-        json: *const u8,
-        json_len: usize,
+    fn tocmark_write_packed_at(
+        packed: *const u8,
+        packed_len: usize,
         source: *const u8,
         source_len: usize,
         flags: u32,
         options: *const u8,
         options_len: usize,
+        place: *mut PlaceInC,
         out: *mut u8,
         out_len: usize,
     ) -> isize;
@@ -53,9 +65,9 @@ fn text_of(room: usize, mut call: impl FnMut(&mut [u8]) -> isize) -> Result<Stri
     }
 }
 
-/// What both functions get.
+/// What both functions get. The events are packed for `write`, and JSON for `rewrite`.
 pub struct Given<'g> {
-    pub json: &'g str,
+    pub events: &'g [u8],
     pub source: &'g str,
     pub flags: u32,
     pub options: &'g str,
@@ -64,17 +76,19 @@ pub struct Given<'g> {
 impl Given<'_> {
     /// The Markdown of the events.
     pub fn write(&self) -> Result<String, Error> {
-        text_of(self.json.len(), |out| {
-            // A slice's pointer is never null, and `out` overlaps nothing that is read.
+        let mut place = PlaceInC::unknown();
+        text_of(2 * self.events.len() + 1024, |out| {
+            // A slice's pointer is never null, `place` is this function's own, and `out` overlaps nothing that is read.
             unsafe {
-                tocmark_write_json(
-                    self.json.as_ptr(),
-                    self.json.len(),
+                tocmark_write_packed_at(
+                    self.events.as_ptr(),
+                    self.events.len(),
                     self.source.as_ptr(),
                     self.source.len(),
                     self.flags,
                     self.options.as_ptr(),
                     self.options.len(),
+                    &mut place,
                     out.as_mut_ptr(),
                     out.len(),
                 )
@@ -85,18 +99,13 @@ impl Given<'_> {
 
     /// The source, rewritten to the events.
     pub fn rewrite(&self) -> Result<String, Fault> {
-        let mut place = PlaceInC {
-            size: size_of::<PlaceInC>() as u32,
-            event: 0,
-            first_line: 0,
-            last_line: 0,
-        };
+        let mut place = PlaceInC::unknown();
         text_of(self.source.len() + 4096, |out| {
-            // As above; `place` is this function's own.
+            // As above.
             unsafe {
                 tocmark_rewrite(
-                    self.json.as_ptr(),
-                    self.json.len(),
+                    self.events.as_ptr(),
+                    self.events.len(),
                     self.source.as_ptr(),
                     self.source.len(),
                     self.flags,

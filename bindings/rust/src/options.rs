@@ -194,8 +194,11 @@ impl Options<'_> {
         ]
     }
 
-    /// The options as JSON, a member for each field.
+    /// The options as JSON, a member for each field. The default ones are an empty text.
     pub(crate) fn to_json(self) -> String {
+        if self == Options::default() {
+            return String::new();
+        }
         let sizes = self.sizes();
         let truths = [
             (

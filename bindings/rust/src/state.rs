@@ -1,9 +1,9 @@
 //! A writer that takes events in several calls.
 
 use crate::error::Error;
-use crate::json::Pairs;
 use crate::library::Given;
 use crate::options::{written_flags, Options, OptionsError};
+use crate::packed::Packed;
 use pulldown_cmark::{Event, Options as ParserOptions, TagEnd};
 use std::borrow::Borrow;
 use std::fmt;
@@ -41,7 +41,7 @@ enum Status {
 /// ```
 #[derive(Clone, Debug)]
 pub struct State {
-    pairs: Pairs,
+    packed: Packed,
     open: Vec<TagEnd>,
     source: String,
     flags: u32,
@@ -56,7 +56,7 @@ impl State {
     pub fn new(parser_options: ParserOptions, options: Options<'_>) -> Self {
         let flags = written_flags(parser_options);
         State {
-            pairs: Pairs::new(),
+            packed: Packed::default(),
             open: Vec::new(),
             source: String::new(),
             flags: flags.bits(),
@@ -114,7 +114,7 @@ impl State {
                 }
                 _ => {}
             }
-            self.pairs.push(event, moved(range, source, begin)?);
+            self.packed.push(event, moved(range, source, begin)?);
             progress.events_consumed += 1;
         }
         Ok(progress)
@@ -139,9 +139,9 @@ impl State {
         if !self.open.is_empty() {
             return Err(Error::UnexpectedEvent);
         }
-        let pairs = std::mem::replace(&mut self.pairs, Pairs::new());
+        let packed = std::mem::take(&mut self.packed);
         let given = Given {
-            json: &pairs.finish(),
+            events: packed.as_bytes(),
             source: &self.source,
             flags: self.flags,
             options: self.valid_options()?,

@@ -1,3 +1,4 @@
 mod Answers
 mod Causes
+mod PackedCauses
 mod Rewritten

@@ -10,6 +10,8 @@ use Rattle.tocmark_interchange.specs.declared.fault.RewriteError.{RewriteError}
 use Rattle.tocmark_interchange.specs.declared.fault.RewriteError.TheVariants as rewrite_error
 use Rattle.tocmark_interchange.specs.declared.fault.WriteError.{WriteError}
 use Rattle.tocmark_interchange.specs.declared.fault.WriteError.TheVariants as write_error
+use Rattle.tocmark_interchange.specs.declared.packed_writing.PackedWriteError.{PackedWriteError}
+use Rattle.tocmark_interchange.specs.declared.packed_writing.PackedWriteError.TheVariants as packed_error
 use Rattle.tocmark_c.specs.declared.cause.Cause.{Cause}
 use Rattle.tocmark_c.specs.declared.cause.Cause.TheVariants as cause
 
@@ -52,6 +54,12 @@ write_cause (write_error.NotJson e) = cause.NotJson
 write_cause (write_error.NotEvents e) = cause.NotEvents
 write_cause (write_error.Refused p e) = refusal_cause e
 write_cause write_error.OutOfMemory = cause.OutOfMemory
+
+-- the cause that packed events are not written
+abbrev pub packed_cause : PackedWriteError → Cause
+packed_cause (packed_error.NotPacked n) = cause.NotEvents
+packed_cause (packed_error.Refused p e) = refusal_cause e
+packed_cause packed_error.OutOfMemory = cause.OutOfMemory
 
 -- the cause that events are not written as a document that says the same
 abbrev pub document_cause : DocumentError → Cause

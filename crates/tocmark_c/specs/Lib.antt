@@ -1,6 +1,7 @@
 pub mod Codes
 pub mod Answer
 pub mod Style
+pub mod PackedCalls
 pub mod Place
 pub mod Calls
 pub mod Rewriting

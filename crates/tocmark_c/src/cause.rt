@@ -1,10 +1,12 @@
 //! The causes of errors, and their codes.
 
 ghost use Rattle.std.specs.Prelude.{◌≡◌};
-ghost use Rattle.tocmark_c.specs.Codes.{code_of, document_cause, error_text, number_of, options_cause, refusal_cause, rewriting_cause, write_cause};
+ghost use Rattle.tocmark_c.specs.Codes.{code_of, document_cause, error_text, number_of, options_cause, packed_cause, refusal_cause, rewriting_cause, write_cause};
 
 use tocmark::Error;
-use tocmark_interchange::{DocumentError, OptionsTextError, RewriteError, WriteError};
+use tocmark_interchange::{
+    DocumentError, OptionsTextError, PackedWriteError, RewriteError, WriteError,
+};
 
 /// Why a call is refused.
 #[derive(Clone, Copy, Debug, PartialEq, Eq)]
@@ -19,7 +21,7 @@ pub enum Cause {
     OptionsNotUtf8,
     /// The text isn't JSON.
     NotJson,
-    /// The JSON isn't that of events.
+    /// The JSON or the bytes aren't those of events.
     NotEvents,
     /// The options aren't JSON.
     OptionsNotJson,
@@ -77,6 +79,17 @@ impl Cause {
             WriteError::NotEvents(_) => Cause::NotEvents,
             WriteError::Refused(_, error) => Cause::of_refusal(error),
             WriteError::OutOfMemory => Cause::OutOfMemory,
+        }
+    }
+
+    /// The cause of an error of writing packed events.
+    pub fn of_packed(error: &PackedWriteError) -> Cause
+        ensures { result ≡ packed_cause error.now }
+    {
+        match error {
+            PackedWriteError::NotPacked(_) => Cause::NotEvents,
+            PackedWriteError::Refused(_, error) => Cause::of_refusal(error),
+            PackedWriteError::OutOfMemory => Cause::OutOfMemory,
         }
     }
 

@@ -3,12 +3,13 @@
 //! Each function writes its result into a buffer that the caller lends (`room`). It returns the result's length in
 //! bytes, or a negative number, the code of an error (`cause`). If the buffer is too small, nothing is written. No
 //! state is kept between calls. `style` takes a style from C, and `place` tells C where an error is; `refusal` has an
-//! error with its place. `writing` writes events, and `rewriting` rewrites a source.
+//! error with its place. `writing` and `packed_events` write events, and `rewriting` rewrites a source.
 //!
 //! The crate stands on `tocmark_interchange` and `tocmark_format`.
 #![tactic(auto)]
 
 mod cause;
+mod packed_events;
 mod place;
 mod refusal;
 mod rewriting;
@@ -19,10 +20,12 @@ mod writing;
 ghost use Rattle.std.specs.Prelude.{◌≡◌, IfErr, IfOk, map, string_bytes};
 ghost use Rattle.tocmark_c.specs.Answer.{IsAnswer, IsErrorText, IsNever};
 ghost use Rattle.tocmark_c.specs.Calls.{IsDocumentCauseOf, IsFormatCause, IsMarkdownOf, IsReadCause, IsReadFrom, IsSameDocument, IsSameMarkdownOf, IsSameToAll, IsWriteCause, flags_of};
+ghost use Rattle.tocmark_c.specs.PackedCalls.{IsPackedMarkdown, IsPackedWriteCause};
 ghost use Rattle.tocmark_c.specs.Place.{IsTold};
 ghost use Rattle.tocmark_c.specs.Rewriting.{IsRewriteCauseOf, IsRewrittenOf};
 
 use cause::{Cause, error_text};
+use packed_events::write_packed_events;
 use place::TocmarkPlace;
 use rewriting::rewrite;
 use room::{answer, lay};
@@ -143,6 +146,28 @@ pub extern "C" fn tocmark_write_checked_at(
 {
     match write(alloc, json, source, flags, options, true) {
         Ok(document) => lay(document.as_str(), out),
+        Err(refusal) => refusal.told(place),
+    }
+}
+
+/// Writes packed events as Markdown, as `tocmark_write_json_at` does with events as JSON.
+#[unsafe(no_mangle)]
+#[tactic(auto, using(crate::proofs::Answers::text_answered, crate::proofs::Answers::cause_answered, crate::proofs::Answers::place_kept, crate::proofs::Answers::place_filled))]
+pub extern "C" fn tocmark_write_packed_at(
+    alloc: Global,
+    packed: &[u8],
+    source: &[u8],
+    flags: u32,
+    options: &[u8],
+    place: &mut TocmarkPlace,
+    out: &mut [u8],
+) -> isize
+    ensures answer { IsAnswer (IsPackedMarkdown flags source.now options.now packed.now)
+        (IsPackedWriteCause flags source.now options.now packed.now) result out.old out.new }
+    ensures told { IsTold result place.old place.new }
+{
+    match write_packed_events(alloc, packed, source, flags, options) {
+        Ok(written) => lay(written.as_str(), out),
         Err(refusal) => refusal.told(place),
     }
 }

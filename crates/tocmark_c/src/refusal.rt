@@ -1,12 +1,14 @@
 //! Errors with their place.
 
 ghost use Rattle.std.specs.Prelude.{◌≡◌};
-ghost use Rattle.tocmark_c.specs.Codes.{code_of, document_cause, options_cause, rewriting_cause, write_cause};
+ghost use Rattle.tocmark_c.specs.Codes.{code_of, document_cause, options_cause, packed_cause, rewriting_cause, write_cause};
 ghost use Rattle.tocmark_c.specs.Place.{IsFilled};
 
 use crate::cause::Cause;
 use crate::place::TocmarkPlace;
-use tocmark_interchange::{DocumentError, OptionsTextError, RewriteError, WriteError};
+use tocmark_interchange::{
+    DocumentError, OptionsTextError, PackedWriteError, RewriteError, WriteError,
+};
 use tocmark_json::fault::JsonError;
 use tocmark_rewrite::Place;
 
@@ -39,6 +41,16 @@ impl Refusal {
         Refusal {
             cause: Cause::of_write(error),
             place: place_of_write(error),
+        }
+    }
+
+    /// The refusal of an error of writing packed events, with its place if it has one.
+    pub fn of_packed(error: &PackedWriteError) -> Refusal
+        ensures { result.cause ≡ packed_cause error.now }
+    {
+        Refusal {
+            cause: Cause::of_packed(error),
+            place: place_of_packed(error),
         }
     }
 
@@ -89,6 +101,14 @@ fn place_of_write(error: &WriteError) -> Option<Place> {
         WriteError::Refused(place, _) => Some(*place),
         WriteError::NotEvents(error) => place_of_json(error),
         _ => None,
+    }
+}
+
+fn place_of_packed(error: &PackedWriteError) -> Option<Place> {
+    match error {
+        PackedWriteError::NotPacked(event) => Some(event_alone(*event)),
+        PackedWriteError::Refused(place, _) => Some(*place),
+        PackedWriteError::OutOfMemory => None,
     }
 }
 

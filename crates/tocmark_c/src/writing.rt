@@ -17,7 +17,7 @@ use tocmark_interchange::{
 
 /// The source that a text stands for: none if the text is empty.
 #[tactic(auto, using(tocmark_interchange::proofs::Empty::empty_text))]
-fn source_of(text: &str) -> Option<&str>
+pub fn source_of(text: &str) -> Option<&str>
     ensures there { is_some result ≡ has_source text.now }
     ensures text { source_text result ≡ text.now }
 {
