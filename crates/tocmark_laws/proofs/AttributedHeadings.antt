@@ -91,7 +91,7 @@ IsName b = is_ascii_alphanumeric b ≡ true
 
 -- ---- bytes
 
-bytes_numbered : (at : ℕ) (xs : List ℕ) → bytes_of (numbered at xs) ≡ xs
+pub bytes_numbered : (at : ℕ) (xs : List ℕ) → bytes_of (numbered at xs) ≡ xs
 bytes_numbered at [] = refl
 bytes_numbered at (x ∷ xs) = ap (λ (l : List ℕ). x ∷ l) (bytes_numbered (at + 1) xs)
 
@@ -100,7 +100,7 @@ place_numbered at [] c end h = absurd (omega arith)
 place_numbered at (x ∷ xs) zero end h = let q : at ≡ at + 0 = omega arith in q
 place_numbered at (x ∷ xs) (suc c) end h = place_numbered (at + 1) xs c end (omega arith) ∙ (let q : at + 1 + c ≡ at + suc c = omega arith in q)
 
-byte_numbered : (at : ℕ) (xs ys : List ℕ) (y c : ℕ) → c ≡ length xs → cell_byte (numbered at (xs ++ y ∷ ys)) c ≡ y
+pub byte_numbered : (at : ℕ) (xs ys : List ℕ) (y c : ℕ) → c ≡ length xs → cell_byte (numbered at (xs ++ y ∷ ys)) c ≡ y
 byte_numbered at xs ys y c e = ap (cell_byte (numbered at (xs ++ y ∷ ys))) e ∙ here_byte at xs
   where
     here_byte : (start : ℕ) (zs : List ℕ) → cell_byte (numbered start (zs ++ y ∷ ys)) (length zs) ≡ y
@@ -234,7 +234,7 @@ pub nodes_on : (d p start : ℕ) (xs : List ℕ) → nodes_of d p (Some start) (
 nodes_on d p start [] = ap (λ m. node d item.Text start m ∷ []) (let q : p ≡ p + 0 = omega arith in q)
 nodes_on d p start (x ∷ xs) = nodes_on d (p + 1) start xs ∙ ap (λ m. node d item.Text start m ∷ []) (let q : p + 1 + length xs ≡ p + suc (length xs) = omega arith in q)
 
-replaced_clean : (xs : List ℕ) → AreClean xs → flat_map replaced xs ≡ xs
+pub replaced_clean : (xs : List ℕ) → AreClean xs → flat_map replaced xs ≡ xs
 unfolding replaced
 replaced_clean [] h = refl
 replaced_clean (x ∷ xs) h = rw (h.0).some (ap (λ (l : List ℕ). x ∷ l) (replaced_clean xs (h.1)))

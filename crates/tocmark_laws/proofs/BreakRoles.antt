@@ -319,10 +319,10 @@ line_nodes d p l (m ∷ ms) =
     ∷ node d (item.Leaf (leaf_of_end m.behind)) (p + length l) (p + length l + 1 + width_of m.behind)
     ∷ line_nodes d (p + length l + suc (width_of m.behind)) m.line ms
 
-abbrev at : List Node → ℕ → Option ℕ → ℕ → ℕ → w.State
+abbrev pub at : List Node → ℕ → Option ℕ → ℕ → ℕ → w.State
 at ns d o p r = record { nodes = ns; depth = d; text = o; place = p; resume = r }
 
-text_written : (ns : List Node) (d p r n : ℕ) → r ≤ p → 0 < n → p + n < 2 ^ 64 → fold w.role_step (at ns d None p r) (replicate n Plain) ≡ at ns d (Some p) (p + n) r
+pub text_written : (ns : List Node) (d p r n : ℕ) → r ≤ p → 0 < n → p + n < 2 ^ 64 → fold w.role_step (at ns d None p r) (replicate n Plain) ≡ at ns d (Some p) (p + n) r
 unfolding w.passed
 text_written ns d p r n h some fits =
     let from : max r p ≡ p = omega arith in
@@ -336,7 +336,7 @@ rest_written ns d p n fits =
     let none : nat_lt (p + n) (p + n) ≡ false = grind (arith, nat_tests) in
     plain_fold n (at ns d None p (p + n)) fits ∙ rw (from, none) refl
 
-single_written : (ns : List Node) (d start p r : ℕ) (l : Leaf) (n : ℕ) → r ≤ p → p + suc n < 2 ^ 64 → fold w.role_step (at ns d (Some start) p r) (Single l (p + 1 + n) ∷ replicate n Plain) ≡ at (ns ++ node d item.Text start p ∷ node d (item.Leaf l) p (p + 1 + n) ∷ []) d None (p + suc n) (p + 1 + n)
+pub single_written : (ns : List Node) (d start p r : ℕ) (l : Leaf) (n : ℕ) → r ≤ p → p + suc n < 2 ^ 64 → fold w.role_step (at ns d (Some start) p r) (Single l (p + 1 + n) ∷ replicate n Plain) ≡ at (ns ++ node d item.Text start p ∷ node d (item.Leaf l) p (p + 1 + n) ∷ []) d None (p + suc n) (p + 1 + n)
 unfolding w.role_step w.shown w.single w.flushed w.pushed
 single_written ns d start p r l n h fits =
     let now : nat_le r p ≡ true = grind (arith, nat_tests) in

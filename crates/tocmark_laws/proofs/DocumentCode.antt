@@ -74,13 +74,13 @@ fence_of token m = record { byte = token; count = suc m; indent = 0 }
 
 -- the front of a line that a fence is
 
-record IsFront (cells : List Cell) : Type 0 where
-  some : nat_le (length cells) 0 ≡ false
-  ink : first_cursor cells ≡ front
-  quote : (cell_byte cells 0 == 62) ≡ false
-  rule : is_rule cells (tail_of cells) 0 ≡ false
-  marker : marker_at cells 0 ≡ None
-  heading : heading_at cells 0 ≡ None
+pub record IsFront (cells : List Cell) : Type 0 where
+  pub some : nat_le (length cells) 0 ≡ false
+  pub ink : first_cursor cells ≡ front
+  pub quote : (cell_byte cells 0 == 62) ≡ false
+  pub rule : is_rule cells (tail_of cells) 0 ≡ false
+  pub marker : marker_at cells 0 ≡ None
+  pub heading : heading_at cells 0 ≡ None
 
 ticks_front : (at : ℕ) (bs : List ℕ) → IsFront (numbered at (96 ∷ bs))
 unfolding first_cursor is_rule is_rule_byte marker_at bullet_at ordered_at heading_at is_behind
@@ -237,14 +237,14 @@ run_spread token apart (b ∷ bs) cells (inr h) (suc k) =
 abbrev pub IsShort : ℕ → ℕ → List ℕ → Type 0
 IsShort token m l = (n : ℕ) → HasRun n token l → n < suc m
 
-abbrev cursor_of : List Cell → Cursor
+abbrev pub cursor_of : List Cell → Cursor
 cursor_of cells = record { column = 0; ink = ink_from cells 0 }
 
 and_false : (a b : Bool) → (a && false && b) ≡ false
 and_false true b = refl
 and_false false b = refl
 
-goes_on : (token m at : ℕ) (l : List ℕ) → IsToken token → IsShort token m l → closes_fence (cells_of [] at l) (cursor_of (cells_of [] at l)) (fence_of token m) ≡ false
+pub goes_on : (token m at : ℕ) (l : List ℕ) → IsToken token → IsShort token m l → closes_fence (cells_of [] at l) (cursor_of (cells_of [] at l)) (fence_of token m) ≡ false
 unfolding closes_fence
 goes_on token m at l is h =
     let cells : List Cell = cells_of [] at l in
@@ -258,7 +258,7 @@ goes_on token m at l is h =
     ∙ and_false (nat_le (indent_of (cursor_of cells)) 3) (nat_le (length cells) (ink_from cells (plus ink count)))
 
 -- the closing line
-closes : (token m at : ℕ) → IsToken token → suc m < 2 ^ 64 → closes_fence (numbered at (closer token m)) (cursor_of (numbered at (closer token m))) (fence_of token m) ≡ true
+pub closes : (token m at : ℕ) → IsToken token → suc m < 2 ^ 64 → closes_fence (numbered at (closer token m)) (cursor_of (numbered at (closer token m))) (fence_of token m) ≡ true
 unfolding closes_fence
 closes token m at is fits =
     let cells : List Cell = numbered at (closer token m) in
@@ -325,14 +325,14 @@ abbrev pub code_kind : ℕ → ℕ → ℕ → List ℕ → BlockKind
 code_kind at token m info = kind.Fenced (at + suc m) (at + length (opener token m info))
 
 -- the columns of the opening line
-record IsOpened (text : List ℕ) (cells : List Cell) (l : Line) (f : Fence) (k : BlockKind) : Type 0 where
-  columns : cells_of [] l.start (bytes_between text l.start l.end) ≡ cells
-  place : cell_place cells 0 l.end ≡ l.start
-  begins : IsFront cells
-  fence : fence_at cells front ≡ Some f
-  info : info_of cells front f l ≡ k
+pub record IsOpened (text : List ℕ) (cells : List Cell) (l : Line) (f : Fence) (k : BlockKind) : Type 0 where
+  pub columns : cells_of [] l.start (bytes_between text l.start l.end) ≡ cells
+  pub place : cell_place cells 0 l.end ≡ l.start
+  pub begins : IsFront cells
+  pub fence : fence_at cells front ≡ Some f
+  pub info : info_of cells front f l ≡ k
 
-open_line : (text : List ℕ) (token m : ℕ) (info : List ℕ) (at next number : ℕ) → let bytes = opener token m info in
+pub open_line : (text : List ℕ) (token m : ℕ) (info : List ℕ) (at next number : ℕ) → let bytes = opener token m info in
     bytes_between text at (at + length bytes) ≡ bytes → AllByRecursion IsWithin bytes → IsToken token → 2 ≤ m → AllByRecursion (IsInfo token) info → IsFlush info → at + length bytes < 2 ^ 64 →
     IsOpened text (numbered at bytes) (record { number = number; start = at; end = at + length bytes; next = next }) (fence_of token m) (code_kind at token m info)
 unfolding fence_at info_of
@@ -375,7 +375,7 @@ open_line text token m info at next number e within is least h flush fits =
           ∙ ap (λ n. kind.Fenced (at + n) end) count;
     }
 
-no_container : (cells : List Cell) (within : Bool) → IsFront cells → container_at cells (tail_of cells) front within ≡ None
+pub no_container : (cells : List Cell) (within : Bool) → IsFront cells → container_at cells (tail_of cells) front within ≡ None
 unfolding container_at item_at
 no_container cells within k = rw (k.some, k.quote, k.rule, k.marker) refl
 
@@ -386,7 +386,7 @@ opens_none text cells l s k =
     repeated_stop (container_once text cells l (tail_of cells)) (length cells) here s s some
     (sym (ap (begun_at text cells l here s) (no_container cells (goes_directly 0 s) k)))
 
-a_fence : (cells : List Cell) (bytes : List ℕ) (f : Fence) (within directly : Bool) → IsFront cells → fence_at cells front ≡ Some f → leaf_at cells bytes (tail_of cells) front within directly ≡ start.Fence f
+pub a_fence : (cells : List Cell) (bytes : List ℕ) (f : Fence) (within directly : Bool) → IsFront cells → fence_at cells front ≡ Some f → leaf_at cells bytes (tail_of cells) front within directly ≡ start.Fence f
 unfolding leaf_at mark_at
 a_fence cells bytes f within directly k e = rw (k.some, k.heading, e) refl
 
@@ -413,7 +413,7 @@ coding bs n qs f k at end number = record {
   left = None;
 }
 
-fence_comes : (text : List ℕ) (cells : List Cell) (l : Line) (f : Fence) (k : BlockKind) (bs : List Block) (ps : List Piece) (end number : ℕ) → info_of cells front f l ≡ k → cell_place cells 0 l.end ≡ l.start → fence_started text cells l here f (closed bs ps end number) ≡ coding bs (length ps) ps f k l.start l.end l.number
+pub fence_comes : (text : List ℕ) (cells : List Cell) (l : Line) (f : Fence) (k : BlockKind) (bs : List Block) (ps : List Piece) (end number : ℕ) → info_of cells front f l ≡ k → cell_place cells 0 l.end ≡ l.start → fence_started text cells l here f (closed bs ps end number) ≡ coding bs (length ps) ps f k l.start l.end l.number
 unfolding fence_started leaf_opened closed_to leaf_closed times list_left begun loosened had_marked list_of is_apart
 fence_comes text cells l f k bs ps end number e p =
     ap (λ x. coding bs (length ps) ps f x (cell_place cells 0 l.end) l.end l.number) e
@@ -449,7 +449,7 @@ first_place (b ∷ bs) at = by_tab (b == 9)
     by_tab true = place_kept (cell 32 at) (replicate 3 (cell 32 at)) (plus at 1) bs (at + length (b ∷ bs))
     by_tab false = place_kept (cell b at) [] (plus at 1) bs (at + length (b ∷ bs))
 
-whole_piece : (l : List ℕ) (at next number : ℕ) → code_piece (cells_of [] at l) 0 (record { number = number; start = at; end = at + length l; next = next }) ≡ piece_of 0 at (at + length l) next
+pub whole_piece : (l : List ℕ) (at next number : ℕ) → code_piece (cells_of [] at l) 0 (record { number = number; start = at; end = at + length l; next = next }) ≡ piece_of 0 at (at + length l) next
 unfolding code_piece is_split
 whole_piece l at next number = ap (λ p. piece_of 0 p (at + length l) next) (first_place l at)
 

@@ -12,7 +12,9 @@ use Rattle.tocmark_reader.specs.Emitted.{NodeView, Container, Writing, step, clo
 use Rattle.tocmark_reader.specs.declared.emit.Open.{Open}
 use Rattle.tocmark_reader.specs.PlainTexts.{IsReadAs, line_events, text_parts}
 use Rattle.tocmark_reader.specs.Range.{snapped}
-use Rattle.tocmark_reader.specs.Reading.{core_reading, found_in, reading_of, FoundView}
+use Rattle.tocmark_read_scan.specs.declared.syntax.Syntax.{Syntax}
+use Rattle.tocmark_read_scan.specs.declared.syntax.TheConstants.{CORE}
+use Rattle.tocmark_reader.specs.Reading.{core_reading, found_under, reading_of, FoundView}
 use Rattle.tocmark_reader.proofs.PlainEvents.{Marked, viewed, unplaced, at, events_of, emit_parts, source_of, AreSourced, merged_parts}
 use Rattle.tocmark_reader.proofs.PlainReading.{IsPlainLine, merged_lines}
 use Rattle.tocmark_reader.proofs.PlainSources.{AreClean, snapped_clean, sourced_parts}
@@ -270,14 +272,13 @@ rows_inside text pre start (Filled k l ms) (r ∷ rs) e at =
     let all : length text ≡ length pre + (length bytes + suc (length (rows_text r rs))) = ap length e ∙ length-append pre (bytes ++ 10 ∷ rows_text r rs) ∙ ap (λ n. length pre + n) (length-append bytes (10 ∷ rows_text r rs)) in
     ((let q : start + length bytes ≤ length text = omega (arith, all, at) in q), rows_inside text (pre ++ (bytes ++ 10 ∷ [])) (row_end start k l ms + 1) r rs (behind_line text pre bytes (rows_text r rs) e) (line_length pre bytes start at))
 
--- a text of rows is read as the document that they mean, with no labels
-pub rows_are_read : (r : Row) (rs : List Row) → AreRows (r ∷ rs) → length (rows_text r rs) < 2 ^ 64 → IsReadAs (core_reading (rows_text r rs)) (row_said (r ∷ rs))
+-- where rows are found in a text, it is read as the document that they mean, with no labels
+pub found_are_read : (syntax : Syntax) (r : Row) (rs : List Row) → AreRows (r ∷ rs) → found_under syntax (rows_text r rs) ≡ found_rows (r ∷ rs) → IsReadAs (reading_of syntax (rows_text r rs)) (row_said (r ∷ rs))
 unfolding reading_of
-rows_are_read r rs h fits =
+found_are_read syntax r rs h found =
     let text : List ℕ = rows_text r rs in
     let all = all_rows (r ∷ rs) h in
     let clean : AreClean text = rows_clean r rs all in
-    let found : found_in text ≡ found_rows (r ∷ rs) = rows_found r rs h fits in
     let events : emitted text (row_nodes 0 (r ∷ rs)) ≡ row_events text 0 (r ∷ rs) = rows_emitted text 0 (r ∷ rs) (record { events = []; stack = [] }) clean (rows_inside text [] 0 r rs refl refl) in
     record {
       events = ap (λ (f : FoundView). merged (unplaced (emitted text f.nodes))) found
@@ -286,3 +287,7 @@ rows_are_read r rs h fits =
       defined = ap (λ (f : FoundView). f.defined) found;
       unresolved = ap (λ (f : FoundView). f.unresolved) found;
     }
+
+-- a text of rows is read so without extensions
+pub rows_are_read : (r : Row) (rs : List Row) → AreRows (r ∷ rs) → length (rows_text r rs) < 2 ^ 64 → IsReadAs (core_reading (rows_text r rs)) (row_said (r ∷ rs))
+rows_are_read r rs h fits = found_are_read CORE r rs h (rows_found r rs h fits)

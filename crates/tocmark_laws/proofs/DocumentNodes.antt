@@ -24,6 +24,7 @@ use Rattle.std.specs.Str.{IsUtf8}
 use Rattle.std.specs.Str.Lossy.{utf8_lossy}
 use Rattle.std.specs.List.{list_any}
 use Rattle.tocmark_event.specs.View.{Rule, Text, CodeBlock, Fenced}
+use Rattle.tocmark_read_scan.specs.declared.syntax.Names.{Names}
 use Rattle.tocmark_read_scan.specs.declared.syntax.Names.TheVariants.{Four}
 use Rattle.tocmark_read_page.specs.Pieces.{piece_of}
 use Rattle.tocmark_read_tokens.specs.Reference.{unescaped_in}
@@ -123,7 +124,7 @@ at ns = record { nodes = ns; inlines = none }
 abbrev find : List ℕ → Option Entry
 find = first_entry false [] []
 
-some_pieces : (all ps new qs : List Piece) (n c : ℕ) → all ≡ ps ++ (new ++ qs) → n ≡ length ps → length new ≡ c → pieces_of all n (n + c) ≡ new
+pub some_pieces : (all ps new qs : List Piece) (n c : ℕ) → all ≡ ps ++ (new ++ qs) → n ≡ length ps → length new ≡ c → pieces_of all n (n + c) ≡ new
 some_pieces all ps new qs n c e k count =
     let long : length all ≡ length ps + (length new + length qs) = ap length e ∙ length-append ps (new ++ qs) ∙ ap (λ m. length ps + m) (length-append new qs) in
     let order : nat_le n (n + c) ≡ true = grind (arith, nat_tests) in
@@ -224,12 +225,12 @@ zeros_none (x ∷ xs) h = rw (no_zero x (h.0)) (zeros_none xs (h.1))
 printable_utf8 : (xs : List ℕ) → ArePrintable xs → IsUtf8 xs
 printable_utf8 xs h = IsUtf8-from_ascii xs (clean_ascii xs (all_implied IsPrintable IsClean xs clean_printable h))
 
-info_kept : (token : ℕ) (info : List ℕ) → ArePrintable info → AllByRecursion (IsInfo token) info → length info < 2 ^ 64 → info_text_in Four info ≡ info
+pub info_kept : (names : Names) (token : ℕ) (info : List ℕ) → ArePrintable info → AllByRecursion (IsInfo token) info → length info < 2 ^ 64 → info_text_in names info ≡ info
 unfolding info_text_in
-info_kept token info h i fits =
+info_kept names token info h i fits =
     let none = none_any token info i in
-    ap (λ (xs : List ℕ). utf8_lossy (unescaped_in Four xs)) (without_zeros info (zeros_none info h))
-    ∙ ap utf8_lossy (left_alone Four info (none.0) (none.1) fits)
+    ap (λ (xs : List ℕ). utf8_lossy (unescaped_in names xs)) (without_zeros info (zeros_none info h))
+    ∙ ap utf8_lossy (left_alone names info (none.0) (none.1) fits)
     ∙ utf8_lossy-IsUtf8 info (printable_utf8 info h)
 
 line_noded : (text l : List ℕ) (start : ℕ) → bytes_between text start (start + length l) ≡ l → AreCode l → line_nodes text false 1 (piece_of 0 start (start + length l) (start + length l + 1)) ≡ text_node start l ∷ []
@@ -245,7 +246,7 @@ line_noded text l start e h =
     ∙ ap (made true true) e
     ∙ ap node (line_kept l (IsUtf8-from_ascii l (clean_ascii l (clean_code l h))) (clean_zeros l (clean_code l h)))
 
-lines_noded : (text pre rest : List ℕ) (start token m : ℕ) (ls : List (List ℕ)) → text ≡ pre ++ (code_rest token m ls ++ rest) → start ≡ length pre → AllByRecursion AreCode ls → lines_nodes text false 1 (code_pieces start ls) ≡ text_nodes start ls
+pub lines_noded : (text pre rest : List ℕ) (start token m : ℕ) (ls : List (List ℕ)) → text ≡ pre ++ (code_rest token m ls ++ rest) → start ≡ length pre → AllByRecursion AreCode ls → lines_nodes text false 1 (code_pieces start ls) ≡ text_nodes start ls
 lines_noded text pre rest start token m [] e front h = refl
 lines_noded text pre rest start token m (l ∷ ls) e front h =
     let next : ℕ = start + length l + 1 in
@@ -276,7 +277,7 @@ code_noded text pre rest start token m info ls rs blocks all ps n ns e front fit
     let made : List ℕ → List Piece → State = λ i lines. at ((ns ++ record { depth = 0; item = Container (CodeBlock (Fenced i)); start = start; end = stop } ∷ []) ++ lines_nodes text false 1 lines) in
     ap (made (info_text_in Four (bytes_between text (start + suc m) (start + length first)))) (some_pieces all ps new (row_pieces (stop + 1) rs) n (length ls) pieces count (code_count body ls))
     ∙ ap (λ (i : List ℕ). made (info_text_in Four i) new) (piece_between text (pre ++ last) info (10 ∷ (more ++ rest)) (start + suc m) (start + length first) there from to)
-    ∙ ap (λ (i : List ℕ). made i new) (info_kept token info h.info_printable h.info_is small)
+    ∙ ap (λ (i : List ℕ). made i new) (info_kept Four token info h.info_printable h.info_is small)
     ∙ ap (λ (xs : List NodeView). at ((ns ++ node ∷ []) ++ xs)) (lines_noded text (pre ++ (first ++ 10 ∷ [])) rest body token m ls (behind_line text pre first (more ++ rest) here) (line_length pre first start front) h.lines)
     ∙ ap at (append_assoc ns (node ∷ []) (text_nodes body ls))
 

@@ -194,14 +194,14 @@ feed_stop text start at h = by_start (nat_lt start at)
     by_start false = refl
 
 -- the last of these lines isn't empty
-abbrev EndsFull : List ℕ → List (List ℕ) → Type 0
+abbrev pub EndsFull : List ℕ → List (List ℕ) → Type 0
 EndsFull l [] = 0 < length l
 EndsFull l (m ∷ ms) = EndsFull m ms
 
 -- a byte that ends no line
-record IsUnbroken (b : ℕ) : Type 0 where
-  feed : (b == 10) ≡ false
-  return : (b == 13) ≡ false
+pub record IsUnbroken (b : ℕ) : Type 0 where
+  pub feed : (b == 10) ≡ false
+  pub return : (b == 13) ≡ false
 
 unbroken_ends_not : (text : List ℕ) (b at : ℕ) → IsUnbroken b → ends_here text b at ≡ false
 unfolding ends_here
@@ -214,7 +214,7 @@ line_within text before start at (x ∷ xs) rest h =
     let same : at + 1 + length xs ≡ at + suc (length xs) = omega arith in
     rw (unbroken_ends_not text x at (h.0)) (line_within text before start (at + 1) xs rest (h.1) ∙ ap (λ p. lines_from text before start p rest) same)
 
-lines_are : (text : List ℕ) → AreNoReturns text → (before start : ℕ) (l : List ℕ) (ms : List (List ℕ)) → AllByRecursion (λ x. AllByRecursion IsUnbroken x) (l ∷ ms) → EndsFull l ms → lines_from text before start start (feed_joined l ms) ≡ line_list before start l ms
+pub lines_are : (text : List ℕ) → AreNoReturns text → (before start : ℕ) (l : List ℕ) (ms : List (List ℕ)) → AllByRecursion (λ x. AllByRecursion IsUnbroken x) (l ∷ ms) → EndsFull l ms → lines_from text before start start (feed_joined l ms) ≡ line_list before start l ms
 lines_are text none before start l [] h full =
     let some : nat_lt start (start + length l) ≡ true = let long : 0 < length l = full in grind (arith, nat_tests) in
     ap (λ (xs : List ℕ). lines_from text before start start xs) (sym (append-nil l))
@@ -279,7 +279,7 @@ unbroken_printable b h = unbroken b (within_printable b h)
 unbroken_code : (b : ℕ) → IsCodeByte b → IsUnbroken b
 unbroken_code b h = record { feed = h.feed; return = (h.clean).return }
 
-abbrev AllWithin : List (List ℕ) → Type 0
+abbrev pub AllWithin : List (List ℕ) → Type 0
 AllWithin xs = AllByRecursion (λ x. AllByRecursion IsUnbroken x) xs
 
 within_append : (xs ys : List (List ℕ)) → AllWithin xs → AllWithin ys → AllWithin (xs ++ ys)
@@ -293,17 +293,17 @@ lines_within (m ∷ ms) h = (all_implied IsPrintable IsUnbroken (spelled m) unbr
 first_within : (k : Kind) (l : List Part) (ms : List (List Part)) → IsFilled k l ms → AllByRecursion IsWithin (mark_of k ++ spelled l)
 first_within k l ms h = all_implied IsPrintable IsWithin (mark_of k ++ spelled l) within_printable (all_append IsPrintable (mark_of k) (spelled l) (mark_printable k) ((h.lines.0).printable))
 
-opener_printable : (token m : ℕ) (info : List ℕ) (ls : List (List ℕ)) → IsCode token m info ls → ArePrintable (opener token m info)
+pub opener_printable : (token m : ℕ) (info : List ℕ) (ls : List (List ℕ)) → IsCode token m info ls → ArePrintable (opener token m info)
 opener_printable token m info ls h = all_append IsPrintable (closer token m) info (closer_printable token m h.token_is) h.info_printable
 
-printable_within : (xs : List ℕ) → ArePrintable xs → AllByRecursion IsWithin xs
+pub printable_within : (xs : List ℕ) → ArePrintable xs → AllByRecursion IsWithin xs
 printable_within xs h = all_implied IsPrintable IsWithin xs within_printable h
 
 texts_within : (ls : List (List ℕ)) → AllByRecursion AreCode ls → AllWithin ls
 texts_within [] h = tt
 texts_within (l ∷ ls) h = (all_implied IsCodeByte IsUnbroken l unbroken_code (h.0), texts_within ls (h.1))
 
-row_within : (r : Row) → IsRow r → AllWithin (row_first r ∷ row_more r)
+pub row_within : (r : Row) → IsRow r → AllWithin (row_first r ∷ row_more r)
 row_within Blank h = (tt, tt)
 row_within (Code token m info ls) h =
     within_append (opener token m info ∷ ls) (closer token m ∷ [])
@@ -354,7 +354,7 @@ lines_full : (mark : List ℕ) (l : List Part) (ms : List (List Part)) → AllBy
 lines_full mark l [] h = let some : 0 < length (spelled l) = some_front (spelled l) ((h.0).begins) in let q : 0 < length (mark ++ spelled l) = omega (arith, some, length-append mark (spelled l)) in q
 lines_full mark l (m ∷ ms) h = lines_full [] m ms (h.1)
 
-rows_full : (r : Row) (rs : List Row) → AreRows (r ∷ rs) → EndsFull (row_first r) (row_more r ++ behind rs)
+pub rows_full : (r : Row) (rs : List Row) → AreRows (r ∷ rs) → EndsFull (row_first r) (row_more r ++ behind rs)
 rows_full Blank [] h = absurd h
 rows_full Blank (r ∷ rs) h = rows_full r rs h
 rows_full (Code token m info ls) [] h =
@@ -456,7 +456,7 @@ are_para : (ms : List (List Part)) → AllByRecursion IsPlainLine ms → AllByRe
 are_para [] h = tt
 are_para (m ∷ ms) h = (((h.0).begins, all_implied IsPrintable IsWithin (spelled m) within_printable ((h.0).printable)), are_para ms (h.1))
 
-inside : (text pre l rest : List ℕ) (start : ℕ) → text ≡ pre ++ (l ++ rest) → start ≡ length pre → length text < 2 ^ 64 → start + length l < 2 ^ 64
+pub inside : (text pre l rest : List ℕ) (start : ℕ) → text ≡ pre ++ (l ++ rest) → start ≡ length pre → length text < 2 ^ 64 → start + length l < 2 ^ 64
 inside text pre l rest start e at fits =
     let all : length text ≡ length pre + (length l + length rest) = ap length e ∙ length-append pre (l ++ rest) ∙ ap (λ n. length pre + n) (length-append l rest) in
     omega (arith, all, at, fits)
@@ -575,7 +575,7 @@ pub code_joined : (token m : ℕ) (l : List ℕ) (ls : List (List ℕ)) → feed
 code_joined token m l [] = refl
 code_joined token m l (n ∷ ls) = ap (λ (xs : List ℕ). l ++ 10 ∷ xs) (code_joined token m n ls)
 
-line_front : (before at : ℕ) (l c : List ℕ) (ls tail : List (List ℕ)) → line_list before at l (ls ++ c ∷ tail) ≡ line before at (at + length l) (at + length l + 1) ∷ lines_behind (before + 1) (at + length l + 1) (ls ++ c ∷ tail)
+pub line_front : (before at : ℕ) (l c : List ℕ) (ls tail : List (List ℕ)) → line_list before at l (ls ++ c ∷ tail) ≡ line before at (at + length l) (at + length l + 1) ∷ lines_behind (before + 1) (at + length l + 1) (ls ++ c ∷ tail)
 line_front before at l c [] tail = refl
 line_front before at l c (n ∷ ls) tail = refl
 

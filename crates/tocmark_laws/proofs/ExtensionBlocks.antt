@@ -280,21 +280,21 @@ more_lines known header text p0 pieces start end number (l ∷ ls) h =
     )
 
 -- what is left at the end: one paragraph with all lines
-abbrev whole : HeaderLine → List Piece → ℕ → ℕ → ℕ → State
+abbrev pub whole : HeaderLine → List Piece → ℕ → ℕ → ℕ → State
 whole header pieces start end number = record (paragraph header pieces start end number) {
   blocks = record { depth = 0; kind = kind.Paragraph; start = start; end = end; first = 0; last = length pieces; loose = false; list = None; task = None } ∷ [];
   leaf = leaf.Nothing;
 }
 
-settled_none : (header : HeaderLine) (text : List ℕ) (p : Piece) (pieces : List Piece) (end number : ℕ) → (byte_at text p.start == 91) ≡ false → settled text (paragraph header (p ∷ pieces) p.start end number) ≡ paragraph header (p ∷ pieces) p.start end number
+pub settled_none : (header : HeaderLine) (text : List ℕ) (p : Piece) (pieces : List Piece) (end number : ℕ) → (byte_at text p.start == 91) ≡ false → settled text (paragraph header (p ∷ pieces) p.start end number) ≡ paragraph header (p ∷ pieces) p.start end number
 unfolding settled definitions_from begins_link shortened
 settled_none header text p pieces end number h = rw h refl
 
-finished_whole : (header : HeaderLine) (p : Piece) (pieces : List Piece) (end number : ℕ) → leaf_finished (paragraph header (p ∷ pieces) p.start end number) ≡ whole header (p ∷ pieces) p.start end number
+pub finished_whole : (header : HeaderLine) (p : Piece) (pieces : List Piece) (end number : ℕ) → leaf_finished (paragraph header (p ∷ pieces) p.start end number) ≡ whole header (p ∷ pieces) p.start end number
 unfolding leaf_finished finished raised_at
 finished_whole header p pieces end number = rw (take-length pieces) refl
 
-paragraph_ends : (header : HeaderLine) (text : List ℕ) (p : Piece) (pieces : List Piece) (end number : ℕ) → (byte_at text p.start == 91) ≡ false → closed_to text 0 (paragraph header (p ∷ pieces) p.start end number) ≡ whole header (p ∷ pieces) p.start end number
+pub paragraph_ends : (header : HeaderLine) (text : List ℕ) (p : Piece) (pieces : List Piece) (end number : ℕ) → (byte_at text p.start == 91) ≡ false → closed_to text 0 (paragraph header (p ∷ pieces) p.start end number) ≡ whole header (p ∷ pieces) p.start end number
 unfolding closed_to leaf_closed times
 paragraph_ends header text p pieces end number h =
     ap (λ s. times one_closed (length s.opened - 0) s) (ap leaf_finished (settled_none header text p pieces end number h) ∙ finished_whole header p pieces end number)

@@ -56,11 +56,11 @@ no_return_at [] k h = refl
 no_return_at (b ∷ bs) zero h = h.0
 no_return_at (b ∷ bs) (suc k) h = no_return_at bs k (h.1)
 
-feed_ends : (text : List ℕ) (at : ℕ) → ends_here text 10 at ≡ true
+pub feed_ends : (text : List ℕ) (at : ℕ) → ends_here text 10 at ≡ true
 unfolding ends_here
 feed_ends text at = refl
 
-feed_stop : (text : List ℕ) (start at : ℕ) → AllByRecursion (λ b. (b == 13) ≡ false) text → line_stop text start 10 at ≡ at
+pub feed_stop : (text : List ℕ) (start at : ℕ) → AllByRecursion (λ b. (b == 13) ≡ false) text → line_stop text start 10 at ≡ at
 unfolding line_stop
 feed_stop text start at h = by_start (nat_lt start at)
   where

@@ -52,7 +52,7 @@ pub cell_numbered : (k : ℕ) (pre : List ℕ) (b : ℕ) (bs : List ℕ) → sli
 cell_numbered k [] b bs = ap (λ n. Some (cell b n)) (let q : k ≡ k + 0 = omega arith in q)
 cell_numbered k (x ∷ xs) b bs = cell_numbered (k + 1) xs b bs ∙ ap (λ n. Some (cell b n)) (let q : k + 1 + length xs ≡ k + suc (length xs) = omega arith in q)
 
-drop_numbered : (k : ℕ) (pre : List ℕ) (b : ℕ) (bs : List ℕ) → drop (length pre) (numbered k (pre ++ b ∷ bs)) ≡ cell b (k + length pre) ∷ numbered (k + length pre + 1) bs
+pub drop_numbered : (k : ℕ) (pre : List ℕ) (b : ℕ) (bs : List ℕ) → drop (length pre) (numbered k (pre ++ b ∷ bs)) ≡ cell b (k + length pre) ∷ numbered (k + length pre + 1) bs
 drop_numbered k [] b bs = ap (λ n. cell b n ∷ numbered (n + 1) bs) (let q : k ≡ k + 0 = omega arith in q)
 drop_numbered k (x ∷ xs) b bs = drop_numbered (k + 1) xs b bs ∙ ap (λ n. cell b n ∷ numbered (n + 1) bs) (let q : k + 1 + length xs ≡ k + suc (length xs) = omega arith in q)
 

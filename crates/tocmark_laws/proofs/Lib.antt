@@ -65,5 +65,14 @@ pub mod BulletReading
 pub mod OrderedReading
 pub mod QuoteBlocks
 pub mod QuoteReading
+pub mod NoteLabels
+pub mod NoteBlocks
+pub mod NoteReading
+pub mod DefinitionBlocks
+pub mod DefinitionReading
+pub mod CodeReading
+pub mod PartedQuotes
+pub mod PartedReading
+pub mod QuoteKinds
 mod ConstructExamples
 pub mod LiteralLabels

@@ -57,23 +57,23 @@ AreWordItems is = AllByRecursion (λ i. IsWordLine i.letter i.others) is
 
 -- ---- the text of an item
 
-abbrev leaf_from : ℕ → List ℕ → content.State
+abbrev pub leaf_from : ℕ → List ℕ → content.State
 leaf_from at xs = record { bytes = xs; places = places_of at xs }
 
-words_inlines : (syntax : Syntax) (find : List ℕ → Option Entry) (at depth b : ℕ) (bs : List ℕ) → AllByRecursion IsWordByte (b ∷ bs) → length (b ∷ bs) < 2 ^ 64 → inlines.read_inlines_in syntax (leaf_from at (b ∷ bs)) depth find no_inlines ≡ record no_inlines { nodes = node depth item.Text at (at + length (b ∷ bs)) ∷ [] }
-words_inlines syntax find at depth b bs h fits =
+pub words_inlines : (syntax : Syntax) (find : List ℕ → Option Entry) (t : inlines.State) (at depth b : ℕ) (bs : List ℕ) → AllByRecursion IsWordByte (b ∷ bs) → length (b ∷ bs) < 2 ^ 64 → inlines.read_inlines_in syntax (leaf_from at (b ∷ bs)) depth find t ≡ record t { nodes = t.nodes ++ node depth item.Text at (at + length (b ∷ bs)) ∷ [] }
+words_inlines syntax find t at depth b bs h fits =
     let xs : List ℕ = b ∷ bs in
     let parts : List Part = bare xs in
     let same : xs ≡ spelled parts = sym (spelled_bare xs) in
     let room : length (spelled parts) < 2 ^ 64 = subst (λ (l : List ℕ). length l < 2 ^ 64) same fits in
     let plain : ArePlainParts 10 parts = subst (ArePlainParts 10) (append-nil parts) (bare_plain 10 xs [] h tt) in
     let stop : at + 1 + length bs ≡ at + length xs = omega arith in
-    read_alike syntax (leaf_from at xs) depth find no_inlines (all_implied IsWordByte IsTextOrFeed xs (λ x w. inl (text_byte x w)) h)
-    ∙ ap (λ (l : List ℕ). inlines.read_inlines (leaf_from at l) depth find no_inlines) same
-    ∙ parts_inlines_at parts at depth find no_inlines (plain_parts_are_read (spelled parts) [] (known (spelled parts)) find 0 10 parts refl refl room refl plain) room
-    ∙ ap (λ (ns : List Node). (let t : inlines.State = record no_inlines { nodes = ns } in t)) (nodes_on depth (at + 1) at bs ∙ ap (λ m. node depth item.Text at m ∷ []) stop)
+    read_alike syntax (leaf_from at xs) depth find t (all_implied IsWordByte IsTextOrFeed xs (λ x w. inl (text_byte x w)) h)
+    ∙ ap (λ (l : List ℕ). inlines.read_inlines (leaf_from at l) depth find t) same
+    ∙ parts_inlines_at parts at depth find t (plain_parts_are_read (spelled parts) [] (known (spelled parts)) find 0 10 parts refl refl room refl plain) room
+    ∙ ap (λ (ns : List Node). (let u : inlines.State = record t { nodes = t.nodes ++ ns } in u)) (nodes_on depth (at + 1) at bs ∙ ap (λ m. node depth item.Text at m ∷ []) stop)
 
-words_content : (text : List ℕ) (p : Piece) (b : ℕ) (bs : List ℕ) → bytes_between text p.start p.end ≡ b ∷ bs → p.start + length (b ∷ bs) ≡ p.end → p.end ≤ length text → length text < 2 ^ 64 → IsWordLine b bs → content.content_of text (map content_line (p ∷ [])) ≡ leaf_from p.start (b ∷ bs)
+pub words_content : (text : List ℕ) (p : Piece) (b : ℕ) (bs : List ℕ) → bytes_between text p.start p.end ≡ b ∷ bs → p.start + length (b ∷ bs) ≡ p.end → p.end ≤ length text → length text < 2 ^ 64 → IsWordLine b bs → content.content_of text (map content_line (p ∷ [])) ≡ leaf_from p.start (b ∷ bs)
 words_content text p b bs stands width within fits h =
     let texts : AllByRecursion (λ x. is_text_byte x ≡ true) (b ∷ bs) = all_implied IsWordByte (λ x. is_text_byte x ≡ true) (b ∷ bs) text_and_some h.bytes in
     let quiet : IsQuietLine text p = record {
@@ -86,7 +86,7 @@ words_content text p b bs stands width within fits h =
 
 -- ---- the nodes
 
-piece_alone : (ps : List Piece) (p : Piece) (more : List Piece) → pieces_of (ps ++ p ∷ more) (length ps) (length (ps ++ p ∷ [])) ≡ p ∷ []
+pub piece_alone : (ps : List Piece) (p : Piece) (more : List Piece) → pieces_of (ps ++ p ∷ more) (length ps) (length (ps ++ p ∷ [])) ≡ p ∷ []
 piece_alone ps p more =
     let one : length (ps ++ p ∷ []) ≡ length ps + 1 = length-append ps (p ∷ []) in
     let all : length (ps ++ p ∷ more) ≡ length ps + suc (length more) = length-append ps (p ∷ more) in
@@ -135,7 +135,7 @@ module _ (syntax : Syntax) (text : List ℕ) (find : List ℕ → Option Entry) 
       ∙ ap (λ t. block_taken_in syntax text find pieces t text_here (so_far (ns ++ one ∷ []))) (unwrapped_text p.start p.end (length ps) (length (ps ++ p ∷ [])))
       ∙ bare_text (ns ++ one ∷ []) p p.end (length ps) (length (ps ++ p ∷ [])) some (ap (λ (l : List Piece). pieces_of l (length ps) (length (ps ++ p ∷ []))) split ∙ piece_alone ps p more)
       ∙ ap (λ (c : content.State). with_inlines (inlines.read_inlines_in syntax c 2 find no_inlines) (so_far ((ns ++ one ∷ []) ++ []))) (words_content text p b bs stands width within fits h)
-      ∙ ap (λ (i : inlines.State). with_inlines i (so_far ((ns ++ one ∷ []) ++ []))) (words_inlines syntax find p.start 2 b bs h.bytes short)
+      ∙ ap (λ (i : inlines.State). with_inlines i (so_far ((ns ++ one ∷ []) ++ []))) (words_inlines syntax find no_inlines p.start 2 b bs h.bytes short)
       ∙ text_put (ns ++ one ∷ []) p.start (p.start + length (b ∷ bs))
       ∙ ap (λ m. so_far ((ns ++ one ∷ []) ++ two m ∷ [])) width
       ∙ ap so_far (append_assoc ns (one ∷ []) (two p.end ∷ []))

@@ -63,7 +63,7 @@ quote_block to = record { depth = 0; kind = kind.Quote None; start = 0; end = to
 abbrev pub inner_block : ℕ → ℕ → Block
 inner_block to last = record { depth = 1; kind = kind.Paragraph; start = 2; end = to; first = 0; last = last; loose = false; list = None; task = None }
 
-abbrev open_quote : ℕ → ℕ → Bool → Opened
+abbrev pub open_quote : ℕ → ℕ → Bool → Opened
 open_quote end number had = record { container = container.Quote; block = 0; end = end; line = number; had = had }
 
 -- a quote with nothing in it
@@ -178,7 +178,7 @@ module _ (known : Known) (text : List ℕ) (q : QuoteLine) (h : IsQuoteLine q) (
   no_space : (b == 32) ≡ false
   no_space = turned is_ascii_alphabetic 32 b h.letter refl
 
-  piece_here : text_piece cells (at_column 2) l ≡ p
+  pub piece_here : text_piece cells (at_column 2) l ≡ p
   piece_here = piece_there from (62 ∷ []) 32 b bs l
 
   some_columns : nat_le (length cells) 0 ≡ false
@@ -188,18 +188,18 @@ module _ (known : Known) (text : List ℕ) (q : QuoteLine) (h : IsQuoteLine q) (
   none_found within = letter_opens_none known.syntax cells (tail_of cells) 2 b within there h.letter
 
   -- nothing begins behind the mark
-  none_begins : (s : State) → container_once_in known.syntax text cells l (tail_of cells) place_behind s ≡ (s, None)
+  pub none_begins : (s : State) → container_once_in known.syntax text cells l (tail_of cells) place_behind s ≡ (s, None)
   unfolding container_once_in
   none_begins s = ap (begun_at text cells l place_behind s) (none_found (goes_directly 1 s))
 
   -- where the line stands in the text
-  abbrev Stands : Type 0
+  abbrev pub Stands : Type 0
   Stands = (bytes_between text from end ≡ 62 ∷ 32 ∷ b ∷ bs) × (bytes_between text (from + 2) end ≡ b ∷ bs) × ((byte_at text (from + 2) == 91) ≡ false) × (from + 2 < next) × (from + length (62 ∷ 32 ∷ b ∷ bs) < 2 ^ 64)
 
-  columns : Stands → cells_of [] from (bytes_between text from end) ≡ cells
+  pub columns : Stands → cells_of [] from (bytes_between text from end) ≡ cells
   columns w = ap (cells_of [] from) (w.0) ∙ cells_within from (62 ∷ 32 ∷ b ∷ bs) h.within (w.4)
 
-  order_of : Stands → nat_lt p.start next ≡ true
+  pub order_of : Stands → nat_lt p.start next ≡ true
   order_of w = let o : from + 2 < next = w.3 in grind (arith, o, nat_tests)
 
   place_is : cell_place cells 2 end ≡ from + 2
@@ -242,7 +242,7 @@ module _ (known : Known) (text : List ℕ) (q : QuoteLine) (h : IsQuoteLine q) (
   unfolding metadata_in is_front
   no_metadata directly s = simp never refl
 
-  text_starts : (within directly : Bool) (s : State) → Stands → start_or known text cells l place_behind directly s (leaf_at cells (bytes_between text (cell_place cells 2 end) end) (tail_of cells) (at_column 2) within directly) ≡ start.Text
+  pub text_starts : (within directly : Bool) (s : State) → Stands → start_or known text cells l place_behind directly s (leaf_at cells (bytes_between text (cell_place cells 2 end) end) (tail_of cells) (at_column 2) within directly) ≡ start.Text
   unfolding quote_kind_or tag_or task_or metadata_or
   text_starts within directly s w =
       rw (no_kind s w, no_tag directly s w, no_box s w, no_metadata directly s)
@@ -319,7 +319,7 @@ module _ (known : Known) (text : List ℕ) (q : QuoteLine) (h : IsQuoteLine q) (
       by_tables true = (header_of cells front (is_lazy here first_page (leaf_started_in known text cells l here first_page)), ap (tabled_as known text cells l here) no_row_front ∙ ap (noted_page first_page) (first_comes e w))
       by_tables false = (Never, first_comes e w)
 
-  no_space_front : first_cursor cells ≡ front
+  pub no_space_front : first_cursor cells ≡ front
   unfolding first_cursor
   no_space_front = refl
 
@@ -341,7 +341,7 @@ module _ (known : Known) (text : List ℕ) (q : QuoteLine) (h : IsQuoteLine q) (
     abbrev reached : State
     reached = record (quoted p0 ps end0 number0 header) { opened = open_quote end number true ∷ [] }
 
-    quote_goes_on : matched cells (open_quote end0 number0 true ∷ []) (0 ∷ []) ≡ (1, at_column 2)
+    pub quote_goes_on : matched cells (open_quote end0 number0 true ∷ []) (0 ∷ []) ≡ (1, at_column 2)
     unfolding passed going_on after_quote
     quote_goes_on = rw (no_space_front, some_columns, cursor_moves) refl
 
@@ -414,7 +414,7 @@ module _ (known : Known) (text : List ℕ) (q : QuoteLine) (h : IsQuoteLine q) (
 abbrev pub end_of : ℕ → QuoteLine → ℕ
 end_of from q = from + length (quoted_bytes q)
 
-abbrev next_place : ℕ → List QuoteLine → ℕ
+abbrev pub next_place : ℕ → List QuoteLine → ℕ
 next_place end [] = end
 next_place end (m ∷ ms) = end + 1
 

@@ -84,7 +84,7 @@ marked_nodes p l (m ∷ ms) =
 
 -- ---- the content
 
-line_put : (text l : List ℕ) (from to next : ℕ) (t : content.State) → bytes_between text from to ≡ l → AreNoZeros l → to ≡ from + length l → to < 2 ^ 64 → content.put_line text t (record { start = from; end = to; next = next }) ≡ record { bytes = t.bytes ++ (l ++ 10 ∷ []); places = t.places ++ (places_of from l ++ (to, next) ∷ []) }
+pub line_put : (text l : List ℕ) (from to next : ℕ) (t : content.State) → bytes_between text from to ≡ l → AreNoZeros l → to ≡ from + length l → to < 2 ^ 64 → content.put_line text t (record { start = from; end = to; next = next }) ≡ record { bytes = t.bytes ++ (l ++ 10 ∷ []); places = t.places ++ (places_of from l ++ (to, next) ∷ []) }
 unfolding content.put_line content.put
 line_put text l from to next t e h width fits =
     ap (λ (xs : List ℕ). content.put 10 to next (content.put_bytes from t xs)) e

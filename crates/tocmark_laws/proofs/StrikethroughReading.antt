@@ -358,7 +358,7 @@ ink_tilde : is_in White 126 ≡ false
 unfolding is_in
 ink_tilde = refl
 
-place_at : (start : ℕ) (xs : List ℕ) (k : ℕ) → k < length xs → slice_get (places_of start xs) k ≡ Some (start + k, start + k + 1)
+pub place_at : (start : ℕ) (xs : List ℕ) (k : ℕ) → k < length xs → slice_get (places_of start xs) k ≡ Some (start + k, start + k + 1)
 place_at start [] k h = absurd (omega arith)
 place_at start (x ∷ xs) zero h = let same : start + 0 ≡ start = omega arith in rw same refl
 place_at start (x ∷ xs) (suc k) h =

@@ -129,7 +129,7 @@ free_letter b h = record {
 all_within : (xs : List ℕ) → AllByRecursion IsWordByte xs → AllByRecursion IsWithin xs
 all_within xs h = all_implied IsWordByte IsWithin xs (λ b k. within_byte b k.printable) h
 
-free_line : (l : List ℕ) → AreWords l → IsFreeText l
+pub free_line : (l : List ℕ) → AreWords l → IsFreeText l
 free_line [] h = absurd h
 free_line (b ∷ bs) h = record {
   within = all_within (b ∷ bs) h.bytes;

@@ -20,3 +20,7 @@ pub mod HardBreaks
 pub mod PlainLists
 pub mod OrderedLists
 pub mod PlainQuotes
+pub mod Footnotes
+pub mod PlainDefinitions
+pub mod PlainCode
+pub mod QuoteKinds

@@ -5,7 +5,10 @@
 //! rule, and not to the reader's code. A phrase has no marks, and a letter or a digit at either end.
 
 ghost use Rattle.tocmark_laws.specs.Extensions.{AttributesAreRead, FormulasAreRead, FrontMatterIsRead, ScriptsAreRead, StruckPhrasesAreRead, TasksAreRead, WordsAreRead};
+ghost use Rattle.tocmark_laws.specs.Footnotes.{FootnotesAreRead};
+ghost use Rattle.tocmark_laws.specs.PlainDefinitions.{DefinitionListsAreRead};
 ghost use Rattle.tocmark_laws.specs.PlainTables.{TablesAreRead};
+ghost use Rattle.tocmark_laws.specs.QuoteKinds.{QuoteKindsAreRead};
 
 /// Under every syntax, lines of words are a paragraph with a text for each line, with the ranges that `CoreReader`
 /// gives. Each line begins with a letter, and none of its characters, from U+0020 to U+007E, is a mark.
@@ -53,4 +56,24 @@ pub fn tasks_are_read()
 /// cell is a phrase without bars, and any number of spaces may stand around it, as in `| two words |one|`.
 pub fn tables_are_read()
     ensures { TablesAreRead }
+{}
+
+/// Under each syntax with footnotes, words with a reference behind them, a blank line, and the
+/// footnote with words, as in `two words[^a]` and `[^a]: more words`, are a paragraph with the
+/// reference, and the footnote with a paragraph. The label has at most 998 characters. None of them
+/// is a mark or a space.
+pub fn footnotes_are_read()
+    ensures { FootnotesAreRead }
+{}
+
+/// Under each syntax with definition lists, a line of words and another one behind `: `, as `Term`
+/// and `: two words`, are a list of this title and this definition, with a text in each.
+pub fn definition_lists_are_read()
+    ensures { DefinitionListsAreRead }
+{}
+
+/// Under each syntax with kinds of quotes, a line with a kind and a line of words behind `> `, as
+/// `> [!NOTE]` and `> two words`, are a quote of this kind with a paragraph.
+pub fn quote_kinds_are_read()
+    ensures { QuoteKindsAreRead }
 {}
