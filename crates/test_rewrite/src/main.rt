@@ -109,42 +109,65 @@ fn wrap_named(name: &str) -> Option<Edit<'_>> {
     None
 }
 
-/// The edit that is named with a word or a block's number.
-fn longer_edit_named(name: &str) -> io::Result<Edit<'_>> {
-    if let Some(wrap) = wrap_named(name) {
-        return Ok(wrap);
-    }
-    if let Some(word) = name.strip_prefix("say ") {
-        return Ok(Edit::Say(word));
-    }
-    if let Some(word) = name.strip_prefix("merge ") {
-        return Ok(Edit::Merge(word));
-    }
-    if let Some(number) = name.strip_prefix("behind ") {
-        return Ok(Edit::Behind(number_in(number)?));
-    }
-    if let Some(number) = name.strip_prefix("before ") {
-        return Ok(Edit::Before(number_in(number)?));
-    }
-    match name.strip_prefix("without ") {
-        Some(number) => Ok(Edit::Without(number_in(number)?)),
-        None => Err(io::Error::from(ErrorKind::InvalidInput)),
+/// What is done with the word or the number behind the name of an edit.
+#[derive(Clone, Copy)]
+enum Longer {
+    Say,
+    Merge,
+    Behind,
+    Before,
+    Without,
+}
+
+/// The edits that are named with a word or a block's number.
+const LONGER: [(&str, Longer); 5] = [
+    ("say ", Longer::Say),
+    ("merge ", Longer::Merge),
+    ("behind ", Longer::Behind),
+    ("before ", Longer::Before),
+    ("without ", Longer::Without),
+];
+
+/// The edit of this kind with what stands behind its name.
+fn longer_edit(kind: Longer, rest: &str) -> io::Result<Edit<'_>> {
+    match kind {
+        Longer::Say => Ok(Edit::Say(rest)),
+        Longer::Merge => Ok(Edit::Merge(rest)),
+        Longer::Behind => Ok(Edit::Behind(number_in(rest)?)),
+        Longer::Before => Ok(Edit::Before(number_in(rest)?)),
+        Longer::Without => Ok(Edit::Without(number_in(rest)?)),
     }
 }
 
+/// The edits that a name alone asks for.
+const SHORT: [(&str, Edit<'static>); 10] = [
+    ("https", Edit::Secure),
+    ("mark", Edit::Mark),
+    ("lower", Edit::Lower),
+    ("title", Edit::Title),
+    ("stress", Edit::Stress),
+    ("front", Edit::Front),
+    ("shout", Edit::Shout),
+    ("join", Edit::Join),
+    ("plain", Edit::Plain),
+    ("tick", Edit::Tick),
+];
+
+/// The edit that a name asks for.
 fn edit_named(name: &str) -> io::Result<Edit<'_>> {
-    match name {
-        "https" => Ok(Edit::Secure),
-        "mark" => Ok(Edit::Mark),
-        "lower" => Ok(Edit::Lower),
-        "title" => Ok(Edit::Title),
-        "stress" => Ok(Edit::Stress),
-        "front" => Ok(Edit::Front),
-        "shout" => Ok(Edit::Shout),
-        "join" => Ok(Edit::Join),
-        "plain" => Ok(Edit::Plain),
-        "tick" => Ok(Edit::Tick),
-        _ => longer_edit_named(name),
+    for (known, edit) in SHORT {
+        if known == name {
+            return Ok(edit);
+        }
+    }
+    for (front, kind) in LONGER {
+        if let Some(rest) = name.strip_prefix(front) {
+            return longer_edit(kind, rest);
+        }
+    }
+    match wrap_named(name) {
+        Some(wrap) => Ok(wrap),
+        None => Err(io::Error::from(ErrorKind::InvalidInput)),
     }
 }
 

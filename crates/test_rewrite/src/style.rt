@@ -109,48 +109,86 @@ fn flags_of(word: &str) -> ParserOptions {
     }
 }
 
-/// Sets an option of the layout by its name; false if there is none of this name.
-fn set_layout(style: &mut Style, name: &str, word: &str) -> bool {
-    if name == "wrap" {
-        style.wrap = wrap_of(word);
-    } else if name == "list-indent" {
-        style.list_indent = list_indent_of(word);
-    } else if name == "table-width" {
-        style.table_width = word.parse::<usize>().unwrap_or(style.table_width);
-    } else {
-        return false;
+/// The name of an option.
+#[derive(Clone, Copy)]
+enum Name {
+    Syntax,
+    AlsoRead,
+    Bullet,
+    Ordered,
+    Numbering,
+    Emphasis,
+    Strong,
+    Fence,
+    Rule,
+    HardBreak,
+    Wrap,
+    ListIndent,
+    TableWidth,
+}
+
+/// The options, by their names.
+const NAMES: [(&str, Name); 13] = [
+    ("syntax", Name::Syntax),
+    ("also-read", Name::AlsoRead),
+    ("bullet", Name::Bullet),
+    ("ordered", Name::Ordered),
+    ("numbering", Name::Numbering),
+    ("emphasis", Name::Emphasis),
+    ("strong", Name::Strong),
+    ("fence", Name::Fence),
+    ("rule", Name::Rule),
+    ("hard-break", Name::HardBreak),
+    ("wrap", Name::Wrap),
+    ("list-indent", Name::ListIndent),
+    ("table-width", Name::TableWidth),
+];
+
+/// The option with this name, if there is one.
+fn option_named(word: &str) -> Option<Name> {
+    for (name, option) in NAMES {
+        if name == word {
+            return Some(option);
+        }
     }
-    true
+    None
 }
 
 impl Looks {
-    /// Sets an option by its name; false if there is none of this name.
-    fn set(&mut self, name: &str, word: &str) -> bool {
+    /// Sets an option.
+    fn set(&mut self, name: Name, word: &str) {
         let style = &mut self.style;
-        if name == "syntax" {
-            self.flags = flags_of(word);
-        } else if name == "also-read" {
-            self.also = Some(flags_of(word));
-        } else if name == "bullet" {
-            style.bullet = bullet_of(word);
-        } else if name == "ordered" {
-            style.delimiter = delimiter_of(word);
-        } else if name == "numbering" {
-            style.numbering = numbering_of(word);
-        } else if name == "emphasis" {
-            style.emphasis = marker_of(word);
-        } else if name == "strong" {
-            style.strong = marker_of(word);
-        } else if name == "fence" {
-            style.fence = fence_of(word);
-        } else if name == "rule" {
-            style.rule = rule_of(word);
-        } else if name == "hard-break" {
-            style.hard_break = hard_break_of(word);
-        } else {
-            return set_layout(style, name, word);
+        match name {
+            Name::Syntax => self.flags = flags_of(word),
+            Name::AlsoRead => self.also = Some(flags_of(word)),
+            Name::Bullet => style.bullet = bullet_of(word),
+            Name::Ordered => style.delimiter = delimiter_of(word),
+            Name::Numbering => style.numbering = numbering_of(word),
+            Name::Emphasis => style.emphasis = marker_of(word),
+            Name::Strong => style.strong = marker_of(word),
+            Name::Fence => style.fence = fence_of(word),
+            Name::Rule => style.rule = rule_of(word),
+            Name::HardBreak => style.hard_break = hard_break_of(word),
+            Name::Wrap => style.wrap = wrap_of(word),
+            Name::ListIndent => style.list_indent = list_indent_of(word),
+            Name::TableWidth => {
+                style.table_width = word.parse::<usize>().unwrap_or(style.table_width);
+            }
         }
-        true
+    }
+}
+
+/// Sets the option that a word names in front of `=`; false if it names none.
+fn set_by(looks: &mut Looks, word: &str) -> bool {
+    let Some((name, value)) = word.split_once('=') else {
+        return false;
+    };
+    match option_named(name) {
+        Some(option) => {
+            looks.set(option, value);
+            true
+        }
+        None => false,
     }
 }
 
@@ -165,11 +203,7 @@ pub(crate) fn looks_of(words: &str) -> io::Result<Looks> {
         if word.is_empty() {
             continue;
         }
-        let is_set = match word.split_once('=') {
-            Some((name, value)) => looks.set(name, value),
-            None => false,
-        };
-        if !is_set {
+        if !set_by(&mut looks, word) {
             return Err(io::Error::from(ErrorKind::InvalidInput));
         }
     }

@@ -1,17 +1,16 @@
 //! Other dialects of Markdown. Their blocks are text to the reader; here they keep their lines, and what stands below them.
 
-use crate::page::Kind;
+use crate::page::{Kind, Place};
 use crate::printer::Printer;
 use crate::style::Wrap;
 use std::alloc::AllocError;
 
 /// What begins a line that another dialect takes for more than text.
-const LINE_OPENERS: [&str; 7] = [
+const LINE_OPENERS: [&str; 5] = [
     "!!!", // MkDocs: an admonition
     "???", // MkDocs: one that can be folded
     ":::", // Docusaurus, pandoc: a container, and its end
-    ": ", // kramdown, pandoc, MkDocs: a definition of the line above
-    ":\t", "{", // attributes of the block beside it; Jekyll, Hugo: a tag, a value, a shortcode
+    "{", // attributes of the block beside it; Jekyll, Hugo: a tag, a value, a shortcode
     "$$", // a formula
 ];
 
@@ -41,10 +40,20 @@ fn begins_command(text: &str) -> bool {
         .is_some_and(|byte| byte.is_ascii_lowercase())
 }
 
+/// Whether a line that begins like this text defines the line above for kramdown, pandoc and MkDocs: it begins with a colon,
+/// with white space or nothing behind it.
+fn begins_definition(text: &str) -> bool {
+    match text.strip_prefix(':') {
+        Some(rest) => rest.is_empty() || rest.starts_with(&[' ', '\t', '\n']),
+        None => false,
+    }
+}
+
 /// Whether a line that begins like this text is one of another dialect.
 pub(crate) fn begins_foreign_line(text: &str) -> bool {
     match text.as_bytes().first() {
-        Some(b'!' | b'?' | b':' | b'{' | b'$') => begins_with(text, &LINE_OPENERS),
+        Some(b':') => begins_definition(text) || begins_with(text, &LINE_OPENERS),
+        Some(b'!' | b'?' | b'{' | b'$') => begins_with(text, &LINE_OPENERS),
         Some(b'@') => begins_command(text),
         // an abbreviation of kramdown and MkDocs
         Some(b'*') => text.starts_with("*[") && text.contains("]:"),
@@ -107,6 +116,13 @@ impl Printer<'_> {
         false
     }
 
+    /// Whether a line, whose text is one of a delimiter row, could be that of a table: it isn't lazy, nor indented like code.
+    fn could_be_row(&self, line: usize) -> bool {
+        let source = self.source;
+        let place = self.page.stripped(source, source.start_of(line));
+        place.is_met && self.indent_behind(place) < 4
+    }
+
     /// Whether a paragraph whose lines don't stay has a line that could be the delimiter row of a table. GitHub lets a table
     /// begin below the first line of a paragraph.
     fn has_table(&self, start: usize, end: usize) -> bool {
@@ -117,7 +133,8 @@ impl Printer<'_> {
         let third = source.line_of(start).saturating_add(2);
         let last = source.line_of(end.saturating_sub(1));
         for line in third..=last {
-            if is_delimiter_row(source.line(line).trim_start_matches(&[' ', '\t', '>'])) {
+            let row = source.line(line).trim_start_matches(&[' ', '\t', '>']);
+            if is_delimiter_row(row) && self.could_be_row(line) {
                 return true;
             }
         }
@@ -143,15 +160,19 @@ impl Printer<'_> {
         }
     }
 
+    /// The column in the innermost container where the text of a line begins that goes on here behind its prefixes.
+    fn indent_behind(&self, place: Place) -> usize {
+        let source = self.source;
+        let at = source.past_blanks(place.at);
+        let column = source.column_at(place.column, place.at, at);
+        column
+            .saturating_sub(place.column)
+            .saturating_add(place.spare)
+    }
+
     /// The column in the innermost container where the line of a place begins, without its blanks.
     fn column_in_container(&self, place: usize) -> usize {
-        let source = self.source;
-        let front = self.page.front(source, place);
-        let at = source.past_blanks(front.at);
-        let column = source.column_at(front.column, front.at, at);
-        column
-            .saturating_sub(front.column)
-            .saturating_add(front.spare)
+        self.indent_behind(self.page.front(self.source, place))
     }
 
     /// Whether a block belongs to another dialect: it has a line of that, or it stands below such a block, deeper indented.

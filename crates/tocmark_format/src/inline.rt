@@ -98,7 +98,7 @@ const LONGEST_ADDRESS: usize = 256;
 
 /// Whether a text ends with a bare web or mail address. Programs that link such an address would add an underscore behind it.
 fn ends_with_address(text: &str) -> bool {
-    let word = match text.rsplit_once(' ') {
+    let word = match text.rsplit_once(&[' ', '\t', '\n']) {
         Some((_, word)) => word,
         None => text,
     };
@@ -265,8 +265,11 @@ impl<'d, 'p, 'g> Inlines<'d, 'p, 'g> {
         if sign == b'_' && (hinders_underscore(before) || hinders_underscore(behind)) {
             return false;
         }
-        let front = start.max(end.saturating_sub(LONGEST_ADDRESS));
-        if sign == b'_' && ends_with_address(self.context.source.slice(front, end)) {
+        let source = self.context.source;
+        let front = source
+            .text
+            .floor_char_boundary(end.saturating_sub(LONGEST_ADDRESS));
+        if sign == b'_' && ends_with_address(source.slice(front.max(start), end)) {
             return false;
         }
         let is_in_changed = match self.open.last() {

@@ -23,9 +23,8 @@ pub(crate) enum Opening {
     Html,
     Metadata,
     Table,
-    TableHead,
-    TableRow,
-    TableCell,
+    /// The head, a row or a cell of a table. It has no place among the events: its End says where it begins, too.
+    TablePart,
     List {
         is_ordered: bool,
     },
@@ -63,9 +62,7 @@ pub(crate) enum Mark {
 /// What printing needs of a container that is no block of its own kind, or stands within a line.
 fn inner_opening(tag: &Tag<'_>) -> Opening {
     match tag {
-        Tag::TableHead => Opening::TableHead,
-        Tag::TableRow => Opening::TableRow,
-        Tag::TableCell => Opening::TableCell,
+        Tag::TableHead | Tag::TableRow | Tag::TableCell => Opening::TablePart,
         Tag::Emphasis => Opening::Emphasis,
         Tag::Strong => Opening::Strong,
         Tag::Strikethrough => Opening::Strikethrough,
@@ -135,11 +132,13 @@ pub(crate) fn is_inline(mark: Mark) -> bool {
     }
 }
 
-/// An event, where it stands in the source, and for a Start the place of its End; for every other event its own.
+/// An event, and where it stands in the source. A Start has the place of its End, and both end in the source where that does.
 #[derive(Clone, Copy)]
 struct Node {
     mark: Mark,
-    range: (usize, usize),
+    /// Where it begins in the source.
+    start: usize,
+    /// Where it ends in the source; of a Start the place of its End, and its own as long as there is none.
     end: usize,
 }
 
@@ -423,6 +422,8 @@ impl Part {
         let at = self.nodes.len();
         let mark = mark_of(&pair.0);
         match mark {
+            Mark::Start(Opening::TablePart) => return Ok(()),
+            Mark::End(TagEnd::TableHead | TagEnd::TableRow | TagEnd::TableCell) => {}
             Mark::End(tag) => self.close(at, tag, range.1),
             Mark::Start(opening) => {
                 self.begin(source, mark, range.0);
@@ -435,10 +436,14 @@ impl Part {
             Event::Start(tag) => self.keep_alignments(at, tag)?,
             _ => {}
         }
+        let end = match mark {
+            Mark::Start(_) => at,
+            _ => range.1,
+        };
         self.nodes.push(Node {
             mark,
-            range,
-            end: at,
+            start: range.0,
+            end,
         })?;
         Ok(())
     }
@@ -482,17 +487,24 @@ impl Part {
 
     /// Where in the source an event stands; at its front, if there is no such event.
     pub(crate) fn range(&self, at: usize) -> (usize, usize) {
-        match self.nodes.get(at) {
-            Some(node) => node.range,
-            None => (0, 0),
-        }
+        let Some(node) = self.nodes.get(at) else {
+            return (0, 0);
+        };
+        let last = match node.mark {
+            Mark::Start(_) => self.nodes.get(node.end).unwrap_or(node),
+            _ => node,
+        };
+        (node.start, last.end)
     }
 
     /// The place of the End of a container that starts at a place; a leaf's own place.
     pub(crate) fn end(&self, at: usize) -> usize {
-        match self.nodes.get(at) {
-            Some(node) => node.end,
-            None => at,
+        let Some(node) = self.nodes.get(at) else {
+            return at;
+        };
+        match node.mark {
+            Mark::Start(_) => node.end,
+            _ => at,
         }
     }
 

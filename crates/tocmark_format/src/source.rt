@@ -127,6 +127,11 @@ impl<'s> Source<'s> {
         }
     }
 
+    /// Where a line begins by its number, counted from 0; the end of the text, if there is no such line.
+    pub(crate) fn start_of(&self, number: usize) -> usize {
+        self.lines.start(number).unwrap_or(self.text.len())
+    }
+
     /// Where the line of a place begins.
     pub(crate) fn line_start(&self, at: usize) -> usize {
         self.lines.start(self.line_of(at)).unwrap_or(0)

@@ -1,17 +1,16 @@
 //! Tables: columns of one width, if the whole isn't too wide, or if the source has them so.
 
-use crate::part::{Mark, Opening, Part};
+use crate::part::{Mark, Part};
 use crate::printer::Printer;
 use crate::source::without_blanks;
 use crate::width::width;
 use std::alloc::{AllocError, Global};
 use tocmark_event::event::{Alignment, TagEnd};
 
-/// A cell: its bytes in the text of all cells, and the columns that it takes.
+/// A cell: where it ends in the text of all cells, and the columns that it takes. It begins where the one before it ends.
 #[derive(Clone, Copy)]
 struct Cell {
-    from: usize,
-    to: usize,
+    end: usize,
     width: usize,
 }
 
@@ -49,26 +48,26 @@ fn push_blanks(line: &mut String, count: usize) -> Result<(), AllocError> {
     Ok(())
 }
 
-/// A cell in a column of this width.
+/// A cell with this text, which takes so many columns, in a column of this width.
 fn push_cell(
     line: &mut String,
     text: &str,
-    cell: Cell,
+    columns: usize,
     alignment: Alignment,
     width: usize,
 ) -> Result<(), AllocError> {
-    let spare = width.saturating_sub(cell.width);
+    let spare = width.saturating_sub(columns);
     let before = match alignment {
         Alignment::Right => spare,
         Alignment::Center => spare / 2,
         _ => 0,
     };
-    if cell.from == cell.to && width == 0 {
+    if text.is_empty() && width == 0 {
         return line.push_str(" |");
     }
     line.push(' ')?;
     push_blanks(line, before)?;
-    line.push_str(text.get(cell.from..cell.to).unwrap_or(""))?;
+    line.push_str(text)?;
     push_blanks(line, spare.saturating_sub(before))?;
     line.push_str(" |")
 }
@@ -130,11 +129,9 @@ impl Cells {
     }
 
     fn add(&mut self, text: &str) -> Result<(), AllocError> {
-        let from = self.text.len();
         self.text.push_str(text)?;
         self.list.push(Cell {
-            from,
-            to: self.text.len(),
+            end: self.text.len(),
             width: width(text),
         })?;
         Ok(())
@@ -145,13 +142,18 @@ impl Cells {
         Ok(())
     }
 
-    fn row(&self, at: usize) -> &[Cell] {
+    /// The cells of a row, and where the first one begins in the text.
+    fn row(&self, at: usize) -> (usize, &[Cell]) {
         let start = match at.checked_sub(1) {
             Some(before) => self.ends.get(before).copied().unwrap_or(0),
             None => 0,
         };
         let end = self.ends.get(at).copied().unwrap_or(start);
-        self.list.get(start..end).unwrap_or(&[])
+        let from = match start.checked_sub(1) {
+            Some(before) => self.list.get(before).map_or(0, |cell| cell.end),
+            None => 0,
+        };
+        (from, self.list.get(start..end).unwrap_or(&[]))
     }
 
     /// The width of each column.
@@ -161,7 +163,7 @@ impl Cells {
             widths.push(3usize)?;
         }
         for at in 0..self.ends.len() {
-            for (width, cell) in widths.iter_mut().zip(self.row(at)) {
+            for (width, cell) in widths.iter_mut().zip(self.row(at).1) {
                 *width = (*width).max(cell.width);
             }
         }
@@ -175,9 +177,12 @@ impl Cells {
         alignments: &[Alignment],
         widths: &[usize],
     ) -> Result<(), AllocError> {
+        let (mut from, cells) = self.row(at);
         line.push('|')?;
-        for (cell, (alignment, width)) in self.row(at).iter().zip(alignments.iter().zip(widths)) {
-            push_cell(line, self.text.as_str(), *cell, *alignment, *width)?;
+        for (cell, (alignment, width)) in cells.iter().zip(alignments.iter().zip(widths)) {
+            let text = self.text.as_str().get(from..cell.end).unwrap_or("");
+            push_cell(line, text, cell.width, *alignment, *width)?;
+            from = cell.end;
         }
         Ok(())
     }
@@ -187,14 +192,14 @@ impl Printer<'_> {
     /// The cells of a table; none if a row has more of them than the head, which are in no event.
     fn cells_of(&mut self, part: &Part, at: usize) -> Result<Option<Cells>, AllocError> {
         let mut cells = Cells::new(self.alloc);
+        let mut first = at.saturating_add(1);
         let mut cell_end = 0usize;
-        for inner in at.saturating_add(1)..part.end(at) {
+        for inner in first..part.end(at) {
             let (start, end) = part.range(inner);
             match part.event(inner) {
-                Some(Mark::Start(Opening::TableCell)) => {
+                Some(Mark::End(TagEnd::TableCell)) => {
                     let text = self.source.past_blanks(start);
-                    let events = (inner.saturating_add(1), part.end(inner));
-                    let (pieces, _) = self.pieces_of(part, events, text)?;
+                    let (pieces, _) = self.pieces_of(part, (first, inner), text)?;
                     cells.add(pieces.text.as_str())?;
                     self.keep_room(pieces);
                     cell_end = end;
@@ -206,8 +211,9 @@ impl Printer<'_> {
                     }
                     cells.end_row()?;
                 }
-                _ => {}
+                _ => continue,
             }
+            first = inner.saturating_add(1);
         }
         Ok(Some(cells))
     }
