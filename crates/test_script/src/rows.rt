@@ -3,8 +3,8 @@
 //!
 //! A row's events are cut into units. For a unit there is one renderer, which writes it in each manner in which
 //! units are tried, in order, and in the first one again, each time behind a mark, and goes back. The mark stands
-//! before the unit, and then, for another renderer, behind its first event: there the container that this event
-//! opens is open, and some text, a definition, a quote line and a stretch of texts are there to come back to.
+//! before the unit. Another renderer writes the unit's body, with the mark behind its Start: there the container is
+//! open, and some text, a definition, a quote line and a stretch of texts are there to come back to.
 //!
 //! Before and behind each writing that renderer is compared with one of its own that wrote the same and has never
 //! gone back: the text, the line feeds at its end, the definitions that it needs, what is carried along, the open
@@ -12,7 +12,7 @@
 
 use crate::again::Again;
 use crate::report::Report;
-use crate::trials::{Front, try_all};
+use crate::trials::{Front, try_body, try_unit};
 use crate::unit::Unit;
 use std::alloc::{AllocError, Global};
 use std::io::{self, Write};
@@ -20,8 +20,10 @@ use std::mem;
 use test_script_answers::script::Script;
 use tocmark_event::event::{Event, OwnedEvent, ParserOptions};
 use tocmark_event::options::{Error, Options};
+use tocmark_reader::CoreReader;
 use tocmark_write_pending::pending::Pending;
-use tocmark_write_unit::block::Rest;
+use tocmark_write_unit::block::KnownUnit;
+use tocmark_write_unit::findings::findings_of;
 
 /// What stands in the source for an event with a range.
 fn spelling<'s>(source: &'s Option<String>, range: Option<(usize, usize)>) -> Option<&'s str> {
@@ -38,31 +40,63 @@ fn first_of(unit: &Pending) -> Option<&OwnedEvent> {
     }
 }
 
+/// The events of a unit.
+#[derive(Drop)]
+struct Events {
+    /// All of them.
+    whole: Pending,
+    /// Those between its first and its last one.
+    body: Pending,
+}
+
+impl Events {
+    fn none(alloc: Global) -> Events {
+        Events {
+            whole: Pending::new(alloc),
+            body: Pending::new(alloc),
+        }
+    }
+}
+
 /// The units of a row, up to an End that isn't the innermost open container's.
 #[derive(Drop)]
 struct Row<'r> {
     alloc: Global,
     options: Options<'r>,
     flags: ParserOptions,
-    units: Vec<Pending>,
+    units: Vec<Events>,
     /// The events behind the last of them, of which some container is open, if there are any.
-    pending: Pending,
+    pending: Events,
 }
 
 impl Row<'_> {
-    /// Ends a unit here, if no container is open.
-    fn end_unit(&mut self) -> Result<bool, AllocError> {
-        if self.pending.is_whole() {
-            let unit = mem::replace(&mut self.pending, Pending::new(self.alloc));
+    /// Ends a unit here, if no container is open. Else the event that came belongs to the body, unless it is
+    /// the first one.
+    fn end_unit(
+        &mut self,
+        event: &Event<'_>,
+        source: Option<&str>,
+        is_first: bool,
+    ) -> Result<(), Error> {
+        if self.pending.whole.is_whole() {
+            let unit = mem::replace(&mut self.pending, Events::none(self.alloc));
             self.units.push(unit)?;
+        } else if !is_first {
+            self.pending.body.join(self.alloc, event, source)?;
         }
-        Ok(true)
+        Ok(())
     }
 
     /// Takes the next event. False for an End that isn't the innermost open container's.
     fn take(&mut self, event: &Event<'_>, source: Option<&str>) -> Result<bool, AllocError> {
-        match self.pending.join(self.alloc, event, source) {
-            Ok(()) => self.end_unit(),
+        let is_first = self.pending.whole.is_empty();
+        let joined = self.pending.whole.join(self.alloc, event, source);
+        let taken = match joined {
+            Ok(()) => self.end_unit(event, source, is_first),
+            Err(error) => Err(error),
+        };
+        match taken {
+            Ok(()) => Ok(true),
             Err(Error::OutOfMemory) => Err(AllocError),
             Err(_error) => Ok(false),
         }
@@ -80,23 +114,71 @@ impl Row<'_> {
     /// The event behind the unit at this place.
     fn behind(&self, place: usize) -> Option<&OwnedEvent> {
         match self.units.get(place.saturating_add(1)) {
-            Some(unit) => first_of(unit),
-            None => first_of(&self.pending),
+            Some(unit) => first_of(&unit.whole),
+            None => first_of(&self.pending.whole),
         }
+    }
+
+    /// Tries the unit at this place.
+    fn try_whole<'x>(
+        &'x self,
+        place: usize,
+        unit: &'x Events,
+        front: &mut Front,
+        report: &mut Report,
+    ) -> Result<(), AllocError> {
+        let (alloc, options, flags) = (self.alloc, &self.options, self.flags);
+        let pending = &unit.whole;
+        let found = findings_of(alloc, &CoreReader, options, flags, pending)?;
+        let known = KnownUnit {
+            pending,
+            found: &found,
+            next: self.behind(place),
+        };
+        let unit = Unit {
+            alloc,
+            options,
+            flags,
+            known,
+        };
+        try_unit(&unit, front, report)
+    }
+
+    /// Tries the body of a unit, behind its Start.
+    fn try_inside<'x>(
+        &'x self,
+        unit: &'x Events,
+        front: &Front,
+        report: &mut Report,
+    ) -> Result<(), AllocError> {
+        let (start, end) = match unit.whole.events() {
+            [first, .., last] => (&first.event, &last.event),
+            _ => return Ok(()),
+        };
+        let (alloc, options, flags) = (self.alloc, &self.options, self.flags);
+        let pending = &unit.body;
+        let found = findings_of(alloc, &CoreReader, options, flags, pending)?;
+        let known = KnownUnit {
+            pending,
+            found: &found,
+            next: Some(end),
+        };
+        let body = Unit {
+            alloc,
+            options,
+            flags,
+            known,
+        };
+        try_body(&body, start, front, report)
     }
 
     /// Tries its units.
     fn try_units(&self, report: &mut Report) -> Result<(), AllocError> {
         let mut front = Front::new();
         for (place, unit) in self.units.iter().enumerate() {
-            let unit = Unit {
-                alloc: self.alloc,
-                options: &self.options,
-                flags: self.flags,
-                rest: Rest { unit, place: 0 },
-                next: self.behind(place),
-            };
-            try_all(&unit, &mut front, report)?;
+            report.begin_unit();
+            self.try_inside(unit, &front, report)?;
+            self.try_whole(place, unit, &mut front, report)?;
         }
         Ok(())
     }
@@ -115,7 +197,7 @@ fn try_script(alloc: Global, script: &Script<'_>, report: &mut Report) -> Result
         options: script.options(),
         flags: script.flags,
         units: Vec::new(alloc),
-        pending: Pending::new(alloc),
+        pending: Events::none(alloc),
     };
     row.run(script, report)
 }

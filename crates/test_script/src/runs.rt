@@ -64,19 +64,32 @@ fn call_name(call: Call) -> &'static str {
     }
 }
 
-/// Takes these events, with their ranges where there is a source.
+/// Whether so many events may wait: of those that waited and those that came at least the last one.
+fn may_wait(waiting: usize, waited: usize, came: usize) -> bool {
+    let all = waited.saturating_add(came);
+    waiting <= all && waiting >= came.min(1)
+}
+
+/// Takes these events, with their ranges where there is a source. A line says how many wait where it can't be so
+/// many.
 fn process(
     state: &mut State<&RunReader<'_>>,
     events: &[RangedEvent<'static>],
     source: &Option<String>,
     tape: &mut Tape,
 ) -> Result<Progress, Error> {
-    match source {
+    let waited = state.pending_events();
+    let progress = match source {
         Some(source) => {
-            state.process_with_source_range(RangedEvents(events.iter()), source.as_str(), tape)
+            state.process_with_source_range(RangedEvents(events.iter()), source.as_str(), tape)?
         }
-        None => state.process(Events(events.iter()), tape),
+        None => state.process(Events(events.iter()), tape)?,
+    };
+    let waiting = state.pending_events();
+    if !may_wait(waiting, waited, events.len()) {
+        writeln!(tape.answer, "{waiting} events wait")?;
     }
+    Ok(progress)
 }
 
 /// Puts a value in another one's place, if there was memory for it.

@@ -1,6 +1,7 @@
 //! The trials of a unit.
 
 ghost use Rattle.std.specs.Prelude.{◌≡◌};
+ghost use Rattle.test_script.specs.Findings.{HasFindings};
 
 use crate::alike::{difference, difference_in_taken};
 use crate::midst::enter;
@@ -51,7 +52,7 @@ impl Front {
 struct Trial<'t, 'u, 'o> {
     unit: &'t Unit<'u, 'o>,
     front: &'t Front,
-    /// Its first event, if the mark stands behind it.
+    /// The Start before it, if it is the body of a container.
     entered: Option<&'u OwnedEvent>,
 }
 
@@ -82,67 +83,74 @@ fn difference_after(
     }
 }
 
-/// Writes events in one manner behind a mark, and goes back; `alone` writes them, too. Both stand where the
+/// Writes a unit in one manner behind a mark, and goes back; `alone` writes it, too. Both stand where the
 /// mark is set.
 fn try_beside<'u>(
-    rest: &Unit<'u, '_>,
+    unit: &Unit<'u, '_>,
     renderer: &mut Renderer<'u>,
     alone: &mut Renderer<'u>,
     place: TrialName,
     manner: &Manner<'_>,
     report: &mut Report,
-) -> Result<(), AllocError> {
+) -> Result<(), AllocError>
+    requires { HasFindings unit.now }
+{
     let start = alone.text().len();
     let before = difference(renderer, alone, start)?;
     report.note_difference(place, "before it", before)?;
     renderer.mark();
-    let outcome = write(rest, renderer, manner);
-    let is_alike = write(rest, alone, manner) == outcome;
+    let outcome = write(unit, renderer, manner);
+    let is_alike = write(unit, alone, manner) == outcome;
     let behind = difference_after(renderer, alone, is_alike, start)?;
     renderer.back();
     report.note(outcome);
     report.note_difference(place, "behind it", behind)
 }
 
-/// Tries the events behind the mark in one manner, beside a renderer of its own.
+/// Tries the unit in one manner, beside a renderer of its own.
 fn try_one<'u>(
     trial: Trial<'_, 'u, '_>,
     renderer: &mut Renderer<'u>,
     number: usize,
     manner: &Manner<'_>,
     report: &mut Report,
-) -> Result<(), AllocError> {
+) -> Result<(), AllocError>
+    requires { HasFindings trial.unit.now }
+{
     let mut alone = begun(trial)?;
     let first = usize::from(trial.entered.is_some());
-    let rest = trial.unit.from(first);
     let place = TrialName {
         first,
         manner: number,
     };
-    try_beside(&rest, renderer, &mut alone, place, manner, report)
+    try_beside(trial.unit, renderer, &mut alone, place, manner, report)
 }
 
-/// Tries the events behind the mark in each of these manners, by one renderer.
+/// Tries the unit in each of these manners, by one renderer.
 fn try_each<'u>(
     trial: Trial<'_, 'u, '_>,
     renderer: &mut Renderer<'u>,
     manners: &[Manner<'_>],
     report: &mut Report,
-) -> Result<(), AllocError> {
+) -> Result<(), AllocError>
+    requires { HasFindings trial.unit.now }
+{
     for (place, manner) in manners.iter().enumerate() {
         try_one(trial, renderer, place + 1, manner, report)?;
     }
     Ok(())
 }
 
-/// Tries the unit in each of these manners, with the mark before it or behind this first event.
+/// Tries the unit in each of these manners, behind this Start if it is a body.
 fn try_behind<'u>(
     unit: &Unit<'u, '_>,
     front: &Front,
     entered: Option<&'u OwnedEvent>,
     manners: &[Manner<'_>],
     report: &mut Report,
-) -> Result<(), AllocError> {
+) -> Result<(), AllocError>
+    requires { HasFindings unit.now }
+{
     let trial = Trial {
         unit,
         front,
@@ -167,23 +175,10 @@ fn manners<'a>(alloc: Global, options: &Options<'a>) -> Result<Vec<Manner<'a>>, 
     Ok(manners)
 }
 
-/// Tries the unit in these manners, with the mark before it, and behind its first event if it has more.
-fn try_in(
-    unit: &Unit<'_, '_>,
-    front: &Front,
-    manners: &[Manner<'_>],
-    report: &mut Report,
-) -> Result<(), AllocError> {
-    report.begin_unit();
-    try_behind(unit, front, None, manners, report)?;
-    match unit.rest.unit.events() {
-        [first, _, ..] => try_behind(unit, front, Some(&first.event), manners, report),
-        _ => Ok(()),
-    }
-}
-
 /// Goes on to the front of the next unit, if this one is written in the manner.
-fn pass(unit: &Unit<'_, '_>, front: &mut Front, manner: &Manner<'_>) -> Result<(), AllocError> {
+fn pass(unit: &Unit<'_, '_>, front: &mut Front, manner: &Manner<'_>) -> Result<(), AllocError>
+    requires { HasFindings unit.now }
+{
     let mut renderer = front.renderer(unit.alloc)?;
     if write(unit, &mut renderer, manner) == Outcome::Written {
         front.pass(renderer.into_parts());
@@ -192,15 +187,30 @@ fn pass(unit: &Unit<'_, '_>, front: &mut Front, manner: &Manner<'_>) -> Result<(
 }
 
 /// Tries the unit in all manners, and goes on to the front of the next one.
-pub fn try_all(
+pub fn try_unit(
     unit: &Unit<'_, '_>,
     front: &mut Front,
     report: &mut Report,
-) -> Result<(), AllocError> {
+) -> Result<(), AllocError>
+    requires { HasFindings unit.now }
+{
     let manners = manners(unit.alloc, unit.options)?;
-    try_in(unit, front, &manners, report)?;
+    try_behind(unit, front, None, &manners, report)?;
     match manners.first() {
         Some(first) => pass(unit, front, first),
         None => Ok(()),
     }
+}
+
+/// Tries the body of a container in all manners, behind its Start.
+pub fn try_body<'u>(
+    body: &Unit<'u, '_>,
+    start: &'u OwnedEvent,
+    front: &Front,
+    report: &mut Report,
+) -> Result<(), AllocError>
+    requires { HasFindings body.now }
+{
+    let manners = manners(body.alloc, body.options)?;
+    try_behind(body, front, Some(start), &manners, report)
 }

@@ -1,38 +1,29 @@
-//! A unit of a row from a place on, and how it is written in one manner.
+//! A unit of a row, and how it is written in one manner.
 
 ghost use Rattle.std.specs.Prelude.{◌≡◌, true};
+ghost use Rattle.test_script.specs.Findings.{HasFindings};
 ghost use Rattle.tocmark_write_emphasis.specs.Low.{AsksLow};
 
 use std::alloc::Global;
-use tocmark_event::event::{OwnedEvent, ParserOptions};
+use tocmark_event::event::ParserOptions;
 use tocmark_event::options::{Error, Options};
 use tocmark_reader::CoreReader;
 use tocmark_spelling::plan::Delimiters;
+use tocmark_write_emphasis::task::Task;
 use tocmark_write_renderer::job::{Job, Manner};
 use tocmark_write_renderer::renderer::Renderer;
-use tocmark_write_unit::block::{Rest, write_rest};
-use tocmark_write_unit::findings::findings_of;
+use tocmark_write_unit::block::{KnownUnit, write_unit};
 
 /// The label that is reserved for lists.
 const LABEL: &str = "cmark-loose-0";
 
-/// A unit of a row from a place on, and what it is written with.
+/// A unit of a row or the body of one, and what it is written with.
 #[derive(Clone, Copy)]
 pub struct Unit<'u, 'o> {
     pub alloc: Global,
     pub options: &'u Options<'o>,
     pub flags: ParserOptions,
-    pub rest: Rest<'u>,
-    /// The event after it, if there is one.
-    pub next: Option<&'u OwnedEvent>,
-}
-
-impl<'u, 'o> Unit<'u, 'o> {
-    /// Returns the rest of the unit, from its event at this place on.
-    pub fn from(&self, place: usize) -> Unit<'u, 'o> {
-        let rest = Rest { place, ..self.rest };
-        Unit { rest, ..*self }
-    }
+    pub known: KnownUnit<'u>,
 }
 
 /// How a writing ended.
@@ -70,23 +61,26 @@ fn write_low<'u>(
     renderer: &mut Renderer<'u>,
     manner: &Manner<'_>,
 ) -> Result<(), Error>
+    requires found { HasFindings unit.now }
     requires low { AsksLow manner.now.delimiters }
     ensures mark { renderer.new.at_mark ≡ renderer.old.at_mark }
 {
-    let (alloc, options, flags) = (unit.alloc, unit.options, unit.flags);
-    let (rest, next) = (unit.rest, unit.next);
-    let found = findings_of(alloc, &CoreReader, options, flags, rest.unit)?;
-    let job = Job {
-        alloc,
-        options,
-        flags,
-        label: Some(LABEL),
+    let task = Task {
+        job: Job {
+            alloc: unit.alloc,
+            options: unit.options,
+            flags: unit.flags,
+            label: Some(LABEL),
+        },
+        reader: &CoreReader,
+        manner: *manner,
     };
-    write_rest(renderer, job, &CoreReader, rest, &found, next, *manner)
+    write_unit(renderer, &task, unit.known)
 }
 
 /// Writes the unit in one manner. Where that is refused some of it may be written.
 pub fn write<'u>(unit: &Unit<'u, '_>, renderer: &mut Renderer<'u>, manner: &Manner<'_>) -> Outcome
+    requires { HasFindings unit.now }
     ensures mark { renderer.new.at_mark ≡ renderer.old.at_mark }
 {
     if asks_low(manner.delimiters) {

@@ -1,11 +1,13 @@
 //! Events from lines of JSON, and lists of them.
 
 use crate::line_fault::LineFault;
-use serde_json::Value;
+use json::Scratch;
 use std::alloc::Global;
 use std::slice::Iter;
 use tocmark_event::event::Event;
-use tocmark_json::reading::{event_from_json, pairs_from_json};
+use tocmark_json::fault::TextError;
+use tocmark_json::node::Node;
+use tocmark_json::reading::{event_from_json, pair_from_json};
 
 /// An event and its range in bytes, if it has one.
 pub type RangedEvent<'a> = (Event<'a>, Option<(usize, usize)>);
@@ -55,21 +57,15 @@ pub fn begins_event(text: &str) -> bool {
     text.starts_with('{') || text.starts_with('[') || text.starts_with('"')
 }
 
-fn value_of(alloc: Global, json: &str) -> Result<Value, LineFault> {
-    match Value::from_str(alloc, json) {
-        Ok(value) => Ok(value),
-        Err(error) if error.is_memory() => Err(LineFault::OutOfMemory),
-        Err(_error) => Err(LineFault::Wrong("it isn't JSON")),
-    }
-}
-
-/// The event and the range of an array of both.
-fn pair_of(alloc: Global, pair: Value) -> Result<RangedEvent<'static>, LineFault> {
-    let mut pairs = Vec::new(alloc);
-    pairs.push(pair)?;
-    match pairs_from_json(alloc, &Value::Array(pairs))?.pop() {
-        Some(pair) => Ok(pair),
-        None => Err(LineFault::Wrong("it has no event")),
+fn node_of<'a>(
+    alloc: Global,
+    json: &'a str,
+    scratch: &'a mut Scratch,
+) -> Result<Node<'a>, LineFault> {
+    match Node::from_str(alloc, json, scratch) {
+        Ok(node) => Ok(node),
+        Err(TextError::NotJson) => Err(LineFault::Wrong("it isn't JSON")),
+        Err(TextError::OutOfMemory) => Err(LineFault::OutOfMemory),
     }
 }
 
@@ -79,9 +75,11 @@ fn pair_of(alloc: Global, pair: Value) -> Result<RangedEvent<'static>, LineFault
 ///
 /// The fault that the text isn't JSON, or has something else than an event at some key, or that memory ran out.
 pub fn event_in_json(alloc: Global, json: &str) -> Result<RangedEvent<'static>, LineFault> {
-    let value = value_of(alloc, json)?;
-    if let Value::Array(_) = value {
-        return pair_of(alloc, value);
+    let mut scratch = Scratch::new(alloc);
+    let node = node_of(alloc, json, &mut scratch)?;
+    if let Node::Array(_) = node {
+        let (event, location) = pair_from_json(alloc, &node)?;
+        return Ok((event, location.range));
     }
-    Ok((event_from_json(alloc, &value)?, None))
+    Ok((event_from_json(alloc, &node)?, None))
 }

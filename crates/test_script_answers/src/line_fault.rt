@@ -3,7 +3,7 @@
 use crate::strings::Quoted;
 use std::alloc::{AllocError, AllocFailed};
 use std::fmt;
-use tocmark_json::fault::{Fault, JsonError};
+use tocmark_json::fault::Fault;
 
 /// Why a line can't be read.
 #[derive(Clone, Copy)]
@@ -40,16 +40,6 @@ impl From<Fault> for LineFault {
         match fault {
             Fault::Wanted { key, wanted } => LineFault::NotAnEvent { key, wanted },
             Fault::OutOfMemory => LineFault::OutOfMemory,
-        }
-    }
-}
-
-impl From<JsonError> for LineFault {
-    fn from(fault: JsonError) -> LineFault {
-        match fault {
-            JsonError::Event { key, wanted, .. } => LineFault::NotAnEvent { key, wanted },
-            JsonError::NotAnArray => LineFault::Wrong("its JSON is no array"),
-            JsonError::OutOfMemory => LineFault::OutOfMemory,
         }
     }
 }

@@ -1,1 +1,2 @@
 pub mod TokenRuns
+pub mod Written

@@ -24,20 +24,14 @@
 
 pub mod token_count;
 
-ghost use Rattle.std.specs.Prelude.{◌≡◌, List, [], Option, ℕ, IfOk, OnOk};
-ghost use Rattle.std.specs.Borrow.{Bor};
-ghost use Rattle.std.specs.Iterator.{IsFinite, DrainsIf};
-ghost use Rattle.tocmark_event.specs.Text.{ParserEvent};
-ghost use Rattle.tocmark_event.specs.declared.event.flags.ParserOptions.{ParserOptions};
+ghost use Rattle.std.specs.Prelude.{◌≡◌, IfOk};
+ghost use Rattle.std.specs.Iterator.{IsFinite};
 ghost use Rattle.tocmark_event.specs.Options.{default_options, options_view};
 ghost use Rattle.tocmark_laws.specs.Documents.{MakesDocument};
 ghost use Rattle.tocmark_laws.specs.SingleBlocks.{MakesCodeSpan, MakesFencedCode, MakesLink};
-ghost use Rattle.tocmark_state.specs.Ranges.{Range};
 ghost use Rattle.tocmark_laws.specs.TextBlocks.{MakesBlocks};
-ghost use Rattle.tocmark_state.specs.Walk.{done, nothing_yet, script, walk};
-ghost use Rattle.tocmark_state.specs.Writes.{Makes, TakesAll};
-ghost use Rattle.tocmark_state.specs.StateView.{IsFinished, Stands, rendering_of, state_flags};
-ghost use Rattle.tocmark_state.specs.WorkView.{pairs, ranged_pairs, rendering};
+ghost use Rattle.tocmark_state.specs.StateView.{IsFinished, rendering_of, state_flags};
+ghost use Rattle.tocmark_state.specs.WorkView.{pairs, rendering};
 ghost use Rattle.tocmark.specs.Writing.{MakesLines, TakesEvents, WritesEvents, WritesRanged};
 
 pub use crate::token_count::calculate_code_block_token_count;
@@ -139,39 +133,9 @@ where
 {
     let events = events.into_iter();
     let mut state = State::new(alloc, reader, parser_options, options)?;
-    match write_all(&mut state, events, writer) {
-        Ok(()) => Ok(state),
-        Err(error) => {
-            drop(state);
-            Err(error)
-        }
-    }
-}
-
-/// Writes all events of a list: one call of `State::process` and one of `State::finish`. The caller
-/// keeps the state, so that a refusal drops nothing here.
-fn write_all<'a, I, W, R>(state: &mut State<R>, events: I, writer: &mut W) -> Result<(), Error>
-where
-    I: Iterator<Item = &'a Event<'a>>,
-    W: Taker,
-    R: Reader + Drop,
-    requires { I.can_next events × IsFinite (I.remaining events) }
-    ensures made { (flags : ParserOptions)
-        → ((source : List ℕ) → Stands R.reading flags source state.old [])
-        → (xs : List (Bor ParserEvent)) × DrainsIf I.next_gives
-        (TakesAll result
-        (walk (rendering_of R.reading state.old) [] (nothing_yet flags) (pairs xs))) events xs
-        × ((source : List ℕ)
-        → Makes W.takes W.refuses writer.old writer.new result done
-        (script (rendering_of R.reading state.old) source (nothing_yet flags) (pairs xs))) }
-    ensures same { OnOk result
-        (rendering_of R.reading state.new ≡ rendering_of R.reading state.old) }
-    ensures flags { OnOk result (state_flags state.new ≡ state_flags state.old) }
-    ensures finished { OnOk result (IsFinished state.new) }
-{
     state.process(events, writer)?;
     state.finish(writer)?;
-    Ok(())
+    Ok(state)
 }
 
 /// Writes events with their ranges in a source, with the default options:
@@ -241,42 +205,7 @@ where
 {
     let pairs = pairs.into_iter();
     let mut ranged = State::new(alloc, reader, parser_options, options)?;
-    match write_all_ranged(&mut ranged, pairs, source, writer) {
-        Ok(()) => Ok(ranged),
-        Err(cause) => {
-            drop(ranged);
-            Err(cause)
-        }
-    }
-}
-
-/// Writes all events of a list with their ranges in a source, as `write_all` does.
-fn write_all_ranged<'a, I, W, R>(
-    state: &mut State<R>,
-    pairs: I,
-    source: &str,
-    writer: &mut W,
-) -> Result<(), Error>
-where
-    I: Iterator<Item = (&'a Event<'a>, Option<(usize, usize)>)>,
-    W: Taker,
-    R: Reader + Drop,
-    requires { I.can_next pairs × IsFinite (I.remaining pairs) }
-    ensures made { (flags : ParserOptions)
-        → Stands R.reading flags source.now state.old []
-        → (xs : List (Bor ParserEvent × Option Range)) × DrainsIf I.next_gives
-        (TakesAll result
-        (walk (rendering_of R.reading state.old) source.now (nothing_yet flags)
-        (ranged_pairs xs))) pairs xs
-        × Makes W.takes W.refuses writer.old writer.new result done
-        (script (rendering_of R.reading state.old) source.now (nothing_yet flags)
-        (ranged_pairs xs)) }
-    ensures same { OnOk result
-        (rendering_of R.reading state.new ≡ rendering_of R.reading state.old) }
-    ensures flags { OnOk result (state_flags state.new ≡ state_flags state.old) }
-    ensures finished { OnOk result (IsFinished state.new) }
-{
-    state.process_with_source_range(pairs, source, writer)?;
-    state.finish(writer)?;
-    Ok(())
+    ranged.process_with_source_range(pairs, source, writer)?;
+    ranged.finish(writer)?;
+    Ok(ranged)
 }

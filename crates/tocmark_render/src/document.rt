@@ -411,35 +411,6 @@ impl Document {
         }
     }
 
-    /// Writes a unit whose events are balanced. An `Err` is as in `block`; the document is then as it was.
-    fn chosen<'u, R: Reader>(
-        &mut self,
-        tools: &'u Tools<'_, R>,
-        unit: &'u Pending,
-        next: Option<&'u OwnedEvent>,
-        label: Option<&'u str>,
-    ) -> Result<String, Error>
-        requires balanced { is_some (trees_of unit.now.events) ≡ true }
-        ensures chosen { let label = label_now label.entry in
-            let s = setting_with R.reading tools.now (document_flags self.old) label in
-            let f = or_no_trees (trees_of unit.now.events) in
-            Spells (document_view self.new) result
-            (choice s (document_view self.old) f (following_view next.entry)) }
-        ensures stays { OnErr result (document_view self.new ≡ document_view self.old) }
-        ensures flags { document_flags self.new ≡ document_flags self.old }
-    {
-        let found = findings_of(tools.alloc, tools.reader, &tools.options, self.flags, unit)?;
-        let trial = Trial {
-            tools,
-            flags: self.flags,
-            unit,
-            found: &found,
-            next,
-            label,
-        };
-        self.spell(&trial)
-    }
-
     /// Notes the labels of definitions that the document has already, unless a unit was written. If memory
     /// runs out, some are noted.
     fn know(&mut self, alloc: Global, defined: &[Reference]) -> Result<(), AllocError>
@@ -475,10 +446,10 @@ impl Document {
     /// unit that is checked is read back, though the options are accepted; and `OutOfMemory` where memory
     /// ran out or the reader answered it. The document is then as it was, but that it may know labels of the
     /// definitions that it has already.
-    pub fn block<R: Reader>(
+    pub fn block<'u, R: Reader>(
         &mut self,
-        tools: &Tools<'_, R>,
-        unit: &Pending,
+        tools: &'u Tools<'_, R>,
+        unit: &'u Pending,
         next: Option<&Event<'_>>,
     ) -> Result<String, Error>
         ensures chosen { let s = setting_with R.reading tools.now (document_flags self.old) None in
@@ -493,12 +464,20 @@ impl Document {
         if !unit.is_whole() {
             return Err(Error::UnexpectedEvent);
         }
-        let label = self.label_for(tools, unit, next)?;
-        let next = kept_event(tools.alloc, next)?;
-        let text = self.chosen(tools, unit, lent_event(&next), lent_label(&label));
-        drop(next);
-        drop(label);
-        text
+        let kept_label = self.label_for(tools, unit, next)?;
+        let label = lent_label(&kept_label);
+        let kept_next = kept_event(tools.alloc, next)?;
+        let next = lent_event(&kept_next);
+        let found = findings_of(tools.alloc, tools.reader, &tools.options, self.flags, unit)?;
+        let trial = Trial {
+            tools,
+            flags: self.flags,
+            unit,
+            found: &found,
+            next,
+            label,
+        };
+        self.spell(&trial)
     }
 
     /// The definitions that are left: of each unit so far those that it needs, each once, one a line,

@@ -9,10 +9,11 @@ use indexmap::IndexSet;
 use tocmark_event::event::{OwnedEvent, ParserOptions};
 use tocmark_event::options::Error;
 use tocmark_event::reader::Reader;
+use tocmark_write_emphasis::task::Task;
 use tocmark_write_pending::pending::Pending;
 use tocmark_write_renderer::job::{Job, Manner};
 use tocmark_write_renderer::renderer::Renderer;
-use tocmark_write_unit::block::write_unit;
+use tocmark_write_unit::block::{KnownUnit, write_unit};
 use tocmark_write_unit::findings::Findings;
 
 /// The texts of a unit, each behind the definitions that it needs, that weren't read back.
@@ -46,15 +47,23 @@ pub(crate) fn write<'t, R: Reader>(
     ensures { let m = manner_view manner.now in
         WritesIn R.reading trial.now renderer.old renderer.new m result }
 {
-    let job = Job {
-        alloc: trial.tools.alloc,
-        options: &trial.tools.options,
-        flags: trial.flags,
-        label: trial.label,
+    let task = Task {
+        job: Job {
+            alloc: trial.tools.alloc,
+            options: &trial.tools.options,
+            flags: trial.flags,
+            label: trial.label,
+        },
+        reader: trial.tools.reader,
+        manner: *manner,
     };
-    let (reader, unit, found) = (trial.tools.reader, trial.unit, trial.found);
+    let unit = KnownUnit {
+        pending: trial.unit,
+        found: trial.found,
+        next: trial.next,
+    };
     renderer.mark();
-    let result = write_unit(renderer, job, reader, unit, found, trial.next, *manner);
+    let result = write_unit(renderer, &task, unit);
     if result.is_err() {
         renderer.back();
     }

@@ -96,6 +96,7 @@ fn lent_options(options: &OptionsOf<String>) -> Options<'_>
 impl<R: Reader + Drop> State<R> {
     ghost use Rattle.std.specs.Prelude.{IfErr};
     ghost use Rattle.tocmark_event.specs.declared.event.flags.ParserOptions.{ParserOptions};
+    ghost use Rattle.tocmark_event.specs.declared.options.Error.TheVariants.{Finished};
     ghost use Rattle.tocmark_state.specs.Ranges.{Pair};
     ghost use Rattle.tocmark_state.specs.StateView.{Stands, IsActive, IsFailed, IsFinished, place_of, state_flags, status_of};
 
@@ -229,8 +230,7 @@ impl<R: Reader + Drop> State<R> {
         ensures flags { state_flags self.new ≡ state_flags self.old }
         ensures stands { OnOk result (status_of self.new ≡ status_of self.old) }
         ensures refused { OnErr result (IsFailed self.new) }
-        ensures finished { IsFinished self.old
-            → Rejects writer.old writer.new result Error.Finished }
+        ensures finished { IsFinished self.old → Rejects writer.old writer.new result Finished }
         ensures failed { IsFailed self.old → Rejects writer.old writer.new result Error.Failed }
     {
         match self.status {
@@ -463,6 +463,26 @@ impl<R: Reader + Drop> State<R> {
             Status::Finished => Ok(Progress::default()),
             Status::Failed => Err(Error::Failed),
         }
+    }
+
+    /// How many events wait for their unit's end: all since the last unit that was written. None is left
+    /// once the list has ended.
+    ///
+    /// A caller that counts its events, and asks before each call with one event, knows where a unit that
+    /// the call refuses begins.
+    ///
+    /// ```
+    /// let mut output = String::new(alloc);
+    /// let mut state = State::new(alloc, CoreReader, ParserOptions::empty(), Options::default())?;
+    /// let events = [Event::Rule, Event::Start(Tag::Paragraph), Event::Text("a".into())];
+    /// state.process(&events, &mut output)?;
+    /// assert_eq!(rt; output.as_str(), "---");
+    /// assert_eq!(rt; state.pending_events(), 2);
+    /// ```
+    pub fn pending_events(&self) -> usize
+        ensures { result ≡ length (place_of self.now).pending }
+    {
+        self.work.pending.events().len()
     }
 }
 

@@ -5,7 +5,7 @@ ghost use Rattle.std.specs.Iterator.{IsFinite, DrainsIf};
 ghost use Rattle.tocmark_event.specs.Text.{text_of};
 ghost use Rattle.tocmark_event.specs.View.{event_view};
 ghost use Rattle.tocmark_state.specs.Ranges.{Range};
-ghost use Rattle.tocmark_state.specs.Walk.{step, done, hand_walk, is_due, flushed_before, walk, nothing_yet, last_choice, ended};
+ghost use Rattle.tocmark_state.specs.Walk.{done, hand_walk, is_due, flushed_before, walk, nothing_yet, last_choice, ended};
 ghost use Rattle.tocmark_state.specs.Writes.{Makes};
 ghost use Rattle.tocmark_state.specs.WorkView.{Chooses, CountsIn, at_most, flags_of, incoming_pairs, kept_of, rendering_with, standing_of};
 
@@ -36,7 +36,7 @@ pub struct Progress {
 pub struct Work {
     document: Document,
     /// The events since the last unit that was written.
-    pending: Pending,
+    pub(crate) pending: Pending,
     /// The end of the last range of an event other than a Start, in bytes.
     range_end: usize,
     /// Whether a unit waits, so that all later events join it.
@@ -119,31 +119,6 @@ impl Work {
         self.hand_on(writer, text)
     }
 
-    /// Takes one event with its range in the source, if it has one. Returns how many bytes it handed.
-    fn take<E: Incoming + Drop, R: Reader, W: Taker>(
-        &mut self,
-        tools: &Tools<'_, R>,
-        event: E,
-        range: Option<(usize, usize)>,
-        source: &str,
-        writer: &mut W,
-    ) -> Result<usize, Error>
-        ensures made { Makes W.takes W.refuses writer.old writer.new result (standing_of self.new)
-            (step (rendering_with R.reading tools.now) source.now (E.event event, range)
-            (standing_of self.old)) }
-        ensures count { IfOk result (λ n.
-            n ≡ sum_by length
-            (step (rendering_with R.reading tools.now) source.now (E.event event, range)
-            (standing_of self.old)).texts) }
-        ensures flags { flags_of self.new ≡ flags_of self.old }
-    {
-        let (spelling, range_end) = resolve(source, self.range_end, event.lent(), range)?;
-        self.range_end = range_end;
-        let written = self.flush_before(tools, event.lent(), writer)?;
-        self.pending.join(tools.alloc, event, spelling)?;
-        Ok(written)
-    }
-
     /// Takes the events of an iterator, with their ranges.
     pub fn take_all<E: Incoming + Drop, I, R: Reader, W: Taker>(
         &mut self,
@@ -167,7 +142,10 @@ impl Work {
     {
         let mut progress = Progress::default();
         for (event, range) in pairs {
-            let written = self.take(tools, event, range, source, writer)?;
+            let (spelling, range_end) = resolve(source, self.range_end, event.lent(), range)?;
+            self.range_end = range_end;
+            let written = self.flush_before(tools, event.lent(), writer)?;
+            self.pending.join(tools.alloc, event, spelling)?;
             progress = counted(progress, written);
         }
         Ok(progress)
@@ -183,7 +161,7 @@ impl Work {
         if self.pending.is_empty() {
             return Ok(String::new(tools.alloc));
         }
-        let text = self.document.block(tools, &self.pending, None)?;
+        let text = self.document.block(&*tools, &self.pending, None)?;
         self.pending = Pending::new(tools.alloc);
         Ok(text)
     }

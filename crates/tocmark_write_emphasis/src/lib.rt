@@ -1,7 +1,7 @@
 //! Emphasis and strong emphasis, from the events of a unit to the written markers.
 //!
 //! Below it stand `tocmark_write_inlines` and `tocmark_write_pending`, above it `tocmark_write_unit`. Enter at
-//! `opening`. `marker` has the marker in each layout, from plain facts of the unit, of the text that is written, and of
+//! `opening`, with a `task`. `marker` has the marker in each layout, from plain facts of the unit, of the text that is written, and of
 //! the open containers (`facts`). `node` has these facts of the unit, from what is kept beside its events and from what
 //! the reader says of them (`columns`, and `preferences` for each of these). `boundary` says whether an underscore may
 //! stand beside a character.
@@ -19,3 +19,4 @@ mod preferences;
 mod preferred;
 mod runs;
 mod sharing;
+pub mod task;

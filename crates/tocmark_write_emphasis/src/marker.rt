@@ -101,8 +101,7 @@ fn in_sharing<R: Reader>(
         shared_token s (manner_of delimiters.now source) (tag_at node.now) l path p) }
 {
     let asked = asked_marker(delimiters, node.strong);
-    let (layout, text) = (delimiters.layout, delimiters.text);
-    let marker = shared_marker(alloc, reader, layout, text, asked, node, place)?;
+    let marker = shared_marker(alloc, reader, delimiters, asked, node, place)?;
     in_width(alloc, node.strong, marker)
 }
 

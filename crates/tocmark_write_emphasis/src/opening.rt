@@ -15,35 +15,34 @@ ghost use Rattle.tocmark_spelling.specs.PlanOf.{manner_of};
 use crate::facts::EmphasisEvents;
 use crate::marker::marker;
 use crate::place::place_of;
-use std::alloc::{AllocError, Global};
+use crate::task::Task;
+use std::alloc::AllocError;
 use tocmark_event::event::{OwnedEvent, TagOf};
 use tocmark_event::reader::Reader;
-use tocmark_spelling::plan::Delimiters;
 use tocmark_write_inlines::delimiters::open_between;
-use tocmark_write_renderer::job::{Job, Manner};
 use tocmark_write_renderer::renderer::Renderer;
 
 /// What a node opens with here.
 fn marker_here<R: Reader>(
     renderer: &mut Renderer<'_>,
-    alloc: Global,
-    reader: &R,
-    delimiters: &Delimiters<'_>,
+    task: &Task<'_, '_, '_, R>,
     node: &EmphasisEvents,
     next: Option<&OwnedEvent>,
 ) -> Result<String, AllocError>
     ensures marker { (source : Bool) (l : Look)
-        → AsksLow delimiters.now → OpensLow delimiters.now (levels_of renderer.old)
+        → let d = task.now.manner.delimiters in
+        AsksLow d → OpensLow d (levels_of renderer.old)
         → HasLowLiterals node.now
         → IsNode node.now l → l.next_in_unit ≡ following_view next.entry
-        → GivesText (R.reading reader.now) result (λ s.
-        marker s (manner_of delimiters.now source) (tag_at node.now) l
+        → GivesText (R.reading task.now.reader.now) result (λ s.
+        marker s (manner_of d source) (tag_at node.now) l
         (levels_of renderer.old) (page_of renderer.old)) }
     ensures site { site_of renderer.new ≡ site_of renderer.old }
     ensures mark { renderer.new.at_mark ≡ renderer.old.at_mark }
 {
+    let (alloc, delimiters) = (task.job.alloc, &task.manner.delimiters);
     let place = place_of(renderer, alloc, delimiters, next)?;
-    marker(alloc, reader, delimiters, node, &place)
+    marker(alloc, task.reader, delimiters, node, &place)
 }
 
 /// Opens a node of emphasis or strong emphasis, whose tag this is: the marker is chosen by what the
@@ -52,23 +51,21 @@ fn marker_here<R: Reader>(
 /// `next` is the event in the unit just behind the node.
 pub fn open_emphasis<'a, R: Reader>(
     renderer: &mut Renderer<'a>,
-    job: Job<'_, '_>,
-    reader: &R,
-    manner: Manner<'_>,
+    task: &Task<'_, '_, '_, R>,
     tag: &'a TagOf<String>,
     node: &EmphasisEvents,
     next: Option<&OwnedEvent>,
 ) -> Result<(), AllocError>
     ensures stands { (l : Look)
-        → AsksLow manner.entry.delimiters
-        → OpensLow manner.entry.delimiters (levels_of renderer.old)
+        → AsksLow task.now.manner.delimiters
+        → OpensLow task.now.manner.delimiters (levels_of renderer.old)
         → HasLowLiterals node.now → tag_view string_bytes tag.entry.now ≡ tag_at node.now
         → IsNode node.now l → l.next_in_unit ≡ following_view next.entry
         → OnOk result (Arrives renderer.new (open_emphasis
-        (setting_in job.entry (R.reading reader.now)) (manner_view manner.entry)
+        (setting_in task.now.job (R.reading task.now.reader.now)) (manner_view task.now.manner)
         (tag_view string_bytes tag.entry.now) l (levels_of renderer.old) (page_of renderer.old))) }
     ensures mark { renderer.new.at_mark ≡ renderer.old.at_mark }
 {
-    let text = marker_here(renderer, job.alloc, reader, &manner.delimiters, node, next)?;
-    open_between(renderer, job.alloc, tag, text.as_str(), text.as_str())
+    let text = marker_here(renderer, task, node, next)?;
+    open_between(renderer, task.job.alloc, tag, text.as_str(), text.as_str())
 }

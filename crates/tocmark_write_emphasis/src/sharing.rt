@@ -13,7 +13,7 @@ use crate::facts::{
 use crate::runs::is_punctuation;
 use std::alloc::{AllocError, Global};
 use tocmark_event::reader::Reader;
-use tocmark_spelling::plan::{Layout, TextSpelling};
+use tocmark_spelling::plan::{Delimiters, Layout, TextSpelling};
 
 /// Whether a node that follows a closing takes the marker written last.
 fn copies_marker(layout: Layout, node: &EmphasisEvents, place: &NodeSurroundings) -> bool
@@ -208,21 +208,21 @@ fn literal_marker(text: TextSpelling, node: &EmphasisEvents) -> Option<char>
 pub fn shared_marker<R: Reader>(
     alloc: Global,
     reader: &R,
-    layout: Layout,
-    text: TextSpelling,
+    delimiters: &Delimiters<'_>,
     asked: char,
     node: &EmphasisEvents,
     place: &NodeSurroundings,
 ) -> Result<char, AllocError>
-    ensures marker { (token : List ℕ) (l : Look) (path : Path) (p : Page)
+    ensures marker { let layout = delimiters.now.layout in
+        (token : List ℕ) (l : Look) (path : Path) (p : Page)
         → IsNode node.now l → IsPlace layout place.now token l path p
         → Gives (R.reading reader.now) result (λ s.
-        unwrap_or (literal_marker text l)
+        unwrap_or (literal_marker delimiters.now.text l)
         (marker_by_sharing s layout asked (tag_at node.now) l path p)) }
     ensures low { AreLow asked node.now place.now → IfOk result (λ marker. marker < 128) }
 {
-    match literal_marker(text, node) {
+    match literal_marker(delimiters.text, node) {
         Some(marker) => Ok(marker),
-        None => by_sharing(alloc, reader, layout, asked, node, place),
+        None => by_sharing(alloc, reader, delimiters.layout, asked, node, place),
     }
 }

@@ -6,3 +6,4 @@ pub mod Units
 pub mod Jumps
 pub mod Found
 pub mod Unasked
+pub mod Rest

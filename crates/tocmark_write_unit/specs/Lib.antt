@@ -4,4 +4,3 @@ pub mod FindingsOf
 pub mod NeighboursOf
 pub mod ToldOf
 pub mod Turn
-pub mod Rest

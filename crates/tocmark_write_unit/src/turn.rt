@@ -1,10 +1,11 @@
-//! One event of a unit.
+//! A Start or an End among a unit's events, and what stands beside a leaf.
 
 ghost use Rattle.std.specs.Prelude.{◌≡◌, ◌<◌, ◌≤◌, ◌+◌, ◌-◌, map, drop, take, reverse, length, slice_index_or, string_bytes, true, false, IfOk, OnOk};
 ghost use Rattle.std.specs.Str.{IsCharBoundary};
 ghost use Rattle.tocmark_write_blocks.specs.Leads.{Closes, is_closed};
 ghost use Rattle.tocmark_write_containers.specs.FrameOf.{level_of};
 ghost use Rattle.tocmark_write_emphasis.specs.Low.{AsksLow, OpensLow};
+ghost use Rattle.tocmark_write_inlines.specs.BesideOf.{IsBeside};
 ghost use Rattle.tocmark_event.specs.Options.{options_view, OptionsView};
 ghost use Rattle.tocmark_event.specs.View.{event_view, tag_view, Start, TagView};
 ghost use Rattle.tocmark_event.specs.declared.event.flags.ParserOptions.{ParserOptions};
@@ -19,7 +20,7 @@ ghost use Rattle.tocmark_spelling.specs.Opening.{opening, opening_of};
 ghost use Rattle.tocmark_spelling.specs.Page.{front};
 ghost use Rattle.tocmark_spelling.specs.Plan.{Setting, Manner as AnyManner};
 ghost use Rattle.tocmark_spelling.specs.Scans.{end_at, AreEnds};
-ghost use Rattle.tocmark_write_unit.specs.NeighboursOf.{is_leaf_event, look_in, opening_in, rest_in, unit_in, AreFound, IsForest};
+ghost use Rattle.tocmark_write_unit.specs.NeighboursOf.{before_in, look_in, next_in, opening_in, rest_in, unit_in, AreFound, IsForest};
 ghost use Rattle.tocmark_write_unit.specs.ToldOf.{IsTold};
 ghost use Rattle.tocmark_write_unit.specs.Turn.{Turns};
 
@@ -39,12 +40,12 @@ use tocmark_write_blocks::raw_facts::raw_at;
 use tocmark_write_containers::frame::Frame;
 use tocmark_write_emphasis::node::{following, next_in_unit, node_at};
 use tocmark_write_emphasis::opening::open_emphasis;
+use tocmark_write_emphasis::task::Task;
 use tocmark_write_inlines::leaf::{Beside, write_leaf};
 use tocmark_write_inlines::links::{close_named, open_image, open_link, write_id};
 use tocmark_write_pending::body_facts::facts_at;
 use tocmark_write_pending::ends::{body_end, end_at};
 use tocmark_write_pending::pending::Pending;
-use tocmark_write_renderer::job::{Job, Manner};
 use tocmark_write_renderer::renderer::Renderer;
 
 /// What stands around an event of a unit.
@@ -111,21 +112,21 @@ fn is_preferred(layout: Layout) -> bool
 #[tactic(auto, unfolding(tocmark_spelling::specs::Opening::opening))]
 fn start_emphasis<'a, R: Reader>(
     renderer: &mut Renderer<'a>,
-    job: Job<'_, '_>,
-    reader: &R,
-    manner: Manner<'_>,
+    task: &Task<'_, '_, '_, R>,
     tag: &'a TagOf<String>,
     around: Neighbours<'_>,
 ) -> Result<(), AllocError>
     requires delimits { is_emphasis_or_strong (tag_view string_bytes tag.now) ≡ true }
-    requires asked { AsksLow manner.delimiters }
-    requires around { AreFound (R.reading reader.now) (options_in job) job.flags
+    requires asked { AsksLow task.now.manner.delimiters }
+    requires around { let job = task.now.job in
+        AreFound (R.reading task.now.reader.now) (options_in job) job.flags
         (Start (tag_view string_bytes tag.now)) around }
     ensures stands { (f : Trees)
         → IsForest f around.entry
-        → OpensLow manner.entry.delimiters (levels_of renderer.old)
-        → let t = tag_view string_bytes tag.entry.now in let m = manner_view manner.entry in
-        let s = setting_in job.entry (R.reading reader.now) in let l = look_in s m t around.entry in
+        → OpensLow task.now.manner.delimiters (levels_of renderer.old)
+        → let t = tag_view string_bytes tag.entry.now in let m = manner_view task.now.manner in
+        let s = setting_in task.now.job (R.reading task.now.reader.now) in
+        let l = look_in s m t around.entry in
         OnOk result (Arrives renderer.new
         (opening s m t l (levels_of renderer.old) (page_of renderer.old))) }
     ensures mark { renderer.new.at_mark ≡ renderer.old.at_mark }
@@ -139,29 +140,29 @@ fn start_emphasis<'a, R: Reader>(
         found,
         next,
     } = around;
-    let preferred = is_preferred(manner.delimiters.layout);
+    let preferred = is_preferred(task.manner.delimiters.layout);
     let node = node_at(&found.emphasis, pending, place, preferred, next);
     let behind = next_in_unit(unit, ends, place);
-    open_emphasis(renderer, job, reader, manner, tag, &node, behind)
+    open_emphasis(renderer, task, tag, &node, behind)
 }
 
 /// A container's opening.
 fn open_container<'a, R: Reader>(
     renderer: &mut Renderer<'a>,
-    job: Job<'_, '_>,
-    reader: &R,
-    manner: Manner<'_>,
+    task: &Task<'_, '_, '_, R>,
     tag: &'a TagOf<String>,
     around: Neighbours<'_>,
 ) -> Result<(), Error>
-    requires asked { AsksLow manner.delimiters }
-    requires around { AreFound (R.reading reader.now) (options_in job) job.flags
+    requires asked { AsksLow task.now.manner.delimiters }
+    requires around { let job = task.now.job in
+        AreFound (R.reading task.now.reader.now) (options_in job) job.flags
         (Start (tag_view string_bytes tag.now)) around }
     ensures comes { (f : Trees)
         → IsForest f around.entry
-        → OpensLow manner.entry.delimiters (levels_of renderer.old)
-        → let t = tag_view string_bytes tag.entry.now in let m = manner_view manner.entry in
-        let s = setting_in job.entry (R.reading reader.now) in let l = look_in s m t around.entry in
+        → OpensLow task.now.manner.delimiters (levels_of renderer.old)
+        → let t = tag_view string_bytes tag.entry.now in let m = manner_view task.now.manner in
+        let s = setting_in task.now.job (R.reading task.now.reader.now) in
+        let l = look_in s m t around.entry in
         Comes result renderer.new
         (opening s m t l (levels_of renderer.old) (page_of renderer.old)) }
     ensures mark { renderer.new.at_mark ≡ renderer.old.at_mark }
@@ -176,41 +177,41 @@ fn open_container<'a, R: Reader>(
             Ok(())
         }
         TagOf::Emphasis => {
-            start_emphasis(renderer, job, reader, manner, tag, around)?;
+            start_emphasis(renderer, task, tag, around)?;
             Ok(())
         }
         TagOf::Strong => {
-            start_emphasis(renderer, job, reader, manner, tag, around)?;
+            start_emphasis(renderer, task, tag, around)?;
             Ok(())
         }
-        _ => open(renderer, job, manner, tag, ahead_of(around)),
+        _ => open(renderer, task.job, task.manner, tag, ahead_of(around)),
     }
 }
 
 /// A container's start: its gap, and its opening.
 fn start<'a, R: Reader>(
     renderer: &mut Renderer<'a>,
-    job: Job<'_, '_>,
-    reader: &R,
-    manner: Manner<'_>,
+    task: &Task<'_, '_, '_, R>,
     event: &OwnedEvent,
     tag: &'a TagOf<String>,
     around: Neighbours<'_>,
 ) -> Result<(), Error>
     requires start { event_view string_bytes event.now ≡ Start (tag_view string_bytes tag.now) }
-    requires asked { AsksLow manner.delimiters }
-    requires around { AreFound (R.reading reader.now) (options_in job) job.flags
+    requires asked { AsksLow task.now.manner.delimiters }
+    requires around { let job = task.now.job in
+        AreFound (R.reading task.now.reader.now) (options_in job) job.flags
         (Start (tag_view string_bytes tag.now)) around }
     ensures comes { (f : Trees)
         → IsForest f around.entry
-        → OpensLow manner.entry.delimiters (levels_of renderer.old)
-        → Comes result renderer.new
-        (opening_in (setting_in job.entry (R.reading reader.now)) (manner_view manner.entry)
+        → OpensLow task.now.manner.delimiters (levels_of renderer.old)
+        → let s = setting_in task.now.job (R.reading task.now.reader.now) in
+        Comes result renderer.new
+        (opening_in s (manner_view task.now.manner)
         (tag_view string_bytes tag.entry.now) around.entry (site_of renderer.old)) }
     ensures mark { renderer.new.at_mark ≡ renderer.old.at_mark }
 {
     renderer.write_gap(event)?;
-    open_container(renderer, job, reader, manner, tag, around)
+    open_container(renderer, task, tag, around)
 }
 
 /// A container's closing.
@@ -232,10 +233,9 @@ fn close_container(
     }
 }
 
-/// The innermost container's end. No further event is passed.
+/// The innermost container's end.
 #[tactic(auto, unfolding(tocmark_spelling::specs::Closing::closing))]
-fn end(renderer: &mut Renderer<'_>, alloc: Global, options: &Options<'_>) -> Result<usize, Error>
-    ensures passed { IfOk result (λ passed. passed ≡ 0) }
+pub fn end(renderer: &mut Renderer<'_>, alloc: Global, options: &Options<'_>) -> Result<(), Error>
     ensures comes { Comes result renderer.new
         (closing (options_view options.now) (levels_of renderer.old) (page_of renderer.old)) }
     ensures mark { renderer.new.at_mark ≡ renderer.old.at_mark }
@@ -244,7 +244,7 @@ fn end(renderer: &mut Renderer<'_>, alloc: Global, options: &Options<'_>) -> Res
         None => Err(Error::UnexpectedEvent),
         Some(frame) => {
             close_container(renderer, alloc, options, &frame)?;
-            Ok(0)
+            Ok(())
         }
     }
 }
@@ -276,24 +276,24 @@ fn ahead_of<'e>(around: Neighbours<'e>) -> Ahead<'e>
 
 /// A container's start, and how many further events are passed with it: those of its body, if its id stands in its
 /// place. One that isn't closed is unexpected.
-fn start_before<'a, R: Reader>(
+pub fn start_before<'a, R: Reader>(
     renderer: &mut Renderer<'a>,
-    job: Job<'_, '_>,
-    reader: &R,
-    manner: Manner<'_>,
+    task: &Task<'_, '_, '_, R>,
     event: &OwnedEvent,
     tag: &'a TagOf<String>,
     around: Neighbours<'_>,
 ) -> Result<usize, Error>
     requires start { event_view string_bytes event.now ≡ Start (tag_view string_bytes tag.now) }
-    requires asked { AsksLow manner.delimiters }
-    requires around { AreFound (R.reading reader.now) (options_in job) job.flags
+    requires asked { AsksLow task.now.manner.delimiters }
+    requires around { let job = task.now.job in
+        AreFound (R.reading task.now.reader.now) (options_in job) job.flags
         (Start (tag_view string_bytes tag.now)) around }
     ensures passed { IfOk result (λ passed. passed ≤ length (rest_in around.entry)) }
     ensures moves { (f : Trees)
         → IsForest f around.entry
-        → OpensLow manner.entry.delimiters (levels_of renderer.old)
-        → Turns (setting_in job.entry (R.reading reader.now)) (manner_view manner.entry)
+        → OpensLow task.now.manner.delimiters (levels_of renderer.old)
+        → let s = setting_in task.now.job (R.reading task.now.reader.now) in
+        Turns s (manner_view task.now.manner)
         (Start (tag_view string_bytes tag.entry.now)) around.entry
         result renderer.old renderer.new }
     ensures mark { renderer.new.at_mark ≡ renderer.old.at_mark }
@@ -302,7 +302,7 @@ fn start_before<'a, R: Reader>(
         Some(end) => end,
         None => return Err(Error::UnexpectedEvent),
     };
-    start(renderer, job, reader, manner, event, tag, around)?;
+    start(renderer, task, event, tag, around)?;
     if is_named(around) {
         write_id(renderer, tag)?;
         Ok(width_before(end, around))
@@ -311,21 +311,11 @@ fn start_before<'a, R: Reader>(
     }
 }
 
-/// A leaf. No further event is passed.
-fn leaf(
-    renderer: &mut Renderer<'_>,
-    job: Job<'_, '_>,
-    manner: Manner<'_>,
-    event: &BufferedEvent,
-    around: Neighbours<'_>,
-) -> Result<usize, Error>
-    requires leaf { is_leaf_event (buffered_view event.now) ≡ true }
-    requires within { around.place < length around.unit.now }
-    ensures passed { IfOk result (λ passed. passed ≡ 0) }
-    ensures moves { (reading : Reading)
-        → Turns (setting_in job.entry reading) (manner_view manner.entry)
-        (buffered_view event.entry.now) around.entry result renderer.old renderer.new }
-    ensures mark { renderer.new.at_mark ≡ renderer.old.at_mark }
+/// What stands beside a leaf.
+pub fn beside_of<'e>(around: Neighbours<'e>) -> Beside<'e>
+    requires { around.place < length around.unit.now }
+    ensures { IsBeside result
+        (before_in around.entry) (rest_in around.entry) (next_in around.entry) }
 {
     let Neighbours {
         unit,
@@ -333,41 +323,10 @@ fn leaf(
         next,
         ..
     } = around;
-    let beside = Beside {
+    Beside {
         previous: previous_of(unit, place),
         text_follows: goes_on(rest_of(around)),
         next: following(unit, place, next),
-    };
-    write_leaf(renderer, job, manner, event, beside)?;
-    Ok(0)
-}
-
-/// One event, and how many further ones are passed with it. An `Err` is as in `write_unit`.
-pub fn turn<'a, R: Reader>(
-    renderer: &mut Renderer<'a>,
-    job: Job<'_, '_>,
-    reader: &R,
-    manner: Manner<'_>,
-    event: &'a BufferedEvent,
-    around: Neighbours<'_>,
-) -> Result<usize, Error>
-    requires asked { AsksLow manner.delimiters }
-    requires around { AreFound (R.reading reader.now) (options_in job) job.flags
-        (buffered_view event.now) around }
-    ensures passed { IfOk result (λ passed. passed ≤ length (rest_in around.entry)) }
-    ensures moves { (f : Trees)
-        → IsForest f around.entry
-        → OpensLow manner.entry.delimiters (levels_of renderer.old)
-        → Turns (setting_in job.entry (R.reading reader.now)) (manner_view manner.entry)
-        (buffered_view event.entry.now) around.entry result renderer.old renderer.new }
-    ensures mark { renderer.new.at_mark ≡ renderer.old.at_mark }
-{
-    match &event.event {
-        EventOf::Start(tag) => {
-            start_before(renderer, job, reader, manner, &event.event, tag, around)
-        }
-        EventOf::End(_) => end(renderer, job.alloc, job.options),
-        _ => leaf(renderer, job, manner, event, around),
     }
 }
 

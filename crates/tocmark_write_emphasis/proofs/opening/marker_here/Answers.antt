@@ -6,7 +6,7 @@ use Rattle.tocmark_write_emphasis.proofs.opening.marker_here.Goals as goal
 pub returns-clause-marker : goal.returns-clause-marker
 returns-clause-marker g c = λ source l asked opens literals node next o flags label.
     let a = c.args in
-    let d = a.delimiters.now in
+    let d = a.task.now.manner.delimiters in
     let path = levels_of a.renderer.now in
     let p = page_of a.renderer.now in
     let place = c.in_ok-place.ensures.place l next in

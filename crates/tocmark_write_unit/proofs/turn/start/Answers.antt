@@ -16,10 +16,10 @@ returns-clause-comes g c = λ f forest opens.
     let path = levels_of a.renderer.now in
     let page = page_of a.renderer.now in
     let t = tag_view string_bytes a.tag.now in
-    let s = setting_in a.job (g.R.Reader.reading a.reader.now) in
-    let m = manner_view a.manner in
+    let s = setting_in a.task.now.job (g.R.Reader.reading a.task.now.reader.now) in
+    let m = manner_view a.task.now.manner in
     let mid = c.write_gap.new.self in
     let At : EventView → Type 0 = λ e. Stands mid path (gap e path page) in
     let stands = subst At c.requires.start c.in_ok-write_gap.ensures.stands in
-    let Low : Path → Type 0 = OpensLow a.manner.delimiters in
+    let Low : Path → Type 0 = OpensLow a.task.now.manner.delimiters in
     comes-at c.open_container.result c.open_container.new.renderer mid (λ path page. opening s m t (look_in s m t a.around) path page) path _ stands (c.open_container.ensures.comes f forest (subst Low (sym stands.path_is) opens))

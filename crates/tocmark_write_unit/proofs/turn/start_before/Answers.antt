@@ -18,7 +18,7 @@ returns-in-None-clause-moves g c = λ f forest opens.
     let rest = rest_in n in
     let t = tag_view string_bytes a.tag.now in
     let missing = end-missing (unit_in n) rest n.place t c.end_of.result is.at (c.end_of.ensures is.ends) c.in-None.is in
-    start-refused (setting_in a.job (g.R.Reader.reading a.reader.now)) (manner_view a.manner) (next_in n) t rest (before_in n) (site_of a.renderer.now) missing
+    start-refused (setting_in a.task.now.job (g.R.Reader.reading a.task.now.reader.now)) (manner_view a.task.now.manner) (next_in n) t rest (before_in n) (site_of a.renderer.now) missing
 
 pub returns-in_err-start-clause-moves : goal.returns-in_err-start-clause-moves
 returns-in_err-start-clause-moves g c = λ f forest opens.
@@ -29,7 +29,7 @@ returns-in_err-start-clause-moves g c = λ f forest opens.
     let ended = end-place (unit_in n) rest n.place (tag_view string_bytes a.tag.now) c.end_of.result is.at (c.end_of.ensures is.ends) c.in-Some.end c.in-Some.is in
     let lt : span 0 rest < length rest = ended.1 in
     let p = err_from_is_err_and c.from_residual.result c.from_residual.ensures.1 in
-    rw (p.1, p.2) (start-fails (setting_in a.job (g.R.Reader.reading a.reader.now)) (manner_view a.manner) (next_in n) (tag_view string_bytes a.tag.now) rest (before_in n) (site_of a.renderer.now) lt c.in_err-start.field-0.0 (c.in_err-start.ensures.comes f forest opens))
+    rw (p.1, p.2) (start-fails (setting_in a.task.now.job (g.R.Reader.reading a.task.now.reader.now)) (manner_view a.task.now.manner) (next_in n) (tag_view string_bytes a.tag.now) rest (before_in n) (site_of a.renderer.now) lt c.in_err-start.field-0.0 (c.in_err-start.ensures.comes f forest opens))
 
 pub returns-in_ok-write_id-clause-moves : goal.returns-in_ok-write_id-clause-moves
 returns-in_ok-write_id-clause-moves g c = λ f forest opens.
@@ -37,14 +37,14 @@ returns-in_ok-write_id-clause-moves g c = λ f forest opens.
     let n = a.around in
     let is = c.requires.around in
     let rest = rest_in n in
-    let reading = g.R.Reader.reading a.reader.now in
+    let reading = g.R.Reader.reading a.task.now.reader.now in
     let t = tag_view string_bytes a.tag.now in
-    let s = setting_in a.job reading in
-    let m = manner_view a.manner in
+    let s = setting_in a.task.now.job reading in
+    let m = manner_view a.task.now.manner in
     let ended = end-place (unit_in n) rest n.place t c.end_of.result is.at (c.end_of.ensures is.ends) c.in-Some.end c.in-Some.is in
     let lt : span 0 rest < length rest = ended.1 in
     let width : c.width_before.result ≡ span 0 rest = omega (arith, c.width_before.ensures, ended.0) in
-    let named = c.is_named.ensures ∙ (by-id-found m (options_in a.job) a.job.flags (label_in a.job) reading (next_in n) f (unit_in n) n.found.now.named.items forest is.found.named).at n.place t rest is.at in
+    let named = c.is_named.ensures ∙ (by-id-found m (options_in a.task.now.job) a.task.now.job.flags (label_in a.task.now.job) reading (next_in n) f (unit_in n) n.found.now.named.items forest is.found.named).at n.place t rest is.at in
     start-passes s m (next_in n) t rest (before_in n) (site_of a.renderer.now) lt c.start.new.renderer (c.in_ok-start.ensures.comes f forest opens) c.write_id.new.renderer c.width_before.result width (sym c.if-is_named.true ∙ named) c.in_ok-write_id.ensures.stands
 
 pub returns-else-is_named-clause-moves : goal.returns-else-is_named-clause-moves
@@ -53,11 +53,11 @@ returns-else-is_named-clause-moves g c = λ f forest opens.
     let n = a.around in
     let is = c.requires.around in
     let rest = rest_in n in
-    let reading = g.R.Reader.reading a.reader.now in
+    let reading = g.R.Reader.reading a.task.now.reader.now in
     let t = tag_view string_bytes a.tag.now in
-    let s = setting_in a.job reading in
-    let m = manner_view a.manner in
+    let s = setting_in a.task.now.job reading in
+    let m = manner_view a.task.now.manner in
     let ended = end-place (unit_in n) rest n.place t c.end_of.result is.at (c.end_of.ensures is.ends) c.in-Some.end c.in-Some.is in
     let lt : span 0 rest < length rest = ended.1 in
-    let named = c.is_named.ensures ∙ (by-id-found m (options_in a.job) a.job.flags (label_in a.job) reading (next_in n) f (unit_in n) n.found.now.named.items forest is.found.named).at n.place t rest is.at in
+    let named = c.is_named.ensures ∙ (by-id-found m (options_in a.task.now.job) a.task.now.job.flags (label_in a.task.now.job) reading (next_in n) f (unit_in n) n.found.now.named.items forest is.found.named).at n.place t rest is.at in
     start-moves s m (next_in n) t rest (before_in n) (site_of a.renderer.now) lt c.start.new.renderer (c.in_ok-start.ensures.comes f forest opens) (sym c.if-is_named.false ∙ named)

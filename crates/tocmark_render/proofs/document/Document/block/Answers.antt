@@ -30,19 +30,19 @@ returns-clause-chosen g c =
     let es = c.args.unit.now.events in
     let f = or_no_trees (trees_of es) in
     let next = next_view c.args.next in
-    let new = document_view c.chosen-text.new.self in
-    let result = c.chosen-text.result in
+    let new = document_view c.spell.new.self in
+    let result = c.spell.result in
     let knows = c.in_ok-know.ensures.known in
     let flags = c.in_ok-know.ensures.flags in
-    let lent = label_now c.lent_label.result in
-    let follows = following_view c.lent_event.result in
-    let label = c.lent_label.ensures ∙ c.in_ok-label.ensures s refl (sym flags) ∙ ap (λ (x : DocumentView). label_for s x es next) knows in
+    let lent = label_now c.lent_label-label.result in
+    let follows = following_view c.lent_event-next.result in
+    let label = c.lent_label-label.ensures ∙ c.in_ok-kept_label.ensures s refl (sym flags) ∙ ap (λ (x : DocumentView). label_for s x es next) knows in
     let F : ParserOptions → Type 0 = λ x. Spells new result (choice (setting_with reading tools x lent) (document_view c.know.new.self) f follows) in
     let D : DocumentView → Type 0 = λ x. Spells new result (choice (record s { label = lent }) x f follows) in
     let L : Option (List ℕ) → Type 0 = λ x. Spells new result (choice (record s { label = x }) d f follows) in
     let N : Option EventView → Type 0 = λ x. Spells new result (choice (record s { label = label_for s d es next }) d f x) in
     subst (Spells new result) (sym (balanced-chosen s d es next (sym c.if-not-is_whole.ensures.whole)))
-    (subst N (c.lent_event.ensures ∙ c.in_ok-next.ensures) (subst L label (subst D knows (subst F flags c.chosen-text.ensures.chosen))))
+    (subst N (c.lent_event-next.ensures ∙ c.in_ok-kept_next.ensures) (subst L label (subst D knows (subst F flags c.spell.ensures.chosen))))
 
 pub returns-in_err-know-clause-stays : goal.returns-in_err-know-clause-stays
 returns-in_err-know-clause-stays g c none = stays-refused c.from_residual.result (c.in_err-know.ensures.stays none)
@@ -50,14 +50,18 @@ returns-in_err-know-clause-stays g c none = stays-refused c.from_residual.result
 pub returns-then-not-is_whole-clause-stays : goal.returns-then-not-is_whole-clause-stays
 returns-then-not-is_whole-clause-stays g c none = c.in_ok-know.ensures.known ∙ behind-none c.args.tools.now.defined.now (document_view c.args.self.now) none
 
-pub returns-in_err-label-clause-stays : goal.returns-in_err-label-clause-stays
-returns-in_err-label-clause-stays g c none =
-    stays-refused c.from_residual-in_err-label.result (c.in_ok-know.ensures.known ∙ behind-none c.args.tools.now.defined.now (document_view c.args.self.now) none)
+pub returns-in_err-kept_label-clause-stays : goal.returns-in_err-kept_label-clause-stays
+returns-in_err-kept_label-clause-stays g c none =
+    stays-refused c.from_residual-in_err-kept_label.result (c.in_ok-know.ensures.known ∙ behind-none c.args.tools.now.defined.now (document_view c.args.self.now) none)
 
-pub returns-in_err-next-clause-stays : goal.returns-in_err-next-clause-stays
-returns-in_err-next-clause-stays g c none =
-    stays-refused c.from_residual-in_err-next.result (c.in_ok-know.ensures.known ∙ behind-none c.args.tools.now.defined.now (document_view c.args.self.now) none)
+pub returns-in_err-kept_next-clause-stays : goal.returns-in_err-kept_next-clause-stays
+returns-in_err-kept_next-clause-stays g c none =
+    stays-refused c.from_residual-in_err-kept_next.result (c.in_ok-know.ensures.known ∙ behind-none c.args.tools.now.defined.now (document_view c.args.self.now) none)
 
 pub returns-clause-stays : goal.returns-clause-stays
 returns-clause-stays g c none =
-    on_err_weaker c.chosen-text.result (λ same. same ∙ c.in_ok-know.ensures.known ∙ behind-none c.args.tools.now.defined.now (document_view c.args.self.now) none) c.chosen-text.ensures.stays
+    on_err_weaker c.spell.result (λ same. same ∙ c.in_ok-know.ensures.known ∙ behind-none c.args.tools.now.defined.now (document_view c.args.self.now) none) c.spell.ensures.stays
+
+pub returns-in_err-found-clause-stays : goal.returns-in_err-found-clause-stays
+returns-in_err-found-clause-stays g c none =
+    stays-refused c.from_residual-in_err-found.result (c.in_ok-know.ensures.known ∙ behind-none c.args.tools.now.defined.now (document_view c.args.self.now) none)
