@@ -217,34 +217,29 @@ impl Patches {
         self.take(link.inline_patch(alloc, source)?)
     }
 
-    /// A container that ends behind an event, by the places of its Start on both sides; false if it was changed and can't be
-    /// patched.
+    /// A container that ends, by its Start and the one that was given in its place; false if it was changed and can't be
+    /// patched. `last` is where the event before its End ends, if that isn't the Start.
     fn end(
         &mut self,
         alloc: Global,
         source: &str,
-        old: &[(Event<'_>, (usize, usize))],
-        new: &[(Event<'_>, (usize, usize))],
-        starts: (usize, usize),
-        last: usize,
+        before: &(Event<'_>, (usize, usize)),
+        after: &Event<'_>,
+        last: Option<usize>,
     ) -> Result<bool, AllocError> {
-        let (Some(before), Some(after)) = (old.get(starts.0), new.get(starts.1)) else {
-            return Ok(false);
-        };
-        let (Some(parts), Some(others)) = (link_parts(&before.0), link_parts(&after.0)) else {
+        let (Some(parts), Some(others)) = (link_parts(&before.0), link_parts(after)) else {
             return Ok(true);
         };
-        if same_event(&before.0, &after.0) {
+        if same_event(&before.0, after) {
             return Ok(true);
         }
         let range = before.1;
-        let inner = match old.get(last) {
-            Some(pair) if last > starts.0 => pair.1.1,
-            _ => text_start(source, range.0),
-        };
         let link = LinkChange {
             range,
-            inner,
+            inner: match last {
+                Some(end) => end,
+                None => text_start(source, range.0),
+            },
             old: parts,
             new: others,
         };
@@ -274,8 +269,14 @@ impl Patches {
             Event::End(_) => {
                 self.is_raw = false;
                 let starts = self.open.pop().unwrap_or(places);
-                let last = places.0.saturating_sub(1);
-                return self.end(alloc, source, old, new, starts, last);
+                let (Some(before), Some(after)) = (old.get(starts.0), new.get(starts.1)) else {
+                    return Ok(false);
+                };
+                let last = match old.get(places.0.saturating_sub(1)) {
+                    Some(pair) if places.0 > starts.0.saturating_add(1) => Some(pair.1.1),
+                    _ => None,
+                };
+                return self.end(alloc, source, before, &after.0, last);
             }
             _ => {}
         }

@@ -260,7 +260,7 @@ fn characters_round(
     }
 }
 
-/// Whether the event at a place starts a node that disturbs, given where its body ends; by its
+/// Whether an event starts a node that disturbs, given its place and where its body ends; by its
 /// neighbours alone where no unit is given. Characters are looked at where a node starts that counts.
 fn mark_at<R: Reader>(
     alloc: Global,
@@ -268,26 +268,29 @@ fn mark_at<R: Reader>(
     events: &[BufferedEvent],
     event: &BufferedEvent,
     by_runs: Option<&Pending>,
-    place: usize,
-    end: usize,
+    places: (usize, usize),
 ) -> Result<bool, AllocError>
-    requires place { place < length events.now }
+    requires place { places.0 < length events.now }
     requires by_runs { AreEventsOf (map buffered_view events.now) (option_copied by_runs) }
     ensures { (o : OptionsView) (flags : ParserOptions) (label : Option (List ℕ))
         → IfOk result (λ mark.
         mark ≡ mark_of (setting_of o flags (R.reading reader.now) label) (is_some by_runs.entry)
         (buffered_view event.now)
         (character_before (is_some by_runs.entry)
-        (reverse (take place (map buffered_view events.now))))
+        (reverse (take places.0 (map buffered_view events.now))))
         (character_after (is_some by_runs.entry) start_width
-        (drop (place + 1) (map buffered_view events.now)))
+        (drop (places.0 + 1) (map buffered_view events.now)))
         (character_after (is_some by_runs.entry) close_width
-        (drop (end + 1) (map buffered_view events.now)))) }
+        (drop (places.1 + 1) (map buffered_view events.now)))) }
 {
     match &event.event {
         EventOf::Start(tag) => {
             if counts(tag, by_runs.is_some()) {
-                disturbs_at(alloc, reader, characters_round(events, by_runs, place, end))
+                disturbs_at(
+                    alloc,
+                    reader,
+                    characters_round(events, by_runs, places.0, places.1),
+                )
             } else {
                 Ok(false)
             }
@@ -317,7 +320,8 @@ fn disturbers<R: Reader>(
     let mut marks = Vec::with_capacity(alloc, events.len())?;
     for event in events {
         let i = marks.len();
-        let mark = mark_at(alloc, reader, events, event, by_runs, i, body_end(ends, i))?;
+        let places = (i, body_end(ends, i));
+        let mark = mark_at(alloc, reader, events, event, by_runs, places)?;
         marks.push(mark)?;
     }
     Ok(marks)
