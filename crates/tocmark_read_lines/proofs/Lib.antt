@@ -1,3 +1,3 @@
 pub mod Steps
 pub mod Columns
-mod LineEnds
+pub mod LineEnds

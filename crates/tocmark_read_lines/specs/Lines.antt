@@ -1,5 +1,5 @@
 -- The lines of a text (CommonMark 2.1).
-use Rattle.std.specs.Prelude.{ℕ, ◌+◌, ◌-◌, Bool, not, ◌==◌, ◌&&◌, ◌||◌, nat_lt, nat_le, if◌then◌else◌, List, [], ◌∷◌, length}
+use Rattle.std.specs.Prelude.{ℕ, ◌+◌, ◌-◌, Bool, not, ◌==◌, ◌&&◌, ◌||◌, nat_lt, nat_le, if◌then◌else◌, List, [], ◌∷◌, length, Option, Some, None}
 use Rattle.tocmark_read_scan.specs.Basic.{plus, byte_at}
 use Rattle.tocmark_read_lines.specs.declared.line.Line.{Line}
 
@@ -16,9 +16,18 @@ line_stop text start b at = if (b == 10) && nat_lt start at && (byte_at text (at
 abbrev pub line : ℕ → ℕ → ℕ → ℕ → Line
 line before start end next = record { number = plus before 1; start = start; end = end; next = next }
 
+-- the line that ends with the byte at a place, if one does
+unfoldable pub line_ended : List ℕ → ℕ → ℕ → ℕ → Option Line
+line_ended text before start at =
+    if ends_here text (byte_at text at) at then Some (line before start (line_stop text start (byte_at text at) at) (plus at 1)) else None
+
 -- what stands behind the last line ending is a line if it is not empty
 abbrev pub last_line : ℕ → ℕ → ℕ → List Line
 last_line before start end = if nat_lt start end then line before start end end ∷ [] else []
+
+-- the line that is left at the end of a text, unless it is empty
+unfoldable pub line_left : ℕ → ℕ → ℕ → Option Line
+line_left before start end = if nat_lt start end then Some (line before start end end) else None
 
 -- the lines of the rest of a text, of which the first began at `start` and has come to `at`
 abbrev pub lines_from : List ℕ → ℕ → ℕ → ℕ → List ℕ → List Line

@@ -1,7 +1,7 @@
 //! The lines of a text.
 
-ghost use Rattle.std.specs.Prelude.{◌≡◌, ◌++◌, length, IfOk, OnOk};
-ghost use Rattle.tocmark_read_lines.specs.Lines.{ends_here, line_stop, lines_of, last_line};
+ghost use Rattle.std.specs.Prelude.{◌≡◌, IfOk};
+ghost use Rattle.tocmark_read_lines.specs.Lines.{ends_here, line_stop, line_ended, line_left, lines_of};
 
 use memchr::memchr2_iter;
 use std::alloc::{AllocError, Global};
@@ -38,6 +38,41 @@ fn line_stop(text: &[u8], start: usize, byte: u8, at: usize) -> usize
     if pair { at.saturating_sub(1) } else { at }
 }
 
+/// The line that ends with the byte at a place, if one does. It began at `start`, behind `before` lines.
+#[tactic(auto, unfolding(crate::specs::Lines::line_ended))]
+pub fn line_ended(text: &[u8], before: usize, start: usize, at: usize) -> Option<Line>
+    ensures { result ≡ line_ended text.now before start at }
+{
+    let byte = byte_at(text, at);
+    if ends_here(text, byte, at) {
+        Some(Line {
+            number: before.saturating_add(1),
+            start,
+            end: line_stop(text, start, byte, at),
+            next: at.saturating_add(1),
+        })
+    } else {
+        None
+    }
+}
+
+/// The line that is left at the end of a text, unless it is empty. It begins at `start`, behind `before` lines.
+#[tactic(auto, unfolding(crate::specs::Lines::line_left))]
+pub fn line_left(before: usize, start: usize, end: usize) -> Option<Line>
+    ensures { result ≡ line_left before start end }
+{
+    if start < end {
+        Some(Line {
+            number: before.saturating_add(1),
+            start,
+            end,
+            next: end,
+        })
+    } else {
+        None
+    }
+}
+
 /// The lines of a text in order, with their places in bytes. They end with a line feed, a carriage
 /// return or both; behind the last line ending stands a line only if it isn't empty.
 #[tactic(auto, using(crate::proofs::LineEnds::lines_by_places))]
@@ -45,35 +80,17 @@ pub fn lines(alloc: Global, text: &[u8]) -> Result<Vec<Line>, AllocError>
     ensures { IfOk result (λ v. v.items ≡ lines_of text.now) }
 {
     let mut lines = Vec::new(alloc);
+    let mut before = 0;
     let mut start = 0;
     for at in memchr2_iter(b'\n', b'\r', text) {
-        let byte = byte_at(text, at);
-        if ends_here(text, byte, at) {
-            let end = line_stop(text, start, byte, at);
-            lines.push(Line {
-                number: lines.len().saturating_add(1),
-                start,
-                end,
-                next: at.saturating_add(1),
-            })?;
-            start = at.saturating_add(1);
+        if let Some(line) = line_ended(text, before, start, at) {
+            lines.push(line)?;
+            before = line.number;
+            start = line.next;
         }
     }
-    push_last(&mut lines, start, text.len())?;
-    Ok(lines)
-}
-
-fn push_last(lines: &mut Vec<Line>, start: usize, end: usize) -> Result<(), AllocError>
-    ensures { OnOk result (lines.new.items
-        ≡ lines.old.items ++ last_line (length lines.old.items) start end) }
-{
-    if start < end {
-        lines.push(Line {
-            number: lines.len().saturating_add(1),
-            start,
-            end,
-            next: end,
-        })?;
+    if let Some(line) = line_left(before, start, text.len()) {
+        lines.push(line)?;
     }
-    Ok(())
+    Ok(lines)
 }
