@@ -3,6 +3,8 @@
 ghost use Rattle.std.specs.Prelude.{◌≡◌, OnOk, ◌==◌, ◌&&◌, not, true, IfOk};
 ghost use Rattle.std.specs.List.{list_any, find, fold};
 ghost use Rattle.tocmark_read_blocks.specs.Blocks.{underline_taken_in, started_in, start_or, leaf_started_in, passed_in, tabled_in, turn_of, turn_in, leaf_ended, touched, cells_taken_in, line_taken_in, extends_starts, page_in, blocks_view, blocks_in};
+ghost use Rattle.tocmark_read_constructs.specs.Metadata.{known_of};
+ghost use Rattle.tocmark_read_lines.specs.Lines.{lines_of};
 ghost use Rattle.tocmark_read_page.specs.Pages.{page, closed_to, piece_taken};
 ghost use Rattle.tocmark_read_blocks.specs.Leaves.{ends_at_blank};
 ghost use Rattle.tocmark_read_page.specs.Pieces.{piece_of};
@@ -13,6 +15,7 @@ use crate::leaf::{
     LeafStart, Turn, leaf_at, leaf_turn, metadata_or, quote_kind_or, rule_at, tag_or, task_or,
 };
 use crate::paragraph::{start_rule, take_text};
+use memchr::memchr2_iter;
 use std::alloc::{AllocError, Global};
 use tocmark_event::event::HeadingLevel;
 use tocmark_read_constructs::footnote::is_ended_by_note;
@@ -24,7 +27,7 @@ use tocmark_read_constructs::task::{start_task, task_in};
 use tocmark_read_lines::beginnings::{Tail, tail_of};
 use tocmark_read_lines::cell::{Cells, cell_place, is_blank_at};
 use tocmark_read_lines::container::{matched, touch};
-use tocmark_read_lines::line::{Line, lines};
+use tocmark_read_lines::line::{Line, line_ended, line_left, lines};
 use tocmark_read_page::definition::LinkDefinition;
 use tocmark_read_page::leaf::{Leaf, is_paragraph};
 use tocmark_read_page::line_start::{Known, LineStart, Row};
@@ -441,20 +444,30 @@ fn take_line(
     }
 }
 
+/// Takes each line of the text.
+#[tactic(auto, using(tocmark_read_lines::proofs::LineEnds::lines_by_places))]
 fn take_lines(
     so_far: &mut BlocksSoFar,
     alloc: Global,
     source: &Source<'_>,
-    lines: &[Line],
 ) -> Result<(), AllocError>
     requires tabs { source.now.has_tabs ≡ list_any (λ b. b == 9) source.now.text.now }
     ensures { OnOk result (page so_far.new
         ≡ fold (line_taken_in source.now.known source.now.text.now) (page so_far.old)
-        lines.now) }
+        (lines_of source.now.text.now)) }
 {
     let mut cells = Cells::new(alloc);
-    for line in lines {
-        take_line(so_far, alloc, source, &mut cells, *line)?;
+    let mut before = 0;
+    let mut start = 0;
+    for at in memchr2_iter(b'\n', b'\r', source.text) {
+        if let Some(line) = line_ended(source.text, before, start, at) {
+            take_line(so_far, alloc, source, &mut cells, line)?;
+            before = line.number;
+            start = line.next;
+        }
+    }
+    if let Some(line) = line_left(before, start, source.text.len()) {
+        take_line(so_far, alloc, source, &mut cells, line)?;
     }
     Ok(())
 }
@@ -467,14 +480,26 @@ fn extends_starts(syntax: Syntax) -> bool
     syntax.task_lists || syntax.yaml_metadata || syntax.pluses_metadata || syntax.quote_kinds
 }
 
+/// What is known of a text before its lines are read. Only where metadata is read, its lines are listed.
+#[tactic(auto, unfolding(tocmark_read_constructs::specs::Metadata::known_of))]
+fn known_in(alloc: Global, syntax: Syntax, text: &[u8]) -> Result<Known, AllocError>
+    ensures { IfOk result (λ known. known ≡ known_of syntax text.now (lines_of text.now)) }
+{
+    if syntax.yaml_metadata || syntax.pluses_metadata {
+        let lines = lines(alloc, text)?;
+        Ok(known_of(syntax, text, &lines))
+    } else {
+        Ok(known_of(syntax, text, &[]))
+    }
+}
+
 #[tactic(auto, unfolding(crate::specs::Blocks::page_in))]
 fn read_page(alloc: Global, syntax: Syntax, text: &[u8]) -> Result<BlocksSoFar, AllocError>
     ensures { IfOk result (λ found. page found ≡ page_in syntax text.now) }
 {
-    let lines = lines(alloc, text)?;
-    let source = source_of(known_of(syntax, text, &lines), text);
+    let source = source_of(known_in(alloc, syntax, text)?, text);
     let mut page = BlocksSoFar::new(alloc);
-    take_lines(&mut page, alloc, &source, &lines)?;
+    take_lines(&mut page, alloc, &source)?;
     page.close_to(alloc, text, 0)?;
     Ok(page)
 }
