@@ -4,7 +4,7 @@ use Rattle.std.specs.Prelude.{not, ◌||◌, ◌&&◌, ◌==◌}
 use Rattle.std.specs.List.{list_any}
 use Rattle.std.proofs.Math.ListN.{set}
 use Rattle.std.proofs.lemmas.Bool.{cases_lt, false≢true, eqb-true, eqb-false, not_from_false}
-use Rattle.std.proofs.lemmas.List.{drop_all}
+use Rattle.std.proofs.lemmas.List.{drop_all, get_or_past}
 use Rattle.tocmark_write_texts.specs.Characters.{backtick}
 use Rattle.tocmark_event.specs.Options.{OptionsView}
 use Rattle.tocmark_event.specs.View.{TagView, CodeBlock, HtmlBlock, Indented, Fenced, SourcedEvent, Start, End, Leaf, Paragraph, Heading, BlockQuote, ListOf, Item, FootnoteDefinition, DefinitionList, DefinitionListTitle, DefinitionListDefinition, Table, TableHead, TableRow, TableCell, Emphasis, Strong, Strikethrough, Superscript, Subscript, Link, Image, MetadataBlock}
@@ -125,6 +125,29 @@ fence-chosen o info rest p q hp hq =
     let b : Bool = (o.code_block_token == backtick) && list_any (λ b. b == backtick) info in
     run-chosen (token == o.code_block_token) rest token o.code_block_token p q hp hq (eqb-true token o.code_block_token)
     (λ f. token-of b token o.code_block_token refl (eqb-false token o.code_block_token f))
+
+same-chosen : (c : Bool) (n : ℕ) → cond c n n ≡ n
+same-chosen true n = refl
+same-chosen false n = refl
+
+-- no runs are kept, so that each fence's is empty, and no HTML block opens
+pub silent-raw : (o : OptionsView) (es : List SourcedEvent) (preferred tildes : List TokenRuns) (facts : List RawFacts)
+    → AreFenceRuns o.code_block_token es preferred → AreOtherRuns o es tildes → list_any (opens is_html_block) es ≡ false
+    → length preferred ≡ 0 → length tildes ≡ 0 → length facts ≡ 0 → AreRaw o es facts
+silent-raw o es preferred tildes facts p q h no_preferred no_tildes no_facts = record {
+  at = λ i e rest at.
+      event-raw o e (kids_of rest) (get_or facts i no_raw)
+      (λ info s.
+      let there : drop i es ≡ Start (CodeBlock (Fenced info)) ∷ rest = at ∙ ap (λ z. z ∷ rest) s in
+      let longest : RawFacts → ℕ = λ x. x.longest in
+      let run : TokenRuns → ℕ = λ x. x.longest in
+      let none = ap longest (get_or_past facts i no_raw (omega (arith, no_facts))) in
+      let empty = sym (ap run (get_or_past preferred i no_runs (omega (arith, no_preferred)))) in
+      let blank = sym (ap run (get_or_past tildes i no_runs (omega (arith, no_tildes)))) in
+      none ∙ sym (same-chosen (fence_token o info == o.code_block_token) 0)
+      ∙ fence-chosen o info rest 0 0 (empty ∙ p.at i info rest there) (λ other. blank ∙ q.at i info rest there other))
+      (λ s. absurd (false≢true (sym (ap (opens is_html_block) (sym s) ∙ none-at (opens is_html_block) es i e rest h at))));
+}
 
 drop-rest : (es : List SourcedEvent) (i : ℕ) (e : SourcedEvent) (rest : List SourcedEvent) → drop i es ≡ e ∷ rest → drop (i + 1) es ≡ rest
 drop-rest [] zero e rest q = absurd (cc)

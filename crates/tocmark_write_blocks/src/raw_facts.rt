@@ -249,9 +249,9 @@ fn other_runs(
     }
 }
 
-/// For each event that starts a code or HTML block what its opening asks of the texts in it; an
-/// empty list for events without such a block, which are looked at once. It takes time in the
-/// events and their texts, however deep they stand.
+/// For each event that starts a code or HTML block what its opening asks of the texts in it. The list
+/// is empty where no block asks anything: without such a block, and for fenced code whose tokens stand in
+/// no text. It takes time in the events and their texts, however deep they stand.
 pub fn raw_facts(
     alloc: Global,
     options: &Options<'_>,
@@ -266,6 +266,9 @@ pub fn raw_facts(
     }
     let preferred = fence_runs(alloc, events, kinds.fenced, options.code_block_token)?;
     let tildes = other_runs(alloc, options, events)?;
+    if !kinds.html && preferred.is_empty() && tildes.is_empty() {
+        return Ok(Vec::new(alloc));
+    }
     let html = html_facts(alloc, events, kinds.html)?;
     gathered(alloc, options, events, &preferred, &tildes, &html)
 }
