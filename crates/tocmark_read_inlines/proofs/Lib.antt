@@ -9,3 +9,4 @@ mod Behind
 mod Fronts
 pub mod CoreRuns
 mod Quiet
+mod Settled

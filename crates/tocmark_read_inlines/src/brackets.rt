@@ -98,16 +98,10 @@ impl Scanner {
 
     /// Links the text of a bracket that is closed at the place. No link that is open now can be one.
     #[tactic(auto, unfolding(crate::specs::Scan::linked))]
-    fn link(
-        &mut self,
-        alloc: Global,
-        bracket: Bracket,
-        target: Target,
-        end: usize,
-    ) -> Result<(), AllocError>
+    fn link(&mut self, bracket: Bracket, target: Target, end: usize) -> Result<(), AllocError>
         ensures { OnOk result (scan self.new ≡ linked bracket target end (scan self.old)) }
     {
-        self.settle(alloc, bracket.runs)?;
+        self.settle(bracket.runs)?;
         let number = self.keep_target(target)?;
         self.span(bracket, number, end)?;
         if !bracket.image {
@@ -145,7 +139,7 @@ impl Scanner {
             title,
             id: empty(),
         };
-        self.link(alloc, bracket, target, found.end)
+        self.link(bracket, target, found.end)
     }
 
     /// Takes note of a label that isn't defined.
@@ -183,7 +177,7 @@ impl Scanner {
                     title: entry.title,
                     id,
                 };
-                self.link(alloc, bracket, target, asked.end)
+                self.link(bracket, target, asked.end)
             }
             None => self.miss(alloc, label),
         }

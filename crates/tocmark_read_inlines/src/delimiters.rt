@@ -1,24 +1,13 @@
 //! Runs of delimiters: emphasis, strikethrough, sub- and superscripts.
 
-ghost use Rattle.std.specs.Prelude.{◌≡◌, OnOk, drop};
+ghost use Rattle.std.specs.Prelude.{◌≡◌, OnOk};
 ghost use Rattle.tocmark_read_inlines.specs.Scan.{scan, run_kept, run_taken, tildes_taken, settled};
 
 use crate::scan::Scanner;
-use std::alloc::{AllocError, Global};
+use std::alloc::AllocError;
 use tocmark_read_scan::syntax::Syntax;
 use tocmark_read_spans::emphasis::emphasize;
 use tocmark_read_spans::run::{Run, run_at, tildes_at};
-
-/// The runs behind so many.
-fn runs_from(runs: &[Run], count: usize) -> &[Run]
-    ensures { result.now ≡ drop count runs.now }
-{
-    if count <= runs.len() {
-        &runs[count..]
-    } else {
-        &[]
-    }
-}
 
 impl Scanner {
     /// Keeps a run that opens or closes, and goes on behind it.
@@ -50,12 +39,14 @@ impl Scanner {
     }
 
     /// Matches the delimiters behind so many runs, and forgets these runs.
-    #[tactic(auto, unfolding(crate::specs::Scan::settled))]
-    pub(crate) fn settle(&mut self, alloc: Global, count: usize) -> Result<(), AllocError>
+    #[tactic(auto, unfolding(crate::specs::Scan::settled), using(crate::proofs::Settled::front_kept))]
+    pub(crate) fn settle(&mut self, count: usize) -> Result<(), AllocError>
         ensures { OnOk result (scan self.new ≡ settled count (scan self.old)) }
     {
-        emphasize(alloc, &mut self.roles, runs_from(&self.runs, count))?;
-        self.runs.truncate(count);
+        if count < self.runs.len() {
+            emphasize(&mut self.roles, &mut self.runs[count..])?;
+            self.runs.truncate(count);
+        }
         Ok(())
     }
 }

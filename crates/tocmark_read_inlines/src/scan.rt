@@ -285,6 +285,6 @@ impl Scanner {
             definitions,
         };
         self.run(alloc, &text)?;
-        self.settle(alloc, 0)
+        self.settle(0)
     }
 }

@@ -4,4 +4,5 @@ pub mod Search
 pub mod Marks
 pub mod NotedRuns
 pub mod Runless
+mod Stacks
 pub mod Partners

@@ -1,5 +1,5 @@
 -- Emphasis and strong emphasis (CommonMark 6.2; the algorithm of its appendix).
-use Rattle.std.specs.Prelude.{ℕ, zero, suc, Bool, not, ◌+◌, ◌-◌, ◌%◌, ◌==◌, ◌&&◌, ◌||◌, nat_lt, nat_le, if◌then◌else◌, List, [], ◌∷◌, ◌++◌, length, take, replicate, fold, slice_get, slice_set, Option, Some, None, unwrap_or}
+use Rattle.std.specs.Prelude.{◌≡◌, ◌≤◌, drop, ℕ, zero, suc, Bool, not, ◌+◌, ◌-◌, ◌%◌, ◌==◌, ◌&&◌, ◌||◌, nat_lt, nat_le, if◌then◌else◌, List, [], ◌∷◌, ◌++◌, length, take, replicate, fold, slice_get, slice_set, Option, Some, None, unwrap_or}
 use Rattle.tocmark_read_scan.specs.Basic.{plus}
 use Rattle.tocmark_read_scan.specs.Repeat.{repeated}
 use Rattle.tocmark_read_spans.specs.declared.role.Role.{Role}
@@ -15,9 +15,13 @@ pub record State : Type 0 where
   pub stack : List Run
   pub bottoms : List ℕ
 
--- roles and machine as lists
-abbrev pub openers : List Role → Openers → State
-openers roles o = record { roles = roles; stack = o.stack.items; bottoms = o.bottoms.items }
+-- roles and machine as lists: the stack is the first runs of a list
+abbrev pub openers : List Role → List Run → Openers → State
+openers roles runs o = record { roles = roles; stack = take o.height runs; bottoms = o.bottoms }
+
+-- a stack reaches no higher than a height, and above that the list of runs is still what it was
+abbrev pub Keeps : ℕ → List Run → ℕ → List Run → Type 0
+Keeps top old height new = (height ≤ top) × (drop top new ≡ drop top old)
 
 -- whether one run of `*`, `_` or `^` may open what another closes: the rule of three
 unfoldable pub emphasis_fits : Run → Run → Bool

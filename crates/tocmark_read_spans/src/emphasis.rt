@@ -1,23 +1,22 @@
 //! Emphasis, strong emphasis, strikethrough, sub- and superscripts: runs of delimiters are matched with one another.
 
-ghost use Rattle.std.specs.Prelude.{◌≡◌, IfOk, OnOk, length};
+ghost use Rattle.std.specs.Prelude.{◌≡◌, ◌≤◌, ◌<◌, ◌+◌, ◌++◌, ◌∷◌, [], if◌then◌else◌, IfOk, OnOk, length, slice_get, slice_set, take, unwrap_or};
 ghost use Rattle.tocmark_read_scan.specs.Repeat.{repeated};
 ghost use Rattle.tocmark_read_spans.specs.Role.{roles_of};
-ghost use Rattle.tocmark_read_spans.specs.Emphasis.{openers, emphasis_fits, fits, is_tilde_or_caret, class_of, extended_span, span_of, width_of, found, shortened, matched, once, run_step, emphasized, emphasis_start};
+ghost use Rattle.tocmark_read_spans.specs.Emphasis.{openers, emphasis_fits, fits, is_tilde_or_caret, class_of, extended_span, span_of, width_of, found, shortened, matched, once, run_step, emphasized, Keeps};
 
 use crate::role::{Role, Roles, Span};
 use crate::run::Run;
-use std::alloc::{AllocError, Global};
-use tocmark_read_scan::basic::set;
+use std::alloc::AllocError;
 
-/// The runs that may open, the outermost first, and for each class of closers a place before which none
-/// of them fits.
+/// How many runs may open, and for each class of closers a place before which none of them fits. The runs that
+/// may open are written over the first ones of the list, the outermost first: each is read before.
 #[derive(Drop)]
 pub struct Openers {
-    /// The runs that may open, the outermost first.
-    pub stack: Vec<Run>,
+    /// The number of runs that may open.
+    pub height: usize,
     /// For each class of closers a place of the text: no run before it fits.
-    pub bottoms: Vec<usize>,
+    pub bottoms: [usize; 13],
 }
 
 /// Whether one run of `*`, `_` or `^` may open what another closes: where one of them could do both, the sum of their
@@ -126,20 +125,24 @@ fn span_of(width: usize, closer: Run) -> Span
 impl Openers {
     /// Takes from the stack the runs above an opener, and from the opener so many delimiters. An opener of which
     /// none is left goes, too.
-    fn shorten(&mut self, place: usize, opener: Run, width: usize)
-        ensures stack { self.new.stack.items ≡ shortened place opener width self.old.stack.items }
-        ensures bottoms { self.new.bottoms.items ≡ self.old.bottoms.items }
+    #[tactic(auto, using(crate::proofs::Stacks::cut_down, crate::proofs::Stacks::cut_behind, crate::proofs::Stacks::still_above))]
+    fn shorten(&mut self, runs: &mut [Run], place: usize, opener: Run, width: usize)
+        requires high { self.old.height ≤ length runs.old }
+        requires within { place < self.old.height }
+        ensures stack { take self.new.height runs.new
+            ≡ shortened place opener width (take self.old.height runs.old) }
+        ensures bottoms { self.new.bottoms ≡ self.old.bottoms }
+        ensures kept { Keeps self.old.height runs.old self.new.height runs.new }
     {
         let left = opener.count.saturating_sub(width);
         if left == 0 {
-            self.stack.truncate(place);
+            self.height = place;
         } else {
-            self.stack.truncate(place.saturating_add(1));
-            let shorter = Run {
+            runs[place] = Run {
                 count: left,
                 ..opener
             };
-            set(&mut self.stack, place, shorter);
+            self.height = place + 1;
         }
     }
 
@@ -148,13 +151,17 @@ impl Openers {
     fn join(
         &mut self,
         roles: &mut Roles,
+        runs: &mut [Run],
         place: usize,
         opener: Run,
         closer: Run,
     ) -> Result<Run, AllocError>
-        ensures { IfOk result (λ left.
-            (openers (roles_of roles.new) self.new, left)
-            ≡ matched place opener closer (openers (roles_of roles.old) self.old)) }
+        requires high { self.old.height ≤ length runs.old }
+        requires within { place < self.old.height }
+        ensures left { IfOk result (λ left.
+            (openers (roles_of roles.new) runs.new self.new, left)
+            ≡ matched place opener closer (openers (roles_of roles.old) runs.old self.old)) }
+        ensures kept { OnOk result (Keeps self.old.height runs.old self.new.height runs.new) }
     {
         let width = width_of(opener, closer);
         let behind = opener.place.saturating_add(opener.count);
@@ -163,7 +170,7 @@ impl Openers {
         let end = closer.place.saturating_add(width);
         roles.put_behind(behind.saturating_sub(1), inner, Role::Open(span, end))?;
         roles.put_behind(closer.place, end.saturating_sub(1), Role::Close(end))?;
-        self.shorten(place, opener, width);
+        self.shorten(runs, place, opener, width);
         Ok(Run {
             place: end,
             count: closer.count.saturating_sub(width),
@@ -171,27 +178,55 @@ impl Openers {
         })
     }
 
+    /// No opener fits a closer: those of its class don't look before it again.
+    fn bar(&mut self, closer: Run)
+        ensures height { self.new.height ≡ self.old.height }
+        ensures bottoms { self.new.bottoms
+            ≡ slice_set self.old.bottoms (class_of closer) closer.place }
+    {
+        let class = class_of(closer);
+        if class < self.bottoms.len() {
+            self.bottoms[class] = closer.place;
+        }
+    }
+
+    /// The topmost opener that fits a closer, with its place in the stack.
+    fn topmost(&self, runs: &[Run], closer: Run) -> Option<usize>
+        requires high { self.now.height ≤ length runs.now }
+        ensures { result ≡ found (take self.now.height runs.now) closer
+            (unwrap_or (slice_get self.now.bottoms (class_of closer)) 0)
+            (length (take self.now.height runs.now)) }
+    {
+        let bottom = self.bottoms.get(class_of(closer)).copied().unwrap_or(0);
+        find(&runs[..self.height], closer, bottom)
+    }
+
     /// Matches a closer with the topmost opener that fits, and gives what is left of it. Where nothing is left
     /// or none fits, gives nothing, and such closers don't look there again.
     #[tactic(auto, unfolding(crate::specs::Emphasis::once))]
-    fn close_once(&mut self, roles: &mut Roles, left: Run) -> Result<Option<Run>, AllocError>
-        ensures { IfOk result (λ next.
-            (openers (roles_of roles.new) self.new, next)
-            ≡ once left (openers (roles_of roles.old) self.old)) }
+    fn close_once(
+        &mut self,
+        roles: &mut Roles,
+        runs: &mut [Run],
+        left: Run,
+    ) -> Result<Option<Run>, AllocError>
+        requires high { self.old.height ≤ length runs.old }
+        ensures next { IfOk result (λ next.
+            (openers (roles_of roles.new) runs.new self.new, next)
+            ≡ once left (openers (roles_of roles.old) runs.old self.old)) }
+        ensures kept { OnOk result (Keeps self.old.height runs.old self.new.height runs.new) }
     {
         if left.count == 0 {
             return Ok(None);
         }
-        let class = class_of(left);
-        let bottom = self.bottoms.get(class).copied().unwrap_or(0);
-        let Some(k) = find(&self.stack, left, bottom) else {
-            set(&mut self.bottoms, class, left.place);
+        let Some(k) = self.topmost(runs, left) else {
+            self.bar(left);
             return Ok(None);
         };
-        match self.stack.get(k).copied() {
+        match runs[..self.height].get(k).copied() {
             None => Ok(None),
             Some(opener) => {
-                let next = self.join(roles, k, opener, left)?;
+                let next = self.join(roles, runs, k, opener, left)?;
                 Ok(Some(next))
             }
         }
@@ -199,14 +234,16 @@ impl Openers {
 
     /// Matches a closer with openers as long as one fits, and gives what is left of it.
     #[tactic(auto, using(tocmark_read_scan::proofs::Repeats::repeated_zero, tocmark_read_scan::proofs::Repeats::repeated_stop, tocmark_read_scan::proofs::Repeats::repeated_more))]
-    fn close(&mut self, roles: &mut Roles, closer: Run) -> Result<Run, AllocError>
-        ensures { IfOk result (λ left.
-            (openers (roles_of roles.new) self.new, left)
-            ≡ repeated once closer.count closer (openers (roles_of roles.old) self.old)) }
+    fn close(&mut self, roles: &mut Roles, runs: &mut [Run], closer: Run) -> Result<Run, AllocError>
+        requires high { self.old.height ≤ length runs.old }
+        ensures left { IfOk result (λ left.
+            (openers (roles_of roles.new) runs.new self.new, left)
+            ≡ repeated once closer.count closer (openers (roles_of roles.old) runs.old self.old)) }
+        ensures kept { OnOk result (Keeps self.old.height runs.old self.new.height runs.new) }
     {
         let mut left = closer;
         for _steps_left in (0..closer.count).rev() {
-            match self.close_once(roles, left)? {
+            match self.close_once(roles, runs, left)? {
                 None => return Ok(left),
                 Some(next) => left = next,
             }
@@ -214,38 +251,68 @@ impl Openers {
         Ok(left)
     }
 
-    /// Takes the next run.
-    #[tactic(auto, unfolding(crate::specs::Emphasis::run_step))]
-    fn take(&mut self, roles: &mut Roles, run: Run) -> Result<(), AllocError>
-        ensures { OnOk result (openers (roles_of roles.new) self.new
-            ≡ run_step (openers (roles_of roles.old) self.old) run) }
+    /// Matches a run with openers if it closes, and gives what is left of it.
+    #[tactic(auto, using(crate::proofs::Stacks::keeps_all))]
+    fn close_if(&mut self, roles: &mut Roles, runs: &mut [Run], run: Run) -> Result<Run, AllocError>
+        requires high { self.old.height ≤ length runs.old }
+        ensures left { IfOk result (λ left.
+            (openers (roles_of roles.new) runs.new self.new, left)
+            ≡ (if run.closes
+            then repeated once run.count run (openers (roles_of roles.old) runs.old self.old)
+            else (openers (roles_of roles.old) runs.old self.old, run))) }
+        ensures kept { OnOk result (Keeps self.old.height runs.old self.new.height runs.new) }
     {
-        let left = if run.closes {
-            self.close(roles, run)?
+        if run.closes {
+            self.close(roles, runs, run)
         } else {
-            run
-        };
+            Ok(run)
+        }
+    }
+
+    /// Puts a run on the stack.
+    #[tactic(auto, using(std::proofs::lemmas::List::take_more_set, crate::proofs::Stacks::still_above))]
+    fn push(&mut self, runs: &mut [Run], run: Run)
+        requires high { self.old.height < length runs.old }
+        ensures stack { take self.new.height runs.new ≡ take self.old.height runs.old ++ run ∷ [] }
+        ensures bottoms { self.new.bottoms ≡ self.old.bottoms }
+        ensures kept { Keeps (self.old.height + 1) runs.old self.new.height runs.new }
+    {
+        runs[self.height] = run;
+        self.height += 1;
+    }
+
+    /// Takes the next run.
+    #[tactic(auto, unfolding(crate::specs::Emphasis::run_step), using(crate::proofs::Stacks::keeps_below))]
+    fn take(&mut self, roles: &mut Roles, runs: &mut [Run], run: Run) -> Result<(), AllocError>
+        requires high { self.old.height < length runs.old }
+        ensures step { OnOk result (openers (roles_of roles.new) runs.new self.new
+            ≡ run_step (openers (roles_of roles.old) runs.old self.old) run) }
+        ensures kept { OnOk result
+            (Keeps (self.old.height + 1) runs.old self.new.height runs.new) }
+    {
+        let left = self.close_if(roles, runs, run)?;
         if left.opens && left.count > 0 {
-            self.stack.push(left)?;
+            self.push(runs, left);
         }
         Ok(())
     }
 }
 
-/// Gives the delimiters of these runs, and of no others, their roles.
+/// Gives the delimiters of these runs, and of no others, their roles. The runs are written over.
 #[tactic(auto, unfolding(crate::specs::Emphasis::emphasized), using(crate::proofs::Runless::no_runs))]
-pub fn emphasize(alloc: Global, roles: &mut Roles, runs: &[Run]) -> Result<(), AllocError>
-    ensures { OnOk result (roles_of roles.new ≡ emphasized (roles_of roles.old) runs.now) }
+pub fn emphasize(roles: &mut Roles, runs: &mut [Run]) -> Result<(), AllocError>
+    ensures { OnOk result (roles_of roles.new ≡ emphasized (roles_of roles.old) runs.old) }
 {
     if runs.is_empty() {
         return Ok(());
     }
     let mut machine = Openers {
-        stack: Vec::new(alloc),
-        bottoms: vec![in alloc; 0; 13]?,
+        height: 0,
+        bottoms: [0; 13],
     };
-    for run in runs {
-        machine.take(roles, *run)?;
+    for at in 0..runs.len() {
+        let run = runs[at];
+        machine.take(roles, runs, run)?;
     }
     Ok(())
 }
