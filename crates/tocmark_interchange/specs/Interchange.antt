@@ -16,11 +16,10 @@ use Rattle.tocmark_event.specs.View.{EventView}
 use Rattle.tocmark_event.specs.declared.event.flags.ParserOptions.{ParserOptions}
 use Rattle.tocmark_event.specs.declared.options.Error.{Error}
 use Rattle.tocmark_event.specs.declared.options.Error.TheVariants as error
-use Rattle.tocmark_json.specs.Json.{IsPairsJson, event_json, events_json, listed, located_json, pair_view, pairs_json}
+use Rattle.tocmark_json.specs.Elements.{IsNoList}
+use Rattle.tocmark_json.specs.Json.{IsPairsJson, events_json, listed, located_json, pair_view, pairs_json}
 use Rattle.tocmark_json.specs.Positions.{span_of}
 use Rattle.tocmark_interchange.specs.Options.{IsOptionsJson, is_options_object}
-use Rattle.tocmark_json.specs.Place.{StandsIn}
-use Rattle.tocmark_json.specs.declared.fault.JsonError.{JsonError}
 use Rattle.tocmark_json.specs.declared.positions.Span.{Span}
 use Rattle.tocmark_state.specs.Ranges.{Pair, Range, unranged}
 use Rattle.tocmark_state.specs.WorkView.{rendering}
@@ -109,10 +108,6 @@ abbrev pub IsRefusal : Walk Done → Error → Type 0
 IsRefusal walk (error.FormatFailed f) = Unit {0}
 IsRefusal walk error.OutOfMemory = Unit {0}
 IsRefusal walk e = walk.outcome ≡ Err e
-
--- an element that is named stands in the value, and those before it are events, with ranges or without
-abbrev pub IsNoList : Data → JsonError → Type 0
-IsNoList value e = StandsIn located_json value e ⊎ StandsIn event_json value e
 
 -- why a text is not the JSON of events
 abbrev pub IsNoEvents : List ℕ → WriteError → Type 0

@@ -3,6 +3,7 @@ pub mod Nodes
 pub mod Members
 pub mod Turns
 pub mod Taking
+mod ElementExamples
 pub mod Whole
 pub mod Inverse
 pub mod Passing

@@ -1,13 +1,14 @@
 -- The events of a JSON text, element by element.
-use Rattle.std.specs.Prelude.{◌≡◌, ◌⊎◌, ℕ, List, ◌∷◌, ◌++◌, Bool, true, false, Option, None, Some, length, map}
-use Rattle.serde_json.specs.Data.{Data}
+use Rattle.std.specs.Prelude.{◌≡◌, ℕ, List, Bool, true, false, Option, None, Some, is_some, map, option_and_then}
+use Rattle.serde_json.specs.Data.{Data, array}
+use Rattle.serde_json.specs.Find.{as_array, at}
 use Rattle.serde_json.specs.Read.{read}
+use Rattle.serde_json.specs.View.{items_of}
 use Rattle.tocmark_event.specs.View.{EventView}
 use Rattle.tocmark_json.specs.Json.{IsPairsJson, event_json, events_json, located_json}
-use Rattle.tocmark_json.specs.Place.{IsNoneOf, Refuses, StandsIn}
+use Rattle.tocmark_json.specs.Place.{Refuses, StandsIn}
 use Rattle.tocmark_json.specs.declared.fault.Fault.{Fault}
 use Rattle.tocmark_json.specs.declared.fault.JsonError.{JsonError}
-use Rattle.tocmark_json.specs.declared.fault.JsonError.TheVariants as error
 use Rattle.tocmark_json.specs.declared.fault.ReadError.{ReadError}
 use Rattle.tocmark_json.specs.declared.fault.ReadError.TheVariants as read_error
 use Rattle.tocmark_json.specs.declared.positions.Span.{Span}
@@ -30,9 +31,18 @@ pub record IsListIn (has_ranges : Bool) (text : List ℕ) (pairs : List Pair) : 
   pub is_read : read text ≡ Some value
   pub is_list : IsListOf has_ranges value pairs
 
--- an element that is named stands in the value, and those before it are events, with ranges or without
+-- a value is an array whose first element is an array
+abbrev pub begins_with_array : Data → Bool
+begins_with_array value = is_some (option_and_then as_array (at 0 value))
+
+-- the element that an error names is the first one that is none: no event with its range, or no event alone
+abbrev pub IsNoListOf : Bool → Data → JsonError → Type 0
+IsNoListOf true value e = StandsIn located_json value e
+IsNoListOf false value e = StandsIn event_json value e
+
+-- the first element decides what each element has to be: if it is an array, an event with its range, else an event alone
 abbrev pub IsNoList : Data → JsonError → Type 0
-IsNoList value e = StandsIn located_json value e ⊎ StandsIn event_json value e
+IsNoList value e = IsNoListOf (begins_with_array value) value e
 
 -- why a text is not the JSON of events
 abbrev pub IsReadFault : List ℕ → ReadError → Type 0
@@ -56,13 +66,7 @@ abbrev pub AreElements : Bool → List Data → List Pair → Type 0
 AreElements true ds pairs = (ls : List (Pair × Option Span)) × (map located_json ls ≡ ds) × (map (λ l. l.0) ls ≡ pairs)
 AreElements false ds pairs = (es : List EventView) × (map event_json es ≡ ds) × (map alone es ≡ pairs)
 
--- the element that an error names is the first one that is not
-abbrev pub IsFirstOther : {A : Type 0} → (A → Data) → List Data → JsonError → Type 0
-IsFirstOther json ds error.NotAnArray = ⊥
-IsFirstOther {A} json ds (error.Event at key wanted) =
-    (before : List A) × (there : Data) × (after : List Data) × (ds ≡ map json before ++ there ∷ after) × (at ≡ length before) × IsNoneOf json there
-
--- all elements so far are, or an error names the first one that is not
+-- all elements so far are, or an error says why no list begins with them
 abbrev pub AreTaken : Bool → Option JsonError → List Data → List Pair → Type 0
 AreTaken has_ranges None ds pairs = AreElements has_ranges ds pairs
-AreTaken has_ranges (Some e) ds pairs = IsFirstOther located_json ds e ⊎ IsFirstOther event_json ds e
+AreTaken has_ranges (Some e) ds pairs = IsNoList (array (items_of ds)) e

@@ -1,10 +1,11 @@
 //! The events of a JSON text, element by element: no value of the whole text is made.
 
-ghost use Rattle.std.specs.Prelude.{◌≡◌, ◌<◌, [], ◌∷◌, ◌++◌, Err, IfErr, IfOk, IsFalse, IsTrue, List, None, OnOk, Some, length, map};
+ghost use Rattle.std.specs.Prelude.{◌≡◌, ◌<◌, [], ◌∷◌, ◌++◌, Err, IfErr, IfOk, IsFalse, IsTrue, List, None, OnOk, Some, is_some, length, map};
 ghost use Rattle.json.specs.Json.{items, value};
 ghost use Rattle.json.specs.Lex.{tokens};
 ghost use Rattle.json.specs.Token.{Token as SpecToken, begin_array};
 ghost use Rattle.serde_json.specs.Data.{Data};
+ghost use Rattle.serde_json.specs.Find.{as_array};
 ghost use Rattle.serde_json.specs.Read.{converted, of_items};
 ghost use Rattle.serde_json.specs.View.{items_of};
 ghost use Rattle.tocmark_json.specs.Elements.{AreTaken, IsElement, IsListIn, IsReadFault, RefusesElement};
@@ -60,7 +61,8 @@ pub fn element_from<U: OwnedWords + Drop>(
 
 /// Whether the elements are pairs. The first one tells: a pair is an array.
 fn are_pairs<U>(taken: &Taken<U>, node: &Node<'_>) -> bool
-    ensures { 0 < length taken.now.events.items → result ≡ taken.now.has_ranges }
+    ensures first { taken.now.events.items ≡ [] → result ≡ is_some (as_array (view node.now)) }
+    ensures further { 0 < length taken.now.events.items → result ≡ taken.now.has_ranges }
 {
     if taken.events.is_empty() {
         matches!(node, Node::Array(_))
@@ -198,10 +200,10 @@ fn list_in<U: OwnedWords + Drop>(
 }
 
 /// Reads the events of a JSON text: an array of events, or of pairs of an event and its range or `null`. Each range may
-/// have its lines and columns. The first element tells which it is.
+/// have its lines and columns. The first element decides which it is: if it is an array, all have to be pairs.
 ///
 /// It fails if the text isn't JSON (`NotJson`), or not the JSON of events (`NotEvents`, with the number of the first
-/// element that is none), or if memory runs out.
+/// element that isn't what the first one decides), or if memory runs out.
 ///
 /// ```
 /// let list: EventList<CowStr<'static>> = events_from_text(alloc, "[\"Rule\"]")?;
