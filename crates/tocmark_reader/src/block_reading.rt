@@ -56,7 +56,7 @@ const STRETCH: usize = 64;
 
 /// How many events so many bytes are likely to have, as far as room is made for them at once.
 fn likely_events(bytes: usize) -> usize {
-    (bytes / 3).clamp(FEW, MANY)
+    (bytes / 6).clamp(FEW, MANY)
 }
 
 /// How many events a block is likely to have: code and HTML have one for each line, containers have a Start and
