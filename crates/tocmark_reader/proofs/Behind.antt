@@ -1,7 +1,10 @@
 -- A block's nodes are the same behind all others: so they may be written block by block.
-use Rattle.std.proofs.Common.{◌≡◌, ℕ, Bool, true, false, ◌++◌, ◌∷◌, [], List, map, Option, refl, ap, sym, ◌∙◌}
+use Rattle.std.proofs.Common.{◌≡◌, ℕ, Bool, true, false, ◌++◌, ◌∷◌, [], List, map, reverse, Option, refl, ap, sym, ◌∙◌}
+use mathlib.Core.Path.{fun_ext}
 use Rattle.std.specs.List.{fold}
-use Rattle.std.specs.Prelude.{nat_le, if◌then◌else◌}
+use Rattle.std.specs.Option.{option_map_or}
+use Rattle.std.specs.Prelude.{nat_le, not, slice_get, zero, suc, if◌then◌else◌}
+use Rattle.std.proofs.lemmas.List.{reverse-reverse}
 use Rattle.std.proofs.lemmas.List.Sums.{fold-append}
 use Rattle.tocmark_read_scan.specs.Basic.{plus}
 use Rattle.tocmark_read_scan.specs.declared.syntax.Syntax.{Syntax}
@@ -17,7 +20,7 @@ use Rattle.tocmark_read_spans.specs.declared.definitions.Entry.{Entry}
 use Rattle.tocmark_reader.specs.Emitted.{NodeView, Writing, step}
 use Rattle.tocmark_reader.specs.Inlines.{inline_node}
 use Rattle.tocmark_reader.specs.Formulas.{keeps_blanks, laid_nodes}
-use Rattle.tocmark_reader.specs.Pages.{State, Progress, written_behind, written_by, content_line, lines_nodes, block_node, pieces_of, with_inlines, with_laid, with_lines_of, leaf_inlines_in, task_nodes, with_block, with_task, bare_in, with_lines, fence_node_in, with_fence_in, with_rule, wrapped_in, paragraph_taken_in, taken_as_in, block_taken_in, is_unwrapped, block_step_in, cell_inlines_in, cell_taken_in}
+use Rattle.tocmark_reader.specs.Pages.{State, Progress, written_behind, written_by, content_line, lines_nodes, block_node, pieces_of, with_inlines, with_laid, with_lines_of, leaf_inlines_in, task_nodes, with_block, with_task, bare_in, with_lines, fence_node_in, with_fence_in, with_rule, wrapped_in, paragraph_taken_in, taken_as_in, block_taken_in, is_unwrapped, is_unwrapped_by, loose_lists, block_step_by, block_step_in, cell_inlines_in, cell_taken_in}
 
 abbrev pub Find : Type 0
 Find = List ℕ → Option Entry
@@ -166,18 +169,35 @@ pub adds_taken : (syntax : Syntax) (text : List ℕ) (find : Find) (all : List P
 unfolding block_taken_in
 adds_taken syntax text find all unwrapped b = adds_kind syntax b.kind text find (pieces_of all b.first b.last) unwrapped b
 
-module _ (syntax : Syntax) (text : List ℕ) (find : Find) (all : List Block) (pieces : List Piece) where
+module _ (syntax : Syntax) (text : List ℕ) (find : Find) (loose : List Bool) (pieces : List Piece) where
   -- some of all blocks
   abbrev pub some_taken : List Block → State → State
-  some_taken some s = fold (block_step_in syntax text find all pieces) s some
+  some_taken some s = fold (block_step_by syntax text find loose pieces) s some
 
   adds_some : (some : List Block) → Adds text (some_taken some)
   adds_some [] w s = refl
-  adds_some (b ∷ bs) w s = adds_both text (block_taken_in syntax text find pieces (is_unwrapped all b) b) (some_taken bs) (adds_taken syntax text find pieces (is_unwrapped all b) b) (adds_some bs) w s
+  adds_some (b ∷ bs) w s = adds_both text (block_taken_in syntax text find pieces (is_unwrapped_by loose b) b) (some_taken bs) (adds_taken syntax text find pieces (is_unwrapped_by loose b) b) (adds_some bs) w s
 
   -- the first of them is written, and then the others
-  pub first_behind : (b : Block) (bs : List Block) (unwrapped : Bool) (before after : Progress) → unwrapped ≡ is_unwrapped all b → after ≡ written_by text (block_taken_in syntax text find pieces unwrapped b) before → written_by text (some_taken (b ∷ bs)) before ≡ written_by text (some_taken bs) after
+  pub first_behind : (b : Block) (bs : List Block) (unwrapped : Bool) (before after : Progress) → unwrapped ≡ is_unwrapped_by loose b → after ≡ written_by text (block_taken_in syntax text find pieces unwrapped b) before → written_by text (some_taken (b ∷ bs)) before ≡ written_by text (some_taken bs) after
   first_behind b bs unwrapped before after u a =
-      adds_some bs before.writing (block_taken_in syntax text find pieces (is_unwrapped all b) b (record { nodes = []; inlines = before.inlines }))
+      adds_some bs before.writing (block_taken_in syntax text find pieces (is_unwrapped_by loose b) b (record { nodes = []; inlines = before.inlines }))
       ∙ ap (λ x. written_by text (some_taken bs) (written_by text (block_taken_in syntax text find pieces x b) before)) (sym u)
       ∙ ap (written_by text (some_taken bs)) (sym a)
+
+-- the kept list says of a block what all blocks say
+kept_unwrapped : (blocks : List Block) (b : Block) → is_unwrapped_by (loose_lists blocks) b ≡ is_unwrapped blocks b
+unfolding is_unwrapped is_unwrapped_by
+kept_unwrapped blocks b = ap (λ (f : ℕ → Bool). option_map_or f b.list false) (fun_ext (λ place. by_list blocks place))
+  where
+    by_list : (bs : List Block) (place : ℕ) → option_map_or not (slice_get (loose_lists bs) place) false ≡ option_map_or (λ (l : Block). not l.loose) (slice_get bs place) false
+    by_list [] place = refl
+    by_list (x ∷ xs) zero = refl
+    by_list (x ∷ xs) (suc place) = by_list xs place
+
+-- all blocks have the same nodes where they are kept in reverse, beside the list of the loose ones
+pub all_taken : (syntax : Syntax) (text : List ℕ) (find : Find) (blocks kept : List Block) (loose : List Bool) (pieces : List Piece) (s : State) → loose ≡ loose_lists blocks → kept ≡ reverse blocks → fold (block_step_by syntax text find loose pieces) s (reverse kept) ≡ fold (block_step_in syntax text find blocks pieces) s blocks
+all_taken syntax text find blocks kept loose pieces s is_loose is_kept =
+    ap (λ (ls : List Bool). fold (block_step_by syntax text find ls pieces) s (reverse kept)) is_loose
+    ∙ ap (λ (l : List Block). fold (block_step_by syntax text find (loose_lists blocks) pieces) s l) (ap reverse is_kept ∙ reverse-reverse blocks)
+    ∙ ap (λ (step : State → Block → State). fold step s blocks) (fun_ext (λ t. fun_ext (λ b. ap (λ u. block_taken_in syntax text find pieces u b t) (kept_unwrapped blocks b))))

@@ -1,9 +1,11 @@
 -- Events that are handed out tree by tree are those of the whole text.
-use Rattle.std.proofs.Common.{◌≡◌, ◌≢◌, ℕ, Bool, true, false, ◌++◌, ◌∷◌, [], List, map, Option, Some, None, refl, ap, sym, subst, ◌∙◌, append_assoc, append-nil, arith, drop, length, ◌+◌, ◌<◌}
+use Rattle.std.proofs.Common.{◌≡◌, ◌≢◌, ℕ, Bool, true, false, ◌++◌, ◌∷◌, [], List, map, Option, Some, None, refl, ap, sym, subst, ◌∙◌, append_assoc, append-nil, arith, length, reverse, option_to_list, ◌+◌, ◌-◌, Vec, Global}
 use Rattle.std.specs.List.{fold}
 use Rattle.std.specs.Option.{option_map_or}
-use Rattle.std.specs.Prelude.{get_or, nat_le, nat_lt, if◌then◌else◌, is_none, not, slice_get, zero, suc, string_bytes, ◌==◌, ◌&&◌, ◌||◌}
-use Rattle.std.proofs.lemmas.List.{drop_all, drop_more, length-append, length-map, nil_from_length}
+use Rattle.std.specs.Prelude.{get_or, nat_le, nat_lt, if◌then◌else◌, is_none, not, slice_get, string_bytes, ◌==◌, ◌&&◌, ◌||◌}
+use Rattle.std.proofs.lemmas.List.{length-append, length-map, nil_from_length, reverse-append, reverse-reverse}
+use Rattle.std.proofs.lemmas.Option.{slice_get_read}
+use Rattle.std.proofs.Math.Seq.{get_or-append_seam}
 use Rattle.std.proofs.lemmas.Bool.{and_parts, eqb-true, false≢true}
 use Rattle.std.proofs.lemmas.Bool.Decides.{nat_tests}
 use Rattle.tocmark_event.specs.Reading.{ReadingView}
@@ -28,8 +30,8 @@ use Rattle.tocmark_reader.specs.Emitted.{ItemView, Container, Source, Given, Nod
 use Rattle.tocmark_reader.specs.Range.{snapped}
 use Rattle.tocmark_reader.specs.Inlines.{inline_node}
 use Rattle.tocmark_reader.specs.Formulas.{keeps_blanks, laid_nodes}
-use Rattle.tocmark_reader.specs.Left.{IsHandable, all_made, begins_tree, behind, goes_on, has_events, is_at_tree, is_empty, reading_at_end, reading_left}
-use Rattle.tocmark_reader.specs.Pages.{State, Progress, assembly_view, node, written_behind, written_by, content_line, lines_nodes, block_node, pieces_of, with_inlines, with_laid, with_lines_of, leaf_inlines_in, task_nodes, with_block, with_lines, fence_node_in, with_fence_in, with_rule, wrapped_in, paragraph_taken_in, taken_as_in, block_taken_in, is_unwrapped, cell_inlines_in, cell_taken_in}
+use Rattle.tocmark_reader.specs.Left.{IsHandable, all_made, begins_tree, behind, blocks_left, goes_on, has_events, is_at_tree, is_empty, reading_at_end, reading_left}
+use Rattle.tocmark_reader.specs.Pages.{State, Progress, assembly_view, node, written_behind, written_by, content_line, lines_nodes, block_node, pieces_of, with_inlines, with_laid, with_lines_of, leaf_inlines_in, task_nodes, with_block, with_lines, fence_node_in, with_fence_in, with_rule, wrapped_in, paragraph_taken_in, taken_as_in, block_taken_in, is_unwrapped_by, cell_inlines_in, cell_taken_in}
 use Rattle.tocmark_reader.proofs.Behind.{Find, some_taken, first_behind}
 
 abbrev Marked : Type 0
@@ -115,20 +117,20 @@ begins_kind syntax kind.DefinitionListTitle text find pieces b i h = begins_wrap
 begins_kind syntax kind.DefinitionListDefinition text find pieces b i h = begins_block text b i
 
 -- what isn't in a list isn't unwrapped
-not_unwrapped : (blocks : List Block) (b : Block) → is_none b.list ≡ true → is_unwrapped blocks b ≡ false
-unfolding is_unwrapped
-not_unwrapped blocks b h = go b.list h
+not_unwrapped : (loose : List Bool) (b : Block) → is_none b.list ≡ true → is_unwrapped_by loose b ≡ false
+unfolding is_unwrapped_by
+not_unwrapped loose b h = go b.list h
   where
-    go : (o : Option ℕ) → is_none o ≡ true → option_map_or (λ place. option_map_or (λ (l : Block). not l.loose) (slice_get blocks place) false) o false ≡ false
+    go : (o : Option ℕ) → is_none o ≡ true → option_map_or (λ place. option_map_or not (slice_get loose place) false) o false ≡ false
     go None h = refl
     go (Some place) h = absurd (false≢true h)
 
-begins_taken : (syntax : Syntax) (text : List ℕ) (find : Find) (pieces : List Piece) (blocks : List Block) (b : Block) (i : inlines.State) → begins_tree b ≡ true → Begins 0 (block_taken_in syntax text find pieces (is_unwrapped blocks b) b (no_nodes i))
+begins_taken : (syntax : Syntax) (text : List ℕ) (find : Find) (pieces : List Piece) (loose : List Bool) (b : Block) (i : inlines.State) → begins_tree b ≡ true → Begins 0 (block_taken_in syntax text find pieces (is_unwrapped_by loose b) b (no_nodes i))
 unfolding block_taken_in begins_tree
-begins_taken syntax text find pieces blocks b i h =
+begins_taken syntax text find pieces loose b i h =
     let both = and_parts (b.depth == 0 && is_none b.list) (has_events b.kind b) h in
     let outer = and_parts (b.depth == 0) (is_none b.list) both.0 in
-    subst (λ (u : Bool). Begins 0 (taken_as_in syntax b.kind text find (pieces_of pieces b.first b.last) u b (no_nodes i))) (sym (not_unwrapped blocks b outer.1))
+    subst (λ (u : Bool). Begins 0 (taken_as_in syntax b.kind text find (pieces_of pieces b.first b.last) u b (no_nodes i))) (sym (not_unwrapped loose b outer.1))
     (subst (λ (d : ℕ). Begins d (taken_as_in syntax b.kind text find (pieces_of pieces b.first b.last) false b (no_nodes i))) (eqb-true b.depth 0 outer.0) (begins_kind syntax b.kind text find (pieces_of pieces b.first b.last) b i both.1))
 
 -- what is written, of its two parts
@@ -173,17 +175,17 @@ abbrev MayEnd : List Block → Type 0
 MayEnd [] = Unit {0}
 MayEnd (b ∷ bs) = begins_tree b ≡ true
 
-module _ (syntax : Syntax) (text : List ℕ) (find : Find) (all : List Block) (pieces : List Piece) where
+module _ (syntax : Syntax) (text : List ℕ) (find : Find) (loose : List Bool) (pieces : List Piece) where
   abbrev left_taken : List Block → Progress → Progress
-  left_taken left p = written_by text (some_taken syntax text find all pieces left) p
+  left_taken left p = written_by text (some_taken syntax text find loose pieces left) p
 
   ended_before : (left : List Block) (p : Progress) → MayEnd left → Alike (left_taken left (ended p)) (left_taken left p)
   ended_before [] p h = record { events = append-nil (p.writing.events ++ closings 0 p.writing.stack); inlines = refl }
   ended_before (b ∷ bs) p h =
-      let change : State → State = block_taken_in syntax text find pieces (is_unwrapped all b) b in
-      let same : written_by text change (ended p) ≡ written_by text change p = starts_ended text p.writing (change (no_nodes p.inlines)) (begins_taken syntax text find pieces all b p.inlines h) in
-      let before : left_taken (b ∷ bs) (ended p) ≡ left_taken bs (written_by text change (ended p)) = first_behind syntax text find all pieces b bs (is_unwrapped all b) (ended p) (written_by text change (ended p)) refl refl in
-      let after : left_taken (b ∷ bs) p ≡ left_taken bs (written_by text change p) = first_behind syntax text find all pieces b bs (is_unwrapped all b) p (written_by text change p) refl refl in
+      let change : State → State = block_taken_in syntax text find pieces (is_unwrapped_by loose b) b in
+      let same : written_by text change (ended p) ≡ written_by text change p = starts_ended text p.writing (change (no_nodes p.inlines)) (begins_taken syntax text find pieces loose b p.inlines h) in
+      let before : left_taken (b ∷ bs) (ended p) ≡ left_taken bs (written_by text change (ended p)) = first_behind syntax text find loose pieces b bs (is_unwrapped_by loose b) (ended p) (written_by text change (ended p)) refl refl in
+      let after : left_taken (b ∷ bs) p ≡ left_taken bs (written_by text change p) = first_behind syntax text find loose pieces b bs (is_unwrapped_by loose b) p (written_by text change p) refl refl in
       let both : left_taken (b ∷ bs) (ended p) ≡ left_taken (b ∷ bs) p = before ∙ ap (left_taken bs) same ∙ sym after in
       record { events = ap (λ q. (closed 0 q.writing).events) both; inlines = ap (λ q. q.inlines) both }
 
@@ -219,7 +221,7 @@ with_emission r e = record r { assembly = record r.assembly { emission = e } }
 
 -- the nodes of the blocks that are left
 abbrev pub nodes_left : BlockReading → State
-nodes_left r = some_taken r.syntax r.text (entry_of r.definitions) r.blocks.items r.pieces.items (drop r.place r.blocks.items) (no_nodes (inlines.inlines_view r.assembly.inlines))
+nodes_left r = some_taken r.syntax r.text (entry_of r.definitions) r.loose.items r.pieces.items (blocks_left r) (no_nodes (inlines.inlines_view r.assembly.inlines))
 
 -- the events that are made are handed out: those that are left come behind them
 pub handed : (r : BlockReading) (e : Emission) → emission_view e ≡ writing r.assembly.emission.stack.items [] → reading_left r ≡ behind (map shown r.assembly.emission.events.items) (reading_left (with_emission r e))
@@ -239,7 +241,7 @@ pub none_left : (r : BlockReading) → IsHandable r → is_empty r ≡ true → 
 none_left r h empty =
     let es : List Marked = map shown r.assembly.emission.events.items in
     let none : es ≡ [] = ap (map shown) (nil_from_length r.assembly.emission.events.items (eqb-true (length r.assembly.emission.events.items) 0 empty)) in
-    ap (λ (l : List Block). (closed 0 (left_taken r.syntax r.text (entry_of r.definitions) r.blocks.items r.pieces.items l (progress (inlines.inlines_view r.assembly.inlines) (emission_view r.assembly.emission))).writing).events) (h.last empty)
+    ap (λ (l : List Block). (closed 0 (left_taken r.syntax r.text (entry_of r.definitions) r.loose.items r.pieces.items (reverse l) (progress (inlines.inlines_view r.assembly.inlines) (emission_view r.assembly.emission))).writing).events) (h.last empty)
     ∙ ap (λ (s : List Open). es ++ closings 0 s) h.closed
     ∙ append-nil es
     ∙ none
@@ -258,53 +260,60 @@ none_before ys xs more h none =
     (sym (length-map ys shown) ∙ ap length h ∙ length-append (map shown xs) more ∙ ap (λ n. n + length more) (length-map xs shown))
     none
 
--- where the next block doesn't belong to what is made, all containers may be ended
-stops : (xs : List Block) (i : ℕ) → option_map_or begins_tree (slice_get xs i) true ≡ true → MayEnd (drop i xs)
-stops [] zero h = tt
-stops [] (suc i) h = tt
-stops (x ∷ xs) zero h = h
-stops (x ∷ xs) (suc i) h = stops xs i h
+-- behind others this is the last one
+last_behind : (xs : List Block) (b : Block) → slice_get (xs ++ b ∷ []) (length (xs ++ b ∷ []) - 1) ≡ Some b
+last_behind xs b =
+    let all : List Block = xs ++ b ∷ [] in
+    let many : length all ≡ length xs + 1 = length-append xs (b ∷ []) in
+    let at : length all - 1 ≡ length xs = omega (arith, many) in
+    slice_get_read all (length all) (length all - 1) b refl (omega (arith, many)) (sym (ap (λ n. get_or all n b) at ∙ get_or-append_seam xs b [] b))
 
-past : (xs : List Block) (i : ℕ) → nat_lt i (length xs) ≡ false → drop i xs ≡ []
-past xs i h = drop_all i xs (grind (arith, nat_tests))
+-- where the next block doesn't belong to what is made, all containers may be ended
+stops : (xs : List Block) → option_map_or begins_tree (slice_get xs (length xs - 1)) true ≡ true → MayEnd (reverse xs)
+stops xs h = in_reverse (reverse xs) (subst (λ (l : List Block). option_map_or begins_tree (slice_get l (length l - 1)) true ≡ true) (sym (reverse-reverse xs)) h)
+  where
+    in_reverse : (ys : List Block) → option_map_or begins_tree (slice_get (reverse ys) (length (reverse ys) - 1)) true ≡ true → MayEnd ys
+    in_reverse [] h = tt
+    in_reverse (y ∷ ys) h =
+        let is : reverse (y ∷ ys) ≡ reverse ys ++ y ∷ [] = reverse-append (y ∷ []) ys in
+        sym (ap (λ o. option_map_or begins_tree o true) (ap (λ (l : List Block). slice_get l (length l - 1)) is ∙ last_behind (reverse ys) y)) ∙ h
 
 pub tree_ended : (r : BlockReading) (e : Emission) → goes_on r ≡ false → emission_view e ≡ closed 0 (emission_view r.assembly.emission) → (reading_left (with_emission r e) ≡ reading_left r) × IsHandable (with_emission r e)
 tree_ended r e stop is =
     let defined : List (List ℕ) = map string_bytes r.defined.items in
     let find : Find = entry_of r.definitions in
-    let left : List Block = drop r.place r.blocks.items in
+    let left : List Block = blocks_left r in
     let found : inlines.State = inlines.inlines_view r.assembly.inlines in
     let here : Progress = progress found (emission_view r.assembly.emission) in
-    let taken : Progress → Progress = left_taken r.syntax r.text find r.blocks.items r.pieces.items left in
-    let parts : MayEnd left × (is_empty r ≡ true → left ≡ []) = go (nat_lt r.place (length r.blocks.items)) (is_empty r) (is_at_tree r) refl refl refl stop in (
+    let taken : Progress → Progress = left_taken r.syntax r.text find r.loose.items r.pieces.items left in
+    let parts : MayEnd left × (is_empty r ≡ true → r.blocks.items ≡ []) = go (length r.blocks.items == 0) (is_empty r) (is_at_tree r) refl refl refl stop in (
       ap (λ (w : Writing). reading_at_end defined (taken (progress found w))) is
-          ∙ alike_readings defined (taken (ended here)) (taken here) (ended_before r.syntax r.text find r.blocks.items r.pieces.items left here parts.0),
+          ∙ alike_readings defined (taken (ended here)) (taken here) (ended_before r.syntax r.text find r.loose.items r.pieces.items left here parts.0),
       record {
         closed = ap (λ (w : Writing). w.stack) is;
         last = λ none. parts.1 (none_before e.events.items r.assembly.emission.events.items (closings 0 r.assembly.emission.stack.items) (ap (λ (w : Writing). w.events) is) none);
       },
     )
   where
-    go : (t n a : Bool) → nat_lt r.place (length r.blocks.items) ≡ t → is_empty r ≡ n → is_at_tree r ≡ a → (t && (n || not a)) ≡ false → MayEnd (drop r.place r.blocks.items) × (n ≡ true → drop r.place r.blocks.items ≡ [])
-    go false n a lt en at h = let none = past r.blocks.items r.place lt in (subst (λ (l : List Block). MayEnd l) (sym none) tt, λ x. none)
-    go true true a lt en at h = absurd (false≢true (sym h))
-    go true false true lt en at h = (stops r.blocks.items r.place at, λ x. absurd (false≢true x))
-    go true false false lt en at h = absurd (false≢true (sym h))
-
--- the events of the next block are made: what is left stays the same
-pub block_made : (r : BlockReading) (b : Block) (unwrapped : Bool) (before after : Progress) → drop r.place r.blocks.items ≡ b ∷ drop (r.place + 1) r.blocks.items → unwrapped ≡ is_unwrapped r.blocks.items b → after ≡ written_by r.text (block_taken_in r.syntax r.text (entry_of r.definitions) r.pieces.items unwrapped b) before → left_taken r.syntax r.text (entry_of r.definitions) r.blocks.items r.pieces.items (drop (r.place + 1) r.blocks.items) after ≡ left_taken r.syntax r.text (entry_of r.definitions) r.blocks.items r.pieces.items (drop r.place r.blocks.items) before
-block_made r b unwrapped before after first u a =
-    let taken : List Block → Progress → Progress = left_taken r.syntax r.text (entry_of r.definitions) r.blocks.items r.pieces.items in
-    sym (first_behind r.syntax r.text (entry_of r.definitions) r.blocks.items r.pieces.items b (drop (r.place + 1) r.blocks.items) unwrapped before after u a)
-    ∙ ap (λ l. taken l before) (sym first)
+    go : (t n a : Bool) → (length r.blocks.items == 0) ≡ t → is_empty r ≡ n → is_at_tree r ≡ a → (not t && (n || not a)) ≡ false → MayEnd (blocks_left r) × (n ≡ true → r.blocks.items ≡ [])
+    go true n a none en at h = let is_nil = nil_from_length r.blocks.items (eqb-true (length r.blocks.items) 0 none) in (subst (λ (l : List Block). MayEnd (reverse l)) (sym is_nil) tt, λ x. is_nil)
+    go false true a lt en at h = absurd (false≢true (sym h))
+    go false false true lt en at h = (stops r.blocks.items at, λ x. absurd (false≢true x))
+    go false false false lt en at h = absurd (false≢true (sym h))
 
 -- the same of a reading in which the next block was taken
-pub one_taken : (r : BlockReading) (a : Assembly) (n : ℕ) (blocks : List Block) (pieces : List Piece) (b : Block) (unwrapped : Bool) → n ≡ r.place + 1 → blocks ≡ r.blocks.items → pieces ≡ r.pieces.items → r.place < length r.blocks.items → get_or r.blocks.items r.place b ≡ b → unwrapped ≡ is_unwrapped blocks b → assembly_view a ≡ written_by r.text (block_taken_in r.syntax r.text (entry_of r.definitions) pieces unwrapped b) (assembly_view r.assembly) → reading_left (record r { assembly = a; place = n }) ≡ reading_left r
-one_taken r a n blocks pieces b unwrapped next same_blocks same_pieces lt is u made =
-    let all : List Block = r.blocks.items in
-    let taken : List Block → Progress → Progress = left_taken r.syntax r.text (entry_of r.definitions) all r.pieces.items in
-    let first : drop r.place all ≡ b ∷ drop (r.place + 1) all = drop_more all r.place b lt ∙ ap (λ (x : Block). x ∷ drop (r.place + 1) all) is in
-    let one : (ps : List Piece) → Progress = λ ps. written_by r.text (block_taken_in r.syntax r.text (entry_of r.definitions) ps unwrapped b) (assembly_view r.assembly) in
+pub one_taken : (r : BlockReading) (a : Assembly) (kept : Vec Block Global) (loose : List Bool) (pieces : List Piece) (next : Option Block) (b : Block) (unwrapped : Bool) → r.blocks.items ≡ kept.items ++ option_to_list next → next ≡ Some b → loose ≡ r.loose.items → pieces ≡ r.pieces.items → unwrapped ≡ is_unwrapped_by loose b → assembly_view a ≡ written_by r.text (block_taken_in r.syntax r.text (entry_of r.definitions) pieces unwrapped b) (assembly_view r.assembly) → reading_left (record r { assembly = a; blocks = kept }) ≡ reading_left r
+one_taken r a kept loose pieces next b unwrapped split is same_loose same_pieces u made =
+    let find : Find = entry_of r.definitions in
+    let taken : List Block → Progress → Progress = left_taken r.syntax r.text find r.loose.items r.pieces.items in
+    let first : blocks_left r ≡ b ∷ reverse kept.items = ap reverse (split ∙ ap (λ (o : Option Block). kept.items ++ option_to_list o) is) ∙ reverse-append kept.items (b ∷ []) in
+    let one : (ps : List Piece) → Progress = λ ps. written_by r.text (block_taken_in r.syntax r.text find ps unwrapped b) (assembly_view r.assembly) in
     ap (λ (p : Progress). reading_at_end (map string_bytes r.defined.items) p)
-    (ap (λ (k : ℕ). taken (drop k all) (assembly_view a)) next
-    ∙ block_made r b unwrapped (assembly_view r.assembly) (assembly_view a) first (u ∙ ap (λ (l : List Block). is_unwrapped l b) same_blocks) (made ∙ ap one same_pieces))
+    (sym (first_behind r.syntax r.text find r.loose.items r.pieces.items b (reverse kept.items) unwrapped (assembly_view r.assembly) (assembly_view a) (u ∙ ap (λ (l : List Bool). is_unwrapped_by l b) same_loose) (made ∙ ap one same_pieces))
+    ∙ ap (λ (l : List Block). taken l (assembly_view r.assembly)) (sym first))
+
+-- where no block was left, none was taken
+pub none_taken : (r : BlockReading) (kept : Vec Block Global) (next : Option Block) → r.blocks.items ≡ kept.items ++ option_to_list next → next ≡ None → reading_left (record r { blocks = kept }) ≡ reading_left r
+none_taken r kept next split is =
+    ap (λ (l : List Block). reading_at_end (map string_bytes r.defined.items) (left_taken r.syntax r.text (entry_of r.definitions) r.loose.items r.pieces.items (reverse l) (assembly_view r.assembly)))
+    (sym (split ∙ ap (λ (o : Option Block). kept.items ++ option_to_list o) is ∙ append-nil kept.items))

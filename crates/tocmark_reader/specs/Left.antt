@@ -1,5 +1,5 @@
 -- What is left of a reading block by block.
-use Rattle.std.specs.Prelude.{◌≡◌, ◌≢◌, ℕ, Bool, true, not, ◌==◌, ◌&&◌, ◌||◌, nat_lt, List, [], ◌++◌, drop, is_none, map, slice_get, string_bytes, length}
+use Rattle.std.specs.Prelude.{◌≡◌, ◌≢◌, ℕ, Bool, true, not, ◌==◌, ◌&&◌, ◌||◌, nat_lt, List, [], ◌++◌, ◌-◌, is_none, map, reverse, slice_get, string_bytes, length}
 use Rattle.std.specs.List.{fold}
 use Rattle.std.specs.Option.{option_map_or}
 use Rattle.tocmark_event.specs.Reading.{ReadingView}
@@ -9,7 +9,7 @@ use Rattle.tocmark_read_page.specs.declared.page.BlockKind.{BlockKind}
 use Rattle.tocmark_read_page.specs.declared.page.BlockKind.TheVariants as kind
 use Rattle.tocmark_read_spans.specs.Definitions.{distinct_labels, entry_of}
 use Rattle.tocmark_reader.specs.Emitted.{closed}
-use Rattle.tocmark_reader.specs.Pages.{Progress, assembly_view, block_step_in, written_by}
+use Rattle.tocmark_reader.specs.Pages.{Progress, assembly_view, block_step_by, written_by}
 use Rattle.tocmark_reader.specs.declared.block_reading.BlockReading.{BlockReading}
 
 -- a paragraph that holds definitions alone has no events
@@ -25,19 +25,23 @@ begins_tree b = b.depth == 0 && is_none b.list && has_events b.kind b
 abbrev pub is_empty : BlockReading → Bool
 is_empty r = length r.assembly.emission.events.items == 0
 
+-- the blocks that are left: the next one is the last that is kept
+abbrev pub blocks_left : BlockReading → List Block
+blocks_left r = reverse r.blocks.items
+
 -- no block is left, or the next one begins a tree
 abbrev pub is_at_tree : BlockReading → Bool
-is_at_tree r = option_map_or begins_tree (slice_get r.blocks.items r.place) true
+is_at_tree r = option_map_or begins_tree (slice_get r.blocks.items (length r.blocks.items - 1)) true
 
 -- the next block belongs to the events that are made and not handed out
 abbrev pub goes_on : BlockReading → Bool
-goes_on r = nat_lt r.place (length r.blocks.items) && (is_empty r || not (is_at_tree r))
+goes_on r = not (length r.blocks.items == 0) && (is_empty r || not (is_at_tree r))
 
 -- all blocks that are left, written behind what is made and not handed out
 abbrev pub all_made : BlockReading → Progress
 all_made r =
     written_by r.text
-    (λ s. fold (block_step_in r.syntax r.text (entry_of r.definitions) r.blocks.items r.pieces.items) s (drop r.place r.blocks.items))
+    (λ s. fold (block_step_by r.syntax r.text (entry_of r.definitions) r.loose.items r.pieces.items) s (blocks_left r))
     (assembly_view r.assembly)
 
 -- the reading in which this is all that is made
@@ -71,7 +75,7 @@ pub record IsAtEnd (old new : ReadingView) : Type 0 where
 -- no container is open, and if no events are made none are to come
 pub record IsHandable (r : BlockReading) : Type 0 where
   pub closed : r.assembly.emission.stack.items ≡ []
-  pub last : is_empty r ≡ true → drop r.place r.blocks.items ≡ []
+  pub last : is_empty r ≡ true → r.blocks.items ≡ []
 
 -- some events are made, or none are to come
 abbrev pub IsReady : BlockReading → Type 0

@@ -83,6 +83,14 @@ unfoldable pub is_unwrapped : List Block → Block → Bool
 is_unwrapped blocks b =
     option_map_or (λ place. option_map_or (λ (l : Block). not l.loose) (slice_get blocks place) false) b.list false
 
+-- for each block whether it is a loose list
+abbrev pub loose_lists : List Block → List Bool
+loose_lists blocks = map (λ (b : Block). b.loose) blocks
+
+-- a block directly in an item of a tight list, where these are the loose lists
+unfoldable pub is_unwrapped_by : List Bool → Block → Bool
+is_unwrapped_by loose b = option_map_or (λ place. option_map_or not (slice_get loose place) false) b.list false
+
 -- the node of a block
 abbrev pub block_node : List ℕ → Block → NodeView
 block_node text b = node b.depth (Container (block_tag text b.kind)) b.start b.end
@@ -214,6 +222,10 @@ block_taken_in syntax text find all unwrapped b s = taken_as_in syntax b.kind te
 -- one more block, which may stand in a tight list
 abbrev pub block_step_in : Syntax → List ℕ → (List ℕ → Option Entry) → List Block → List Piece → State → Block → State
 block_step_in syntax text find blocks pieces s b = block_taken_in syntax text find pieces (is_unwrapped blocks b) b s
+
+-- the same, where these are the loose lists
+abbrev pub block_step_by : Syntax → List ℕ → (List ℕ → Option Entry) → List Bool → List Piece → State → Block → State
+block_step_by syntax text find loose pieces s b = block_taken_in syntax text find pieces (is_unwrapped_by loose b) b s
 
 -- no nodes, and the texts of the definitions
 abbrev pub start_state : List ℕ → State

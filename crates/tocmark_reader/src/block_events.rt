@@ -1,9 +1,9 @@
 //! From blocks to events.
 
-ghost use Rattle.std.specs.Prelude.{◌≡◌, [], OnOk};
+ghost use Rattle.std.specs.Prelude.{◌≡◌, [], IfOk, OnOk};
 ghost use Rattle.tocmark_read_spans.specs.Definitions.{entry_of};
 ghost use Rattle.tocmark_read_inlines.specs.Inlines.{inlines_view};
-ghost use Rattle.tocmark_reader.specs.Pages.{is_unwrapped, assembly_view, leaf_inlines_in, with_block, with_inlines, with_laid, with_lines_of, with_task, bare_in, with_lines, with_rule, wrapped_in, paragraph_taken_in, with_fence_in, block_taken_in, nothing_written, written_by, cell_inlines_in, cell_taken_in};
+ghost use Rattle.tocmark_reader.specs.Pages.{is_unwrapped_by, loose_lists, assembly_view, leaf_inlines_in, with_block, with_inlines, with_laid, with_lines_of, with_task, bare_in, with_lines, with_rule, wrapped_in, paragraph_taken_in, with_fence_in, block_taken_in, nothing_written, written_by, cell_inlines_in, cell_taken_in};
 
 use crate::code_lines::write_lines;
 use crate::containers::{write_block, write_fence, write_task};
@@ -24,16 +24,27 @@ use tocmark_read_scan::syntax::Syntax;
 use tocmark_read_scan::table_cell::cell_content;
 use tocmark_read_spans::definitions::Definitions;
 
-/// Whether a paragraph stands directly in an item of a tight list.
-#[tactic(auto, unfolding(crate::specs::Pages::is_unwrapped))]
-pub(crate) fn is_unwrapped(blocks: &[Block], block: Block) -> bool
-    ensures { result ≡ is_unwrapped blocks.now block }
+/// For each block whether it is a loose list.
+pub(crate) fn loose_lists(alloc: Global, blocks: &[Block]) -> Result<Vec<bool>, AllocError>
+    ensures { IfOk result (λ loose. loose.items ≡ loose_lists blocks.now) }
+{
+    let mut loose = Vec::with_capacity(alloc, blocks.len())?;
+    for block in blocks {
+        loose.push(block.loose)?;
+    }
+    Ok(loose)
+}
+
+/// Whether a paragraph stands directly in an item of a tight list; `loose` says which blocks are loose lists.
+#[tactic(auto, unfolding(crate::specs::Pages::is_unwrapped_by))]
+pub(crate) fn is_unwrapped(loose: &[bool], block: Block) -> bool
+    ensures { result ≡ is_unwrapped_by loose.now block }
 {
     match block.list {
         None => false,
-        Some(place) => match blocks.get(place).copied() {
+        Some(place) => match loose.get(place).copied() {
             None => false,
-            Some(list) => !list.loose,
+            Some(list_is_loose) => !list_is_loose,
         },
     }
 }

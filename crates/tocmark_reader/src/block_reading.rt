@@ -33,14 +33,15 @@ pub struct BlockReading<'t> {
     pub(crate) alloc: Global,
     pub(crate) syntax: Syntax,
     pub(crate) text: SearchedText<'t>,
+    /// The blocks whose events aren't made yet, the next one last.
     pub(crate) blocks: Vec<Block>,
+    /// For each block of the text whether it is a loose list.
+    pub(crate) loose: Vec<bool>,
     pub(crate) pieces: Vec<Piece>,
     pub(crate) definitions: Definitions,
     pub(crate) defined: Vec<String>,
     /// The events that aren't handed out yet, with what the inlines have beside the source.
     pub(crate) assembly: Assembly,
-    /// The number of the first block whose events aren't made yet.
-    pub(crate) place: usize,
     /// Whether memory ran out in an earlier call.
     pub(crate) failed: bool,
 }
@@ -95,7 +96,7 @@ impl BlockReading<'_> {
     fn is_at_tree(&self) -> bool
         ensures { result ≡ is_at_tree self.now }
     {
-        match self.blocks.get(self.place).copied() {
+        match self.blocks.last().copied() {
             None => true,
             Some(block) => begins_tree(block),
         }
@@ -105,37 +106,33 @@ impl BlockReading<'_> {
     fn goes_on(&self) -> bool
         ensures { result ≡ goes_on self.now }
     {
-        self.place < self.blocks.len()
-            && (self.assembly.emission.events.is_empty() || !self.is_at_tree())
+        !self.blocks.is_empty() && (self.assembly.emission.events.is_empty() || !self.is_at_tree())
     }
 
     /// Makes the events of the next block, if there is one.
-    #[tactic(auto, using(crate::proofs::BlocksLeft::one_taken))]
+    #[tactic(auto, using(crate::proofs::BlocksLeft::one_taken, crate::proofs::BlocksLeft::none_taken))]
     fn take(&mut self) -> Result<(), AllocError>
         ensures left { OnOk result (reading_left self.new ≡ reading_left self.old) }
-        ensures place { OnOk result (self.old.place < length self.old.blocks.items
-            → self.new.place ≡ self.old.place + 1) }
-        ensures blocks { self.new.blocks ≡ self.old.blocks }
+        ensures fewer { 0 < length self.old.blocks.items
+            → length self.new.blocks.items + 1 ≡ length self.old.blocks.items }
     {
-        if self.place < self.blocks.len() {
-            let block = self.blocks[self.place];
-            let unwrapped = is_unwrapped(&self.blocks, block);
-            let document = Document {
-                syntax: self.syntax,
-                text: &self.text,
-                definitions: &self.definitions,
-            };
-            self.assembly
-                .read_block(self.alloc, &document, &self.pieces, unwrapped, block)?;
-            self.place += 1;
-        }
-        Ok(())
+        let Some(block) = self.blocks.pop() else {
+            return Ok(());
+        };
+        let unwrapped = is_unwrapped(&self.loose, block);
+        let document = Document {
+            syntax: self.syntax,
+            text: &self.text,
+            definitions: &self.definitions,
+        };
+        self.assembly
+            .read_block(self.alloc, &document, &self.pieces, unwrapped, block)
     }
 
     /// How many events the next tree is likely to have, or the next part of it.
     fn likely_in_tree(&self) -> usize {
         let mut all = 0usize;
-        for block in self.blocks.get(self.place..).unwrap_or(&[]) {
+        for block in self.blocks.iter().rev() {
             if all >= STRETCH || (all > 0 && begins_tree(*block)) {
                 break;
             }
@@ -185,17 +182,21 @@ impl BlockReading<'_> {
         self.end_tree()
     }
 
-    /// Gives back the room of the blocks where none is left: whoever takes the last events may need it.
-    /// One stays: where a large list is let go of whole, the C library takes room for such lists from
-    /// its heap from then on, and copies each as it grows.
+    /// Gives back the room of the blocks whose events are made, once that is half of the room: whoever takes
+    /// the events may need it. A block costs the same on average, since each time half of them are gone.
+    /// Room for one stays: where a large list is let go of whole, the C library takes room for such lists
+    /// from its heap from then on, and copies each as it grows.
     fn let_go_of_blocks(&mut self)
         ensures left { reading_left self.new ≡ reading_left self.old }
         ensures whole { IsHandable self.old → IsHandable self.new }
         ensures ready { IsReady self.old → IsReady self.new }
     {
-        if self.blocks.len() <= self.place {
-            self.blocks.truncate(1);
-            self.blocks.shrink_to_fit();
+        let left = self.blocks.len();
+        let room = self.blocks.capacity();
+        if room > FEW && left <= room / 2 {
+            self.blocks.shrink_to(left.max(1));
+        }
+        if left == 0 {
             self.pieces.truncate(1);
             self.pieces.shrink_to_fit();
         }
@@ -227,7 +228,7 @@ impl BlockReading<'_> {
         let blocks = self.blocks.len().saturating_add(self.pieces.len());
         let room = blocks.max(likely_events(self.text.as_str().len()));
         self.assembly.emission.events.reserve(room)?;
-        while self.place < self.blocks.len() {
+        while !self.blocks.is_empty() {
             self.take()?;
         }
         self.assembly.emission.close_to(0)?;

@@ -10,7 +10,7 @@ ghost use Rattle.tocmark_reader.specs.Definitions.{definitions_of, said_view, Is
 ghost use Rattle.tocmark_reader.specs.Left.{IsBetweenTrees, reading_left};
 ghost use Rattle.tocmark_event.specs.Reading.{reading_view};
 
-use crate::block_events::Assembly;
+use crate::block_events::{Assembly, loose_lists};
 use crate::block_reading::BlockReading;
 use crate::definitions::{ReferenceDefinition, definitions_among};
 use crate::searched::SearchedText;
@@ -124,7 +124,7 @@ fn definitions(
 }
 
 /// A text whose blocks are found, and whose events are still to be made.
-#[tactic(auto, unfolding(crate::specs::Reading::found_under, crate::specs::Reading::reading_of))]
+#[tactic(auto, using(crate::proofs::Behind::all_taken), unfolding(crate::specs::Reading::found_under, crate::specs::Reading::reading_of))]
 fn begin<'t>(
     alloc: Global,
     syntax: Syntax,
@@ -143,16 +143,19 @@ fn begin<'t>(
     } = collect_from(alloc, syntax, text.as_bytes(), &found)?;
     let defined = distinct_labels(alloc, &texts, &labels)?;
     let definitions = definitions(alloc, &keys, entries, syntax.undefined_notes)?;
+    let loose = loose_lists(alloc, &found.blocks)?;
+    let mut blocks = found.blocks;
+    blocks.reverse();
     Ok(BlockReading {
         alloc,
         syntax,
         text: SearchedText::new(text),
-        blocks: found.blocks,
+        blocks,
+        loose,
         pieces: found.pieces,
         definitions,
         defined,
         assembly: Assembly::new(alloc, texts),
-        place: 0,
         failed: false,
     })
 }
