@@ -190,7 +190,7 @@ impl Openers {
         }
     }
 
-    /// The topmost opener that fits a closer, with its place in the stack.
+    /// The place in the stack of the topmost opener that fits a closer.
     fn topmost(&self, runs: &[Run], closer: Run) -> Option<usize>
         requires high { self.now.height ≤ length runs.now }
         ensures { result ≡ found (take self.now.height runs.now) closer
