@@ -1,19 +1,19 @@
 //! The text that is chosen for a unit, and what the unit leaves to later ones.
 
-ghost use Rattle.std.specs.Prelude.{◌≡◌, ◌==◌, ℕ, List, [], string_bytes, IfOk, IfSome, OnErr, OnOk, map, option_map, is_some, IsSome, None, Some, true};
+ghost use Rattle.std.specs.Prelude.{◌≡◌, ◌==◌, ℕ, List, [], string_bytes, IfOk, IfSome, OnErr, OnOk, map, option_map, is_some, None, true};
 ghost use Rattle.std.specs.List.{list_any};
 ghost use Rattle.tocmark_event.specs.Reading.{ReadingView};
 ghost use Rattle.tocmark_spelling.specs.Buffered.{following_view, next_view};
 ghost use Rattle.tocmark_spelling.specs.Page.{Site};
 ghost use Rattle.tocmark_spelling.specs.Plan.{Setting};
 ghost use Rattle.tocmark_write_renderer.specs.WriterOf.{page_of, reference_view, sheet_of, site_of};
-ghost use Rattle.tocmark_render.specs.Choice.{accepted, choice};
+ghost use Rattle.tocmark_render.specs.Choice.{choice};
 ghost use Rattle.tocmark_render.specs.Chosen.{chosen};
 ghost use Rattle.tocmark_write_labels.specs.Defined.{behind, undefined};
 ghost use Rattle.tocmark_write_labels.specs.Definitions.{definitions_text};
 ghost use Rattle.tocmark_write_labels.specs.Document.{bracketed_in, first_document, known_in};
 ghost use Rattle.tocmark_write_labels.specs.LabelsOf.{label_now, labels_of, Begins};
-ghost use Rattle.tocmark_render.specs.TrialOf.{IsFront, IsKnown, IsReady, asked_of, left_by, or_no_trees, setting_with};
+ghost use Rattle.tocmark_render.specs.TrialOf.{IsFront, IsKnown, IsReady, WritesChoice, asked_of, left_by, or_no_trees, setting_with};
 ghost use Rattle.tocmark_write_labels.specs.Units.{label_for};
 ghost use Rattle.tocmark_write_pending.specs.Units.{trees_of};
 ghost use Rattle.tocmark_render.specs.DocumentOf.{document_at, document_view, document_flags, Gives, HasRoom, Spells, kept_view, noted, passed};
@@ -252,25 +252,25 @@ impl Document {
         }
     }
 
-    /// A renderer of the next unit, to which the trail is moved, with room for a text of likely this length.
-    /// If memory runs out, the document stays as it was.
-    fn begin<'a>(&mut self, alloc: Global, likely_len: usize) -> Result<Renderer<'a>, AllocError>
-        ensures front { IfOk result (λ renderer. IsFront (site_of renderer)) }
-        ensures view { IfOk result (λ renderer.
-            document_at self.new (site_of renderer) ≡ document_view self.old) }
-        ensures stays { OnErr result (document_view self.new ≡ document_view self.old) }
+    /// Makes room for a text of likely this length, in which the next unit is written.
+    fn make_room(&mut self, likely_len: usize) -> Result<(), AllocError>
+        ensures view { document_view self.new ≡ document_view self.old }
+        ensures flags { document_flags self.new ≡ document_flags self.old }
+    {
+        self.room.clear();
+        self.room.reserve(likely_len)
+    }
+
+    /// A renderer of the next unit, to which the trail and the room are moved.
+    #[inline(always)]
+    fn begin<'a>(&mut self, alloc: Global) -> Renderer<'a>
+        ensures front { IsFront (site_of result) }
+        ensures view { document_at self.new (site_of result) ≡ document_view self.old }
         ensures flags { document_flags self.new ≡ document_flags self.old }
     {
         let trail = mem::replace(&mut self.trail, Trail::new());
         let room = mem::replace(&mut self.room, String::new(alloc));
-        let mut renderer = Renderer::resume(alloc, room, self.newlines, trail);
-        match renderer.reserve_lines(likely_len) {
-            Ok(()) => Ok(renderer),
-            Err(error) => {
-                self.take_back(renderer);
-                Err(error)
-            }
-        }
+        Renderer::resume(alloc, room, self.newlines, trail)
     }
 
     /// Takes a unit's text back when it is handed on: the next unit is written in its room.
@@ -317,30 +317,33 @@ impl Document {
         text
     }
 
-    /// Notes the labels and the text of a unit that is written behind a mark, takes what it leaves, and
-    /// hands out its text. If memory runs out, here or in the reader, the document is again what it was
-    /// where the mark was set.
-    fn accept<R: Reader>(
+    /// Writes the unit of a trial as it is chosen, notes its labels and its text, and makes room for the
+    /// definitions that it needs. The renderer is lent, because it is large to move. An `Err` is as in
+    /// `block`; the renderer and the document are then as they were.
+    fn write_chosen<'t, R: Reader>(
         &mut self,
-        trial: &Trial<'_, '_, R>,
-        mut renderer: Renderer<'_>,
-        known: Option<ReadBack>,
-    ) -> Result<String, Error>
-        requires known { IfSome known (IsKnown (page_of renderer)) }
-        requires marked { IsSome renderer.at_mark }
-        ensures accepted { (here : Site) → renderer.entry.at_mark ≡ Some here →
-            let s = (asked_of R.reading trial.now).setting in
-            Spells (document_view self.new) result
-            (accepted s (document_at self.old here) (page_of renderer.entry)) }
-        ensures stays { (here : Site) → renderer.entry.at_mark ≡ Some here →
-            OnErr result (document_view self.new ≡ document_at self.old here) }
+        trial: &Trial<'t, '_, R>,
+        renderer: &mut Renderer<'t>,
+    ) -> Result<(), Error>
+        requires ready { IsReady R.reading trial.now }
+        requires front { IsFront (site_of renderer.old) }
+        ensures chosen { let q = asked_of R.reading trial.now in
+            let d = document_at self.old (site_of renderer.old) in
+            WritesChoice q d renderer.old renderer.new result }
+        ensures noted { let s = (asked_of R.reading trial.now).setting in
+            OnOk result (document_view self.new
+            ≡ noted s (document_view self.old) (page_of renderer.new)) }
+        ensures room { OnOk result (HasRoom self.new (page_of renderer.new)) }
+        ensures stays { OnErr result (document_view self.new ≡ document_view self.old) }
         ensures flags { document_flags self.new ≡ document_flags self.old }
     {
-        match self.note(trial, &renderer, known) {
-            Ok(()) => Ok(self.pass(renderer)),
+        let earlier = self.earlier();
+        let search = Search { trial, earlier };
+        let known = search.choose(renderer)?;
+        match self.note(trial, renderer, known) {
+            Ok(()) => Ok(()),
             Err(_error) => {
                 renderer.back();
-                self.take_back(renderer);
                 Err(Error::OutOfMemory)
             }
         }
@@ -357,12 +360,10 @@ impl Document {
         ensures stays { OnErr result (document_view self.new ≡ document_view self.old) }
         ensures flags { document_flags self.new ≡ document_flags self.old }
     {
-        let likely_len = trial.found.census.likely_len;
-        let mut renderer = self.begin(trial.tools.alloc, likely_len)?;
-        let earlier = self.earlier();
-        let search = Search { trial, earlier };
-        match search.choose(&mut renderer) {
-            Ok(known) => self.accept(trial, renderer, known),
+        self.make_room(trial.found.census.likely_len)?;
+        let mut renderer = self.begin(trial.tools.alloc);
+        match self.write_chosen(trial, &mut renderer) {
+            Ok(()) => Ok(self.pass(renderer)),
             Err(error) => {
                 self.take_back(renderer);
                 Err(error)
