@@ -248,7 +248,7 @@ const VOICE: [CommandOption<'static>; 4] = [
         name: "verbose",
         letter: None,
         takes: Takes::Nothing,
-        help: "Name each file that changes or is excluded",
+        help: "Name each file that changes, and each named one that is excluded",
     },
     CommandOption {
         name: "color",
