@@ -96,6 +96,25 @@ fn hinders_underscore(character: Option<char>) -> bool {
 /// How far before the end of emphasis a bare web address is looked for, in bytes.
 const LONGEST_ADDRESS: usize = 256;
 
+/// How far before and behind emphasis double brackets are looked for, in bytes.
+const LONGEST_BRACKETED: usize = 100;
+
+/// Whether a text ends within double brackets.
+fn ends_in_brackets(text: &str) -> bool {
+    match text.rsplit_once("[[") {
+        Some((_, inner)) => !inner.contains("]]"),
+        None => false,
+    }
+}
+
+/// Whether a text begins within double brackets.
+fn begins_in_brackets(text: &str) -> bool {
+    match text.split_once("]]") {
+        Some((inner, _)) => !inner.contains("[["),
+        None => false,
+    }
+}
+
 /// Whether a text ends with a bare web or mail address. Programs that link such an address would add an underscore behind it.
 fn ends_with_address(text: &str) -> bool {
     let word = match text.rsplit_once(&[' ', '\t', '\n']) {
@@ -290,8 +309,24 @@ impl<'d, 'p, 'g> Inlines<'d, 'p, 'g> {
         found
     }
 
-    /// The sign of emphasis: that of the look, if the source has it neither in nor beside the emphasis, and if it can stand
-    /// there. In a leaf that may hold formulas it is the source's, because a formula may begin or end in the emphasis.
+    /// Whether a stretch of the source stands between `[[` and `]]`, which are near it in the leaf. To programs that
+    /// know links of wikis or tables of contents, what stands there is a name.
+    fn is_bracketed(&self, range: (usize, usize)) -> bool {
+        let (start, end) = range;
+        let source = self.context.source;
+        let front = source
+            .text
+            .floor_char_boundary(start.saturating_sub(LONGEST_BRACKETED));
+        let back = source
+            .text
+            .floor_char_boundary(end.saturating_add(LONGEST_BRACKETED));
+        ends_in_brackets(source.slice(front.max(self.range.0), start))
+            && begins_in_brackets(source.slice(end, back.min(self.range.1)))
+    }
+
+    /// The sign of emphasis: that of the look, if the source has it neither in nor beside the emphasis, and if it can
+    /// stand there. In a leaf that may hold formulas it is the source's, because a formula may begin or end in the
+    /// emphasis. So it is in double brackets.
     fn sign(&mut self, range: (usize, usize), is_strong: bool) -> u8 {
         let own = self.context.source.byte(range.0);
         let look = self.context.look;
@@ -304,7 +339,7 @@ impl<'d, 'p, 'g> Inlines<'d, 'p, 'g> {
             return own;
         };
         let fits = sign != own && self.labels == 0 && self.fits(sign, range);
-        if fits && !self.may_hold_formulas() {
+        if fits && !self.is_bracketed(range) && !self.may_hold_formulas() {
             sign
         } else {
             own
