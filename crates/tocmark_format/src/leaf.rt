@@ -248,18 +248,49 @@ impl<'d> Printer<'d> {
         }
         let has_box = matches!(part.event(first), Some(Mark::TaskBox));
         let has_signs = signs > 0;
+        let own = if lines.len() > 1 && !has_signs {
+            self.own_underline((start, end))
+        } else {
+            ""
+        };
         let is_underlined = lines.len() > 1
             || has_box
             || (!has_signs && (self.look.is_literal || ends_with_hashes(lines.last())));
         if is_underlined {
-            self.print_underlined(&lines, level)
+            self.print_underlined(&lines, level, own)
         } else {
             self.print_behind_signs(&lines, level)
         }
     }
 
-    fn print_underlined(&mut self, lines: &Lines, level: HeadingLevel) -> Result<(), AllocError> {
+    /// The underline of a heading that has this range in the source; empty if it isn't just signs.
+    fn own_underline(&self, range: (usize, usize)) -> &'d str {
+        let source = self.source;
+        let end = range.0.saturating_add(
+            source.slice(range.0, range.1).trim_end_matches('\n').len(),
+        );
+        let place = self.page.stripped(source, source.line_start(end));
+        let line = without_blanks(source.slice(place.at, end));
+        let sign = line.as_bytes().first().copied().unwrap_or(b'\n');
+        let is_sign = sign == b'=' || sign == b'-';
+        if is_sign && run(line, sign) == line.len() {
+            line
+        } else {
+            ""
+        }
+    }
+
+    /// Prints the lines of a heading and an underline: its own one, or one as long as the last line.
+    fn print_underlined(
+        &mut self,
+        lines: &Lines,
+        level: HeadingLevel,
+        own: &str,
+    ) -> Result<(), AllocError> {
         self.print_all(lines)?;
+        if !own.is_empty() {
+            return self.page.line(own);
+        }
         let sign = if level == HeadingLevel::H1 {
             b'='
         } else {
