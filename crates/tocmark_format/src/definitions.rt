@@ -6,10 +6,11 @@ use crate::printer::Printer;
 use std::alloc::{AllocError, Global};
 use tocmark_read_tokens::word::{Definition, Word, definition_at};
 
-/// A definition, and whether an empty line stands before it.
+/// A definition, where it begins, and whether an empty line stands before it.
 #[derive(Clone, Copy)]
 struct Found {
     definition: Definition,
+    start: usize,
     is_apart: bool,
 }
 
@@ -21,6 +22,12 @@ fn spelled(text: &str, word: Word) -> &str {
         word.start
     };
     text.get(from..word.next).unwrap_or("")
+}
+
+/// Whether a definition leads nowhere: such ones are comments, or commands of other programs.
+fn is_comment(text: &str, definition: &Definition) -> bool {
+    let destination = spelled(text, definition.destination);
+    destination == "#" || destination == "<>"
 }
 
 /// The definitions in a text; none if something else is in it, too.
@@ -35,11 +42,13 @@ fn found_in(alloc: Global, text: &str) -> Result<Option<Vec<Found>>, AllocError>
         }
         let white = rest.len().saturating_sub(bare.len());
         let is_apart = rest.get(..white).unwrap_or("").contains('\n');
-        let Some(definition) = definition_at(text.as_bytes(), at.saturating_add(white)) else {
+        let start = at.saturating_add(white);
+        let Some(definition) = definition_at(text.as_bytes(), start) else {
             return Ok(None);
         };
         all.push(Found {
             definition,
+            start,
             is_apart,
         })?;
         at = definition.next;
@@ -143,8 +152,16 @@ impl Printer<'_> {
         Ok(())
     }
 
-    /// Prints definitions, with an empty line where there are some between them; lines in which something else stands, too,
-    /// stay as they are spelled.
+    /// Prints lines as they are spelled, without blanks at their ends.
+    fn print_spelled(&mut self, text: &str) -> Result<(), AllocError> {
+        for line in text.split('\n') {
+            self.page.line(line.trim_end_matches(&[' ', '\t']))?;
+        }
+        Ok(())
+    }
+
+    /// Prints definitions, with an empty line where there are some between them. Comments stay as they are spelled, and
+    /// so do lines in which something else stands, too.
     fn print_definitions(&mut self, text: &str) -> Result<(), AllocError> {
         let found = if self.look.is_literal {
             None
@@ -152,16 +169,18 @@ impl Printer<'_> {
             found_in(self.alloc, text)?
         };
         let Some(found) = found else {
-            for line in text.split('\n') {
-                self.page.line(line.trim_end_matches(&[' ', '\t']))?;
-            }
-            return Ok(());
+            return self.print_spelled(text);
         };
         for one in &found {
             if one.is_apart && !self.page.top().is_tight {
                 self.page.blank()?;
             }
-            self.print_definition(text, &one.definition)?;
+            if is_comment(text, &one.definition) {
+                let spelled = text.get(one.start..one.definition.next).unwrap_or("");
+                self.print_spelled(spelled.trim_end_matches(&[' ', '\t', '\n']))?;
+            } else {
+                self.print_definition(text, &one.definition)?;
+            }
         }
         Ok(())
     }
