@@ -26,6 +26,18 @@ fn add_name(rt: &HostRuntime, search: &mut Search, name: &[u8]) -> Result<(), Re
     }
 }
 
+/// What is wrong in a list whose names end with this byte: it seems to have names that end with the other one.
+fn fault_of(bytes: &[u8], end: u8) -> Option<&'static str> {
+    let has_nul = bytes.contains(&0);
+    if end != 0 && has_nul {
+        Some("a NUL: pass -0 for names that end with one")
+    } else if end == 0 && !has_nul && bytes.contains(&b'\n') {
+        Some("no NUL: leave out -0 for a name a line")
+    } else {
+        None
+    }
+}
+
 /// Adds what the names in a list mean, which end with this byte.
 pub fn add_list(rt: &HostRuntime, search: &mut Search, path: &str, end: u8) -> Result<(), Refused> {
     let bytes = match bytes_of(rt, path) {
@@ -38,6 +50,10 @@ pub fn add_list(rt: &HostRuntime, search: &mut Search, path: &str, end: u8) -> R
             return Err(Refused::Unreadable(path, error));
         }
     };
+    if let Some(why) = fault_of(&bytes, end) {
+        let name = if path == "-" { "standard input" } else { path };
+        return Err(Refused::List(String::from_str(rt.alloc(), name)?, why));
+    }
     for name in bytes.split(|byte| *byte == end) {
         if !name.is_empty() {
             add_name(rt, search, name)?;

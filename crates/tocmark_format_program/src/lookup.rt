@@ -24,6 +24,8 @@ pub enum Refused {
     Dangling(String),
     /// A configuration file or a list that can't be read.
     Unreadable(String, io::Error),
+    /// A list of files, and what is wrong in it.
+    List(String, &'static str),
     /// A configuration file, and what is wrong in it.
     Wrong(String, ConfigError),
     OutOfMemory,
@@ -57,6 +59,10 @@ impl fmt::Display for Refused {
             Refused::Unreadable(path, error) => {
                 let path = Quoted(path.as_str());
                 write!(f, "{path}: cannot be read: {error}")
+            }
+            Refused::List(path, why) => {
+                let path = Quoted(path.as_str());
+                write!(f, "{path}: the list of files has {why}")
             }
             Refused::Wrong(path, error) => {
                 let path = Quoted(path.as_str());
