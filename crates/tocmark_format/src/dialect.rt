@@ -175,19 +175,33 @@ impl Printer<'_> {
         self.indent_behind(self.page.front(self.source, place))
     }
 
-    /// Whether a block belongs to another dialect: it has a line of that, or it stands below such a block, deeper indented.
-    pub(crate) fn is_foreign(&mut self, kind: Kind, start: usize, end: usize) -> bool {
-        let depth = self.page.depth();
-        if let Some(above) = self.foreign
-            && above.depth == depth
-            && self.column_in_container(start) > above.column
-        {
-            return true;
+    /// Whether a block stands below one of another dialect, deeper indented.
+    fn is_below_foreign(&self, start: usize) -> bool {
+        match self.foreign {
+            Some(above) if above.depth == self.page.depth() => self.column_in_container(start)
+                > above.column,
+            _ => false,
         }
-        let is_foreign = self.has_foreign(kind, start, end);
-        if is_foreign {
+    }
+
+    /// Begins a block of another dialect, unless it belongs to the one above.
+    pub(crate) fn begin_foreign(&mut self, start: usize) {
+        if !self.is_below_foreign(start) {
+            let depth = self.page.depth();
             let column = self.column_in_container(start);
             self.foreign = Some(Foreign { depth, column });
+        }
+    }
+
+    /// Whether a block belongs to another dialect: it has a line of that, or it stands below such a block, deeper indented.
+    pub(crate) fn is_foreign(&mut self, kind: Kind, start: usize, end: usize) -> bool {
+        if self.is_below_foreign(start) {
+            return true;
+        }
+        let depth = self.page.depth();
+        let is_foreign = self.has_foreign(kind, start, end);
+        if is_foreign {
+            self.begin_foreign(start);
         } else if self.foreign.is_some_and(|above| above.depth >= depth) {
             self.foreign = None;
         }

@@ -1,10 +1,11 @@
-//! Lines that are kept: those that a comment names, those of blocks that would be read otherwise, and those behind front
-//! matter that isn't at the front.
+//! Lines that are kept: those that a comment names, those that other programs read as one, those of blocks that would be
+//! read otherwise, and those behind front matter that isn't at the front.
 
 use crate::page::Kind;
-use crate::part::{Mark, Opening, Part};
+use crate::part::{Mark, Opening, Part, is_inline};
 use crate::printer::Printer;
 use crate::source::without_blanks;
+use crate::spans::Span;
 use std::alloc::AllocError;
 
 /// What ends a stretch that a comment keeps.
@@ -14,6 +15,8 @@ enum Until {
     Next,
     /// A comment with this text.
     Comment(&'static str),
+    /// The block that ends at this place of the source, or behind it.
+    Place(usize),
     /// The end of the document.
     End,
 }
@@ -26,6 +29,8 @@ pub(crate) struct Stretch {
     /// How many containers are open round it.
     depth: usize,
     until: Until,
+    /// What it is to the blocks beside it.
+    kind: Kind,
 }
 
 /// Comments that keep what is behind them, each with what ends that.
@@ -107,7 +112,7 @@ impl Printer<'_> {
         Ok(())
     }
 
-    /// Ends the stretch that a comment keeps at the end of the innermost container.
+    /// Ends the stretch that is kept at the end of the innermost container.
     pub(crate) fn end_kept(&mut self) -> Result<(), AllocError> {
         let Some(stretch) = self.kept else {
             return Ok(());
@@ -116,23 +121,23 @@ impl Printer<'_> {
             return Ok(());
         }
         let to = match stretch.until {
-            Until::Next => stretch.to,
+            Until::Next | Until::Place(_) => stretch.to,
             Until::Comment(_) | Until::End => {
                 let end = self.page.top().end;
                 self.source.slice(0, end).trim_end_matches('\n').len()
             }
         };
-        self.print_kept(stretch.from, to)
+        self.print_kept(stretch, to)
     }
 
-    /// Prints a stretch that a comment keeps.
-    fn print_kept(&mut self, from: usize, to: usize) -> Result<(), AllocError> {
+    /// Prints a stretch that is kept, up to this place of the source.
+    fn print_kept(&mut self, stretch: Stretch, to: usize) -> Result<(), AllocError> {
         self.kept = None;
-        self.print_lines(from, to)?;
-        self.finish(Kind::Kept, to)
+        self.print_lines(stretch.from, to)?;
+        self.finish(stretch.kind, to)
     }
 
-    /// Passes a block or bare text in a stretch that a comment keeps, up to this place of the source.
+    /// Passes a block or bare text in a stretch that is kept, up to this place of the source.
     fn extend_kept(
         &mut self,
         stretch: Stretch,
@@ -142,16 +147,17 @@ impl Printer<'_> {
         let is_last = match stretch.until {
             Until::Next => true,
             Until::Comment(text) => comment == Some(text),
+            Until::Place(place) => end >= place,
             Until::End => false,
         };
         if is_last {
-            return self.print_kept(stretch.from, end);
+            return self.print_kept(stretch, end);
         }
         self.kept = Some(Stretch { to: end, ..stretch });
         Ok(())
     }
 
-    /// The stretch that a comment keeps at this depth, if there is one.
+    /// The stretch that is kept at this depth, if there is one.
     fn kept_here(&self) -> Option<Stretch> {
         match self.kept {
             Some(stretch) if stretch.depth == self.page.depth() => Some(stretch),
@@ -159,41 +165,114 @@ impl Printer<'_> {
         }
     }
 
-    /// What ends the stretch that begins with a block: one that a comment names, or one of front matter that isn't at the
-    /// front. Most programs read a rule there, and all behind it otherwise.
-    fn kept_from(&self, part: &Part, at: usize, comment: Option<&str>) -> Option<Until> {
-        match part.event(at) {
-            Some(Mark::Start(Opening::Metadata)) if !self.page.text.is_empty() => Some(Until::End),
-            _ => comment.and_then(kept_until),
+    /// Where the text of a block begins, or bare text.
+    fn front_of(&self, part: &Part, at: usize) -> usize {
+        let (start, _) = part.range(at);
+        if part.event(at).is_some_and(is_inline) {
+            let front = self.page.front(self.source, start);
+            self.source.past_blanks(front.at).min(start)
+        } else {
+            start
         }
     }
 
-    /// Passes a block or bare text that a comment keeps, or such a comment; the place behind it.
+    /// The lines that other programs read as one, of which a block has some. A container has none if it begins before them,
+    /// and its blocks may have some. Those that begin in code are none.
+    fn span_at(&mut self, part: &Part, at: usize, end: usize) -> Option<Span> {
+        let (start, _) = part.range(at);
+        let span = self.source.span_behind(start, self.code_end)?;
+        if span.from >= end {
+            return None;
+        }
+        let Some(Mark::Start(opening)) = part.event(at) else {
+            return Some(span);
+        };
+        match opening {
+            Opening::Item | Opening::Title | Opening::Definition => return None,
+            Opening::IndentedCode | Opening::FencedCode | Opening::Metadata
+                if self.source.line_start(start) <= span.from => {
+                self.code_end = end;
+                return None;
+            }
+            Opening::Quote { .. }
+            | Opening::List { .. }
+            | Opening::Footnote
+            | Opening::DefinitionList
+                if start < span.from => {
+                return None;
+            }
+            _ => {}
+        }
+        Some(span)
+    }
+
+    /// What ends the stretch that begins with a block, and what it is: one that a comment names, one that other programs
+    /// read, or one of front matter that isn't at the front. Most programs read a rule there, and all behind it otherwise.
+    fn kept_from(&mut self, part: &Part, at: usize, end: usize) -> Option<(Until, Kind)> {
+        match part.event(at) {
+            Some(Mark::Start(Opening::Metadata)) if !self.page.text.is_empty() => {
+                return Some((Until::End, Kind::Kept));
+            }
+            _ => {}
+        }
+        if let Some(until) = comment_at(part, at).and_then(kept_until) {
+            return Some((until, Kind::Kept));
+        }
+        let span = self.span_at(part, at, end)?;
+        let kind = if self.source.byte(span.from) == b'-' {
+            Kind::Metadata
+        } else {
+            Kind::Foreign
+        };
+        Some((Until::Place(span.to), kind))
+    }
+
+    /// Begins a stretch that is kept with a block or bare text between two places of the source.
+    fn begin_kept(
+        &mut self,
+        range: (usize, usize),
+        until: Until,
+        kind: Kind,
+    ) -> Result<(), AllocError> {
+        let (from, to) = range;
+        self.begin_events(kind, from, to)?;
+        if kind == Kind::Foreign {
+            self.begin_foreign(from);
+        }
+        let stretch = Stretch {
+            from,
+            to,
+            depth: self.page.depth(),
+            until,
+            kind,
+        };
+        if let Until::Place(place) = until
+            && to >= place
+        {
+            return self.print_kept(stretch, to);
+        }
+        self.kept = Some(stretch);
+        Ok(())
+    }
+
+    /// Passes a block or bare text that is kept, or a comment that keeps others; the place behind it.
     pub(crate) fn pass_kept(
         &mut self,
         part: &Part,
         at: usize,
     ) -> Result<Option<usize>, AllocError> {
-        let comment = comment_at(part, at);
-        let kept = self.kept_here();
-        let until = self.kept_from(part, at, comment);
-        if kept.is_none() && until.is_none() {
+        let behind = part.past(at);
+        let (_, to) = part.range(behind.saturating_sub(1));
+        if let Some(stretch) = self.kept_here() {
+            self.extend_kept(stretch, comment_at(part, at), to)?;
+        } else if let Some((until, kind)) = self.kept_from(part, at, to) {
+            let from = self.front_of(part, at);
+            self.begin_kept((from, to), until, kind)?;
+        } else {
             return Ok(None);
         }
-        let behind = part.past(at);
-        let (from, _) = part.range(at);
-        let (_, to) = part.range(behind.saturating_sub(1));
-        if let Some(stretch) = kept {
-            self.extend_kept(stretch, comment, to)?;
-        } else if let Some(until) = until {
-            self.begin_events(Kind::Kept, from, to)?;
-            self.kept = Some(Stretch {
-                from,
-                to,
-                depth: self.page.depth(),
-                until,
-            });
-        }
+        let raw = part.raw_text(at);
+        self.is_cut = !raw.is_empty() && !raw.ends_with('\n');
         Ok(Some(behind))
     }
 }

@@ -64,8 +64,10 @@ pub(crate) struct Printer<'d> {
     pub(crate) room: Pieces,
     /// Whether the source ends within a line of code or HTML.
     pub(crate) is_cut: bool,
-    /// The stretch that a comment keeps and that isn't printed yet.
+    /// The stretch that is kept and that isn't printed yet.
     pub(crate) kept: Option<Stretch>,
+    /// Where the last code ends that has a tag of another program.
+    pub(crate) code_end: usize,
     /// The last block of another dialect, as long as only blocks below it came.
     pub(crate) foreign: Option<Foreign>,
 }
@@ -91,6 +93,7 @@ impl<'d> Printer<'d> {
             room: Pieces::new(alloc),
             is_cut: false,
             kept: None,
+            code_end: 0,
             foreign: None,
         }
     }

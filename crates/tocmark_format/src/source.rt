@@ -2,6 +2,7 @@
 
 ghost use Rattle.std.specs.Prelude.{◌≡◌, IfOk};
 
+use crate::spans::{Span, spans_of};
 use std::alloc::{AllocError, Global};
 
 /// How many bytes of a text share an entry of the index of its lines.
@@ -20,6 +21,8 @@ struct LineStarts {
 pub(crate) struct Source<'s> {
     pub(crate) text: &'s str,
     lines: LineStarts,
+    /// The lines that other programs read as one, in their order.
+    spans: Vec<Span>,
 }
 
 /// Whether a byte is a blank or a tab.
@@ -87,7 +90,16 @@ impl<'s> Source<'s> {
         ensures { IfOk result (λ source. source.text.now ≡ text.now) }
     {
         let lines = LineStarts::of(alloc, text)?;
-        Ok(Source { text, lines })
+        let spans = spans_of(alloc, text, &lines.starts)?;
+        Ok(Source { text, lines, spans })
+    }
+
+    /// The first lines that other programs read as one, of those that end behind a place and don't begin before another one.
+    pub(crate) fn span_behind(&self, place: usize, least: usize) -> Option<Span> {
+        let number = self
+            .spans
+            .partition_point(|span| span.to <= place || span.from < least);
+        self.spans.get(number).copied()
     }
 
     /// The text between two places; empty if there is none.
