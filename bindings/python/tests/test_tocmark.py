@@ -15,6 +15,7 @@ from unittest import mock
 
 import tocmark
 from tocmark import _mdbook
+from tocmark._packed import packed
 
 HERE = os.path.dirname(os.path.realpath(__file__))
 EXAMPLES = os.path.join(HERE, "../../../crates/test_workbench/stdin")
@@ -177,6 +178,33 @@ class Writing(unittest.TestCase):
             written = tocmark.write(events, text)
             self.assertEqual([event for event, _ in tocmark.read(tocmark.write(tocmark.read(written), written))],
                              [event for event, _ in tocmark.read(written)], text)
+
+
+class Packing(unittest.TestCase):
+    def test_a_text_is_as_the_header_says(self):
+        self.assertEqual(packed([{"Text": "hi"}]), bytes([0, 6, 2, 0, 0, 0, 0, 0, 0, 0]) + b"hi")
+
+    def test_packed_events_are_written_as_those_in_json(self):
+        for text in [ODD, "a {{b}}\n\n# c {#d .e f=g}\n\n$h$ [[i]] [[j|k]] <l@m.n>\n\no\n: p\n\n---\n", *examples()]:
+            events = tocmark.read(text, syntax="all")
+            self.assertIsNotNone(packed(events), text)
+            for given, source in ((events, text), ([event for event, _ in events], ""), ([list(pair) for pair in events], text)):
+                found = tocmark.write(given, source, syntax="all")
+                with mock.patch("tocmark._calls.packed", lambda items: None):
+                    self.assertEqual(tocmark.write(given, source, syntax="all"), found, text)
+
+    def test_what_json_says_otherwise_is_not_packed(self):
+        link = {"link_type": "Inline", "dest_url": "a", "title": "", "id": ""}
+        heading = {"level": "H1", "id": None, "classes": [], "attrs": []}
+        starts = ["Link", {"Link": {}}, {"Link": {**link, "more": 1}}, {"Link": {**link, "link_type": "x"}}, {"Link": {**link, "id": None}},
+                  {"Link": {**link, "link_type": {"WikiLink": {"has_pothole": 1}}}}, {"Heading": {**heading, "classes": "a"}},
+                  {"Heading": {**heading, "attrs": ["ab"]}}, {"Heading": {**heading, "level": "H7"}}, {"List": True}, {"List": -1},
+                  {"List": 2**64}, {"Table": "None"}, {"BlockQuote": "x"}, {"CodeBlock": "x"}, {"CodeBlock": {"Fenced": None}}, {}, None]
+        for event in [*({"Start": start} for start in starts), {"Text": b"a"}, {"Text": "a", "Code": "b"}, {"Rule": None}, {}, [], None,
+                      {"TaskListMarker": 1}, {"End": {"List": None}}, {"End": {"Heading": heading}}, "Text", "Rul", 1, {1: 2}]:
+            self.assertIsNone(packed([event]), event)
+        for place in (range(-1, 2), range(0, 2**64), {"start": 0, "end": 1}, 1):
+            self.assertIsNone(packed([("Rule", place)]), place)
 
 
 class Rewriting(unittest.TestCase):

@@ -1,10 +1,12 @@
 """Reading, writing, rewriting and formatting texts."""
+import gc
 import json
 from typing import TYPE_CHECKING, Any, Iterable, List, Sequence, Tuple, Union
 
 from . import _library
 from ._errors import error_of
 from ._options import flags_of, flags_of_each, options_of, style_of
+from ._packed import packed
 from .events import Change, Event, Options, Placed, Style
 
 if TYPE_CHECKING:
@@ -39,25 +41,39 @@ def _placed(function: Any, data: bytes, source: bytes, flags: int, options: byte
     raise error_of(code, place.event if place.event <= len(data) else None, lines)
 
 
-_ENCODER = json.JSONEncoder(ensure_ascii=False, separators=(",", ":"))
+def _place_of(place: Any) -> Any:
+    """Returns what JSON has for a range."""
+    if not isinstance(place, range):
+        raise TypeError(f"Object of type {type(place).__name__} is not JSON serializable")
+    return {"start": place.start, "end": place.stop}
 
 
-def _pair_of(item: Any) -> List[Any]:
-    """Returns an event with its range as JSON has it."""
-    if not isinstance(item, (tuple, list)):
-        return [item, None]
-    event, place = item
-    return [event, {"start": place.start, "end": place.stop} if isinstance(place, range) else place]
+_ENCODER = json.JSONEncoder(ensure_ascii=False, separators=(",", ":"), check_circular=False, default=_place_of)
 
 
-def _json_of(events: Iterable[Given]) -> bytes:
-    """Returns the JSON of events. If one has a range, each has one or `None`."""
+def _listed(events: Iterable[Given]) -> List[Any]:
+    """Returns the list of events."""
     if isinstance(events, (str, bytes, dict)):
         raise TypeError(f"events must be a list of events, and not {type(events).__name__}")
-    items: List[Any] = list(events)
+    return list(events)
+
+
+def _json_of(items: List[Any]) -> bytes:
+    """Returns the JSON of events. If one has a range, each has one or `None`."""
     if any(isinstance(item, (tuple, list)) for item in items):
-        items = [_pair_of(item) for item in items]
+        items = [item if isinstance(item, (tuple, list)) else (item, None) for item in items]
     return _ENCODER.encode(items).encode()
+
+
+def _parsed(text: str) -> List[Placed]:
+    """Returns the events of a JSON text. Meanwhile Python doesn't look for garbage: it would walk through them many times."""
+    was_enabled = gc.isenabled()
+    gc.disable()
+    try:
+        return [(event, range(place["start"], place["end"])) for event, place in json.loads(text)]
+    finally:
+        if was_enabled:
+            gc.enable()
 
 
 def read(text: str, *, syntax: str = "gfm", extensions: Iterable[str] = ()) -> List[Placed]:
@@ -74,7 +90,7 @@ def read(text: str, *, syntax: str = "gfm", extensions: Iterable[str] = ()) -> L
     data = encoded("text", text)
     flags = flags_of(syntax, extensions)
     found = _text(*_library.answer(_library.read_json, data, len(data), flags, guess=12 * len(data) + 4096))
-    return [(event, range(place["start"], place["end"])) for event, place in json.loads(found)]
+    return _parsed(found)
 
 
 def write(events: Iterable[Given], source: str = "", *, syntax: str = "gfm", extensions: Iterable[str] = (),
@@ -100,8 +116,12 @@ def write(events: Iterable[Given], source: str = "", *, syntax: str = "gfm", ext
     for any other error of the library; `TypeError` if JSON has no such value; `MemoryError`. `Error.event` is the number of the
     refused block's first event, and `Error.lines` has its lines in the source.
     """
-    data, over = _json_of(events), encoded("source", source)
+    items, over = _listed(events), encoded("source", source)
     chosen, flags = options_of(options), flags_of(syntax, extensions)
+    data = None if check_document else packed(items)
+    if data is not None:
+        return _placed(_library.write_packed, data, over, flags, chosen, len(data) + 256)
+    data = _json_of(items)
     function = _library.write_checked if check_document else _library.write_json
     return _placed(function, data, over, flags, chosen, len(data) + 256)
 
@@ -128,7 +148,7 @@ def rewrite(source: str, events: Iterable[Given], *, syntax: str = "gfm", extens
 
     Raises what `write` does.
     """
-    over, data = encoded("source", source), _json_of(events)
+    over, data = encoded("source", source), _json_of(_listed(events))
     chosen, flags = options_of(options), flags_of(syntax, extensions)
     return _placed(_library.rewrite, data, over, flags, chosen, len(over) + 4096)
 
@@ -154,14 +174,14 @@ def changed(events: Iterable[Placed], change: Change) -> List[Event]:
     found: List[Event] = []
     ends: List[Any] = []
     for event, _ in events:
-        before = json.dumps(event) if _is(event, "End") else ""
+        before = repr(event) if _is(event, "End") else ""
         answer = change(event)
         event = event if answer is None else answer
         if _is(event, "Start"):
             ends.append(end_of(event["Start"]))  # type: ignore[index,typeddict-item]
         elif _is(event, "End") and ends:
             end = ends.pop()
-            event = {"End": end} if json.dumps(event) == before else event
+            event = {"End": end} if repr(event) == before else event
         found.append(event)
     return found
 

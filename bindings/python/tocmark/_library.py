@@ -64,6 +64,7 @@ format_text = _function("tocmark_format_also", *_text, ctypes.c_uint32, ctypes.P
 read_json = _function("tocmark_read_json", *_text, ctypes.c_uint32, *_room)
 rewrite = _function("tocmark_rewrite", *_text, *_text, ctypes.c_uint32, *_text, ctypes.POINTER(Place), *_room)
 write_checked = _function("tocmark_write_checked_at", *_text, *_text, ctypes.c_uint32, *_text, ctypes.POINTER(Place), *_room)
+write_packed = _function("tocmark_write_packed_at", *_text, *_text, ctypes.c_uint32, *_text, ctypes.POINTER(Place), *_room)
 write_json = _function("tocmark_write_json_at", *_text, *_text, ctypes.c_uint32, *_text, ctypes.POINTER(Place), *_room)
 
 
