@@ -51,6 +51,9 @@ struct Source<'t> {
 /// What a list of globs takes.
 const GLOBS: &str = "a list of globs, as [\"docs/**\", \"*.{md,txt}\"]";
 
+/// The keys that don't name an option, and that no override has.
+const GENERAL: [&str; 3] = ["exclude", "include", "overrides"];
+
 /// What `overrides` takes.
 const OVERRIDES: &str = "a list of tables, each with files = [globs]";
 
@@ -84,7 +87,11 @@ impl fmt::Display for ConfigError {
             }
             ConfigError::UnknownKey(key, line) => {
                 place(f, *line)?;
-                write!(f, "there is no option {key}")
+                if is_among(&GENERAL, key.as_str()) {
+                    write!(f, "{key} must stand above [[overrides]]")
+                } else {
+                    write!(f, "there is no option {key}")
+                }
             }
             ConfigError::WrongValue(key, line, wanted) => {
                 place(f, *line)?;
@@ -253,7 +260,7 @@ impl<'t> Source<'t> {
 
     /// The settings that the keys of a table name.
     fn settings(self, table: &Table) -> Result<Settings, ConfigError> {
-        let values = self.values(table, &["exclude", "include", "overrides"])?;
+        let values = self.values(table, &GENERAL)?;
         let mut settings = Settings::new();
         let _ = set_all(&mut settings, &values);
         Ok(settings)
