@@ -10,8 +10,8 @@ NAME = f"benches/{os.path.basename(sys.argv[0])}"
 MEMCHECK = ["valgrind", "--tool=memcheck", "--leak-check=no", "--undef-value-errors=no"]
 CACHEGRIND = ["valgrind", "--tool=cachegrind", "--cache-sim=no", "--cachegrind-out-file=/dev/null"]
 CALLGRIND = ["valgrind", "--tool=callgrind", "--callgrind-out-file=/dev/null"]
-# What a reading is made by, as a whole or block by block; `read` itself, which only calls these, may be part of its caller.
-# None of them calls another one.
+# What a whole reading is made by; and its parts, if the compiler made it a part of its callers. No part calls another one.
+WHOLE = ["tocmark_reader::reader::find"]
 PARTS = [
     "tocmark_reader::reader::find_blocks",
     "tocmark_reader::block_reading::BlockReading::next",
@@ -51,11 +51,12 @@ def counted(words, text=""):
 
 def counted_in_readings(words, text=""):
     """The number of instructions that a command took in readings of the core reader."""
-    ran = run([*CALLGRIND, *(f"--toggle-collect={part}" for part in PARTS), *words], text)
-    count = int(re.search(rb"Collected : (\d+)", ran.stderr)[1])
-    if not count:
-        sys.exit(f"{NAME}: nothing is counted in {' and '.join(PARTS)}")
-    return count
+    for names in WHOLE, PARTS:
+        ran = run([*CALLGRIND, *(f"--toggle-collect={name}" for name in names), *words], text)
+        count = int(re.search(rb"Collected : (\d+)", ran.stderr)[1])
+        if count:
+            return count
+    sys.exit(f"{NAME}: nothing is counted in {' and '.join(WHOLE + PARTS)}")
 
 
 def allocated(words, text=""):
