@@ -36,6 +36,7 @@ pub struct Trial<'t, 'o, R> {
 
 /// Writes the unit of a trial in one manner, behind a mark. An `Err` is as in `write_unit`; the
 /// renderer has gone back then.
+#[inline(always)]
 pub(crate) fn write<'t, R: Reader>(
     trial: &Trial<'t, '_, R>,
     renderer: &mut Renderer<'t>,

@@ -91,6 +91,7 @@ impl Work {
 
     /// Writes a whole unit before the event that follows it, unless the unit waits. Returns the length
     /// of its text in bytes.
+    #[inline(always)]
     fn flush_before<R: Reader, W: Taker>(
         &mut self,
         tools: &Tools<'_, R>,

@@ -127,6 +127,7 @@ pub fn put_back<'a>(frames: &mut Vec<Kept<'a>>, closed: &mut Vec<Kept<'a>>)
 }
 
 /// Adds a container where there is room for one.
+#[inline(always)]
 pub fn put<'a>(frames: &mut Vec<Kept<'a>>, kept: Kept<'a>)
     requires { length frames.old.items < vec_capacity frames.old }
     ensures items { frames.new.items ≡ frames.old.items ++ kept.entry ∷ [] }

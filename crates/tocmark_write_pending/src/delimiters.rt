@@ -46,6 +46,7 @@ pub(crate) fn note_run(delimiters: &mut Vec<Delimiter>, place: usize, run: usize
 
 /// Notes how many markers a container opens with whose start is at a place, if one ends. Behind the last
 /// delimiter nothing is noted.
+#[inline(always)]
 pub(crate) fn note_width(delimiters: &mut Vec<Delimiter>, ended: Option<usize>, width: usize)
     ensures numbers { numbers_of delimiters.new.items ≡ numbers_of delimiters.old.items }
     ensures same { ended ≡ None → delimiters.new.items ≡ delimiters.old.items }

@@ -42,6 +42,7 @@ pub(crate) fn can_come(containers: &[OpenContainer], event: &Event<'_>) -> bool
 
 /// Opens or ends a container, with an event that can come, and that stands at a place. There is room
 /// for one more.
+#[inline(always)]
 pub(crate) fn nest(containers: &mut Vec<OpenContainer>, event: &OwnedEvent, place: usize)
     requires room { length containers.old.items < vec_capacity containers.old }
     requires fits { let ends = ends_awaited containers.old.items in
@@ -85,6 +86,7 @@ pub(crate) fn ended_by(containers: &[OpenContainer], event: &Event<'_>) -> Optio
 
 /// Notes where a container ends whose Start is at a place, if one more event ends one. There is room
 /// for one more.
+#[inline(always)]
 pub(crate) fn note_end(ends: &mut Vec<Option<usize>>, ended: Option<usize>)
     requires room { length ends.old.items < vec_capacity ends.old }
     requires inside { (p : ℕ) → ended ≡ Some p → p < length ends.old.items }

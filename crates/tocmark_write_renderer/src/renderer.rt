@@ -107,6 +107,7 @@ impl<'a> Renderer<'a> {
     }
 
     /// What the unit leaves.
+    #[inline(always)]
     pub fn into_parts(self) -> Parts
         ensures text { string_bytes result.text ≡ (sheet_of self.entry).text }
         ensures newlines { result.newlines ≡ (sheet_of self.entry).feeds }
