@@ -67,6 +67,7 @@ fn add<T: Drop>(list: &mut Vec<T>, item: T) -> Result<(), AllocError>
     Ok(list.push(item)?)
 }
 
+#[inline(always)]
 fn push(
     out: &mut Vec<Marked>,
     event: Event<'static>,
@@ -79,6 +80,7 @@ fn push(
 }
 
 /// Adds the event of a text.
+#[inline(always)]
 fn push_text(out: &mut Vec<Marked>, words: String, range: (usize, usize)) -> Result<(), AllocError>
     ensures { OnOk result (map shown out.new.items
         ≡ map shown out.old.items ++ (Leaf (Text (string_bytes words)), range) ∷ []) }
@@ -218,6 +220,7 @@ impl Emission {
     }
 
     /// Writes the node of a text that is its source.
+    #[inline(always)]
     pub fn write_source(
         &mut self,
         alloc: Global,

@@ -84,6 +84,7 @@ fn character_text(alloc: Global, character: char) -> Result<CowStr<'static>, All
 }
 
 #[tactic(auto, unfolding(crate::specs::Inlines::leaf_of))]
+#[inline(always)]
 pub(crate) fn leaf_event(
     alloc: Global,
     texts: &[u8],

@@ -112,6 +112,7 @@ fn clean_text(alloc: Global, text: &str, feed: bool) -> Result<String, AllocErro
 
 /// A part of a text with U+FFFD for U+0000, and a line feed behind it if it is a line that ends.
 #[tactic(auto, using(crate::proofs::Zeros::none_between))]
+#[inline(always)]
 pub fn part_of(
     alloc: Global,
     text: &SearchedText<'_>,

@@ -160,6 +160,7 @@ impl<'a> Renderer<'a> {
     }
 
     /// Writes the gap before an event, wherever it stands.
+    #[inline(never)]
     fn write_any_gap(&mut self, event: &OwnedEvent) -> Result<(), AllocError>
         ensures stands { OnOk result
             (Stands self.new (levels_of self.old)
@@ -172,6 +173,7 @@ impl<'a> Renderer<'a> {
     }
 
     /// Writes the gap before an event that is neither an end nor HTML. Inside a line there is none.
+    #[inline(always)]
     pub fn write_gap(&mut self, event: &OwnedEvent) -> Result<(), AllocError>
         ensures stands { OnOk result
             (Stands self.new (levels_of self.old)
