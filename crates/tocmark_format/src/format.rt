@@ -314,6 +314,7 @@ impl<R: PartReader> Formatter<'_, R> {
             said,
         } = printing;
         print_tree(&mut printer, &mut tree)?;
+        tree.let_go();
         drop(tree);
         printer.end()?;
         let (text, blocks) = printer.into_text();

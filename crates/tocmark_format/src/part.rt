@@ -197,6 +197,8 @@ struct OpenContainer {
 #[derive(Drop)]
 pub(crate) struct Part {
     nodes: Vec<Node>,
+    /// How many events stand before the last cell of a table.
+    cell: usize,
     /// The containers that are open.
     open: Vec<OpenContainer>,
     /// The lists, in order.
@@ -246,6 +248,7 @@ impl Part {
     pub(crate) fn new(alloc: Global) -> Part {
         Part {
             nodes: Vec::new(alloc),
+            cell: 0,
             open: Vec::new(alloc),
             lists: Vec::new(alloc),
             raw: String::new(alloc),
@@ -261,6 +264,7 @@ impl Part {
     /// Takes all trees away, and keeps their room.
     pub(crate) fn clear(&mut self) {
         self.nodes.truncate(0);
+        self.cell = 0;
         self.open.truncate(0);
         self.lists.truncate(0);
         self.raw.truncate(0);
@@ -270,6 +274,21 @@ impl Part {
         self.has_emphasis = false;
         self.stars.truncate(0);
         self.scores.truncate(0);
+    }
+
+    /// Takes all trees away, and gives back their room but for one of each. Where a large list is let
+    /// go of whole, the C library takes room for such lists from its heap from then on, and keeps it.
+    pub(crate) fn let_go(&mut self) {
+        self.clear();
+        self.nodes.shrink_to(1);
+        self.open.shrink_to(1);
+        self.lists.shrink_to(1);
+        self.raw.shrink_to(1);
+        self.raw_blocks.shrink_to(1);
+        self.alignments.shrink_to(1);
+        self.tables.shrink_to(1);
+        self.stars.shrink_to(1);
+        self.scores.shrink_to(1);
     }
 
     /// Says of a list whether it is loose, unless that is known.
@@ -402,6 +421,15 @@ impl Part {
         }
     }
 
+    /// Leaves out the events in a cell that ends, unless a container stands in it: its text stays as
+    /// it is spelled, and its End says where that is.
+    fn leave_out_leaves(&mut self) {
+        let inner = self.nodes.get(self.cell..).unwrap_or(&[]);
+        if !inner.iter().any(|node| matches!(node.mark, Mark::Start(_))) {
+            self.nodes.truncate(self.cell);
+        }
+    }
+
     /// Keeps a text, if it is one of a block of code or HTML.
     fn keep_text(&mut self, text: &str) -> Result<(), AllocError> {
         if let Some(container) = self.open.last().copied()
@@ -422,8 +450,12 @@ impl Part {
         let at = self.nodes.len();
         let mark = mark_of(&pair.0);
         match mark {
-            Mark::Start(Opening::TablePart) => return Ok(()),
-            Mark::End(TagEnd::TableHead | TagEnd::TableRow | TagEnd::TableCell) => {}
+            Mark::Start(Opening::TablePart) => {
+                self.cell = at;
+                return Ok(());
+            }
+            Mark::End(TagEnd::TableCell) => self.leave_out_leaves(),
+            Mark::End(TagEnd::TableHead | TagEnd::TableRow) => {}
             Mark::End(tag) => self.close(at, tag, range.1),
             Mark::Start(opening) => {
                 self.begin(source, mark, range.0);

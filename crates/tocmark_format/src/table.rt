@@ -137,6 +137,16 @@ impl Cells {
         Ok(())
     }
 
+    /// Takes all cells away, and gives back their room as `Part::let_go` does.
+    fn let_go(&mut self) {
+        self.text.truncate(0);
+        self.text.shrink_to(1);
+        self.list.truncate(0);
+        self.list.shrink_to(1);
+        self.ends.truncate(0);
+        self.ends.shrink_to(1);
+    }
+
     fn end_row(&mut self) -> Result<(), AllocError> {
         self.ends.push(self.list.len())?;
         Ok(())
@@ -189,19 +199,35 @@ impl Cells {
 }
 
 impl Printer<'_> {
+    /// Adds the cell with these events, behind which its End stands. One without events stays as it
+    /// is spelled.
+    fn add_cell(
+        &mut self,
+        cells: &mut Cells,
+        part: &Part,
+        events: (usize, usize),
+    ) -> Result<(), AllocError> {
+        let (start, end) = part.range(events.1);
+        if events.0 == events.1 {
+            return cells.add(without_blanks(self.source.slice(start, end)));
+        }
+        let text = self.source.past_blanks(start);
+        let (pieces, _) = self.pieces_of(part, events, text)?;
+        cells.add(pieces.text.as_str())?;
+        self.keep_room(pieces);
+        Ok(())
+    }
+
     /// The cells of a table; none if a row has more of them than the head, which are in no event.
     fn cells_of(&mut self, part: &Part, at: usize) -> Result<Option<Cells>, AllocError> {
         let mut cells = Cells::new(self.alloc);
         let mut first = at.saturating_add(1);
         let mut cell_end = 0usize;
         for inner in first..part.end(at) {
-            let (start, end) = part.range(inner);
+            let (_, end) = part.range(inner);
             match part.event(inner) {
                 Some(Mark::End(TagEnd::TableCell)) => {
-                    let text = self.source.past_blanks(start);
-                    let (pieces, _) = self.pieces_of(part, (first, inner), text)?;
-                    cells.add(pieces.text.as_str())?;
-                    self.keep_room(pieces);
+                    self.add_cell(&mut cells, part, (first, inner))?;
                     cell_end = end;
                 }
                 Some(Mark::End(TagEnd::TableHead | TagEnd::TableRow)) => {
@@ -281,7 +307,11 @@ impl Printer<'_> {
     pub(crate) fn print_table(&mut self, part: &Part, at: usize) -> Result<(), AllocError> {
         let range = part.range(at);
         match self.cells_of(part, at)? {
-            Some(cells) => self.print_rows(&cells, part.alignments(at), range),
+            Some(mut cells) => {
+                self.print_rows(&cells, part.alignments(at), range)?;
+                cells.let_go();
+                Ok(())
+            }
             None => self.print_lines(range.0, range.1),
         }
     }
