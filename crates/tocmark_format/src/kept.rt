@@ -176,8 +176,9 @@ impl Printer<'_> {
         }
     }
 
-    /// The lines that other programs read as one, of which a block has some. A container has none if it begins before them,
-    /// and its blocks may have some. Those that begin in code are none.
+    /// The lines that other programs read as one, if the block at a place has some of them; it ends
+    /// here in the source. A container that begins before them leaves them to its blocks. Lines that
+    /// begin in code don't count.
     fn span_at(&mut self, part: &Part, at: usize, end: usize) -> Option<Span> {
         let (start, _) = part.range(at);
         let span = self.source.span_behind(start, self.code_end)?;
