@@ -2,6 +2,7 @@
 
 use crate::rules::{Entry, Rules};
 use crate::settings::{Key, Setting, Settings, key_named, set_all};
+use crate::text::{line_behind, text_of};
 use std::alloc::{AllocError, AllocFailed, Global};
 use std::fmt;
 use std::fmt::Write;
@@ -28,6 +29,8 @@ struct Override {
 /// What is wrong with the text of a configuration file.
 #[derive(Debug, Drop)]
 pub enum ConfigError {
+    /// The first line that isn't UTF-8.
+    NotUtf8(usize),
     /// Why it is no TOML, and the line where that shows.
     NotToml(toml::de::Error, Option<usize>),
     /// A key, and its line where it is found.
@@ -81,6 +84,7 @@ fn place<W: fmt::Write>(f: &mut fmt::Formatter<W>, line: Option<usize>) -> fmt::
 impl fmt::Display for ConfigError {
     fn fmt<W: fmt::Write>(&self, f: &mut fmt::Formatter<W>) -> fmt::Result {
         match self {
+            ConfigError::NotUtf8(line) => write!(f, ":{line}: the line is not UTF-8"),
             ConfigError::NotToml(error, line) => {
                 place(f, *line)?;
                 f.write_str(error.message())
@@ -104,14 +108,7 @@ impl fmt::Display for ConfigError {
 
 /// The line of a text, counted from 1, in which this byte stands.
 fn line_at(text: &str, at: usize) -> usize {
-    let before = text.as_bytes().get(..at).unwrap_or(&[]);
-    let mut line = 1usize;
-    for byte in before {
-        if *byte == b'\n' {
-            line = line.saturating_add(1);
-        }
-    }
-    line
+    line_behind(text.as_bytes().get(..at).unwrap_or(&[]))
 }
 
 /// Whether a line begins with this key, in quotation marks or as the name of a table, too.
@@ -321,15 +318,19 @@ impl Configuration {
         })
     }
 
-    /// Parses the text of a configuration file in this folder.
+    /// Parses what a configuration file in this folder has.
     pub(crate) fn parse(
         alloc: Global,
-        text: &str,
+        bytes: Vec<u8>,
         folder: &str,
     ) -> Result<Configuration, ConfigError> {
+        let text = match text_of(bytes) {
+            Ok(text) => text,
+            Err(line) => return Err(ConfigError::NotUtf8(line)),
+        };
         let source = Source {
             alloc,
-            text,
+            text: text.as_str(),
             folder,
             passed: 0,
         };

@@ -116,8 +116,8 @@ pub fn whole_path(rt: &HostRuntime, path: &str) -> Result<String, Refused> {
 
 /// The configuration that a file is. `Ok(None)`: there is no such file.
 fn configuration_in(rt: &HostRuntime, path: &str) -> Result<Option<Configuration>, Refused> {
-    let text = match fs::read_to_string(rt, path) {
-        Ok(text) => text,
+    let bytes = match fs::read(rt, path) {
+        Ok(bytes) => bytes,
         Err(error) if is_absence(&error) => return Ok(None),
         Err(error) => {
             let path = String::from_str(rt.alloc(), path)?;
@@ -125,7 +125,7 @@ fn configuration_in(rt: &HostRuntime, path: &str) -> Result<Option<Configuration
         }
     };
     let folder = whole_path(rt, folder_of(path))?;
-    match Configuration::parse(rt.alloc(), text.as_str(), folder.as_str()) {
+    match Configuration::parse(rt.alloc(), bytes, folder.as_str()) {
         Ok(configuration) => Ok(Some(configuration)),
         Err(error) => {
             let path = String::from_str(rt.alloc(), path)?;

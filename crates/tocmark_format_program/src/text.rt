@@ -8,7 +8,7 @@ use std::alloc::Global;
 use std::io::Read;
 
 /// The line, counted from 1, in which the byte behind these stands.
-fn line_behind(bytes: &[u8]) -> usize {
+pub(crate) fn line_behind(bytes: &[u8]) -> usize {
     let mut line = 1usize;
     for byte in bytes {
         if *byte == b'\n' {
@@ -18,17 +18,16 @@ fn line_behind(bytes: &[u8]) -> usize {
     line
 }
 
-/// Bytes as text, or the line that isn't UTF-8.
-fn text_of(bytes: Vec<u8>) -> Result<String, Fault>
-    ensures text { IfOk result (λ text. string_bytes text ≡ bytes.items) }
-    ensures fault { IfErr result (λ fault. ¬ (IsOutputFault fault)) }
+/// Bytes as text, or the first line that isn't UTF-8.
+pub(crate) fn text_of(bytes: Vec<u8>) -> Result<String, usize>
+    ensures { IfOk result (λ text. string_bytes text ≡ bytes.items) }
 {
     match String::from_utf8(bytes) {
         Ok(text) => Ok(text),
         Err(error) => {
             let end = error.utf8_error().valid_up_to();
             let valid = error.as_bytes().get(..end).unwrap_or(&[]);
-            Err(Fault::NotUtf8(line_behind(valid)))
+            Err(line_behind(valid))
         }
     }
 }
@@ -43,5 +42,8 @@ pub fn text_in<I: Read>(alloc: Global, input: &mut I) -> Result<String, Fault>
     if let Err(error) = input.read_to_end(&mut bytes) {
         return Err(Fault::Read(error));
     }
-    text_of(bytes)
+    match text_of(bytes) {
+        Ok(text) => Ok(text),
+        Err(line) => Err(Fault::NotUtf8(line)),
+    }
 }
