@@ -92,7 +92,7 @@ const STYLE: [CommandOption<'static>; 13] = [
         name: "ordered",
         letter: None,
         takes: Takes::Value("DELIMITER"),
-        help: "Delimiter after a number: ., ) or source (default)",
+        help: "Delimiter after a number: ., ) or source\n(default)",
     },
     CommandOption {
         name: "numbering",
@@ -140,19 +140,19 @@ const STYLE: [CommandOption<'static>; 13] = [
         name: "table-width",
         letter: None,
         takes: Takes::Value("N"),
-        help: "Align tables up to this many columns (default 120),\nand wider ones that are aligned",
+        help: "Align tables up to this many columns (default\n120), and wider ones that are aligned",
     },
     CommandOption {
         name: "list-indent",
         letter: None,
         takes: Takes::Value("WIDTH"),
-        help: "Indentation of items: that of the marker (default),\nor 4 columns",
+        help: "Indentation of items: that of the marker\n(default), or 4 columns",
     },
     CommandOption {
         name: "wrap",
         letter: None,
         takes: Takes::Value("WHERE"),
-        help: "Lines of paragraphs: keep (default), no (join them)\nor N (fill them up to N columns)",
+        help: "Lines of paragraphs: keep (default), no (join\nthem) or N (fill them up to N columns)",
     },
 ];
 
@@ -208,7 +208,7 @@ const FILES: [CommandOption<'static>; 6] = [
         name: "no-ignore",
         letter: None,
         takes: Takes::Nothing,
-        help: "Below folders, format what .gitignore ignores, too",
+        help: "Below folders, format what .gitignore ignores,\ntoo",
     },
     CommandOption {
         name: "files-from",
@@ -226,7 +226,7 @@ const FILES: [CommandOption<'static>; 6] = [
         name: "stdin-filepath",
         letter: None,
         takes: Takes::Value("PATH"),
-        help: "Format standard input as this file, which need not\nexist: by its configuration and under its name",
+        help: "Format standard input as this file, which need\nnot exist: by its configuration and under its\nname",
     },
 ];
 
@@ -248,7 +248,7 @@ const VOICE: [CommandOption<'static>; 4] = [
         name: "verbose",
         letter: None,
         takes: Takes::Nothing,
-        help: "Name each file that changes, and each named one that is excluded",
+        help: "Name each file that changes, and each named one\nthat is excluded",
     },
     CommandOption {
         name: "color",

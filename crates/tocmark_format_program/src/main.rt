@@ -62,8 +62,8 @@ use words::{Words, words_of};
 /// This program.
 const FORMAT: Program = Program { name: NAME };
 
-/// The first line of what `--help` says of `--syntax`.
-const SYNTAX: &str = "Markdown to read: commonmark, gfm (default) or all";
+/// The first lines of what `--help` says of `--syntax`.
+const SYNTAX: &str = "Markdown to read: commonmark, gfm (default)\nor all";
 
 /// How many files a call has at least if a terminal shows how many are done.
 const MANY: usize = 20;
