@@ -114,24 +114,19 @@ _IN_END: Dict[str, Any] = {
 }
 
 
-def _container(tag: Any, plain: Dict[str, bytes], others: Dict[str, Any]) -> bytes:
-    if isinstance(tag, str):
-        return plain[tag]
-    (name, content), = tag.items()
-    code, pack = others[name]
-    found: bytes = code + pack(content)
+# The containers without parts, and those with parts.
+_PLAIN_TAGS = {"Start": _STARTS, "End": _ENDS}
+_OTHER_TAGS = {"Start": _IN_START, "End": _IN_END}
+
+
+def _with_parts(name: str, content: Any) -> bytes:
+    """Returns the bytes of a container with parts, or of a task's box."""
+    if name == "TaskListMarker":
+        return b"\5" + _truth(content)
+    (tag, parts), = content.items()
+    code, pack = _OTHER_TAGS[name][tag]
+    found: bytes = code + pack(parts)
     return found
-
-
-def _structure(name: str, event: Any) -> bytes:
-    """Returns the bytes of an event without a text, behind its range."""
-    if isinstance(event, str):
-        return _BREAKS[event]
-    if name == "Start":
-        return _container(event[name], _STARTS, _IN_START)
-    if name == "End":
-        return _container(event[name], _ENDS, _IN_END)
-    return b"\5" + _truth(_part(event, "TaskListMarker"))
 
 
 def _pair_of(item: Any) -> Tuple[Any, Any]:
@@ -144,18 +139,23 @@ def _pair_of(item: Any) -> Tuple[Any, Any]:
 
 def _packed(items: Iterable[Any]) -> bytes:
     parts: List[bytes] = []
+    append = parts.append
     for item in items:
         event, place = item if type(item) is tuple else _pair_of(item)
-        name, = (event,) if type(event) is str else event
-        code = _TEXTS.get(name)
-        if code is None:
-            parts.append(b"\0" if place is None else _range(1, place.start, place.stop))
-            parts.append(_structure(name, event))
+        if type(event) is str:
+            code = _BREAKS[event]
         else:
-            text = str.encode(event[name])
-            parts.append(_text_event(0, code, len(text)) if place is None else
-                         _placed_text(1, place.start, place.stop, code, len(text)))
-            parts.append(text)
+            name, = event
+            content = event[name]
+            if name in _TEXTS:
+                text = str.encode(content)
+                append(_text_event(0, _TEXTS[name], len(text)) if place is None else
+                       _placed_text(1, place.start, place.stop, _TEXTS[name], len(text)))
+                append(text)
+                continue
+            code = _PLAIN_TAGS[name][content] if isinstance(content, str) else _with_parts(name, content)
+        append(b"\0" if place is None else _range(1, place.start, place.stop))
+        append(code)
     return b"".join(parts)
 
 
