@@ -15,10 +15,13 @@ const LINE_OPENERS: [&str; 5] = [
 ];
 
 /// What begins a block of another dialect, beside the lines above.
-const BLOCK_OPENERS: [&str; 4] = [
+const BLOCK_OPENERS: [&str; 7] = [
     "import ", // MDX: what the document imports and exports
     "export ", "=== \"", // MkDocs: a tab
     "--8<-- ", // MkDocs: an included file
+    "| ", // pandoc: lines that stay
+    "+--", // pandoc: a table
+    "+==",
 ];
 
 /// A block of another dialect: how many containers are open round it, and the column where it begins in the innermost one.
@@ -64,7 +67,7 @@ pub(crate) fn begins_foreign_line(text: &str) -> bool {
 /// Whether a block that begins like this text is one of another dialect, but for the lines above.
 fn begins_foreign_block(text: &str) -> bool {
     match text.as_bytes().first() {
-        Some(b'i' | b'e' | b'=' | b'-') => begins_with(text, &BLOCK_OPENERS),
+        Some(b'i' | b'e' | b'=' | b'-' | b'|' | b'+') => begins_with(text, &BLOCK_OPENERS),
         _ => false,
     }
 }

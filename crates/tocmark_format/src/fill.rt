@@ -75,6 +75,48 @@ fn first_word(text: &str) -> &str {
     }
 }
 
+/// How far the end of attributes or of a link of a wiki is looked for, in bytes.
+const LONGEST_BRACKETED: usize = 200;
+
+/// Whether attributes stand behind a brace that is between two texts, as in `[a](b){ .name }` and `{: .name }`.
+fn begins_attributes(before: &str, behind: &str) -> bool {
+    behind
+        .trim_start_matches(&[' ', '\t'])
+        .starts_with(&['.', '#', ':'])
+        || before.ends_with(&[')', ']', '`', '*', '_', '>'])
+}
+
+/// How long the front of a text is that isn't broken because its first word has brackets: up to the end of attributes, or
+/// of a link of a wiki, as `[[a page]]`. 0 if there are none, or if they end in the word.
+fn bracketed_length(before: &str, word: &str, text: &str) -> usize {
+    for (open, close) in [("{", "}"), ("[[", "]]")] {
+        let Some((front, rest)) = word.rsplit_once(open) else {
+            continue;
+        };
+        let inner = front.len().saturating_add(open.len());
+        let last = text.floor_char_boundary(inner.saturating_add(LONGEST_BRACKETED));
+        let behind = text.get(inner..last).unwrap_or("");
+        let before = if front.is_empty() { before } else { front };
+        if rest.contains(close) || (open == "{" && !begins_attributes(before, behind)) {
+            continue;
+        }
+        if let Some(length) = behind.find(close) {
+            return inner.saturating_add(length).saturating_add(close.len());
+        }
+    }
+    0
+}
+
+/// The front of a text, behind another one, that isn't broken: up to its first blank or tab behind brackets that its first
+/// word begins.
+fn unbroken<'t>(before: &str, text: &'t str) -> &'t str {
+    let word = first_word(text);
+    let length = bracketed_length(before, word, text);
+    let rest = text.get(length..).unwrap_or("");
+    let end = length.saturating_add(first_word(rest).len());
+    text.get(..end.max(word.len())).unwrap_or(word)
+}
+
 impl Filling {
     /// Whether the word can't begin a line: there it could begin a block, or the line before it would end with a backslash.
     fn is_bound(&self) -> bool {
@@ -129,7 +171,7 @@ impl Filling {
     fn add_text(&mut self, text: &str) -> Result<(), AllocError> {
         let mut rest = text;
         for _ in 0..=text.len() {
-            let word = first_word(rest);
+            let word = unbroken(self.word.as_str(), rest);
             self.word.push_str(word)?;
             self.is_in_tag = is_in_tag(word, self.is_in_tag);
             let blanks = rest.get(word.len()..).unwrap_or("");

@@ -8,22 +8,9 @@ fn first_word(line: &str) -> &str {
     }
 }
 
-/// How many bytes of one kind a text begins with.
-fn run(word: &str, byte: u8) -> usize {
-    word.as_bytes()
-        .iter()
-        .take_while(|other| **other == byte)
-        .count()
-}
-
-/// Whether a word is a marker of items, or signs of a heading.
+/// Whether a word is a marker of items.
 fn is_marker(word: &str) -> bool {
-    let bytes = word.as_bytes();
-    let hashes = run(word, b'#');
-    if hashes > 0 && hashes < 7 && hashes == bytes.len() {
-        return true;
-    }
-    match bytes.split_last() {
+    match word.as_bytes().split_last() {
         Some((b'-' | b'+' | b'*' | b'_', rest)) => rest.is_empty(),
         Some((b'.' | b')', digits)) => {
             !digits.is_empty()
@@ -81,7 +68,8 @@ fn is_address(word: &str) -> bool {
 pub(crate) fn is_hazard(text: &str) -> bool {
     let word = first_word(text);
     match word.as_bytes().first() {
-        Some(b'>' | b'|' | b':') => true,
+        // Python-Markdown takes any text behind `#` for a heading
+        Some(b'>' | b'|' | b':' | b'#') => true,
         Some(b'<') => !is_address(word),
         Some(b'`') => word.starts_with("```"),
         Some(b'~') => word.starts_with("~~~"),

@@ -93,7 +93,7 @@ fn hinders_underscore(character: Option<char>) -> bool {
     }
 }
 
-/// How far before the end of emphasis a bare web address is looked for, in bytes.
+/// How far before emphasis and before its end a bare web address is looked for, in bytes.
 const LONGEST_ADDRESS: usize = 256;
 
 /// How far before and behind emphasis double brackets are looked for, in bytes.
@@ -115,7 +115,8 @@ fn begins_in_brackets(text: &str) -> bool {
     }
 }
 
-/// Whether a text ends with a bare web or mail address. Programs that link such an address would add an underscore behind it.
+/// Whether a text ends with a bare web or mail address. Programs that link such an address take the signs in it, and an
+/// underscore behind it, for a part of it.
 fn ends_with_address(text: &str) -> bool {
     let word = match text.rsplit_once(&[' ', '\t', '\n']) {
         Some((_, word)) => word,
@@ -270,9 +271,21 @@ impl<'d, 'p, 'g> Inlines<'d, 'p, 'g> {
         (before, behind)
     }
 
+    /// Whether a bare address goes on at a place of the source; it begins here or behind.
+    fn is_in_address(&self, from: usize, place: usize) -> bool {
+        let source = self.context.source;
+        let front = source
+            .text
+            .floor_char_boundary(place.saturating_sub(LONGEST_ADDRESS));
+        ends_with_address(source.slice(front.max(from), place))
+    }
+
     /// Whether another sign than the source's can stand round a stretch of it.
     fn fits(&self, sign: u8, range: (usize, usize)) -> bool {
         let (start, end) = range;
+        if self.is_in_address(self.range.0, start) {
+            return false;
+        }
         if self
             .context
             .part
@@ -284,11 +297,7 @@ impl<'d, 'p, 'g> Inlines<'d, 'p, 'g> {
         if sign == b'_' && (hinders_underscore(before) || hinders_underscore(behind)) {
             return false;
         }
-        let source = self.context.source;
-        let front = source
-            .text
-            .floor_char_boundary(end.saturating_sub(LONGEST_ADDRESS));
-        if sign == b'_' && ends_with_address(source.slice(front.max(start), end)) {
+        if sign == b'_' && self.is_in_address(start, end) {
             return false;
         }
         let is_in_changed = match self.open.last() {

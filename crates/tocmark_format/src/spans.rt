@@ -1,5 +1,5 @@
 //! Lines that other programs read as one, and that keep their bytes: front matter in which the reader finds rules and texts,
-//! and what stands between a tag of Liquid or a shortcode of Hugo and its closing one.
+//! and what stands between a tag of Liquid, a shortcode of Hugo or a command of Doxygen and its closing one.
 
 use crate::source::{is_blank, without_end_blanks};
 use std::alloc::{AllocError, Global};
@@ -20,13 +20,31 @@ enum Family {
     Angle,
     /// `{{% x %}}`
     Percent,
+    /// `@code`
+    Doxygen,
 }
 
 /// What a tag begins with.
-const SIGNS: [(&str, Family); 3] = [
+const SIGNS: [(&str, Family); 5] = [
     ("{{<", Family::Angle),
     ("{{%", Family::Percent),
     ("{%", Family::Liquid),
+    ("@", Family::Doxygen),
+    ("\\", Family::Doxygen),
+];
+
+/// What Doxygen doesn't read as Markdown, by the names between `@` and `@end`.
+const DOXYGEN_BLOCKS: [&str; 10] = [
+    "code",
+    "verbatim",
+    "dot",
+    "msc",
+    "uml",
+    "htmlonly",
+    "latexonly",
+    "manonly",
+    "rtfonly",
+    "xmlonly",
 ];
 
 /// A tag that begins a line.
@@ -120,6 +138,20 @@ fn shortcode_name(inner: &str) -> Option<(&str, bool)> {
     }
 }
 
+/// The name in a command of Doxygen that begins or ends what isn't Markdown, and whether it ends it.
+fn doxygen_name(inner: &str) -> Option<(&str, bool)> {
+    let name = name_at(inner);
+    let (block, is_closing) = match name.strip_prefix("end") {
+        Some(closed) => (closed, true),
+        None => (name.strip_prefix("start").unwrap_or(name), false),
+    };
+    if DOXYGEN_BLOCKS.iter().any(|known| *known == block) {
+        Some((block, is_closing))
+    } else {
+        None
+    }
+}
+
 /// The tag that begins a line. An opening has no other tag of its kind behind it on the line, which could close it.
 fn tag_at(line: &str, from: usize) -> Option<TagLine<'_>> {
     let bare = without_front_blanks(line);
@@ -131,6 +163,7 @@ fn tag_at(line: &str, from: usize) -> Option<TagLine<'_>> {
         let (name, is_closing) = match family {
             Family::Liquid => liquid_name(inner)?,
             Family::Angle | Family::Percent => shortcode_name(inner)?,
+            Family::Doxygen => doxygen_name(inner)?,
         };
         if name.is_empty() || (!is_closing && inner.contains(sign)) {
             return None;
@@ -146,11 +179,11 @@ fn tag_at(line: &str, from: usize) -> Option<TagLine<'_>> {
     None
 }
 
-/// The line of a text that begins at a place, if a brace is its first character behind blanks.
-fn line_with_brace(text: &str, at: usize) -> Option<&str> {
+/// The line of a text that begins at a place, if a sign of tags is its first character behind blanks.
+fn line_with_sign(text: &str, at: usize) -> Option<&str> {
     let rest = text.get(at..)?;
     let first = rest.as_bytes().iter().find(|byte| !is_blank(**byte))?;
-    if *first != b'{' {
+    if !matches!(*first, b'{' | b'@' | b'\\') {
         return None;
     }
     match rest.find('\n') {
@@ -198,7 +231,7 @@ pub(crate) fn spans_of(
     }
     let mut open = Vec::new(alloc);
     for start in starts {
-        let Some(line) = line_with_brace(text, *start) else {
+        let Some(line) = line_with_sign(text, *start) else {
             continue;
         };
         let Some(tag) = tag_at(line, *start) else {

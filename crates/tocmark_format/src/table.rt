@@ -2,7 +2,7 @@
 
 use crate::part::{Mark, Part};
 use crate::printer::Printer;
-use crate::source::without_blanks;
+use crate::source::{is_blank, without_blanks};
 use crate::width::width;
 use std::alloc::{AllocError, Global};
 use tocmark_event::event::{Alignment, TagEnd};
@@ -218,8 +218,20 @@ impl Printer<'_> {
         Ok(())
     }
 
-    /// The cells of a table; none if a row has more of them than the head, which are in no event.
+    /// Whether the delimiter row of a table begins like an item. To `cmark-gfm` it is one.
+    fn has_row_like_item(&self, start: usize) -> bool {
+        let source = self.source;
+        let row = source.start_of(source.line_of(start).saturating_add(1));
+        let text = source.past_blanks(self.page.stripped(source, row).at);
+        source.byte(text) == b'-' && is_blank(source.byte(text.saturating_add(1)))
+    }
+
+    /// The cells of a table; none if a row has more of them than the head, which are in no event, and if other programs
+    /// read no table there.
     fn cells_of(&mut self, part: &Part, at: usize) -> Result<Option<Cells>, AllocError> {
+        if self.has_row_like_item(part.range(at).0) {
+            return Ok(None);
+        }
         let mut cells = Cells::new(self.alloc);
         let mut first = at.saturating_add(1);
         let mut cell_end = 0usize;
