@@ -7,6 +7,7 @@
 //! title `new`, `@stress` stresses each text `now`, and `@https` and `@lower` are as before. These read CommonMark; the next
 //! ones read `gfm`. `@front`, `@before N` and `@behind N` put a paragraph `New.` in front of all blocks, or before or behind
 //! block N, which is counted from 0, and past the last one from the first one on again. `@without N` takes that block out.
+//! `@shorten` takes the last block or item out of the first block.
 //! `@shout` puts a word in front of each item and cell that begins with a text. `@join` moves each heading one level down,
 //! and joins the lines of those below level 2. `@say WORD` puts WORD in place of each `baz` in a text; `@merge WORD` does so,
 //! too, after it has joined neighbouring texts. `@emphasis WORD`, `@strong WORD`, `@strike WORD`, `@link WORD` and
@@ -52,6 +53,7 @@ enum Edit<'l> {
     Behind(usize),
     Before(usize),
     Without(usize),
+    Shorten,
     Shout,
     Join,
     Say(&'l str),
@@ -140,13 +142,14 @@ fn longer_edit(kind: Longer, rest: &str) -> io::Result<Edit<'_>> {
 }
 
 /// The edits that a name alone asks for.
-const SHORT: [(&str, Edit<'static>); 10] = [
+const SHORT: [(&str, Edit<'static>); 11] = [
     ("https", Edit::Secure),
     ("mark", Edit::Mark),
     ("lower", Edit::Lower),
     ("title", Edit::Title),
     ("stress", Edit::Stress),
     ("front", Edit::Front),
+    ("shorten", Edit::Shorten),
     ("shout", Edit::Shout),
     ("join", Edit::Join),
     ("plain", Edit::Plain),
@@ -297,6 +300,24 @@ fn without(
         }
     }
     Ok(all)
+}
+
+/// The events without the last block or item of the first block.
+fn shortened(
+    alloc: Global,
+    events: &[(Event<'static>, (usize, usize))],
+) -> Result<Vec<(Event<'static>, (usize, usize))>, AllocError> {
+    let blocks = block_places(alloc, events)?;
+    let (_first, past) = blocks.first().copied().unwrap_or((0, 0));
+    let body = events.get(1..past.saturating_sub(1)).unwrap_or(&[]);
+    let inner = block_places(alloc, body)?;
+    let (first, past) = inner.last().copied().unwrap_or((0, 0));
+    without(
+        alloc,
+        events,
+        first.saturating_add(1),
+        past.saturating_add(1),
+    )
 }
 
 /// The events with a block put in or taken out at the block with a number.
@@ -517,6 +538,7 @@ fn make_edit(
         Edit::Front | Edit::Behind(_) | Edit::Before(_) | Edit::Without(_) => {
             *events = with_block_edit(alloc, events, edit)?;
         }
+        Edit::Shorten => *events = shortened(alloc, events)?,
         Edit::Shout => shout(alloc, events)?,
         Edit::Say(word) => say(alloc, events, word)?,
         Edit::Merge(word) => {

@@ -112,7 +112,7 @@ fn fate_of(parts: &[Part], next: usize, plan: &Plan, patched: bool) -> Fate
         return changed(patched);
     };
     let Some(part) = part_of(parts, next, block.from, block.to) else {
-        return Fate::Patched;
+        return changed(patched);
     };
     Fate::Kept(Kept {
         first: block.tree.first,
@@ -145,18 +145,33 @@ fn tree_of(
     }
 }
 
-/// The part in which a tree was kept; if it wasn't, the one in which the tree before it was.
-fn next_part(before: usize, fate: Fate) -> usize
+/// The first part from one on that copies bytes behind a place.
+fn part_behind(parts: &[Part], next: usize, place: usize) -> usize {
+    for at in next..parts.len() {
+        if let Some(Part::Source(_, past)) = parts.get(at)
+            && *past > place
+        {
+            return at;
+        }
+    }
+    parts.len()
+}
+
+/// The first part in which trees behind one can be kept: the one in which that was.
+fn next_part(parts: &[Part], next: usize, plan: &Plan, fate: Fate) -> usize
     ensures { (part : ℕ) → IsKeptIn part fate → result ≡ part }
 {
     match fate {
         Fate::Kept(kept) => kept.part,
-        _ => before,
+        _ => match plan.kept {
+            Some(block) => part_behind(parts, next, block.from),
+            None => next,
+        },
     }
 }
 
-/// What became of each tree: those that weren't kept were patched, but for the trees that begin with the events
-/// at these places.
+/// What became of each tree: those that weren't kept were patched, if all is or if they could be kept, but for the trees
+/// that begin with the events at these places.
 pub(crate) fn told(
     alloc: Global,
     blocks: &[Block],
@@ -175,9 +190,10 @@ pub(crate) fn told(
     let mut trees = Vec::new(alloc);
     let mut next = 0usize;
     for plan in plans {
-        let is_patched = patched && written.binary_search(&plan.tree.first).is_err();
+        let is_written = written.binary_search(&plan.tree.first).is_ok();
+        let is_patched = (patched || plan.kept.is_some()) && !is_written;
         let tree = tree_of(blocks, parts, next, plan, is_patched);
-        next = next_part(next, tree.fate);
+        next = next_part(parts, next, plan, tree.fate);
         trees.push(tree)?;
     }
     Ok(trees)

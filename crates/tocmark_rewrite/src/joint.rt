@@ -3,7 +3,7 @@
 
 use crate::patch::Patch;
 use crate::pieces::Tools;
-use crate::plan::{Plan, behind};
+use crate::plan::{Plan, behind, were_neighbours};
 use crate::source_bytes::byte_at;
 use crate::trees::{Block, gap, has_text, trees};
 use std::alloc::{AllocError, Global};
@@ -93,16 +93,6 @@ fn takes_code(event: &Event<'_>) -> bool {
 fn is_indented_code(event: &Event<'_>) -> bool {
     match event {
         Event::Start(Tag::CodeBlock(CodeBlockKindOf::Indented)) => true,
-        _ => false,
-    }
-}
-
-/// Whether both trees are kept, and were neighbours in the source.
-fn were_neighbours(before: &Plan, plan: &Plan) -> bool {
-    match (before.stands_for, plan.stands_for) {
-        (Some(first), Some(second)) => {
-            before.kept.is_some() && plan.kept.is_some() && second == first.saturating_add(1)
-        }
         _ => false,
     }
 }

@@ -23,7 +23,8 @@ pub(crate) struct Output {
     pub(crate) parts: Vec<Part>,
     /// Whether it is the source with patches.
     pub(crate) is_patched: bool,
-    /// The first events of the trees that were written as a whole, in their order, where it is.
+    /// The first events of the trees that were written as a whole, in their order, where it is, and else of those that had
+    /// the events of blocks of the source.
     pub(crate) written: Vec<usize>,
 }
 

@@ -105,6 +105,15 @@ fn fault_of(error: Error) -> Error {
     }
 }
 
+/// The definitions in front of a tree, where they stand if it holds code or HTML, and the tree's text.
+fn split_definitions(text: &str) -> (&str, &str) {
+    let is_front = !text.starts_with("[^") && definition_at(text.as_bytes(), 0).is_some();
+    match text.split_once("\n\n") {
+        Some((definitions, rest)) if is_front => (definitions, rest),
+        _ => ("", text),
+    }
+}
+
 /// A tree, and the definitions that it asks for, written under these options by a state of its own.
 ///
 /// An `Err` is one of those of `State::process_with_source_range` but `FormatFailed`.
@@ -127,8 +136,10 @@ pub fn write_with<'a, R: Reader>(
     if let Err(error) = handed {
         return Err(fault_of(error));
     }
-    let body = String::from_str(alloc, texts.text_at(0).trim_start_matches('\n'))?;
-    let definitions = String::from_str(alloc, texts.text_at(1).trim_start_matches('\n'))?;
+    let (front, text) = split_definitions(texts.text_at(0).trim_start_matches('\n'));
+    let body = String::from_str(alloc, text)?;
+    let mut definitions = String::from_str(alloc, front)?;
+    definitions.push_str(texts.text_at(1).trim_start_matches('\n'))?;
     Ok(Piece { body, definitions })
 }
 

@@ -208,6 +208,80 @@ pub(crate) fn behind(next: usize, plan: &Plan) -> usize
     }
 }
 
+/// Whether both trees are kept, and were neighbours in the source.
+pub(crate) fn were_neighbours(before: &Plan, plan: &Plan) -> bool {
+    match (before.stands_for, plan.stands_for) {
+        (Some(first), Some(second)) => {
+            before.kept.is_some() && plan.kept.is_some() && second == first.saturating_add(1)
+        }
+        _ => false,
+    }
+}
+
+/// Whether something was changed directly before the tree at a place.
+fn is_changed_before(plans: &[Plan], at: usize) -> bool {
+    let Some(plan) = plans.get(at) else {
+        return false;
+    };
+    match at.checked_sub(1) {
+        None => plan.stands_for != Some(0),
+        Some(last) => plans
+            .get(last)
+            .is_some_and(|before| !were_neighbours(before, plan)),
+    }
+}
+
+/// The plans, of which the misread trees are written that were kept beside a change: behind it at distance 0, before it at
+/// distance 1. None if there are no such trees.
+fn loosened_at(
+    alloc: Global,
+    plans: &[Plan],
+    misread: &[bool],
+    distance: usize,
+) -> Result<Option<Vec<Plan>>, AllocError> {
+    let mut loose = Vec::new(alloc);
+    let mut is_looser = false;
+    for (at, plan) in plans.iter().enumerate() {
+        let mut plan = *plan;
+        let is_misread = misread.get(at) == Some(&true);
+        let is_beside = is_changed_before(plans, at.saturating_add(distance));
+        if plan.kept.is_some() && is_misread && is_beside {
+            plan.kept = None;
+            is_looser = true;
+        }
+        loose.push(plan)?;
+    }
+    Ok(if is_looser { Some(loose) } else { None })
+}
+
+/// The plans, of which the misread trees are written that were kept directly behind a change, or else those directly before
+/// one. None if there are no such trees.
+pub(crate) fn loosened(
+    alloc: Global,
+    plans: &[Plan],
+    misread: &[bool],
+) -> Result<Option<Vec<Plan>>, AllocError> {
+    match loosened_at(alloc, plans, misread, 0)? {
+        None => loosened_at(alloc, plans, misread, 1),
+        behind => Ok(behind),
+    }
+}
+
+/// The first events of the trees that are kept by the first plans, and not by the second ones.
+pub(crate) fn released(
+    alloc: Global,
+    plans: &[Plan],
+    loose: &[Plan],
+) -> Result<Vec<usize>, AllocError> {
+    let mut all = Vec::new(alloc);
+    for (plan, looser) in plans.iter().zip(loose) {
+        if plan.kept.is_some() && looser.kept.is_none() {
+            all.push(plan.tree.first)?;
+        }
+    }
+    Ok(all)
+}
+
 /// Of each block, whether a tree keeps it.
 pub(crate) fn kept_blocks(
     alloc: Global,

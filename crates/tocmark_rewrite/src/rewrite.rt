@@ -30,7 +30,7 @@ use crate::marker::Markers;
 use crate::output::{Output, Part};
 use crate::patch::{Patch, Patches};
 use crate::pieces::{Definitions, Piece, Tools, events_of, make_pieces, write_tree};
-use crate::plan::{Documents, Plan, place_of};
+use crate::plan::{Documents, Plan, loosened, place_of, released};
 use crate::trees::{Block, Tree, blocks, trees};
 use crate::wording::Spelling;
 use std::alloc::{AllocError, Global};
@@ -488,7 +488,16 @@ const MANNERS: [(bool, bool, bool); 7] = [
     (true, false, true),
 ];
 
-/// Trees side by side, in the first manner in which they are read as the events.
+/// A text that was tried: trees side by side.
+#[derive(Drop)]
+struct Tried {
+    output: Output,
+    /// A tree at which it is read otherwise than the events, or at which an earlier try was; none if it is read as them.
+    otherwise: Option<Place>,
+}
+
+/// Trees side by side, in the first manner in which they are read as the events, or else in the last one. The first manner
+/// changes least, so the tree at which that was read otherwise is told.
 fn try_manners<R: Reader>(
     tools: &Tools<'_, '_, R>,
     source: &str,
@@ -496,48 +505,57 @@ fn try_manners<R: Reader>(
     joints: &[Joint],
     written: Written<'_>,
     events: &[(Event<'_>, (usize, usize))],
-) -> Result<Output, Fault>
-    ensures says { IfOk result (λ output.
-        SaysSame (λ text. R.reading tools.now.reader.now text tools.now.flags)
+) -> Result<Tried, AllocError>
+    ensures says { IfOk result (λ tried. IsNone tried.otherwise
+        → SaysSame (λ text. R.reading tools.now.reader.now text tools.now.flags)
         (map string_bytes work.now.defined.now) (given_events events.now)
-        (string_bytes output.text)) }
-    ensures parts { IfOk result (λ output. Builds source.now output) }
-    ensures refused { IfErr result
-        (IsVain (λ text. R.reading tools.now.reader.now text tools.now.flags)
-        (map string_bytes work.now.defined.now) source.now (given_events events.now)) }
+        (string_bytes tried.output.text)) }
+    ensures otherwise { IfOk result (λ tried. IfSome tried.otherwise (λ _.
+        ¬ (SaysSame (λ text. R.reading tools.now.reader.now text tools.now.flags)
+        (map string_bytes work.now.defined.now) (given_events events.now)
+        (string_bytes tried.output.text)))) }
+    ensures parts { IfOk result (λ tried. Builds source.now tried.output) }
 {
     let (alloc, blocks) = (tools.alloc, work.blocks);
+    let mut first: Option<Place> = None;
     for (apart, redefines, defines) in MANNERS {
         if (apart || redefines || defines) && written.definitions.is_empty() {
             continue;
         }
         let manner = Manner::new(apart, redefines, defines);
         let output = joined(alloc, source, blocks, joints, written, manner)?;
-        match refusal(tools, work, output.text.as_str(), events)? {
-            None => return Ok(output),
-            Some(_place) => {}
+        let otherwise = refusal(tools, work, output.text.as_str(), events)?;
+        if otherwise.is_none() {
+            return Ok(Tried { output, otherwise });
         }
+        first = first.or(otherwise);
     }
     let manner = Manner::new(true, true, true);
-    let last = joined(alloc, source, blocks, joints, written, manner)?;
-    match refusal(tools, work, last.text.as_str(), events)? {
-        None => Ok(last),
-        Some(place) => Err(Fault::ReadOtherwise(place)),
-    }
+    let output = joined(alloc, source, blocks, joints, written, manner)?;
+    let otherwise = match refusal(tools, work, output.text.as_str(), events)? {
+        Some(last) => Some(first.unwrap_or(last)),
+        None => None,
+    };
+    Ok(Tried { output, otherwise })
 }
 
-/// Kept blocks and written ones side by side, in the first manner in which they are read as the events.
-fn joined_text<'a, R: DefinitionReader>(
+/// Kept blocks and written ones side by side, in the first manner in which they are read as the events, or else in the last
+/// one.
+fn side_by_side<'a, R: DefinitionReader>(
     tools: &Tools<'_, '_, R>,
     source: &str,
     work: &Work<'_>,
     events: &'a [(Event<'a>, (usize, usize))],
-) -> Result<Output, Fault>
-    ensures says { IfOk result (λ output.
-        SaysSame (λ text. R.reading tools.now.reader.now text tools.now.flags)
+) -> Result<Tried, Fault>
+    ensures says { IfOk result (λ tried. IsNone tried.otherwise
+        → SaysSame (λ text. R.reading tools.now.reader.now text tools.now.flags)
         (map string_bytes work.now.defined.now) (given_events events.now)
-        (string_bytes output.text)) }
-    ensures parts { IfOk result (λ output. Builds source.now output) }
+        (string_bytes tried.output.text)) }
+    ensures otherwise { IfOk result (λ tried. IfSome tried.otherwise (λ _.
+        ¬ (SaysSame (λ text. R.reading tools.now.reader.now text tools.now.flags)
+        (map string_bytes work.now.defined.now) (given_events events.now)
+        (string_bytes tried.output.text)))) }
+    ensures parts { IfOk result (λ tried. Builds source.now tried.output) }
     ensures refused { IfErr result
         (IsVain (λ text. R.reading tools.now.reader.now text tools.now.flags)
         (map string_bytes work.now.defined.now) source.now (given_events events.now)) }
@@ -564,7 +582,81 @@ fn joined_text<'a, R: DefinitionReader>(
         redefined: &redefined,
         line_end: tools.line_end,
     };
-    try_manners(tools, source, work, &joints, written, events)
+    Ok(try_manners(tools, source, work, &joints, written, events)?)
+}
+
+/// How often misread blocks beside a change are written, too.
+const LOOSENINGS: usize = 2;
+
+/// Kept blocks and written ones side by side, of which misread ones beside a change are written, too, as they are read as
+/// the events; none if no such text is found. A text was tried without that.
+fn loosened_text<'a, R: DefinitionReader>(
+    tools: &Tools<'_, '_, R>,
+    source: &str,
+    work: &Work<'_>,
+    events: &'a [(Event<'a>, (usize, usize))],
+    text: &str,
+) -> Result<Option<Output>, AllocError>
+    ensures says { IfOk result (λ answer. IfSome answer (λ output.
+        SaysSame (λ text. R.reading tools.now.reader.now text tools.now.flags)
+        (map string_bytes work.now.defined.now) (given_events events.now)
+        (string_bytes output.text))) }
+    ensures parts { IfOk result (λ answer. IfSome answer (λ output. Builds source.now output)) }
+{
+    let alloc = tools.alloc;
+    let mut misread = misread_trees(tools, work, text, events)?;
+    let mut plans = Vec::new(alloc);
+    plans.extend_from_slice(work.plans)?;
+    for _round in 0..LOOSENINGS {
+        match loosened(alloc, &plans, &misread)? {
+            Some(looser) => plans = looser,
+            None => break,
+        }
+        let looser = Work {
+            plans: &plans,
+            ..*work
+        };
+        let tried = match side_by_side(tools, source, &looser, events) {
+            Ok(tried) => tried,
+            Err(Fault::OutOfMemory) => return Err(AllocError),
+            Err(_) => break,
+        };
+        if tried.otherwise.is_none() {
+            let written = released(alloc, work.plans, &plans)?;
+            return Ok(Some(Output {
+                written,
+                ..tried.output
+            }));
+        }
+        misread = misread_trees(tools, work, tried.output.text.as_str(), events)?;
+    }
+    Ok(None)
+}
+
+/// Kept blocks and written ones side by side, as they are read as the events.
+fn joined_text<'a, R: DefinitionReader>(
+    tools: &Tools<'_, '_, R>,
+    source: &str,
+    work: &Work<'_>,
+    events: &'a [(Event<'a>, (usize, usize))],
+) -> Result<Output, Fault>
+    ensures says { IfOk result (λ output.
+        SaysSame (λ text. R.reading tools.now.reader.now text tools.now.flags)
+        (map string_bytes work.now.defined.now) (given_events events.now)
+        (string_bytes output.text)) }
+    ensures parts { IfOk result (λ output. Builds source.now output) }
+    ensures refused { IfErr result
+        (IsVain (λ text. R.reading tools.now.reader.now text tools.now.flags)
+        (map string_bytes work.now.defined.now) source.now (given_events events.now)) }
+{
+    let first = side_by_side(tools, source, work, events)?;
+    let Some(place) = first.otherwise else {
+        return Ok(first.output);
+    };
+    match loosened_text(tools, source, work, events, first.output.text.as_str())? {
+        Some(output) => Ok(output),
+        None => Err(Fault::ReadOtherwise(place)),
+    }
 }
 
 /// The new text: the source if nothing was changed, else with patches, else kept and written blocks.
@@ -674,6 +766,7 @@ pub fn rewritten_slice<'a, R: DefinitionReader>(
 /// - If a word was made strong, emphasized, struck through, code or a link, or isn't any more, just the delimiters change.
 /// - If more was changed, the innermost block or item with a change is written again, or else the block at the top.
 /// - If blocks at the top were added or removed, the others keep their lines, and so does what stands between them.
+/// - If a block beside a change would be parsed otherwise there, it is written again, too.
 ///
 /// The new text is parsed. It is answered only if it has these events, with neighbouring texts joined, and defines each label
 /// that the source defines (`edited`). It consists of slices of the source and of written texts (`parts`). The answer also

@@ -2,7 +2,7 @@ use Rattle.std.proofs.Common.{ℕ, List, map, string_bytes}
 use Rattle.tocmark_compare.specs.Given.{given_events}
 use Rattle.tocmark_rewrite.specs.Edited.{IsVain}
 use Rattle.tocmark_rewrite.proofs.Causes.{err-from}
-use Rattle.tocmark_rewrite.proofs.rewrite.joined_text.Goals as goal
+use Rattle.tocmark_rewrite.proofs.rewrite.side_by_side.Goals as goal
 
 pub returns-in_err-pieces-clause-refused : goal.returns-in_err-pieces-clause-refused
 returns-in_err-pieces-clause-refused g c =
