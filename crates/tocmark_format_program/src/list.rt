@@ -6,6 +6,9 @@ use crate::search::Search;
 use std::io::Read;
 use std::{fs, io, str};
 
+/// What is wrong with a line that ends as on Windows.
+const RETURN: &str = "the name ends with a carriage return; end lines with a line feed alone";
+
 /// What a list has, or standard input.
 fn bytes_of(rt: &HostRuntime, path: &str) -> io::Result<Vec<u8>> {
     if path != "-" {
@@ -14,6 +17,11 @@ fn bytes_of(rt: &HostRuntime, path: &str) -> io::Result<Vec<u8>> {
     let mut bytes = Vec::new(rt.alloc());
     rt.stdin().read_to_end(&mut bytes)?;
     Ok(bytes)
+}
+
+/// The name of a list in messages.
+fn shown_name(path: &str) -> &str {
+    if path == "-" { "standard input" } else { path }
 }
 
 fn add_name(rt: &HostRuntime, search: &mut Search, name: &[u8]) -> Result<(), Refused> {
@@ -38,6 +46,36 @@ fn fault_of(bytes: &[u8], end: u8) -> Option<&'static str> {
     }
 }
 
+/// Whether a carriage return ends this line of a list, and not the name of a file.
+fn ends_with_return(rt: &HostRuntime, line: &[u8]) -> bool {
+    match str::from_utf8(line) {
+        Ok(name) => name.ends_with('\r') && fs::symlink_metadata(rt, name).is_err(),
+        Err(_) => false,
+    }
+}
+
+/// Adds what the names in the text of a list mean, which end with this byte.
+fn add_names(
+    rt: &HostRuntime,
+    search: &mut Search,
+    path: &str,
+    bytes: &[u8],
+    end: u8,
+) -> Result<(), Refused> {
+    let mut number = 0usize;
+    for name in bytes.split(|byte| *byte == end) {
+        number = number.saturating_add(1);
+        if end == b'\n' && ends_with_return(rt, name) {
+            let path = String::from_str(rt.alloc(), shown_name(path))?;
+            return Err(Refused::ListLine(path, number, RETURN));
+        }
+        if !name.is_empty() {
+            add_name(rt, search, name)?;
+        }
+    }
+    Ok(())
+}
+
 /// Adds what the names in a list mean, which end with this byte.
 pub fn add_list(rt: &HostRuntime, search: &mut Search, path: &str, end: u8) -> Result<(), Refused> {
     let bytes = match bytes_of(rt, path) {
@@ -51,13 +89,8 @@ pub fn add_list(rt: &HostRuntime, search: &mut Search, path: &str, end: u8) -> R
         }
     };
     if let Some(why) = fault_of(&bytes, end) {
-        let name = if path == "-" { "standard input" } else { path };
-        return Err(Refused::List(String::from_str(rt.alloc(), name)?, why));
+        let name = String::from_str(rt.alloc(), shown_name(path))?;
+        return Err(Refused::List(name, why));
     }
-    for name in bytes.split(|byte| *byte == end) {
-        if !name.is_empty() {
-            add_name(rt, search, name)?;
-        }
-    }
-    Ok(())
+    add_names(rt, search, path, &bytes, end)
 }

@@ -26,6 +26,8 @@ pub enum Refused {
     Unreadable(String, io::Error),
     /// A list of files, and what is wrong in it.
     List(String, &'static str),
+    /// A list of files, a line of it, and what is wrong there.
+    ListLine(String, usize, &'static str),
     /// A configuration file, and what is wrong in it.
     Wrong(String, ConfigError),
     OutOfMemory,
@@ -63,6 +65,10 @@ impl fmt::Display for Refused {
             Refused::List(path, why) => {
                 let path = Quoted(path.as_str());
                 write!(f, "{path}: the list of files has {why}")
+            }
+            Refused::ListLine(path, line, why) => {
+                let path = Quoted(path.as_str());
+                write!(f, "{path}:{line}: {why}")
             }
             Refused::Wrong(path, error) => {
                 let path = Quoted(path.as_str());
