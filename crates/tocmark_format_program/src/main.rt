@@ -257,7 +257,12 @@ fn is_only_input(found: &Found) -> bool {
 }
 
 /// Refuses options that don't go together.
-fn check_input(paths: &[&str], list: Option<&str>, name: Option<&str>) -> Result<(), Refused> {
+fn check_input(
+    paths: &[&str],
+    list: Option<&str>,
+    has_null: bool,
+    name: Option<&str>,
+) -> Result<(), Refused> {
     let mut has_input = false;
     let mut has_files = list.is_some();
     for path in paths {
@@ -272,6 +277,9 @@ fn check_input(paths: &[&str], list: Option<&str>, name: Option<&str>) -> Result
     }
     if has_input && list == Some("-") {
         return Err(Refused::Usage("standard input cannot be a list and a text at once"));
+    }
+    if has_null && list.is_none() {
+        return Err(Refused::Usage("-0 wants --files-from FILE, where - is standard input"));
     }
     Ok(())
 }
@@ -304,13 +312,14 @@ fn add_all(
 ) -> Result<(), Refused> {
     let paths = matches.get_strs("path").unwrap_or(&[]);
     let list = matches.get_str("files-from");
+    let has_null = matches.get_flag("null");
     let name = matches.get_str("stdin-filepath");
-    check_input(paths, list, name)?;
+    check_input(paths, list, has_null, name)?;
     if let Some(name) = name {
         return search.add_input_as(rt, name);
     }
     if let Some(list) = list {
-        let end = if matches.get_flag("null") { 0 } else { b'\n' };
+        let end = if has_null { 0 } else { b'\n' };
         add_list(rt, search, list, end)?;
     }
     for path in paths {
