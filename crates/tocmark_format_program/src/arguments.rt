@@ -2,7 +2,7 @@
 
 use crate::lookup::{Refused, whole_path};
 use crate::outcome::Terms;
-use crate::rules::Rules;
+use crate::rules::{Rules, WANTED};
 use crate::settings::{KEYS, Key, Setting, Settings, set_all};
 use clap::{Arg, ArgAction, ArgMatches, Command};
 use std::alloc::{AllocError, Global};
@@ -345,7 +345,7 @@ fn globs_of(
     let mut rules = Rules::new(rt.alloc(), folder.as_str())?;
     for glob in globs {
         if !rules.add_glob(rt.alloc(), glob)? {
-            return Err(Refused::Option(option, "a glob whose brackets and braces are closed"));
+            return Err(Refused::Option(option, WANTED));
         }
     }
     Ok(Some(rules))

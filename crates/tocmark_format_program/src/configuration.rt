@@ -1,6 +1,6 @@
 //! Configuration files: TOML, whose keys are the long options of formatting, `exclude`, `include` and `overrides`.
 
-use crate::rules::{Entry, Rules};
+use crate::rules::{Entry, Rules, WANTED};
 use crate::settings::{Key, Setting, Settings, key_named, set_all};
 use crate::text::{line_behind, text_of};
 use std::alloc::{AllocError, AllocFailed, Global};
@@ -174,12 +174,11 @@ impl<'t> Source<'t> {
         };
         let mut rules = Rules::new(self.alloc, self.folder)?;
         for value in values {
-            let is_added = match value.as_str() {
-                Some(glob) => rules.add_glob(self.alloc, glob)?,
-                None => false,
-            };
-            if !is_added {
+            let Some(glob) = value.as_str() else {
                 return Err(self.wrong(key, GLOBS));
+            };
+            if !rules.add_glob(self.alloc, glob)? {
+                return Err(self.wrong(key, WANTED));
             }
         }
         Ok(Some(rules))

@@ -3,6 +3,9 @@
 use crate::glob::Glob;
 use std::alloc::{AllocError, Global};
 
+/// What a glob must be, as messages say it.
+pub const WANTED: &str = "a glob whose brackets and braces are closed";
+
 /// A file or folder.
 #[derive(Clone, Copy)]
 pub struct Entry<'p> {
