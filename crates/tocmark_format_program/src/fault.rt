@@ -14,6 +14,9 @@ use tocmark_command::replace::ReplaceError;
 pub enum Fault {
     #[error("cannot be read: {0}")]
     Read(io::Error),
+    /// Nothing has this name, which can be a glob.
+    #[error("no such file; for a glob, pass --include GLOB and a folder")]
+    Glob,
     #[error("line {0} is not UTF-8")]
     NotUtf8(usize),
     #[error("is not formatted: the name is not UTF-8")]

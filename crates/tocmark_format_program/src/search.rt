@@ -7,7 +7,7 @@ use crate::lookup::{Configurations, Refused, folder_of, joined, whole_path};
 use crate::rules::{Entry, Rules, name_of};
 use crate::settings::{Settings, set_all};
 use std::collections::{HashMap, HashSet};
-use std::fs;
+use std::{fs, io};
 
 /// Where a text comes from, and what becomes of it.
 #[derive(Clone, Copy, Drop)]
@@ -85,6 +85,15 @@ fn is_passed_by(name: &str) -> bool {
         }
     }
     name.starts_with('.') && name != ".github"
+}
+
+/// Why what a path names isn't found.
+fn unfound(path: &str, error: io::Error) -> Fault {
+    if error.kind() == io::ErrorKind::NotFound && path.contains(&['*', '?', '[']) {
+        Fault::Glob
+    } else {
+        Fault::Read(error)
+    }
 }
 
 impl Search {
@@ -274,7 +283,7 @@ impl Search {
             Ok(metadata) if metadata.is_dir() => self.add_below(rt, path),
             Ok(metadata) if metadata.is_file() => self.add_file(rt, path),
             Ok(_) => self.fail(rt, path, Fault::NotRegular),
-            Err(error) => self.fail(rt, path, Fault::Read(error)),
+            Err(error) => self.fail(rt, path, unfound(path, error)),
         }
     }
 
