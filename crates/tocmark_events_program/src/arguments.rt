@@ -1,7 +1,7 @@
 //! What a call asks for.
 
 use crate::settings::{Unset, set};
-use clap::{ArgMatches, Command};
+use clap::{Arg, ArgAction, ArgMatches, Command};
 use std::alloc::{AllocError, Global};
 use std::fmt;
 use tocmark::event::ParserOptions;
@@ -80,6 +80,8 @@ impl<'a> Job<'a> {
 #[derive(Clone, Copy, Drop)]
 pub enum Refusal<'a> {
     NoVerb,
+    /// This command is given a file, and not standard input.
+    File(&'a str),
     Syntax,
     Extension,
     NoSource,
@@ -93,6 +95,9 @@ impl<'a> fmt::Display for Refusal<'a> {
     fn fmt<W: fmt::Write>(&self, f: &mut fmt::Formatter<W>) -> fmt::Result {
         match self {
             Refusal::NoVerb => write!(f, "read, write, rewrite or check is wanted"),
+            Refusal::File(verb) => {
+                write!(f, "{verb} reads standard input, as {NAME} {verb} <FILE")
+            }
             Refusal::Syntax => write!(f, "--syntax wants commonmark, gfm or all"),
             Refusal::Extension => write!(
                 f,
@@ -203,6 +208,15 @@ const MARKDOWN_OPTIONS: [CommandOption<'static>; 3] = [
     },
 ];
 
+/// The command of this name. It takes words, for a message that it reads standard input.
+fn verb<'a>(alloc: Global, name: &'a str, about: &'a str) -> Result<Command<'a>, AllocError> {
+    let words = Arg::new(alloc, "file")
+        .action(ArgAction::Append)
+        .num_args(0..)
+        .hide(true);
+    Command::new(alloc, name).about(about).arg(words)
+}
+
 /// The command with these options, those of each command that writes Markdown, and those of the syntax.
 fn writing_command<'a>(
     alloc: Global,
@@ -216,18 +230,18 @@ fn writing_command<'a>(
 }
 
 fn read_command<'a>(alloc: Global, syntax_help: &'a str) -> Result<Command<'a>, AllocError> {
-    let read = Command::new(alloc, "read").about(READ);
+    let read = verb(alloc, "read", READ)?;
     let read = with_options(alloc, read, &READ_OPTIONS)?;
     with_syntax(alloc, read, syntax_help)
 }
 
 fn rewrite_command<'a>(alloc: Global, syntax_help: &'a str) -> Result<Command<'a>, AllocError> {
-    let rewrite = Command::new(alloc, "rewrite").about(REWRITE);
+    let rewrite = verb(alloc, "rewrite", REWRITE)?;
     writing_command(alloc, rewrite, &REWRITE_OPTIONS, syntax_help)
 }
 
 fn write_command<'a>(alloc: Global, syntax_help: &'a str) -> Result<Command<'a>, AllocError> {
-    let write = Command::new(alloc, "write").about(WRITE);
+    let write = verb(alloc, "write", WRITE)?;
     writing_command(alloc, write, &WRITE_OPTIONS, syntax_help)
 }
 
@@ -249,7 +263,7 @@ pub fn command<'a>(alloc: Global, syntax_help: &'a str) -> Result<Command<'a>, A
     let command = with_subcommand(command, read_command(alloc, syntax_help))?;
     let command = with_subcommand(command, rewrite_command(alloc, syntax_help))?;
     let command = with_subcommand(command, write_command(alloc, syntax_help))?;
-    command.subcommand(Command::new(alloc, "check").about(CHECK))
+    with_subcommand(command, verb(alloc, "check", CHECK))
 }
 
 /// The flags of the syntax and the extensions that are named.
@@ -341,6 +355,9 @@ pub fn asked<'a>(
     let Some((name, matches)) = matches.subcommand() else {
         return Err(Refusal::NoVerb);
     };
+    if matches.contains_id("file") {
+        return Err(Refusal::File(name));
+    }
     if name == "check" {
         return Ok(Call::Whole(Job::Check));
     }
