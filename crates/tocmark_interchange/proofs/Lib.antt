@@ -7,6 +7,7 @@ mod Rewritten
 mod Commas
 mod Again
 mod LinesPassed
+mod LineExamples
 mod LinesTaken
 mod LinesStreamed
 mod PackedCuts

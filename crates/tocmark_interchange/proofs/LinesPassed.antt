@@ -4,24 +4,24 @@ use Rattle.std.specs.Borrow.{Bor}
 use Rattle.std.specs.Str.Lines.{lines}
 use Rattle.std.proofs.lemmas.Iterator.{YieldsList}
 use Rattle.tocmark_state.specs.Ranges.{Pair}
-use Rattle.tocmark_interchange.specs.Lines.{AreLinesOf, IsBadLine, IsFirstBadLine, IsLineOf, IsNoLine}
+use Rattle.tocmark_interchange.specs.Lines.{AreLinesOf, IsBadLine, IsFirstBadLine, IsLineOf, IsNoLine, have_ranges}
 use Rattle.tocmark_interchange.specs.declared.fault.WriteError.{WriteError}
 use Rattle.tocmark_interchange.specs.declared.fault.WriteError.TheVariants as write_error
 
 -- the lines before a place are those of these events, and an iterator over them stands there
-pub record IsPassed {S : Type 0} (steps : S → Option (Bor (List ℕ)) → S → Type 0) (has_ranges : Bool) (all : List (List ℕ)) (s : S) (count : ℕ) (pairs : List Pair) : Type 0 where
+pub record IsPassed {S : Type 0} (steps : S → Option (Bor (List ℕ)) → S → Type 0) (input : List ℕ) (s : S) (count : ℕ) (pairs : List Pair) : Type 0 where
   pub before : List (List ℕ)
   pub left : List (List ℕ)
-  pub split : all ≡ before ++ left
+  pub split : lines input ≡ before ++ left
   pub yields : YieldsList steps (λ (x : Bor (List ℕ)). x.now) s left
   pub counted : count ≡ length before
-  pub are_lines : AreLinesOf has_ranges before pairs
+  pub are_lines : AreLinesOf (have_ranges input) before pairs
 
 -- no line is passed
-pub none_passed : {S : Type 0} (steps : S → Option (Bor (List ℕ)) → S → Type 0) (has_ranges : Bool) (all : List (List ℕ)) (s : S) (count : ℕ) → count ≡ 0 → YieldsList steps (λ (x : Bor (List ℕ)). x.now) s all → IsPassed steps has_ranges all s count []
-none_passed steps has_ranges all s count none yields = record { before = []; left = all; split = refl; yields = yields; counted = none; are_lines = tt }
+pub none_passed : {S : Type 0} (steps : S → Option (Bor (List ℕ)) → S → Type 0) (input : List ℕ) (s : S) (count : ℕ) → count ≡ 0 → YieldsList steps (λ (x : Bor (List ℕ)). x.now) s (lines input) → IsPassed steps input s count []
+none_passed steps input s count none yields = record { before = []; left = lines input; split = refl; yields = yields; counted = none; are_lines = tt }
 
-first_left : {S : Type 0} (steps : S → Option (Bor (List ℕ)) → S → Type 0) (s t : S) (x : Bor (List ℕ)) (left : List (List ℕ)) → YieldsList steps (λ (y : Bor (List ℕ)). y.now) s left → steps s (Some x) t → (more : List (List ℕ)) × (left ≡ x.now ∷ more) × YieldsList steps (λ (y : Bor (List ℕ)). y.now) t more
+pub first_left : {S : Type 0} (steps : S → Option (Bor (List ℕ)) → S → Type 0) (s t : S) (x : Bor (List ℕ)) (left : List (List ℕ)) → YieldsList steps (λ (y : Bor (List ℕ)). y.now) s left → steps s (Some x) t → (more : List (List ℕ)) × (left ≡ x.now ∷ more) × YieldsList steps (λ (y : Bor (List ℕ)). y.now) t more
 first_left steps s t x [] yields step = absurd (yields.runs x t step)
 first_left steps s t x (l ∷ ls) yields step =
     (ls, ap (λ (a : List ℕ). a ∷ ls) (sym (yields.runs.1 x t step).0), record { runs = (yields.runs.1 x t step).1 })
@@ -40,8 +40,8 @@ counts_more : (n m k : ℕ) → n ≡ k → m ≡ n + 1 → m ≡ k + 1
 counts_more n m k h i = i ∙ ap (λ (j : ℕ). j + 1) h
 
 -- one more line is that of an event
-pub passed_more : {S : Type 0} (steps : S → Option (Bor (List ℕ)) → S → Type 0) (has_ranges : Bool) (all : List (List ℕ)) (s t : S) (n m : ℕ) (pairs : List Pair) (x : Bor (List ℕ)) (pair : Pair) → IsPassed steps has_ranges all s n pairs → steps s (Some x) t → m ≡ n + 1 → IsLineOf has_ranges x.now pair → IsPassed steps has_ranges all t m (pairs ++ pair ∷ [])
-passed_more steps has_ranges all s t n m pairs x pair h step more line =
+pub passed_more : {S : Type 0} (steps : S → Option (Bor (List ℕ)) → S → Type 0) (input : List ℕ) (s t : S) (n m : ℕ) (pairs : List Pair) (x : Bor (List ℕ)) (pair : Pair) (has_ranges : Bool) → has_ranges ≡ have_ranges input → IsPassed steps input s n pairs → steps s (Some x) t → m ≡ n + 1 → IsLineOf has_ranges x.now pair → IsPassed steps input t m (pairs ++ pair ∷ [])
+passed_more steps input s t n m pairs x pair has_ranges decided h step more line =
     let next = first_left steps s t x h.left h.yields step in
     record {
       before = h.before ++ x.now ∷ [];
@@ -49,26 +49,25 @@ passed_more steps has_ranges all s t n m pairs x pair h step more line =
       split = h.split ∙ ap (λ (l : List (List ℕ)). h.before ++ l) next.1 ∙ sym (append_assoc h.before (x.now ∷ []) next.0);
       yields = next.2;
       counted = counts_more n m (length h.before) h.counted more ∙ sym (length-append h.before (x.now ∷ []));
-      are_lines = one_more has_ranges h.before pairs x.now pair h.are_lines line;
+      are_lines = one_more (have_ranges input) h.before pairs x.now pair h.are_lines (subst (λ (b : Bool). IsLineOf b x.now pair) decided line);
     }
 
 -- all lines are passed
-pub passed_all : {S : Type 0} (steps : S → Option (Bor (List ℕ)) → S → Type 0) (has_ranges : Bool) (all : List (List ℕ)) (s t : S) (n : ℕ) (pairs : List Pair) → IsPassed steps has_ranges all s n pairs → steps s None t → AreLinesOf has_ranges all pairs
-passed_all steps has_ranges all s t n pairs h step =
-    subst (λ (l : List (List ℕ)). AreLinesOf has_ranges l pairs) (sym (h.split ∙ ap (λ (l : List (List ℕ)). h.before ++ l) (none_left steps s t h.left h.yields step) ∙ append-nil h.before)) h.are_lines
+pub passed_all : {S : Type 0} (steps : S → Option (Bor (List ℕ)) → S → Type 0) (input : List ℕ) (s t : S) (n : ℕ) (pairs : List Pair) → IsPassed steps input s n pairs → steps s None t → AreLinesOf (have_ranges input) (lines input) pairs
+passed_all steps input s t n pairs h step =
+    subst (λ (l : List (List ℕ)). AreLinesOf (have_ranges input) l pairs) (sym (h.split ∙ ap (λ (l : List (List ℕ)). h.before ++ l) (none_left steps s t h.left h.yields step) ∙ append-nil h.before)) h.are_lines
 
-first_bad : {S : Type 0} (steps : S → Option (Bor (List ℕ)) → S → Type 0) (has_ranges : Bool) (input : List ℕ) (s t : S) (n : ℕ) (pairs : List Pair) (x : Bor (List ℕ)) (e : WriteError) → IsPassed steps has_ranges (lines input) s n pairs → steps s (Some x) t → IsNoLine has_ranges x.now n e → IsFirstBadLine input e
-first_bad steps has_ranges input s t n pairs x e h step bad =
+first_bad : {S : Type 0} (steps : S → Option (Bor (List ℕ)) → S → Type 0) (input : List ℕ) (s t : S) (n : ℕ) (pairs : List Pair) (x : Bor (List ℕ)) (e : WriteError) → IsPassed steps input s n pairs → steps s (Some x) t → IsNoLine (have_ranges input) x.now n e → IsFirstBadLine input e
+first_bad steps input s t n pairs x e h step bad =
     let next = first_left steps s t x h.left h.yields step in
     record {
-      has_ranges = has_ranges;
       before = h.before;
       line = x.now;
       after = next.0;
       pairs = pairs;
       split = h.split ∙ ap (λ (l : List (List ℕ)). h.before ++ l) next.1;
       are_lines = h.are_lines;
-      is_bad = subst (λ (k : ℕ). IsNoLine has_ranges x.now k e) h.counted bad;
+      is_bad = subst (λ (k : ℕ). IsNoLine (have_ranges input) x.now k e) h.counted bad;
     }
 
 by_error : (input : List ℕ) (e : WriteError) → IsFirstBadLine input e → IsBadLine input e
@@ -78,6 +77,6 @@ by_error input (write_error.Refused p e) h = h
 by_error input write_error.OutOfMemory h = tt
 
 -- the next line is that of no event
-pub next_bad : {S : Type 0} (steps : S → Option (Bor (List ℕ)) → S → Type 0) (has_ranges : Bool) (input : List ℕ) (s t : S) (n m : ℕ) (pairs : List Pair) (x : Bor (List ℕ)) (e : WriteError) → IsPassed steps has_ranges (lines input) s n pairs → steps s (Some x) t → m ≡ n → IsNoLine has_ranges x.now m e → IsBadLine input e
-next_bad steps has_ranges input s t n m pairs x e h step same bad =
-    by_error input e (first_bad steps has_ranges input s t n pairs x e h step (subst (λ (k : ℕ). IsNoLine has_ranges x.now k e) same bad))
+pub next_bad : {S : Type 0} (steps : S → Option (Bor (List ℕ)) → S → Type 0) (input : List ℕ) (s t : S) (n m : ℕ) (pairs : List Pair) (x : Bor (List ℕ)) (e : WriteError) (has_ranges : Bool) → has_ranges ≡ have_ranges input → IsPassed steps input s n pairs → steps s (Some x) t → m ≡ n → IsNoLine has_ranges x.now m e → IsBadLine input e
+next_bad steps input s t n m pairs x e has_ranges decided h step same bad =
+    by_error input e (first_bad steps input s t n pairs x e h step (subst (λ (k : ℕ). IsNoLine (have_ranges input) x.now k e) same (subst (λ (b : Bool). IsNoLine b x.now m e) decided bad)))

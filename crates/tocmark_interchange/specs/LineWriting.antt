@@ -5,7 +5,7 @@ use Rattle.std.specs.Str.Lines.{lines}
 use Rattle.tocmark_event.specs.Options.{OptionsView}
 use Rattle.tocmark_event.specs.declared.event.flags.ParserOptions.{ParserOptions}
 use Rattle.tocmark_interchange.specs.Interchange.{in_source}
-use Rattle.tocmark_interchange.specs.Lines.{AreLinesOf, IsBadLine}
+use Rattle.tocmark_interchange.specs.Lines.{AreLinesOf, IsBadLine, have_ranges}
 use Rattle.tocmark_interchange.specs.declared.line_writing.Stop.{Stop}
 use Rattle.tocmark_interchange.specs.declared.line_writing.Stop.TheVariants as stop
 use Rattle.tocmark_read_scan.specs.declared.syntax.Names.TheVariants.{All}
@@ -30,9 +30,8 @@ pub record HasTaken (options : OptionsView) (flags : ParserOptions) (source : Li
 
 -- a state took the events that a text has by lines
 pub record HasTakenLines (options : OptionsView) (flags : ParserOptions) (has_source : Bool) (source input : List ℕ) (state : State UnitReader) (output : List ℕ) : Type 0 where
-  pub has_ranges : Bool
   pub pairs : List Pair
-  pub are_lines : AreLinesOf has_ranges (lines input) pairs
+  pub are_lines : AreLinesOf (have_ranges input) (lines input) pairs
   pub has_taken : HasTaken options flags source (in_source has_source pairs) state output
 
 -- why a text by lines isn't written line by line; of events that the writer refuses, nothing is said

@@ -1,8 +1,9 @@
 -- JSON by lines.
-use Rattle.std.specs.Prelude.{◌≡◌, ◌==◌, ℕ, List, [], ◌∷◌, ◌++◌, Bool, true, false, Option, Some, None, length, map}
+use Rattle.std.specs.Prelude.{◌≡◌, ◌==◌, ℕ, List, [], ◌∷◌, ◌++◌, Bool, true, false, Option, Some, None, is_some, length, map, option_and_then}
 use Rattle.std.specs.Io.KnownBytes.{Appends}
 use Rattle.std.specs.Str.Lines.{lines}
 use Rattle.serde_json.specs.Data.{Data}
+use Rattle.serde_json.specs.Find.{as_array}
 use Rattle.serde_json.specs.Read.{read}
 use Rattle.tocmark_event.specs.Options.{OptionsView}
 use Rattle.tocmark_event.specs.View.{EventView}
@@ -78,11 +79,19 @@ AreLinesOf has_ranges [] (pair ∷ pairs) = ⊥
 AreLinesOf has_ranges (line ∷ more) [] = ⊥
 AreLinesOf has_ranges (line ∷ more) (pair ∷ pairs) = IsLineOf has_ranges line pair × AreLinesOf has_ranges more pairs
 
+-- the first of some lines is an array
+abbrev pub begin_with_array : List (List ℕ) → Bool
+begin_with_array [] = false
+begin_with_array (line ∷ more) = is_some (option_and_then as_array (read line))
+
+-- the first line decides what each line has to be: if it is an array, an event with its range, else an event alone
+abbrev pub have_ranges : List ℕ → Bool
+have_ranges input = begin_with_array (lines input)
+
 -- the events that a text has by lines, written over the source, if there is one, are this text
 pub record IsWrittenFromLines (options : OptionsView) (flags : ParserOptions) (has_source : Bool) (source input output : List ℕ) : Type 0 where
-  pub has_ranges : Bool
   pub pairs : List Pair
-  pub are_lines : AreLinesOf has_ranges (lines input) pairs
+  pub are_lines : AreLinesOf (have_ranges input) (lines input) pairs
   pub is_written : IsWritten options flags source (in_source has_source pairs) output
 
 -- the error names the element of this number, whose value is that of no event
@@ -97,16 +106,15 @@ IsNoLine has_ranges line number (write_error.NotEvents e) = (value : Data) × (r
 IsNoLine has_ranges line number (write_error.Refused p e) = ⊥
 IsNoLine has_ranges line number write_error.OutOfMemory = Unit {0}
 
--- a line is that of no event, and those before it are lines of events
+-- a line is not what the first line decides, and those before it are
 pub record IsFirstBadLine (input : List ℕ) (e : WriteError) : Type 0 where
-  pub has_ranges : Bool
   pub before : List (List ℕ)
   pub line : List ℕ
   pub after : List (List ℕ)
   pub pairs : List Pair
   pub split : lines input ≡ before ++ line ∷ after
-  pub are_lines : AreLinesOf has_ranges before pairs
-  pub is_bad : IsNoLine has_ranges line (length before) e
+  pub are_lines : AreLinesOf (have_ranges input) before pairs
+  pub is_bad : IsNoLine (have_ranges input) line (length before) e
 
 -- a line is that of no event, or memory ran out
 abbrev pub IsBadLine : List ℕ → WriteError → Type 0
@@ -116,5 +124,5 @@ IsBadLine input e = IsFirstBadLine input e
 -- why the events that a text has by lines are not written: a line is that of none, the writer refuses them, or memory ran out
 abbrev pub IsLinesCause : OptionsView → ParserOptions → Bool → List ℕ → List ℕ → WriteError → Type 0
 IsLinesCause options flags has_source source input (write_error.Refused p e) =
-    (has_ranges : Bool) × (pairs : List Pair) × AreLinesOf has_ranges (lines input) pairs × IsRefusal (writing options flags source (in_source has_source pairs)) e
+    (pairs : List Pair) × AreLinesOf (have_ranges input) (lines input) pairs × IsRefusal (writing options flags source (in_source has_source pairs)) e
 IsLinesCause options flags has_source source input e = IsBadLine input e

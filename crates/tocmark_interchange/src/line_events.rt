@@ -1,13 +1,14 @@
 //! The events of JSON by lines.
 
-ghost use Rattle.std.specs.Prelude.{◌≡◌, ℕ, Bool, IfErr, IfOk, List, None, Some, map};
+ghost use Rattle.std.specs.Prelude.{◌≡◌, ℕ, Bool, IfErr, IfOk, List, None, Some, is_some, map};
 ghost use Rattle.std.specs.Str.Lines.{lines};
+ghost use Rattle.serde_json.specs.Find.{as_array};
 ghost use Rattle.serde_json.specs.Read.{read};
 ghost use Rattle.tocmark_event.specs.Text.{text_of};
 ghost use Rattle.tocmark_json.specs.Elements.{IsElement};
 ghost use Rattle.tocmark_json.specs.Json.{pair_view};
 ghost use Rattle.tocmark_json.specs.Node.{view};
-ghost use Rattle.tocmark_interchange.specs.Lines.{AreLinesOf, IsBadLine, IsLineOf, IsNoLine};
+ghost use Rattle.tocmark_interchange.specs.Lines.{AreLinesOf, IsBadLine, IsLineOf, IsNoLine, have_ranges};
 
 use crate::fault::WriteError;
 use crate::pairs::Placed;
@@ -18,9 +19,27 @@ use tocmark_json::elements::element_from;
 use tocmark_json::fault::{Fault, JsonError, TextError};
 use tocmark_json::node::Node;
 
-/// Whether the first line has a pair of an event and its range.
-pub(crate) fn begins_with_pair(text: &str) -> bool {
-    text.trim_start().starts_with('[')
+/// Whether a value is an array.
+fn is_array(value: &Node<'_>) -> bool
+    ensures { result ≡ is_some (as_array (view value.now)) }
+{
+    matches!(value, Node::Array(_))
+}
+
+/// Whether the lines are pairs of an event and its range. The first one tells: a pair is an array.
+pub(crate) fn are_pairs(alloc: Global, text: &str) -> Result<bool, WriteError>
+    ensures first { IfOk result (λ are_pairs. are_pairs ≡ have_ranges text.now) }
+    ensures cause { IfErr result (IsBadLine text.now) }
+{
+    let Some(line) = text.lines().next() else {
+        return Ok(false);
+    };
+    let mut scratch = Scratch::new(alloc);
+    match Node::from_str(alloc, line, &mut scratch) {
+        Ok(value) => Ok(is_array(&value)),
+        Err(TextError::NotJson) => Ok(false),
+        Err(TextError::OutOfMemory) => Err(WriteError::OutOfMemory),
+    }
 }
 
 /// A line behind so many line feeds.
@@ -93,11 +112,11 @@ pub(crate) fn pair_in_line(
 
 /// The events of a text by lines, with the ranges that they have there.
 pub(crate) fn pairs_in_lines(alloc: Global, text: &str) -> Result<Vec<Placed<'static>>, WriteError>
-    ensures pairs { IfOk result (λ pairs. (has_ranges : Bool)
-        × AreLinesOf has_ranges (lines text.now) (map (pair_view text_of) pairs.items)) }
+    ensures pairs { IfOk result (λ pairs. AreLinesOf (have_ranges text.now) (lines text.now)
+        (map (pair_view text_of) pairs.items)) }
     ensures cause { IfErr result (IsBadLine text.now) }
 {
-    let has_ranges = begins_with_pair(text);
+    let has_ranges = are_pairs(alloc, text)?;
     let mut pairs = Vec::new(alloc);
     for (number, line) in text.lines().enumerate() {
         let pair = pair_in_line(alloc, line, has_ranges, number)?;

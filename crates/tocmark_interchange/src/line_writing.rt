@@ -11,7 +11,7 @@ ghost use Rattle.tocmark_interchange.specs.Lines.{IsLinesCause, IsWrittenFromLin
 ghost use Rattle.tocmark_state.specs.Ranges.{Pair};
 
 use crate::fault::WriteError;
-use crate::line_events::{begins_with_pair, pair_in_line, pairs_in_lines};
+use crate::line_events::{are_pairs, pair_in_line, pairs_in_lines};
 use crate::pairs::Placed;
 use crate::writing::{lent, written_pairs};
 use std::alloc::Global;
@@ -119,7 +119,7 @@ fn take_lines(
         (string_bytes output.new)) }
     ensures stop { IfErr result (IsStop text.now) }
 {
-    let has_ranges = begins_with_pair(text);
+    let has_ranges = are_pairs(alloc, text)?;
     for (number, line) in text.lines().enumerate() {
         let pair = pair_in_line(alloc, line, has_ranges, number)?;
         let taken = take_placed(state, &pair, source, has_source, output);
@@ -196,8 +196,9 @@ fn written_at_once(
 ///
 /// Never are all events in memory. If the writer refuses them, they are read once more, for the number of the event.
 ///
-/// It fails if a line isn't JSON (`NotJson`, with the number of the line), or not the JSON of an event (`NotEvents`, with
-/// the number of lines before it), if the writer refuses the events (`Refused`, as `write_json`), or if memory runs out.
+/// It fails if a line isn't JSON (`NotJson`, with the number of the line), or not what the first line decides
+/// (`NotEvents`, with the number of lines before it), if the writer refuses the events (`Refused`, as `write_json`), or if
+/// memory runs out.
 ///
 /// ```
 /// let lines = "\"Rule\"\n\"Rule\"\n";

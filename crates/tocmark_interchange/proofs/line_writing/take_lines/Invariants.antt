@@ -1,7 +1,6 @@
 use Rattle.std.proofs.Common.{List, [], string_bytes}
 use Rattle.std.specs.Iterator.Adapters.{enumerate_count, enumerate_source}
 use Rattle.std.specs.Str.Iter.{lines_steps}
-use Rattle.std.specs.Str.Lines.{lines}
 use Rattle.tocmark_event.specs.Options.{OptionsView}
 use Rattle.tocmark_event.specs.declared.event.flags.ParserOptions.{ParserOptions}
 use Rattle.tocmark_state.specs.Ranges.{Pair}
@@ -14,5 +13,5 @@ use Rattle.tocmark_interchange.proofs.line_writing.take_lines.Given as goal
 abbrev pub invariant-loop-number : goal.invariant-loop-number
 invariant-loop-number l =
     (pairs : List Pair)
-    × IsPassed lines_steps l.has_ranges (lines l.text) (enumerate_source l.number-iterator) (enumerate_count l.number-iterator) pairs
+    × IsPassed lines_steps l.text (enumerate_source l.number-iterator) (enumerate_count l.number-iterator) pairs
     × ((options : OptionsView) (flags : ParserOptions) → HasTaken options flags l.source [] l.fn.state (string_bytes l.fn.output) → HasTaken options flags l.source (in_source l.has_source pairs) l.state (string_bytes l.output))
