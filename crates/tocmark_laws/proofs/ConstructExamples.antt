@@ -1,6 +1,6 @@
 -- Examples: texts with a construct of CommonMark, and the events that the laws give them.
 use Rattle.std.proofs.Common.{false, [], ◌∷◌, codes, refl, arith, true, None, Some}
-use Rattle.tocmark_event.specs.View.{Start, End, Leaf, BlockQuote, CodeBlock, Fenced, Item, ListOf, Paragraph, Text, SoftBreak, HardBreak}
+use Rattle.tocmark_event.specs.View.{Start, End, Leaf, BlockQuote, Code, CodeBlock, Fenced, Item, ListOf, Paragraph, Text, SoftBreak, HardBreak}
 use Rattle.tocmark_event.specs.declared.event.TagEnd.TheVariants as end
 use Rattle.tocmark_read_scan.specs.declared.syntax.Syntax.{Syntax}
 use Rattle.tocmark_reader.specs.PlainTexts.{IsReadAs}
@@ -9,12 +9,16 @@ use Rattle.tocmark_laws.specs.HardBreaks.{Softly, ByBackslash, BySpaces}
 use Rattle.tocmark_laws.proofs.BreakReading.{breaks_read}
 use Rattle.tocmark_laws.proofs.BulletReading.{bullets_read}
 use Rattle.tocmark_laws.proofs.CodeReading.{code_read}
+use Rattle.tocmark_laws.proofs.CodeSpanReading.{span_read}
 use Rattle.tocmark_laws.proofs.OrderedReading.{ordered_read}
 use Rattle.tocmark_laws.proofs.PartedReading.{parted_read}
 use Rattle.tocmark_laws.proofs.QuoteReading.{quotes_read}
 
 breaks : (syntax : Syntax) → IsReadAs (reading_of syntax (codes "two\nwords\\\non four   \nlines")) (Start Paragraph ∷ Leaf (Text (codes "two")) ∷ Leaf SoftBreak ∷ Leaf (Text (codes "words")) ∷ Leaf HardBreak ∷ Leaf (Text (codes "on four")) ∷ Leaf HardBreak ∷ Leaf (Text (codes "lines")) ∷ End end.Paragraph ∷ [])
 breaks syntax = breaks_read syntax (codes "two") (record { behind = Softly; line = codes "words" } ∷ record { behind = ByBackslash; line = codes "on four" } ∷ record { behind = BySpaces 1; line = codes "lines" } ∷ []) refl (omega arith)
+
+span : (syntax : Syntax) → IsReadAs (reading_of syntax (codes "`a *b* \\`")) (Start Paragraph ∷ Leaf (Code (codes "a *b* \\")) ∷ End end.Paragraph ∷ [])
+span syntax = span_read syntax (codes "a *b* \\") refl (omega arith)
 
 bullets : (syntax : Syntax) → IsReadAs (reading_of syntax (codes "* two words\n* a - b -")) (Start (ListOf None) ∷ Start Item ∷ Leaf (Text (codes "two words")) ∷ End end.Item ∷ Start Item ∷ Leaf (Text (codes "a - b -")) ∷ End end.Item ∷ End (end.List false) ∷ [])
 bullets syntax = bullets_read syntax 42 (codes "two words") (codes "a - b -" ∷ []) refl refl (omega arith)

@@ -165,7 +165,7 @@ formula_scanned syntax b bs find h math fits =
 
 -- ---- the second pass
 
-skip_roles : (k : ℕ) (t : w.State) → t.place + k ≤ t.resume → t.place + k < 2 ^ 64 → fold w.role_step t (replicate k Plain) ≡ record t { place = t.place + k }
+pub skip_roles : (k : ℕ) (t : w.State) → t.place + k ≤ t.resume → t.place + k < 2 ^ 64 → fold w.role_step t (replicate k Plain) ≡ record t { place = t.place + k }
 unfolding w.role_step
 skip_roles zero t h fits = ap (λ p. record t { place = p }) (let q : t.place ≡ t.place + 0 = omega arith in q)
 skip_roles (suc k) t h fits =

@@ -71,8 +71,25 @@ pub mod NoteReading
 pub mod DefinitionBlocks
 pub mod DefinitionReading
 pub mod CodeReading
+pub mod CodeSpanReading
 pub mod PartedQuotes
 pub mod PartedReading
 pub mod QuoteKinds
 mod ConstructExamples
 pub mod LiteralLabels
+pub mod WordEscapes
+pub mod AloneHanded
+pub mod BreakSpelling
+pub mod BreaksReadBack
+pub mod ListSpelling
+pub mod ListTexts
+pub mod ListsReadBack
+pub mod NoteSpelling
+pub mod NotesReadBack
+pub mod TableSpelling
+pub mod TableTexts
+pub mod TablesReadBack
+pub mod CodeSpansReadBack
+pub mod TaskSpelling
+pub mod TasksReadBack
+mod ReadBackExamples

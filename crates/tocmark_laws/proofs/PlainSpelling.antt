@@ -160,11 +160,11 @@ written_some s m l [] h = (escape_stands (placed s m l []) (h.0)).0
 written_some s m l (n ∷ ms) h = longer (escaped (line_place s m (Leaf SoftBreak)) l) (10 ∷ lines_text s m n ms) ((escape_stands (placed s m l (n ∷ ms)) (h.0)).0)
 
 -- the spelling of a leaf and of what is right of it
-spelled_leaf : (s : Setting) (m : Manner) (l : SourcedLeaf) (f : Trees) (a : Around) (path : Path) (p : Page) (here : Site) → leaf_on s m l (ahead_of f a) path p ≡ here → spelling s m (leaf l f) a path p ≡ spelling s m f (past (Leaf l) a) here.path here.page
+pub spelled_leaf : (s : Setting) (m : Manner) (l : SourcedLeaf) (f : Trees) (a : Around) (path : Path) (p : Page) (here : Site) → leaf_on s m l (ahead_of f a) path p ≡ here → spelling s m (leaf l f) a path p ≡ spelling s m f (past (Leaf l) a) here.path here.page
 unfolding spelling
 spelled_leaf s m l f a path p here e = ap (λ (x : Site). spelling s m f (past (Leaf l) a) x.path x.page) e
 
-spelled_end : (s : Setting) (m : Manner) (a : Around) (here : Site) → spelling s m empty a here.path here.page ≡ Some here
+pub spelled_end : (s : Setting) (m : Manner) (a : Around) (here : Site) → spelling s m empty a here.path here.page ≡ Some here
 unfolding spelling
 spelled_end s m a here = refl
 

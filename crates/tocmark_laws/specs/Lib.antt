@@ -24,3 +24,5 @@ pub mod Footnotes
 pub mod PlainDefinitions
 pub mod PlainCode
 pub mod QuoteKinds
+pub mod CodeSpans
+pub mod ReadBack

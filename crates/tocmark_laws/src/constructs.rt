@@ -4,6 +4,7 @@
 //! Each text has one construct of CommonMark, round lines of words: a line begins with a letter, and none of its
 //! characters, from U+0020 to U+007E, is a mark.
 
+ghost use Rattle.tocmark_laws.specs.CodeSpans.{CodeSpansAreRead};
 ghost use Rattle.tocmark_laws.specs.HardBreaks.{BreaksAreRead};
 ghost use Rattle.tocmark_laws.specs.OrderedLists.{OrderedListsAreRead};
 ghost use Rattle.tocmark_laws.specs.PlainCode.{FencedCodeIsRead};
@@ -14,6 +15,12 @@ ghost use Rattle.tocmark_laws.specs.PlainQuotes.{PartedQuotesAreRead, QuotesAreR
 /// with two spaces or more, has a hard break behind it, and any other line a soft one.
 pub fn hard_breaks_are_read()
     ensures { BreaksAreRead }
+{}
+
+/// Under every syntax, code between two backticks is a paragraph of a code span. It has characters
+/// from U+0020 to U+007E but backticks, and no space at either end.
+pub fn code_spans_are_read()
+    ensures { CodeSpansAreRead }
 {}
 
 /// Under every syntax, lines of words that each stand behind `-`, `+` or `*` and a space, as `- two words`, are a tight
