@@ -74,7 +74,7 @@ pub enum RewriteError {
     NotEvents(JsonError),
     /// The writer refuses the block that begins at this place, or the event there has no place.
     Refused(Place, Error),
-    /// Every text that was tried parses to other events; this is the first block at which the last one does.
+    /// Every text that was tried parses to other events; this is the first block at which the first text does.
     ReadOtherwise(Place),
     /// Memory ran out.
     OutOfMemory,

@@ -24,7 +24,7 @@ pub enum Fault {
     /// The writer has no text for this block, for this reason.
     Refused(Place, Error),
     /// Each text that was tried parses to other events, or lacks a label that the source defines. This is the first block
-    /// at which the last text does. Some events have no text, such as a heading of level 3 with a line break:
+    /// at which the first text does. Some events have no text, such as a heading of level 3 with a line break:
     /// `join_heading_lines` of `edits` removes those.
     ReadOtherwise(Place),
 }
