@@ -47,11 +47,11 @@ all_words (l ∷ ls) h =
 
 -- ---- the paragraph as it is written
 
-same_lines : (ms : List NextLine) → lines_behind (written_lines ms) ≡ lines_behind ms
+pub same_lines : (ms : List NextLine) → lines_behind (written_lines ms) ≡ lines_behind ms
 same_lines [] = refl
 same_lines (m ∷ ms) = ap (λ ls. m.line ∷ ls) (same_lines ms)
 
-same_events : (l : List ℕ) (ms : List NextLine) → broken_lines l (written_lines ms) ≡ broken_lines l ms
+pub same_events : (l : List ℕ) (ms : List NextLine) → broken_lines l (written_lines ms) ≡ broken_lines l ms
 same_events l [] = refl
 same_events l (m ∷ ms) =
     ap (λ e. Leaf (Text l) ∷ Leaf e ∷ broken_lines m.line (written_lines ms)) (same_break m.behind)
@@ -59,15 +59,15 @@ same_events l (m ∷ ms) =
 
 -- ---- the paragraph as a tree
 
-lines_flat : (l : List ℕ) (ms : List NextLine) → map bare (broken_lines l ms ++ End end.Paragraph ∷ []) ≡ flat_onto (broken_trees l ms) (End end.Paragraph ∷ [])
-lines_flat l [] = refl
-lines_flat l (m ∷ ms) = ap (λ (es : List SourcedEvent). Leaf (text_leaf l) ∷ Leaf (end_leaf m.behind) ∷ es) (lines_flat m.line ms)
+pub lines_flat : (l : List ℕ) (ms : List NextLine) (es : List EventView) → map bare (broken_lines l ms ++ es) ≡ flat_onto (broken_trees l ms) (map bare es)
+lines_flat l [] es = refl
+lines_flat l (m ∷ ms) es = ap (λ (xs : List SourcedEvent). Leaf (text_leaf l) ∷ Leaf (end_leaf m.behind) ∷ xs) (lines_flat m.line ms es)
 
-lines_placed : (l : List ℕ) (ms : List NextLine) (a : Around) → needs_placeholder_at (broken_trees l ms) a ≡ false
+pub lines_placed : (l : List ℕ) (ms : List NextLine) (a : Around) → needs_placeholder_at (broken_trees l ms) a ≡ false
 lines_placed l [] a = refl
 lines_placed l (m ∷ ms) a = lines_placed m.line ms _
 
-no_tags : (l : List ℕ) (ms : List NextLine) → some_tag is_delimiter_tag (broken_trees l ms) ≡ false
+pub no_tags : (l : List ℕ) (ms : List NextLine) → some_tag is_delimiter_tag (broken_trees l ms) ≡ false
 no_tags l [] = refl
 no_tags l (m ∷ ms) = no_tags m.line ms
 
@@ -76,11 +76,11 @@ no_formula Softly = refl
 no_formula ByBackslash = refl
 no_formula (BySpaces more) = refl
 
-no_formulas : (l : List ℕ) (ms : List NextLine) → some_leaf is_math (broken_trees l ms) ≡ false
+pub no_formulas : (l : List ℕ) (ms : List NextLine) → some_leaf is_math (broken_trees l ms) ≡ false
 no_formulas l [] = refl
 no_formulas l (m ∷ ms) = rw (no_formula m.behind) (no_formulas m.line ms)
 
-no_sources : (l : List ℕ) (ms : List NextLine) → has_source (broken_trees l ms) ≡ false
+pub no_sources : (l : List ℕ) (ms : List NextLine) → has_source (broken_trees l ms) ≡ false
 no_sources l [] = refl
 no_sources l (m ∷ ms) = no_sources m.line ms
 
@@ -92,7 +92,7 @@ paragraph_unasked l ms = record {
   unsourced = rw (no_sources l ms) refl;
 }
 
-some_text : (l : List ℕ) (ms : List NextLine) → AreBareWords l → 0 < length (broken_text l ms)
+pub some_text : (l : List ℕ) (ms : List NextLine) → AreBareWords l → 0 < length (broken_text l ms)
 some_text [] ms h = absurd h
 some_text (b ∷ bs) [] h = omega arith
 some_text (b ∷ bs) (m ∷ ms) h = omega arith
@@ -105,7 +105,7 @@ breaks_read_back options l ms plain h reading flags source =
     let text : List ℕ = broken_text l lines in
     let words : AllByRecursion AreBareWords (l ∷ lines_behind ms) = all_from is_barless_line AreBareWords (l ∷ lines_behind ms) bare_from h in
     let walk = tree_handed options reading flags source plain.unchecked Paragraph (broken_trees l ms) (broken_paragraph l ms) text
-    (ap (λ (es : List SourcedEvent). Start Paragraph ∷ es) (lines_flat l ms)) (paragraph_unasked l ms) (some_text l lines (words.0))
+    (ap (λ (es : List SourcedEvent). Start Paragraph ∷ es) (lines_flat l ms (End end.Paragraph ∷ []))) (paragraph_unasked l ms) (some_text l lines (words.0))
     (paragraph_alone _ plain.emphasis (broken_trees l ms) text (lines_spelled _ plain.emphasis l ms None words))
     in
     record {

@@ -92,4 +92,6 @@ pub mod TablesReadBack
 pub mod CodeSpansReadBack
 pub mod TaskSpelling
 pub mod TasksReadBack
+pub mod QuoteSpelling
+pub mod QuotesReadBack
 mod ReadBackExamples

@@ -97,13 +97,13 @@ module _ (known : Known) (text : List ℕ) (cells : List Cell) (l : Line) (place
   unfolding started_in leaf_at quote_kind_or tag_or task_or metadata_or
   blank_starts = rw (blank_kind, blank_tag (goes_directly place.depth s), blank_task, blank_metadata (goes_directly place.depth s), blank) refl
 
-blank_leaf : (known : Known) (text : List ℕ) (l : Line) (s : State) → leaf_started_in known text [] l here s ≡ closed_to text 0 s
+pub blank_leaf : (known : Known) (text : List ℕ) (l : Line) (s : State) → leaf_started_in known text [] l here s ≡ closed_to text 0 s
 unfolding leaf_started_in
 blank_leaf known text l s =
     ap (started_at_in known text [] l (tail_of [])) (repeated_zero (container_once_in known.syntax text [] l (tail_of [])) 0 here s refl)
     ∙ blank_starts known text [] l here s refl
 
-no_blank_row : (text : List ℕ) (l : Line) (directly : Bool) (s : State) → delimiters_taken text [] l front directly s ≡ (s, false)
+pub no_blank_row : (text : List ℕ) (l : Line) (directly : Bool) (s : State) → delimiters_taken text [] l front directly s ≡ (s, false)
 unfolding delimiters_taken may_delimit
 no_blank_row text l true s = refl
 no_blank_row text l false s = refl

@@ -50,8 +50,8 @@ AreWordLines qs = AllByRecursion (λ q. IsWordLine q.letter q.others) qs
 -- ---- the nodes
 
 abbrev paras_nodes : ℕ → QuoteLine → List QuoteLine → List NodeView
-paras_nodes from q [] = container 1 Paragraph (from + 2) (end_of from q) ∷ pages.node 2 Source (from + 2) (end_of from q) ∷ []
-paras_nodes from q (m ∷ ms) = container 1 Paragraph (from + 2) (end_of from q) ∷ pages.node 2 Source (from + 2) (end_of from q) ∷ paras_nodes (next_from from q) m ms
+paras_nodes from q [] = container 1 Paragraph (from + 2) (end_of false from q) ∷ pages.node 2 Source (from + 2) (end_of false from q) ∷ []
+paras_nodes from q (m ∷ ms) = container 1 Paragraph (from + 2) (end_of false from q) ∷ pages.node 2 Source (from + 2) (end_of false from q) ∷ paras_nodes (next_from from q) m ms
 
 module _ (syntax : Syntax) (text : List ℕ) (find : List ℕ → Option Entry) (blocks : List Block) (pieces : List Piece) (fits : length text < 2 ^ 64) where
   abbrev taken : pages.State → List Block → pages.State
@@ -79,10 +79,10 @@ module _ (syntax : Syntax) (text : List ℕ) (find : List ℕ → Option Entry) 
       let p : Piece = para_piece from q [] in
       let parted : text ≡ (pre ++ 62 ∷ 32 ∷ []) ++ (words q ++ []) = t ∙ sym (append_assoc pre (62 ∷ 32 ∷ []) (words q)) ∙ ap (λ (xs : List ℕ). (pre ++ 62 ∷ 32 ∷ []) ++ xs) (sym (append-nil (words q))) in
       let behind : from + 2 ≡ length (pre ++ 62 ∷ 32 ∷ []) = ap (λ n. n + 2) at ∙ sym (length-append pre (62 ∷ 32 ∷ [])) in
-      let total : length text ≡ length pre + length (quoted_bytes q) = ap length t ∙ length-append pre (quoted_bytes q) in
-      para_put ns ps [] p (end_of from q) q.letter q.others split refl (piece_between text (pre ++ 62 ∷ 32 ∷ []) (words q) [] (from + 2) (end_of from q) parted behind (omega (arith, behind))) (omega arith) (omega (arith, total, at)) (h.0)
+      let total : length text ≡ length pre + length (quoted_bytes false q) = ap length t ∙ length-append pre (quoted_bytes false q) in
+      para_put ns ps [] p (end_of false from q) q.letter q.others split refl (piece_between text (pre ++ 62 ∷ 32 ∷ []) (words q) [] (from + 2) (end_of false from q) parted behind (omega (arith, behind))) (omega arith) (omega (arith, total, at)) (h.0)
   paras_put pre from q (m ∷ ms) ns ps h t at split =
-      let row : List ℕ = quoted_bytes q in
+      let row : List ℕ = quoted_bytes false q in
       let more : List ℕ = parted_bytes m ms in
       let p : Piece = para_piece from q (m ∷ ms) in
       let next : ℕ = next_from from q in
@@ -93,13 +93,13 @@ module _ (syntax : Syntax) (text : List ℕ) (find : List ℕ → Option Entry) 
       let total : length text ≡ length pre + (length row + suc (suc (suc (length more)))) = ap length t ∙ length-append pre (row ++ 10 ∷ 62 ∷ 10 ∷ more) ∙ ap (λ k. length pre + k) (length-append row (10 ∷ 62 ∷ 10 ∷ more)) in
       let there : text ≡ (pre ++ (row ++ gap)) ++ more = t ∙ ap (λ (xs : List ℕ). pre ++ xs) (sym (append_assoc row gap more)) ∙ sym (append_assoc pre (row ++ gap) more) in
       let place : next ≡ length (pre ++ (row ++ gap)) = ap (λ k. k + length row + 1 + 1 + 1) at ∙ (let w : length pre + length row + 1 + 1 + 1 ≡ length (pre ++ (row ++ gap)) = grind (arith, length-append) in w) in
-      let nodes : List NodeView = container 1 Paragraph (from + 2) (end_of from q) ∷ pages.node 2 Source (from + 2) (end_of from q) ∷ [] in
+      let nodes : List NodeView = container 1 Paragraph (from + 2) (end_of false from q) ∷ pages.node 2 Source (from + 2) (end_of false from q) ∷ [] in
       ap (λ (s : pages.State). taken s (paras_blocks next (ps ++ p ∷ []) m ms))
-      (para_put ns ps later p (end_of from q) q.letter q.others split refl (piece_between text (pre ++ 62 ∷ 32 ∷ []) (words q) (10 ∷ 62 ∷ 10 ∷ more) (from + 2) (end_of from q) parted behind (omega (arith, behind))) (omega arith) (omega (arith, total, at)) (h.0))
+      (para_put ns ps later p (end_of false from q) q.letter q.others split refl (piece_between text (pre ++ 62 ∷ 32 ∷ []) (words q) (10 ∷ 62 ∷ 10 ∷ more) (from + 2) (end_of false from q) parted behind (omega (arith, behind))) (omega arith) (omega (arith, total, at)) (h.0))
       ∙ paras_put (pre ++ (row ++ gap)) next m ms (ns ++ nodes) (ps ++ p ∷ []) (h.1) there place (split ∙ sym (append_assoc ps (p ∷ []) later))
       ∙ ap so_far (append_assoc ns nodes (paras_nodes next m ms))
 
-  quote_put : (stop : ℕ) → block_step_in syntax text find blocks pieces (start_state []) (quote_block stop) ≡ so_far (container 0 (BlockQuote None) 0 stop ∷ [])
+  quote_put : (stop : ℕ) → block_step_in syntax text find blocks pieces (start_state []) (quote_block false stop) ≡ so_far (container 0 (BlockQuote None) 0 stop ∷ [])
   unfolding is_unwrapped block_taken_in with_block block_tag task_nodes
   quote_put stop = refl
 
@@ -110,25 +110,25 @@ unfolding noted_as
 none_in_paras text s from ps q [] = refl
 none_in_paras text s from ps q (m ∷ ms) = none_in_paras text s (next_from from q) (ps ++ para_piece from q (m ∷ ms) ∷ []) m ms
 
-none_noted : (text : List ℕ) (s : defs.State) (to : ℕ) (bs : List Block) → noted text (quote_block to ∷ bs) s ≡ noted text bs s
+none_noted : (text : List ℕ) (s : defs.State) (to : ℕ) (bs : List Block) → noted text (quote_block false to ∷ bs) s ≡ noted text bs s
 unfolding noted_as
 none_noted text s to bs = refl
 
-none_collected : (syntax : Syntax) (text : List ℕ) (to : ℕ) (q : QuoteLine) (ms : List QuoteLine) (ps : List Piece) → collected_from syntax text (record { blocks = quote_block to ∷ paras_blocks 0 [] q ms; pieces = ps; definitions = [] }) ≡ defs.collected_none
+none_collected : (syntax : Syntax) (text : List ℕ) (to : ℕ) (q : QuoteLine) (ms : List QuoteLine) (ps : List Piece) → collected_from syntax text (record { blocks = quote_block false to ∷ paras_blocks 0 [] q ms; pieces = ps; definitions = [] }) ≡ defs.collected_none
 unfolding collected_from
 none_collected syntax text to q ms ps = by_test syntax.footnotes
   where
     none : defs.State
     none = collected_in syntax.names []
 
-    by_test : (t : Bool) → (if t then noted text (quote_block to ∷ paras_blocks 0 [] q ms) none else none) ≡ defs.collected_none
+    by_test : (t : Bool) → (if t then noted text (quote_block false to ∷ paras_blocks 0 [] q ms) none else none) ≡ defs.collected_none
     by_test true = none_noted text none to (paras_blocks 0 [] q ms) ∙ none_in_paras text none 0 [] q ms
     by_test false = refl
 
 abbrev found_of : List NodeView → FoundView
 found_of ns = record { nodes = ns; defined = []; unresolved = [] }
 
-quote_found : (syntax : Syntax) (q : QuoteLine) (ms : List QuoteLine) → AreQuoteLines (q ∷ ms) → AreWordLines (q ∷ ms) → AreClean (parted_bytes q ms) → length (parted_bytes q ms) < 2 ^ 64
+quote_found : (syntax : Syntax) (q : QuoteLine) (ms : List QuoteLine) → AreQuoteLines false (q ∷ ms) → AreWordLines (q ∷ ms) → AreClean (parted_bytes q ms) → length (parted_bytes q ms) < 2 ^ 64
     → found_under syntax (parted_bytes q ms) ≡ found_of (container 0 (BlockQuote None) 0 (length (parted_bytes q ms)) ∷ paras_nodes 0 q ms)
 quote_found syntax q ms lines plain clean fits =
     let text : List ℕ = parted_bytes q ms in
@@ -136,7 +136,7 @@ quote_found syntax q ms lines plain clean fits =
     let n : ℕ = length text in
     let bs : List Block = paras_blocks 0 [] q ms in
     let ps : List Piece = paras_pieces 0 q ms in
-    let blocks : BlocksView = record { blocks = quote_block n ∷ bs; pieces = ps; definitions = [] } in
+    let blocks : BlocksView = record { blocks = quote_block false n ∷ bs; pieces = ps; definitions = [] } in
     let found_state : pages.State → FoundView = λ page. record { nodes = page.nodes; defined = []; unresolved = defs.distinct_labels page.inlines.texts page.inlines.missed } in
     found_from syntax text blocks defs.collected_none (parted_blocks syntax q ms lines (no_returns text clean) fits) (none_collected syntax text n q ms ps)
     ∙ ap (λ (s : pages.State). found_state (fold (block_step_in syntax text find blocks.blocks ps) s bs)) (quote_put syntax text find blocks.blocks ps fits n)
@@ -147,9 +147,9 @@ quote_found syntax q ms lines plain clean fits =
 module _ (text : List ℕ) where
   abbrev para_marks : ℕ → QuoteLine → List Marked
   para_marks from q =
-      (Start Paragraph, snapped text (from + 2) (end_of from q))
-      ∷ (Leaf (Text (source_of text (from + 2) (end_of from q))), snapped text (from + 2) (end_of from q))
-      ∷ (End end.Paragraph, snapped text (from + 2) (end_of from q))
+      (Start Paragraph, snapped text (from + 2) (end_of false from q))
+      ∷ (Leaf (Text (source_of text (from + 2) (end_of false from q))), snapped text (from + 2) (end_of false from q))
+      ∷ (End end.Paragraph, snapped text (from + 2) (end_of false from q))
       ∷ []
 
   abbrev paras_marks : ℕ → QuoteLine → List QuoteLine → List Marked
@@ -162,29 +162,29 @@ module _ (text : List ℕ) where
   -- the events so far, and those of a paragraph
   abbrev para_added : ℕ → QuoteLine → List Marked → List Marked
   para_added from q es =
-      ((es ++ (Start Paragraph, snapped text (from + 2) (end_of from q)) ∷ [])
-      ++ (Leaf (Text (source_of text (from + 2) (end_of from q))), snapped text (from + 2) (end_of from q)) ∷ [])
-      ++ (End end.Paragraph, snapped text (from + 2) (end_of from q)) ∷ []
+      ((es ++ (Start Paragraph, snapped text (from + 2) (end_of false from q)) ∷ [])
+      ++ (Leaf (Text (source_of text (from + 2) (end_of false from q))), snapped text (from + 2) (end_of false from q)) ∷ [])
+      ++ (End end.Paragraph, snapped text (from + 2) (end_of false from q)) ∷ []
 
   added_assoc : (from : ℕ) (q : QuoteLine) (es xs : List Marked) → para_added from q es ++ xs ≡ es ++ (para_marks from q ++ xs)
   added_assoc from q es xs =
-      let range : ℕ × ℕ = snapped text (from + 2) (end_of from q) in
+      let range : ℕ × ℕ = snapped text (from + 2) (end_of false from q) in
       let first : Marked = (Start Paragraph, range) in
-      let middle : Marked = (Leaf (Text (source_of text (from + 2) (end_of from q))), range) in
+      let middle : Marked = (Leaf (Text (source_of text (from + 2) (end_of false from q))), range) in
       let last : Marked = (End end.Paragraph, range) in
       append_assoc ((es ++ first ∷ []) ++ middle ∷ []) (last ∷ []) xs ∙ append_assoc (es ++ first ∷ []) (middle ∷ []) (last ∷ xs) ∙ append_assoc es (first ∷ []) (middle ∷ last ∷ xs)
 
   -- a paragraph that is still open
   abbrev in_para : Open → ℕ → QuoteLine → List Marked → Writing
   in_para t from q es = record {
-    events = (es ++ (Start Paragraph, snapped text (from + 2) (end_of from q)) ∷ [])
-        ++ (Leaf (Text (source_of text (from + 2) (end_of from q))), snapped text (from + 2) (end_of from q)) ∷ [];
-    stack = t ∷ record { end = end.Paragraph; range = snapped text (from + 2) (end_of from q) } ∷ [];
+    events = (es ++ (Start Paragraph, snapped text (from + 2) (end_of false from q)) ∷ [])
+        ++ (Leaf (Text (source_of text (from + 2) (end_of false from q))), snapped text (from + 2) (end_of false from q)) ∷ [];
+    stack = t ∷ record { end = end.Paragraph; range = snapped text (from + 2) (end_of false from q) } ∷ [];
   }
 
-  para_emitted : (t : Open) (from : ℕ) (q : QuoteLine) (ns : List NodeView) (w : Writing) (es : List Marked) → closed 1 w ≡ one_open t es → closed 1 (fold (step text) w (container 1 Paragraph (from + 2) (end_of from q) ∷ pages.node 2 Source (from + 2) (end_of from q) ∷ ns)) ≡ closed 1 (fold (step text) (in_para t from q es) ns)
+  para_emitted : (t : Open) (from : ℕ) (q : QuoteLine) (ns : List NodeView) (w : Writing) (es : List Marked) → closed 1 w ≡ one_open t es → closed 1 (fold (step text) w (container 1 Paragraph (from + 2) (end_of false from q) ∷ pages.node 2 Source (from + 2) (end_of false from q) ∷ ns)) ≡ closed 1 (fold (step text) (in_para t from q es) ns)
   para_emitted t from q ns w es h =
-      let stop : ℕ = end_of from q in
+      let stop : ℕ = end_of false from q in
       let range : ℕ × ℕ = snapped text (from + 2) stop in
       let first : Marked = (Start Paragraph, range) in
       let middle : Marked = (Leaf (Text (source_of text (from + 2) stop)), range) in
@@ -210,16 +210,16 @@ module _ (text : List ℕ) where
       ∙ ap (closed 0) (paras_emitted t 0 q ms begun (first ∷ []) refl))
 
   -- and what these say
-  para_said : (clean : AreClean text) (pre rest : List ℕ) (from : ℕ) (q : QuoteLine) (more : List EventView) → text ≡ pre ++ (quoted_bytes q ++ rest) → from ≡ length pre → merged (unplaced (para_marks from q) ++ more) ≡ Start Paragraph ∷ Leaf (Text (words q)) ∷ End end.Paragraph ∷ merged more
+  para_said : (clean : AreClean text) (pre rest : List ℕ) (from : ℕ) (q : QuoteLine) (more : List EventView) → text ≡ pre ++ (quoted_bytes false q ++ rest) → from ≡ length pre → merged (unplaced (para_marks from q) ++ more) ≡ Start Paragraph ∷ Leaf (Text (words q)) ∷ End end.Paragraph ∷ merged more
   para_said clean pre rest from q more t at =
       let parted : text ≡ (pre ++ 62 ∷ 32 ∷ []) ++ (words q ++ rest) = t ∙ sym (append_assoc pre (62 ∷ 32 ∷ []) (words q ++ rest)) in
       let behind : from + 2 ≡ length (pre ++ 62 ∷ 32 ∷ []) = ap (λ n. n + 2) at ∙ sym (length-append pre (62 ∷ 32 ∷ [])) in
-      ap (λ (x : List ℕ). Start Paragraph ∷ Leaf (Text x) ∷ End end.Paragraph ∷ merged more) (source_between text (pre ++ 62 ∷ 32 ∷ []) (words q) rest (from + 2) (end_of from q) parted behind (omega (arith, behind)) clean)
+      ap (λ (x : List ℕ). Start Paragraph ∷ Leaf (Text x) ∷ End end.Paragraph ∷ merged more) (source_between text (pre ++ 62 ∷ 32 ∷ []) (words q) rest (from + 2) (end_of false from q) parted behind (omega (arith, behind)) clean)
 
   paras_said : (clean : AreClean text) (pre : List ℕ) (from : ℕ) (q : QuoteLine) (ms : List QuoteLine) (more : List EventView) → text ≡ pre ++ parted_bytes q ms → from ≡ length pre → merged (unplaced (paras_marks from q ms) ++ more) ≡ paragraphs_events (map words (q ∷ ms)) ++ merged more
-  paras_said clean pre from q [] more t at = para_said clean pre [] from q more (t ∙ ap (λ (xs : List ℕ). pre ++ xs) (sym (append-nil (quoted_bytes q)))) at
+  paras_said clean pre from q [] more t at = para_said clean pre [] from q more (t ∙ ap (λ (xs : List ℕ). pre ++ xs) (sym (append-nil (quoted_bytes false q)))) at
   paras_said clean pre from q (m ∷ ms) more t at =
-      let row : List ℕ = quoted_bytes q in
+      let row : List ℕ = quoted_bytes false q in
       let gap : List ℕ = 10 ∷ 62 ∷ 10 ∷ [] in
       let others : List ℕ = parted_bytes m ms in
       let next : ℕ = next_from from q in
@@ -230,7 +230,7 @@ module _ (text : List ℕ) where
       ∙ para_said clean pre (10 ∷ 62 ∷ 10 ∷ others) from q (unplaced later ++ more) t at
       ∙ ap (λ (es : List EventView). Start Paragraph ∷ Leaf (Text (words q)) ∷ End end.Paragraph ∷ es) (paras_said clean (pre ++ (row ++ gap)) next m ms more there place)
 
-quote_is_read : (syntax : Syntax) (q : QuoteLine) (ms : List QuoteLine) → AreQuoteLines (q ∷ ms) → AreWordLines (q ∷ ms) → AreClean (parted_bytes q ms) → length (parted_bytes q ms) < 2 ^ 64 → IsReadAs (reading_of syntax (parted_bytes q ms)) (parted_events (map words (q ∷ ms)))
+quote_is_read : (syntax : Syntax) (q : QuoteLine) (ms : List QuoteLine) → AreQuoteLines false (q ∷ ms) → AreWordLines (q ∷ ms) → AreClean (parted_bytes q ms) → length (parted_bytes q ms) < 2 ^ 64 → IsReadAs (reading_of syntax (parted_bytes q ms)) (parted_events (map words (q ∷ ms)))
 unfolding reading_of
 quote_is_read syntax q ms lines plain clean fits =
     let text : List ℕ = parted_bytes q ms in
@@ -272,22 +272,22 @@ all_words [] h = tt
 all_words ([] ∷ ls) h = absurd (h.0)
 all_words ((b ∷ bs) ∷ ls) h = (h.0, all_words ls (h.1))
 
-line_is : (q : QuoteLine) → IsWordLine q.letter q.others → IsQuoteLine q
+line_is : (q : QuoteLine) → IsWordLine q.letter q.others → IsQuoteLine false q
 line_is q h = record {
   letter = h.letter;
   within = (within_byte 62 (record { low = omega arith; high = omega arith }), (within_byte 32 (record { low = omega arith; high = omega arith }), all_implied IsWordByte IsWithin (words q) (λ x k. within_byte x k.printable) h.bytes));
 }
 
-all_lines : (qs : List QuoteLine) → AreWordLines qs → AreQuoteLines qs
+all_lines : (qs : List QuoteLine) → AreWordLines qs → AreQuoteLines false qs
 all_lines [] h = tt
 all_lines (q ∷ qs) h = (line_is q (h.0), all_lines qs (h.1))
 
-clean_line : (q : QuoteLine) → IsWordLine q.letter q.others → AreClean (quoted_bytes q)
+clean_line : (q : QuoteLine) → IsWordLine q.letter q.others → AreClean (quoted_bytes false q)
 clean_line q h = (mark_clean 62 (omega arith) (omega arith), (mark_clean 32 (omega arith) (omega arith), all_implied IsWordByte IsClean (words q) (λ x k. clean_byte x k.printable) h.bytes))
 
 clean_quote : (q : QuoteLine) (ms : List QuoteLine) → AreWordLines (q ∷ ms) → AreClean (parted_bytes q ms)
 clean_quote q [] h = clean_line q (h.0)
-clean_quote q (m ∷ ms) h = all_both IsClean (quoted_bytes q) (10 ∷ 62 ∷ 10 ∷ parted_bytes m ms) (clean_line q (h.0)) (clean_feed, (mark_clean 62 (omega arith) (omega arith), (clean_feed, clean_quote m ms (h.1))))
+clean_quote q (m ∷ ms) h = all_both IsClean (quoted_bytes false q) (10 ∷ 62 ∷ 10 ∷ parted_bytes m ms) (clean_line q (h.0)) (clean_feed, (mark_clean 62 (omega arith) (omega arith), (clean_feed, clean_quote m ms (h.1))))
 
 pub parted_read : (syntax : Syntax) (l : List ℕ) (ms : List (List ℕ)) → list_all is_word_line (l ∷ ms) ≡ true → length (parted_quote l ms) < 2 ^ 64 → IsReadAs (reading_of syntax (parted_quote l ms)) (parted_events (l ∷ ms))
 parted_read syntax l ms all fits =

@@ -72,7 +72,7 @@ use Rattle.tocmark_laws.proofs.FrontMatterBlocks.{lines_split}
 use Rattle.tocmark_laws.proofs.InkAtColumn.{at_column, place_numbered}
 use Rattle.tocmark_laws.proofs.ListReading.{words_content, words_inlines}
 use Rattle.tocmark_laws.proofs.NoteReading.{paragraph_put, mark_clean}
-use Rattle.tocmark_laws.proofs.QuoteBlocks.{QuoteLine, IsQuoteLine, quoted_bytes, open_quote, view, Stands, piece_here, none_begins, columns, order_of, text_starts, quote_goes_on}
+use Rattle.tocmark_laws.proofs.QuoteBlocks.{QuoteLine, IsQuoteLine, quoted_bytes, open_quote, view, Stands, piece_here, none_begins, columns, order_of, text_starts, quote_continues}
 use Rattle.tocmark_laws.proofs.WordsReading.{IsWordByte, IsWordLine, words_from, free_letter}
 
 -- ---- the kind
@@ -233,9 +233,9 @@ module _ (known : Known) (has : known.syntax.quote_kinds ≡ true) (text : List 
 
 -- ---- the line of words
 
-module _ (known : Known) (text : List ℕ) (k : BlockQuoteKind) (q : QuoteLine) (h : IsQuoteLine q) (from end next end0 : ℕ) (header : HeaderLine) where
+module _ (known : Known) (text : List ℕ) (k : BlockQuoteKind) (q : QuoteLine) (h : IsQuoteLine false q) (from end next end0 : ℕ) (header : HeaderLine) where
   abbrev row_cells : List Cell
-  row_cells = numbered from (quoted_bytes q)
+  row_cells = numbered from (quoted_bytes false q)
 
   abbrev row_line : Line
   row_line = record { number = 2; start = from; end = end; next = next }
@@ -268,21 +268,21 @@ module _ (known : Known) (text : List ℕ) (k : BlockQuoteKind) (q : QuoteLine) 
   unfolding text_started
   starts = refl
 
-  words_come : Stands known text q h from end next 2 → text_taken text row_cells row_line place reached ≡ full header
+  words_come : Stands false known text q h from end next 2 → text_taken text row_cells row_line place reached ≡ full header
   unfolding text_taken is_paragraph
   words_come w =
-      ap (λ (x : Piece). piece_taken x row_line true (text_started x.start reached)) (piece_here known text q h from end next 2)
+      ap (λ (x : Piece). piece_taken x row_line true (text_started x.start reached)) (piece_here false known text q h from end next 2)
       ∙ ap (λ (s : State). piece_taken p row_line true s) starts
-      ∙ piece_taken_whole p row_line begun_here (order_of known text q h from end next 2 w) refl
+      ∙ piece_taken_whole p row_line begun_here (order_of false known text q h from end next 2 w) refl
 
-  comes : Stands known text q h from end next 2 → leaf_started_in known text row_cells row_line place reached ≡ full header
+  comes : Stands false known text q h from end next 2 → leaf_started_in known text row_cells row_line place reached ≡ full header
   unfolding leaf_started_in started_in
   comes w =
-      ap (started_at_in known text row_cells row_line (tail_of row_cells)) (repeated_stop (container_once_in known.syntax text row_cells row_line (tail_of row_cells)) (length row_cells) place reached reached (omega arith) (sym (none_begins known text q h from end next 2 reached)))
-      ∙ ap (λ x. started_in known x text row_cells row_line (tail_of row_cells) place reached) (text_starts known text q h from end next 2 (is_paragraph leaf.Paragraph) (goes_directly 1 reached) reached w)
+      ap (started_at_in known text row_cells row_line (tail_of row_cells)) (repeated_stop (container_once_in known.syntax text row_cells row_line (tail_of row_cells)) (length row_cells) place reached reached (omega arith) (sym (none_begins false known text q h from end next 2 reached)))
+      ∙ ap (λ x. started_in known x text row_cells row_line (tail_of row_cells) place reached) (text_starts false known text q h from end next 2 (is_paragraph leaf.Paragraph) (goes_directly 1 reached) reached w)
       ∙ words_come w
 
-  row_is_text : Stands known text q h from end next 2 → delimiters_taken text row_cells row_line (at_column 2) (goes_directly 1 reached) reached ≡ (reached, false)
+  row_is_text : Stands false known text q h from end next 2 → delimiters_taken text row_cells row_line (at_column 2) (goes_directly 1 reached) reached ≡ (reached, false)
   unfolding delimiters_taken may_delimit
   row_is_text w =
       let none : is_delimiter_row (bytes_between text (cell_place row_cells 2 end) end) ≡ false =
@@ -290,7 +290,7 @@ module _ (known : Known) (text : List ℕ) (k : BlockQuoteKind) (q : QuoteLine) 
       in
       rw (none, never) refl
 
-  passed_here : Stands known text q h from end next 2 → (now : HeaderLine) × (passed_in known text row_cells row_line place reached ≡ full now)
+  passed_here : Stands false known text q h from end next 2 → (now : HeaderLine) × (passed_in known text row_cells row_line place reached ≡ full now)
   unfolding passed_in tabled_in
   passed_here w = by_tables known.syntax.tables
     where
@@ -302,13 +302,13 @@ module _ (known : Known) (text : List ℕ) (k : BlockQuoteKind) (q : QuoteLine) 
   unfolding turn_in turn_of is_table leaf_turn
   away = rw never refl
 
-  pub words_taken : Stands known text q h from end next 2 → end0 ≤ end → (now : HeaderLine) × (line_taken_in known text before row_line ≡ full now)
+  pub words_taken : Stands false known text q h from end next 2 → end0 ≤ end → (now : HeaderLine) × (line_taken_in known text before row_line ≡ full now)
   unfolding line_taken_in cells_taken_in
   words_taken w e =
       let come = passed_here w in (
         come.0,
-        ap (λ c. cells_taken_in known text c row_line before) (columns known text q h from end next 2 w)
-            ∙ ap (λ m. taken_at_in known text row_cells row_line (record { cursor = m.1; depth = m.0 }) (touched row_line (m.0) before)) (quote_goes_on known text q h from end next 2 p [] end0 1 header)
+        ap (λ c. cells_taken_in known text c row_line before) (columns false known text q h from end next 2 w)
+            ∙ ap (λ m. taken_at_in known text row_cells row_line (record { cursor = m.1; depth = m.0 }) (touched row_line (m.0) before)) (quote_continues false known text q h from end next 2 end0 1 true)
             ∙ ap (λ (u : State). taken_at_in known text row_cells row_line place u) (reaches e)
             ∙ ap (λ t. turn_taken_in known t text row_cells row_line place reached) away
             ∙ come.1,
@@ -345,7 +345,7 @@ module _ (syntax : Syntax) (has : syntax.quote_kinds ≡ true) (k : BlockQuoteKi
   abbrev at_words : ℕ
   at_words = from_here + 2
 
-  line_known : IsQuoteLine q
+  line_known : IsQuoteLine false q
   line_known = record {
     letter = w.letter;
     within = (within_byte 62 (record { low = omega arith; high = omega arith }), (within_byte 32 (record { low = omega arith; high = omega arith }), all_implied IsWordByte IsWithin words (λ x i. within_byte x i.printable) w.bytes));
@@ -381,7 +381,7 @@ module _ (syntax : Syntax) (has : syntax.quote_kinds ≡ true) (k : BlockQuoteKi
   blocks_are : size < 2 ^ 64 → blocks_in syntax text_here ≡ kind_view
   unfolding blocks_in page_in
   blocks_are fits =
-      let row : List ℕ = quoted_bytes q in
+      let row : List ℕ = quoted_bytes false q in
       let one : Line = line 0 0 n from_here in
       let two : Line = line 1 from_here size size in
       let lines : List Line = one ∷ two ∷ [] in

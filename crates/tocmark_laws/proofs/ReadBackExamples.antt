@@ -2,7 +2,7 @@
 use Rattle.std.proofs.Common.{ℕ, Bool, true, false, List, [], ◌∷◌, codes, map, refl, arith, None, Some}
 use Rattle.tocmark_event.specs.Options.{OptionsView, default_options}
 use Rattle.tocmark_event.specs.Reading.{ReadingView}
-use Rattle.tocmark_event.specs.View.{EventView, Start, End, Leaf, Code, FootnoteDefinition, FootnoteReference, Item, ListOf, Paragraph, Text, SoftBreak, HardBreak, Table, TableHead, TableRow, TableCell, TaskListMarker}
+use Rattle.tocmark_event.specs.View.{EventView, Start, End, Leaf, BlockQuote, Code, FootnoteDefinition, FootnoteReference, Item, ListOf, Paragraph, Text, SoftBreak, HardBreak, Table, TableHead, TableRow, TableCell, TaskListMarker}
 use Rattle.tocmark_event.specs.declared.event.Alignment.TheVariants as align
 use Rattle.tocmark_event.specs.declared.event.TagEnd.TheVariants as end
 use Rattle.tocmark_event.specs.declared.event.flags.ParserOptions.{ParserOptions}
@@ -17,6 +17,7 @@ use Rattle.tocmark_laws.proofs.BreaksReadBack.{breaks_read_back}
 use Rattle.tocmark_laws.proofs.CodeSpansReadBack.{spans_read_back}
 use Rattle.tocmark_laws.proofs.ListsReadBack.{bullets_read_back, numbers_read_back}
 use Rattle.tocmark_laws.proofs.NotesReadBack.{footnotes_read_back}
+use Rattle.tocmark_laws.proofs.QuotesReadBack.{quotes_read_back}
 use Rattle.tocmark_laws.proofs.TablesReadBack.{tables_read_back}
 use Rattle.tocmark_laws.proofs.TasksReadBack.{tasks_read_back}
 
@@ -26,6 +27,9 @@ plain = record { unchecked = refl; emphasis = refl }
 
 breaks : ReadsBackAlike default_options (Start Paragraph ∷ Leaf (Text (codes "two")) ∷ Leaf SoftBreak ∷ Leaf (Text (codes "words")) ∷ Leaf HardBreak ∷ Leaf (Text (codes "on lines")) ∷ End end.Paragraph ∷ [])
 breaks = breaks_read_back default_options (codes "two") (record { behind = Softly; line = codes "words" } ∷ record { behind = BySpaces 0; line = codes "on lines" } ∷ []) plain refl
+
+quote : ReadsBackAlike default_options (Start (BlockQuote None) ∷ Start Paragraph ∷ Leaf (Text (codes "two")) ∷ Leaf HardBreak ∷ Leaf (Text (codes "words")) ∷ End end.Paragraph ∷ End (end.BlockQuote None) ∷ [])
+quote = quotes_read_back default_options (codes "two") (record { behind = BySpaces 0; line = codes "words" } ∷ []) plain refl
 
 span : ReadsBackAlike default_options (Start Paragraph ∷ Leaf (Code (codes "a *b* \\")) ∷ End end.Paragraph ∷ [])
 span = spans_read_back default_options (codes "a *b* \\") refl refl

@@ -19,6 +19,7 @@ use Rattle.tocmark_laws.specs.Footnotes.{footnote_events, is_label}
 use Rattle.tocmark_laws.specs.HardBreaks.{NextLine, broken_paragraph, lines_behind}
 use Rattle.tocmark_laws.specs.OrderedLists.{is_delimiter}
 use Rattle.tocmark_laws.specs.PlainTables.{PlainCell, PlainColumn, is_row, table_events}
+use Rattle.tocmark_laws.specs.PlainQuotes.{quoted_paragraph}
 use Rattle.tocmark_laws.specs.PlainLists.{is_bullet, bullet_events, items_events}
 
 -- exactly one text is handed, and every syntax reads it as these events, with no labels
@@ -48,6 +49,12 @@ abbrev pub BreaksAreReadBack : Type 0
 BreaksAreReadBack =
     (options : OptionsView) (l : List ℕ) (ms : List NextLine) → ArePlainOptions options → list_all is_barless_line (l ∷ lines_behind ms) ≡ true →
     ReadsBackAlike options (broken_paragraph l ms)
+
+-- a quote, without a kind, of such a paragraph
+abbrev pub QuotesAreReadBack : Type 0
+QuotesAreReadBack =
+    (options : OptionsView) (l : List ℕ) (ms : List NextLine) → ArePlainOptions options → list_all is_barless_line (l ∷ lines_behind ms) ≡ true →
+    ReadsBackAlike options (quoted_paragraph l ms)
 
 -- a paragraph of a code span, with any marker for emphasis
 abbrev pub CodeSpansAreReadBack : Type 0

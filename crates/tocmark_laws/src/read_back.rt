@@ -8,12 +8,18 @@
 ghost use Rattle.tocmark_laws.specs.ReadBack.{BreaksAreReadBack, CodeSpansAreReadBack};
 ghost use Rattle.tocmark_laws.specs.ReadBack.{BulletListsAreReadBack, OrderedListsAreReadBack};
 ghost use Rattle.tocmark_laws.specs.ReadBack.{FootnotesAreReadBack, TablesAreReadBack};
-ghost use Rattle.tocmark_laws.specs.ReadBack.{TasksAreReadBack};
+ghost use Rattle.tocmark_laws.specs.ReadBack.{QuotesAreReadBack, TasksAreReadBack};
 
 /// For a paragraph of lines, a text for each with a soft or a hard break between two, exactly one
 /// text is handed, and every syntax reads it as exactly this paragraph, with no labels.
 pub fn hard_breaks_are_read_back()
     ensures { BreaksAreReadBack }
+{}
+
+/// For a quote, without a kind, of such a paragraph exactly one text is handed, and every syntax
+/// reads it as exactly this quote, with no labels.
+pub fn quotes_are_read_back()
+    ensures { QuotesAreReadBack }
 {}
 
 /// For a paragraph of a code span exactly one text is handed, and every syntax reads it as exactly
