@@ -1,10 +1,13 @@
 -- Lines of events that were passed, and those that are left.
-use Rattle.std.proofs.Common.{◌≡◌, ℕ, List, [], ◌∷◌, ◌++◌, ◌+◌, Bool, Option, Some, None, refl, ap, sym, ◌∙◌, append_assoc, append-nil, arith, length, length-append, subst}
+use Rattle.std.proofs.Common.{◌≡◌, ℕ, List, [], ◌∷◌, ◌++◌, ◌+◌, Bool, IfErr, Option, Some, None, Result, Ok, Err, refl, ap, sym, ◌∙◌, append_assoc, append-nil, length, length-append, subst}
 use Rattle.std.specs.Borrow.{Bor}
 use Rattle.std.specs.Str.Lines.{lines}
 use Rattle.std.proofs.lemmas.Iterator.{YieldsList}
+use Rattle.tocmark_event.specs.Options.{OptionsView}
+use Rattle.tocmark_event.specs.declared.event.flags.ParserOptions.{ParserOptions}
 use Rattle.tocmark_state.specs.Ranges.{Pair}
-use Rattle.tocmark_interchange.specs.Lines.{AreLinesOf, IsBadLine, IsFirstBadLine, IsLineOf, IsNoLine, have_ranges}
+use Rattle.tocmark_interchange.specs.Interchange.{IsPairsCause, in_source}
+use Rattle.tocmark_interchange.specs.Lines.{AreLinesOf, IsBadLine, IsFirstBadLine, IsLineOf, IsLinesCause, IsNoLine, have_ranges}
 use Rattle.tocmark_interchange.specs.declared.fault.WriteError.{WriteError}
 use Rattle.tocmark_interchange.specs.declared.fault.WriteError.TheVariants as write_error
 
@@ -80,3 +83,11 @@ by_error input write_error.OutOfMemory h = tt
 pub next_bad : {S : Type 0} (steps : S → Option (Bor (List ℕ)) → S → Type 0) (input : List ℕ) (s t : S) (n m : ℕ) (pairs : List Pair) (x : Bor (List ℕ)) (e : WriteError) (has_ranges : Bool) → has_ranges ≡ have_ranges input → IsPassed steps input s n pairs → steps s (Some x) t → m ≡ n → IsNoLine has_ranges x.now m e → IsBadLine input e
 next_bad steps input s t n m pairs x e has_ranges decided h step same bad =
     by_error input e (first_bad steps input s t n pairs x e h step (subst (λ (k : ℕ). IsNoLine (have_ranges input) x.now k e) same (subst (λ (b : Bool). IsNoLine b x.now m e) decided bad)))
+
+-- the events of the lines are not written, and so the lines are not
+pub not_written : {T : Type 0} (options : OptionsView) (flags : ParserOptions) (has_source : Bool) (source input : List ℕ) (pairs : List Pair) (r : Result T WriteError) → AreLinesOf (have_ranges input) (lines input) pairs → IfErr r (IsPairsCause options flags source (in_source has_source pairs)) → IfErr r (IsLinesCause options flags has_source source input)
+not_written options flags has_source source input pairs (Ok x) are h = tt
+not_written options flags has_source source input pairs (Err (write_error.NotJson e)) are h = absurd h
+not_written options flags has_source source input pairs (Err (write_error.NotEvents e)) are h = absurd h
+not_written options flags has_source source input pairs (Err (write_error.Refused p e)) are h = (pairs, are, h)
+not_written options flags has_source source input pairs (Err write_error.OutOfMemory) are h = tt

@@ -9,7 +9,6 @@ returns-clause-written c = λ options flags h.
     let all = in_source c.args.has_source t.pairs in
     let b = c.in_ok-finish.ensures.active flags source all t.has_taken.stands in
     record {
-      has_ranges = t.has_ranges;
       pairs = t.pairs;
       are_lines = t.are_lines;
       is_written = all_written options flags source c.take_lines.new.state c.take_lines.new.output c.finish.new.writer b.more all t.has_taken b.added b.made.0 b.made.1;
