@@ -27,7 +27,9 @@ enum Before {
 
 /// Lines that are being filled.
 #[derive(Drop)]
-struct Filling {
+struct Filling<'p> {
+    /// The text of all pieces.
+    text: &'p str,
     lines: Lines,
     measure: Measure,
     /// The columns of the line that isn't ended, with what stands before it.
@@ -39,6 +41,9 @@ struct Filling {
     before: Before,
     /// Whether a tag of Jekyll or Hugo is open, as `{{ x }}`. It isn't broken, and keeps its blanks.
     is_in_tag: bool,
+    /// Where brackets end in the text that a word began. They aren't broken, also where the source has a line feed in them:
+    /// the lines may become one, in which they aren't broken either.
+    brackets_end: usize,
 }
 
 /// Whether a character is of a script that has no blanks between words. Korean has some.
@@ -86,14 +91,14 @@ fn begins_attributes(before: &str, behind: &str) -> bool {
         || before.ends_with(&[')', ']', '`', '*', '_', '>'])
 }
 
-/// How long the front of a text is that isn't broken because its first word has brackets: up to the end of attributes, or
-/// of a link of a wiki, as `[[a page]]`. 0 if there are none, or if they end in the word.
-fn bracketed_length(before: &str, word: &str, text: &str) -> usize {
+/// Where brackets end in a text that a word at a place begins behind another text: attributes, or a link of a wiki, as
+/// `[[a page]]`. 0 if it begins none, or if they end in the word.
+fn brackets_end(before: &str, word: &str, text: &str, at: usize) -> usize {
     for (open, close) in [("{", "}"), ("[[", "]]")] {
         let Some((front, rest)) = word.rsplit_once(open) else {
             continue;
         };
-        let inner = front.len().saturating_add(open.len());
+        let inner = at.saturating_add(front.len()).saturating_add(open.len());
         let last = text.floor_char_boundary(inner.saturating_add(LONGEST_BRACKETED));
         let behind = text.get(inner..last).unwrap_or("");
         let before = if front.is_empty() { before } else { front };
@@ -107,17 +112,7 @@ fn bracketed_length(before: &str, word: &str, text: &str) -> usize {
     0
 }
 
-/// The front of a text, behind another one, that isn't broken: up to its first blank or tab behind brackets that its first
-/// word begins.
-fn unbroken<'t>(before: &str, text: &'t str) -> &'t str {
-    let word = first_word(text);
-    let length = bracketed_length(before, word, text);
-    let rest = text.get(length..).unwrap_or("");
-    let end = length.saturating_add(first_word(rest).len());
-    text.get(..end.max(word.len())).unwrap_or(word)
-}
-
-impl Filling {
+impl Filling<'_> {
     /// Whether the word can't begin a line: there it could begin a block, or the line before it would end with a backslash.
     fn is_bound(&self) -> bool {
         is_hazard(self.word.as_str())
@@ -167,26 +162,33 @@ impl Filling {
         Ok(())
     }
 
-    /// Adds a text that may be broken at its blanks.
-    fn add_text(&mut self, text: &str) -> Result<(), AllocError> {
-        let mut rest = text;
-        for _ in 0..=text.len() {
-            let word = unbroken(self.word.as_str(), rest);
+    /// Adds the text between two places, which may be broken at its blanks.
+    fn add_text(&mut self, from: usize, end: usize) -> Result<(), AllocError> {
+        let text = self.text;
+        let mut at = from;
+        for _ in from..=end {
+            let rest = text.get(at..end).unwrap_or("");
+            let word = first_word(rest);
+            if at >= self.brackets_end {
+                self.brackets_end = brackets_end(self.word.as_str(), word, text, at);
+            }
             self.word.push_str(word)?;
             self.is_in_tag = is_in_tag(word, self.is_in_tag);
             let blanks = rest.get(word.len()..).unwrap_or("");
-            rest = blanks.trim_start_matches(&[' ', '\t']);
+            let behind = blanks.trim_start_matches(&[' ', '\t']);
             if blanks.is_empty() {
                 break;
             }
-            if self.is_in_tag {
-                let count = blanks.len().saturating_sub(rest.len());
+            let count = blanks.len().saturating_sub(behind.len());
+            at = at.saturating_add(word.len());
+            if self.is_in_tag || at < self.brackets_end {
                 self.word.push_str(blanks.get(..count).unwrap_or(" "))?;
-            } else if are_unspaced(self.word.as_str(), rest) {
+            } else if are_unspaced(self.word.as_str(), behind) {
                 self.word.push(' ')?;
             } else {
                 self.end_word(Before::Blank)?;
             }
+            at = at.saturating_add(count);
         }
         Ok(())
     }
@@ -209,11 +211,13 @@ impl Filling {
         Ok(())
     }
 
-    fn add(&mut self, piece: Piece, text: &str) -> Result<(), AllocError> {
+    /// Adds a piece, whose text begins at a place.
+    fn add(&mut self, piece: Piece, from: usize) -> Result<(), AllocError> {
         match piece {
-            Piece::Text(_) => self.add_text(text),
-            Piece::Solid(_) => self.word.push_str(text),
+            Piece::Text(end) => self.add_text(from, end),
+            Piece::Solid(end) => self.word.push_str(self.text.get(from..end).unwrap_or("")),
             Piece::Soft { is_deep } if self.is_in_tag => self.break_line("", is_deep),
+            Piece::Soft { .. } if from < self.brackets_end => self.word.push(' '),
             Piece::Soft { .. } => self.end_word(Before::Break),
             Piece::Feed { is_deep } => self.break_line("", is_deep),
             Piece::Hard { is_deep, is_blanks } => self.break_line(
@@ -231,6 +235,7 @@ pub(crate) fn filled(
     measure: Measure,
 ) -> Result<Lines, AllocError> {
     let mut filling = Filling {
+        text: pieces.text.as_str(),
         lines: Lines::new(alloc),
         measure,
         column: measure.first,
@@ -238,6 +243,7 @@ pub(crate) fn filled(
         word: String::new(alloc),
         before: Before::Nothing,
         is_in_tag: false,
+        brackets_end: 0,
     };
     let mut from = 0usize;
     for piece in &pieces.list {
@@ -245,7 +251,7 @@ pub(crate) fn filled(
             Piece::Text(end) | Piece::Solid(end) => *end,
             _ => from,
         };
-        filling.add(*piece, pieces.text.as_str().get(from..end).unwrap_or(""))?;
+        filling.add(*piece, from)?;
         from = end;
     }
     filling.end_word(Before::Nothing)?;
