@@ -3,7 +3,6 @@
 ghost use Rattle.std.specs.Prelude.{◌≡◌, OnOk, ◌==◌, ◌&&◌, not, true, IfOk};
 ghost use Rattle.std.specs.List.{list_any, find, fold};
 ghost use Rattle.tocmark_read_blocks.specs.Blocks.{underline_taken_in, started_in, start_or, leaf_started_in, passed_in, tabled_in, turn_of, turn_in, leaf_ended, touched, cells_taken_in, line_taken_in, extends_starts, page_in, blocks_view, blocks_in};
-ghost use Rattle.tocmark_read_constructs.specs.Metadata.{known_of};
 ghost use Rattle.tocmark_read_lines.specs.Lines.{lines_of};
 ghost use Rattle.tocmark_read_page.specs.Pages.{page, closed_to, piece_taken};
 ghost use Rattle.tocmark_read_blocks.specs.Leaves.{ends_at_blank};
@@ -27,7 +26,7 @@ use tocmark_read_constructs::task::{start_task, task_in};
 use tocmark_read_lines::beginnings::{Tail, tail_of};
 use tocmark_read_lines::cell::{Cells, cell_place, is_blank_at};
 use tocmark_read_lines::container::{matched, touch};
-use tocmark_read_lines::line::{Line, line_ended, line_left, lines};
+use tocmark_read_lines::line::{Line, line_ended, line_left};
 use tocmark_read_page::definition::LinkDefinition;
 use tocmark_read_page::leaf::{Leaf, is_paragraph};
 use tocmark_read_page::line_start::{Known, LineStart, Row};
@@ -480,24 +479,11 @@ fn extends_starts(syntax: Syntax) -> bool
     syntax.task_lists || syntax.yaml_metadata || syntax.pluses_metadata || syntax.quote_kinds
 }
 
-/// What is known of a text before its lines are read. Only where metadata is read, its lines are listed.
-#[tactic(auto, unfolding(tocmark_read_constructs::specs::Metadata::known_of))]
-fn known_in(alloc: Global, syntax: Syntax, text: &[u8]) -> Result<Known, AllocError>
-    ensures { IfOk result (λ known. known ≡ known_of syntax text.now (lines_of text.now)) }
-{
-    if syntax.yaml_metadata || syntax.pluses_metadata {
-        let lines = lines(alloc, text)?;
-        Ok(known_of(syntax, text, &lines))
-    } else {
-        Ok(known_of(syntax, text, &[]))
-    }
-}
-
 #[tactic(auto, unfolding(crate::specs::Blocks::page_in))]
 fn read_page(alloc: Global, syntax: Syntax, text: &[u8]) -> Result<BlocksSoFar, AllocError>
     ensures { IfOk result (λ found. page found ≡ page_in syntax text.now) }
 {
-    let source = source_of(known_in(alloc, syntax, text)?, text);
+    let source = source_of(known_of(syntax, text), text);
     let mut page = BlocksSoFar::new(alloc);
     take_lines(&mut page, alloc, &source)?;
     page.close_to(alloc, text, 0)?;

@@ -2,13 +2,15 @@
 
 ghost use Rattle.std.specs.Prelude.{◌≡◌, OnOk};
 ghost use Rattle.tocmark_read_constructs.specs.Metadata.{is_triple, ends_line, is_blank_line, mark_of, has_dots, opens_metadata, closes_metadata, last_step, last_closing, known_of, begins_metadata, metadata_started, is_outside, is_front, metadata_in};
+ghost use Rattle.tocmark_read_lines.specs.Lines.{lines_of};
 ghost use Rattle.tocmark_read_page.specs.Pages.{page};
 
 use crate::blanks::{behind_blanks, behind_spaces};
+use memchr::memchr2_iter;
 use std::alloc::{AllocError, Global};
 use tocmark_event::event::MetadataBlockKind;
 use tocmark_read_lines::cell::{Cells, cell_place, is_blank_at};
-use tocmark_read_lines::line::Line;
+use tocmark_read_lines::line::{Line, line_ended, line_left};
 use tocmark_read_page::leaf::{Leaf, is_paragraph};
 use tocmark_read_page::line_start::{Known, LineStart, Row};
 use tocmark_read_page::page::{BlockKind, BlocksSoFar, is_list};
@@ -87,28 +89,39 @@ fn last_step(kind: MetadataBlockKind, text: &[u8], last: usize, line: Line) -> u
     }
 }
 
-fn last_closing(kind: MetadataBlockKind, text: &[u8], lines: &[Line]) -> usize
-    ensures { result ≡ last_closing kind text.now lines.now }
+/// The number of the last line of a text that closes metadata of a kind. 0 if none does.
+#[tactic(auto, using(tocmark_read_lines::proofs::LineEnds::lines_by_places))]
+fn last_closing(kind: MetadataBlockKind, text: &[u8]) -> usize
+    ensures { result ≡ last_closing kind text.now (lines_of text.now) }
 {
     let mut last = 0;
-    for line in lines {
-        last = last_step(kind, text, last, *line);
+    let mut before = 0;
+    let mut start = 0;
+    for at in memchr2_iter(b'\n', b'\r', text) {
+        if let Some(line) = line_ended(text, before, start, at) {
+            last = last_step(kind, text, last, line);
+            before = line.number;
+            start = line.next;
+        }
     }
-    last
+    match line_left(before, start, text.len()) {
+        Some(line) => last_step(kind, text, last, line),
+        None => last,
+    }
 }
 
-/// What is known of a text with these lines before they are read with a syntax.
+/// What is known of a text before its lines are read with a syntax.
 #[tactic(auto, unfolding(crate::specs::Metadata::known_of))]
-pub fn known_of(syntax: Syntax, text: &[u8], lines: &[Line]) -> Known
-    ensures { result ≡ known_of syntax text.now lines.now }
+pub fn known_of(syntax: Syntax, text: &[u8]) -> Known
+    ensures { result ≡ known_of syntax text.now (lines_of text.now) }
 {
     let yaml_end = if syntax.yaml_metadata {
-        last_closing(MetadataBlockKind::YamlStyle, text, lines)
+        last_closing(MetadataBlockKind::YamlStyle, text)
     } else {
         0
     };
     let pluses_end = if syntax.pluses_metadata {
-        last_closing(MetadataBlockKind::PlusesStyle, text, lines)
+        last_closing(MetadataBlockKind::PlusesStyle, text)
     } else {
         0
     };

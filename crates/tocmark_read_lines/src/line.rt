@@ -1,10 +1,8 @@
 //! The lines of a text.
 
-ghost use Rattle.std.specs.Prelude.{◌≡◌, IfOk};
-ghost use Rattle.tocmark_read_lines.specs.Lines.{ends_here, line_stop, line_ended, line_left, lines_of};
+ghost use Rattle.std.specs.Prelude.{◌≡◌};
+ghost use Rattle.tocmark_read_lines.specs.Lines.{ends_here, line_stop, line_ended, line_left};
 
-use memchr::memchr2_iter;
-use std::alloc::{AllocError, Global};
 use tocmark_read_scan::basic::byte_at;
 
 /// A line of a text. Places are bytes of the text.
@@ -71,26 +69,4 @@ pub fn line_left(before: usize, start: usize, end: usize) -> Option<Line>
     } else {
         None
     }
-}
-
-/// The lines of a text in order, with their places in bytes. They end with a line feed, a carriage
-/// return or both; behind the last line ending stands a line only if it isn't empty.
-#[tactic(auto, using(crate::proofs::LineEnds::lines_by_places))]
-pub fn lines(alloc: Global, text: &[u8]) -> Result<Vec<Line>, AllocError>
-    ensures { IfOk result (λ v. v.items ≡ lines_of text.now) }
-{
-    let mut lines = Vec::new(alloc);
-    let mut before = 0;
-    let mut start = 0;
-    for at in memchr2_iter(b'\n', b'\r', text) {
-        if let Some(line) = line_ended(text, before, start, at) {
-            lines.push(line)?;
-            before = line.number;
-            start = line.next;
-        }
-    }
-    if let Some(line) = line_left(before, start, text.len()) {
-        lines.push(line)?;
-    }
-    Ok(lines)
 }
