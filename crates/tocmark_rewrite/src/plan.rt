@@ -231,8 +231,8 @@ fn is_changed_before(plans: &[Plan], at: usize) -> bool {
     }
 }
 
-/// The plans, of which the misread trees are written that were kept beside a change: behind it at distance 0, before it at
-/// distance 1. None if there are no such trees.
+/// Releases the misread trees that were kept beside a change, so that they are written: those behind it at distance 0, those
+/// before it at distance 1. None if there are no such trees.
 fn loosened_at(
     alloc: Global,
     plans: &[Plan],
@@ -254,8 +254,8 @@ fn loosened_at(
     Ok(if is_looser { Some(loose) } else { None })
 }
 
-/// The plans, of which the misread trees are written that were kept directly behind a change, or else those directly before
-/// one. None if there are no such trees.
+/// Releases the misread trees that were kept directly behind a change. If there are none, it releases those directly before
+/// one. None if there are none there either.
 pub(crate) fn loosened(
     alloc: Global,
     plans: &[Plan],

@@ -588,8 +588,8 @@ fn side_by_side<'a, R: DefinitionReader>(
 /// How often misread blocks beside a change are written, too.
 const LOOSENINGS: usize = 2;
 
-/// Kept blocks and written ones side by side, of which misread ones beside a change are written, too, as they are read as
-/// the events; none if no such text is found. A text was tried without that.
+/// Puts kept and written blocks side by side, after a first text was refused. Blocks beside a change that parsed otherwise
+/// are written, too. None if no such text parses to the events.
 fn loosened_text<'a, R: DefinitionReader>(
     tools: &Tools<'_, '_, R>,
     source: &str,
