@@ -3,7 +3,7 @@
 use std::fmt;
 
 /// Why a block keeps its lines.
-#[derive(Clone, Copy, Debug, PartialEq, Eq)]
+#[derive(Clone, Copy)]
 pub enum Reason {
     /// What is printed for it is read otherwise.
     ReadOtherwise,
@@ -21,7 +21,7 @@ impl fmt::Display for Reason {
 }
 
 /// A block that was left as it stands.
-#[derive(Debug, Drop)]
+#[derive(Drop)]
 pub struct Left {
     /// Its first and its last line in the source, counted from 1.
     pub lines: (usize, usize),
@@ -29,7 +29,7 @@ pub struct Left {
 }
 
 /// The new text.
-#[derive(Debug, Drop)]
+#[derive(Drop)]
 pub struct Formatted {
     pub text: String,
     /// The blocks that were left as they stand, in their order.

@@ -2,6 +2,7 @@
 
 use crate::page::{Frame, Kind, Lead};
 use crate::part::{Opening, Part};
+use crate::piece::push_repeated;
 use crate::printer::Printer;
 use crate::source::without_blanks;
 use crate::style::{ListIndent, Numbering};
@@ -45,13 +46,6 @@ struct ItemColumns {
     pad: usize,
     content: usize,
     column: usize,
-}
-
-fn push_blanks(text: &mut String, count: usize) -> Result<(), AllocError> {
-    for _ in 0..count {
-        text.push(' ')?;
-    }
-    Ok(())
 }
 
 impl Printer<'_> {
@@ -155,7 +149,7 @@ impl Printer<'_> {
         let columns = self.item_columns(start, behind);
         let mut first = String::new(self.alloc);
         if self.look.is_literal && !self.page.owes_sign() {
-            push_blanks(&mut first, columns.indent)?;
+            push_repeated(&mut first, ' ', columns.indent)?;
         }
         self.push_marker(&mut first, own.get(..digits).unwrap_or(""))?;
         let pad = match self.look.list_indent {
@@ -163,7 +157,7 @@ impl Printer<'_> {
             ListIndent::Marker => 1,
             ListIndent::Four => 4usize.saturating_sub(first.len()).max(1),
         };
-        push_blanks(&mut first, pad)?;
+        push_repeated(&mut first, ' ', pad)?;
         let mut frame = Frame::new(self.alloc, Kind::Item, columns.content, end);
         frame.rest = Lead::Blanks(first.len());
         frame.first = first;

@@ -2,6 +2,7 @@
 
 use crate::link::push_title;
 use crate::page::Kind;
+use crate::piece::blanks;
 use crate::printer::Printer;
 use std::alloc::{AllocError, Global};
 use tocmark_read_tokens::word::{Definition, Word, definition_at};
@@ -33,6 +34,15 @@ fn is_comment(text: &str, definition: &Definition) -> bool {
 /// The definitions in a text; none if something else is in it, too.
 fn found_in(alloc: Global, text: &str) -> Result<Option<Vec<Found>>, AllocError> {
     let mut all = Vec::new(alloc);
+    if add_found(&mut all, text)? {
+        Ok(Some(all))
+    } else {
+        Ok(None)
+    }
+}
+
+/// Adds the definitions in a text; false if something else is in it, too.
+fn add_found(all: &mut Vec<Found>, text: &str) -> Result<bool, AllocError> {
     let mut at = 0usize;
     for _ in 0..text.len() {
         let rest = text.get(at..).unwrap_or("");
@@ -44,7 +54,7 @@ fn found_in(alloc: Global, text: &str) -> Result<Option<Vec<Found>>, AllocError>
         let is_apart = rest.get(..white).unwrap_or("").contains('\n');
         let start = at.saturating_add(white);
         let Some(definition) = definition_at(text.as_bytes(), start) else {
-            return Ok(None);
+            return Ok(false);
         };
         all.push(Found {
             definition,
@@ -53,7 +63,7 @@ fn found_in(alloc: Global, text: &str) -> Result<Option<Vec<Found>>, AllocError>
         })?;
         at = definition.next;
     }
-    Ok(Some(all))
+    Ok(true)
 }
 
 /// Adds words with one blank for each stretch of white space.
@@ -73,6 +83,25 @@ fn push_collapsed(line: &mut String, words: &str) -> Result<(), AllocError> {
         is_first = false;
     }
     Ok(())
+}
+
+/// Adds a definition that stands in a text.
+fn push_definition(
+    whole: &mut String,
+    text: &str,
+    definition: &Definition,
+) -> Result<(), AllocError> {
+    let label = definition.label;
+    whole.push('[')?;
+    push_collapsed(whole, text.get(label.start..label.end).unwrap_or(""))?;
+    whole.push_str("]: ")?;
+    whole.push_str(spelled(text, definition.destination))?;
+    let title = spelled(text, definition.title);
+    if title.is_empty() {
+        return Ok(());
+    }
+    whole.push(' ')?;
+    push_title(whole, title)
 }
 
 /// Whether all bytes are blanks, tabs and line feeds.
@@ -100,19 +129,30 @@ impl Printer<'_> {
             return Ok(());
         }
         let text = self.gap_text(from, end)?;
-        let text = text.as_str().trim_matches(&[' ', '\t', '\n']);
+        self.print_gap_text(text.as_str(), from, end)
+    }
+
+    /// Prints the lines of a gap between two places of the source, if they aren't empty.
+    fn print_gap_text(&mut self, text: &str, from: usize, end: usize) -> Result<(), AllocError> {
+        let text = text.trim_matches(&[' ', '\t', '\n']);
         if text.is_empty() {
             return Ok(());
         }
-        self.begin_definitions(from, end.min(source.text.len()))?;
+        self.begin_definitions(from, end.min(self.source.text.len()))?;
         self.print_definitions(text)?;
         self.finish(Kind::Definitions, end)
     }
 
     /// The whole lines between two places of the source, without what their containers have before them.
     fn gap_text(&self, from: usize, end: usize) -> Result<String, AllocError> {
-        let source = self.source;
         let mut text = String::new(self.alloc);
+        self.push_gap(&mut text, from, end)?;
+        Ok(text)
+    }
+
+    /// Adds these lines to a text.
+    fn push_gap(&self, text: &mut String, from: usize, end: usize) -> Result<(), AllocError> {
+        let source = self.source;
         let mut at = from;
         for _ in from..end {
             let line_end = source.line_end(at);
@@ -121,31 +161,20 @@ impl Printer<'_> {
             }
             if at == source.line_start(at) {
                 let place = self.page.stripped(source, at);
-                for _ in 0..place.spare {
-                    text.push(' ')?;
-                }
+                text.push_str(blanks(place.spare))?;
                 at = place.at;
             }
             text.push_str(source.slice(at.min(line_end), line_end))?;
             text.push('\n')?;
             at = line_end.saturating_add(1);
         }
-        Ok(text)
+        Ok(())
     }
 
     /// Prints a definition: a line, and one for each further line of its title.
     fn print_definition(&mut self, text: &str, definition: &Definition) -> Result<(), AllocError> {
-        let label = definition.label;
         let mut whole = String::new(self.alloc);
-        whole.push('[')?;
-        push_collapsed(&mut whole, text.get(label.start..label.end).unwrap_or(""))?;
-        whole.push_str("]: ")?;
-        whole.push_str(spelled(text, definition.destination))?;
-        let title = spelled(text, definition.title);
-        if !title.is_empty() {
-            whole.push(' ')?;
-            push_title(&mut whole, title)?;
-        }
+        push_definition(&mut whole, text, definition)?;
         for line in whole.as_str().split('\n') {
             self.page.line(line.trim_start_matches(&[' ', '\t']))?;
         }
@@ -163,15 +192,18 @@ impl Printer<'_> {
     /// Prints definitions, with an empty line where there are some between them. Comments stay as they are spelled, and
     /// so do lines in which something else stands, too.
     fn print_definitions(&mut self, text: &str) -> Result<(), AllocError> {
-        let found = if self.look.is_literal {
-            None
-        } else {
-            found_in(self.alloc, text)?
-        };
-        let Some(found) = found else {
+        if self.look.is_literal {
             return self.print_spelled(text);
-        };
-        for one in &found {
+        }
+        match found_in(self.alloc, text)? {
+            Some(found) => self.print_found(text, &found),
+            None => self.print_spelled(text),
+        }
+    }
+
+    /// Prints the definitions that were found in a text.
+    fn print_found(&mut self, text: &str, found: &[Found]) -> Result<(), AllocError> {
+        for one in found {
             if one.is_apart && !self.page.top().is_tight {
                 self.page.blank()?;
             }

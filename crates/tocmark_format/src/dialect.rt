@@ -15,11 +15,12 @@ const LINE_OPENERS: [&str; 5] = [
 ];
 
 /// What begins a block of another dialect, beside the lines above.
-const BLOCK_OPENERS: [&str; 7] = [
+const BLOCK_OPENERS: [&str; 8] = [
     "import ", // MDX: what the document imports and exports
     "export ", "=== \"", // MkDocs: a tab
     "--8<-- ", // MkDocs: an included file
-    "| ", // pandoc: lines that stay
+    "|", // pandoc: lines that stay; kramdown: a table without a delimiter row
+    "% ", // pandoc: a title
     "+--", // pandoc: a table
     "+==",
 ];
@@ -36,7 +37,7 @@ fn begins_with(text: &str, openers: &[&str]) -> bool {
     openers.iter().any(|opener| text.starts_with(*opener))
 }
 
-/// Whether a text begins with a command of Doxygen, as `@param`.
+/// Whether a text begins with a command of Doxygen or LaTeX, as `@param` and `\begin{align}`.
 fn begins_command(text: &str) -> bool {
     text.as_bytes()
         .get(1)
@@ -57,17 +58,29 @@ pub(crate) fn begins_foreign_line(text: &str) -> bool {
     match text.as_bytes().first() {
         Some(b':') => begins_definition(text) || begins_with(text, &LINE_OPENERS),
         Some(b'!' | b'?' | b'{' | b'$') => begins_with(text, &LINE_OPENERS),
-        Some(b'@') => begins_command(text),
+        Some(b'@' | b'\\') => begins_command(text),
         // an abbreviation of kramdown and MkDocs
         Some(b'*') => text.starts_with("*[") && text.contains("]:"),
         _ => false,
     }
 }
 
+/// Whether a text begins with the kind of a callout, as `[!info]` of Obsidian.
+fn begins_callout(text: &str) -> bool {
+    match text.strip_prefix("[!") {
+        Some(rest) => rest
+            .as_bytes()
+            .first()
+            .is_some_and(|byte| byte.is_ascii_alphabetic()),
+        None => false,
+    }
+}
+
 /// Whether a block that begins like this text is one of another dialect, but for the lines above.
 fn begins_foreign_block(text: &str) -> bool {
     match text.as_bytes().first() {
-        Some(b'i' | b'e' | b'=' | b'-' | b'|' | b'+') => begins_with(text, &BLOCK_OPENERS),
+        Some(b'i' | b'e' | b'=' | b'-' | b'|' | b'+' | b'%') => begins_with(text, &BLOCK_OPENERS),
+        Some(b'[') => begins_callout(text),
         _ => false,
     }
 }
@@ -126,6 +139,20 @@ impl Printer<'_> {
         place.is_met && self.indent_behind(place) < 4
     }
 
+    /// Whether a table has a row that is indented like code. To `cmark-gfm` the table ends before it.
+    pub(crate) fn has_deep_row(&self, start: usize, end: usize) -> bool {
+        let source = self.source;
+        let second = source.line_of(start).saturating_add(1);
+        let last = source.line_of(end.saturating_sub(1));
+        for line in second..=last {
+            let is_behind = source.line(line).starts_with(&[' ', '\t', '>']);
+            if is_behind && !self.could_be_row(line) {
+                return true;
+            }
+        }
+        false
+    }
+
     /// Whether a paragraph whose lines don't stay has a line that could be the delimiter row of a table. GitHub lets a table
     /// begin below the first line of a paragraph.
     fn has_table(&self, start: usize, end: usize) -> bool {
@@ -144,8 +171,14 @@ impl Printer<'_> {
         false
     }
 
+    /// Whether the first line of a block is a fence of quotes, as GitLab reads it.
+    fn begins_fenced_quote(&self, start: usize) -> bool {
+        let line = self.source.line(self.source.line_of(start));
+        line.trim_end_matches(&[' ', '\t']) == ">>>"
+    }
+
     /// Whether a block has a line of another dialect where that could be read as one: in a leaf any line, in a container at
-    /// the top a lazy one.
+    /// the top a lazy one, or at the front of a quote a fence.
     fn has_foreign(&self, kind: Kind, start: usize, end: usize) -> bool {
         match kind {
             Kind::Paragraph | Kind::Heading => {
@@ -156,9 +189,9 @@ impl Printer<'_> {
                     || self.has_table(start, end)
             }
             Kind::Table => self.has_foreign_line(start, end, false),
-            Kind::List | Kind::Quote if self.page.depth() == 0 => self.has_foreign_line(
-                start, end, true,
-            ),
+            Kind::List | Kind::Quote if self.page.depth() == 0 => {
+                self.begins_fenced_quote(start) || self.has_foreign_line(start, end, true)
+            }
             _ => false,
         }
     }

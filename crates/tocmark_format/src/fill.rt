@@ -16,7 +16,7 @@ pub(crate) struct Measure {
 }
 
 /// What stands before a word.
-#[derive(Clone, Copy, Debug, PartialEq, Eq)]
+#[derive(Clone, Copy, PartialEq, Eq)]
 enum Before {
     /// Nothing: it begins a line, or goes on with the word before it.
     Nothing,
@@ -28,7 +28,7 @@ enum Before {
 /// Lines that are being filled.
 #[derive(Drop)]
 struct Filling<'p> {
-    /// The text of all pieces.
+    /// The text of all pieces, with a line feed for each break.
     text: &'p str,
     lines: Lines,
     measure: Measure,
@@ -86,7 +86,7 @@ const LONGEST_BRACKETED: usize = 200;
 /// Whether attributes stand behind a brace that is between two texts, as in `[a](b){ .name }` and `{: .name }`.
 fn begins_attributes(before: &str, behind: &str) -> bool {
     behind
-        .trim_start_matches(&[' ', '\t'])
+        .trim_start_matches(&[' ', '\t', '\n'])
         .starts_with(&['.', '#', ':'])
         || before.ends_with(&[')', ']', '`', '*', '_', '>'])
 }
@@ -211,11 +211,11 @@ impl Filling<'_> {
         Ok(())
     }
 
-    /// Adds a piece, whose text begins at a place.
-    fn add(&mut self, piece: Piece, from: usize) -> Result<(), AllocError> {
+    /// Adds a piece, whose text is that between two places.
+    fn add(&mut self, piece: Piece, from: usize, end: usize) -> Result<(), AllocError> {
         match piece {
-            Piece::Text(end) => self.add_text(from, end),
-            Piece::Solid(end) => self.word.push_str(self.text.get(from..end).unwrap_or("")),
+            Piece::Text(_) => self.add_text(from, end),
+            Piece::Solid(_) => self.word.push_str(self.text.get(from..end).unwrap_or("")),
             Piece::Soft { is_deep } if self.is_in_tag => self.break_line("", is_deep),
             Piece::Soft { .. } if from < self.brackets_end => self.word.push(' '),
             Piece::Soft { .. } => self.end_word(Before::Break),
@@ -226,6 +226,25 @@ impl Filling<'_> {
             ),
         }
     }
+
+    /// Adds all pieces, and ends the last line.
+    fn add_all(&mut self, pieces: &Pieces) -> Result<(), AllocError> {
+        let mut from = 0usize;
+        let mut breaks = 0usize;
+        for piece in &pieces.list {
+            let end = match piece {
+                Piece::Text(end) | Piece::Solid(end) => end.saturating_add(breaks),
+                _ => {
+                    breaks = breaks.saturating_add(1);
+                    from.saturating_add(1)
+                }
+            };
+            self.add(*piece, from, end)?;
+            from = end;
+        }
+        self.end_word(Before::Nothing)?;
+        self.end_line()
+    }
 }
 
 /// The lines of pieces, filled with their words.
@@ -234,8 +253,9 @@ pub(crate) fn filled(
     pieces: &Pieces,
     measure: Measure,
 ) -> Result<Lines, AllocError> {
+    let text = pieces.lines(alloc)?;
     let mut filling = Filling {
-        text: pieces.text.as_str(),
+        text: text.as_str(),
         lines: Lines::new(alloc),
         measure,
         column: measure.first,
@@ -245,17 +265,7 @@ pub(crate) fn filled(
         is_in_tag: false,
         brackets_end: 0,
     };
-    let mut from = 0usize;
-    for piece in &pieces.list {
-        let end = match piece {
-            Piece::Text(end) | Piece::Solid(end) => *end,
-            _ => from,
-        };
-        filling.add(*piece, from)?;
-        from = end;
-    }
-    filling.end_word(Before::Nothing)?;
-    filling.end_line()?;
+    filling.add_all(pieces)?;
     let Filling { lines, .. } = filling;
     Ok(lines)
 }

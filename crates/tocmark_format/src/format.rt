@@ -20,6 +20,7 @@ use crate::source::Source;
 use crate::style::Style;
 use crate::summary::{Summary, same_definitions};
 use std::alloc::{AllocError, Global};
+use tocmark_compare::digest::TreeEnd;
 use tocmark_event::event::{Event, ParserOptions};
 use tocmark_event::reader::Reading;
 use tocmark_reader::ReferenceDefinition;
@@ -67,6 +68,13 @@ fn print_tree(printer: &mut Printer<'_>, tree: &mut Part) -> Result<(), AllocErr
     printer.print(tree)?;
     tree.clear();
     Ok(())
+}
+
+/// Prints the last tree, and what stands behind it. The tree's room is given back.
+fn print_end(printer: &mut Printer<'_>, tree: &mut Part) -> Result<(), AllocError> {
+    print_tree(printer, tree)?;
+    tree.let_go();
+    printer.end()
 }
 
 /// Adds events to a tree, and prints each that is whole.
@@ -202,10 +210,24 @@ impl Ladder {
         for _ in self.steps.len()..old.len() {
             self.steps.push(Step::Styled)?;
         }
-        let mut has_fallen = !self.keeps_definitions;
+        let had_definitions = self.keeps_definitions;
         self.keeps_definitions = true;
-        let mut tree_end = old.len();
-        let mut read_end = new.len();
+        Ok(self.fall_blocks((printed, &old), (back, &new), apart) || !had_definitions)
+    }
+
+    /// Takes the blocks that are read otherwise or apart one step nearer to the source; false if there is no such step left.
+    /// Beside the texts stand the ends of their trees.
+    fn fall_blocks(
+        &mut self,
+        old: (&Printed, &[TreeEnd]),
+        new: (&ReadBack, &[TreeEnd]),
+        apart: &[bool],
+    ) -> bool {
+        let (printed, old_ends) = old;
+        let (back, new_ends) = new;
+        let mut has_fallen = false;
+        let mut tree_end = old_ends.len();
+        let mut read_end = new_ends.len();
         let mut at = printed.blocks.len();
         for block in printed.blocks.iter().rev() {
             at = at.saturating_sub(1);
@@ -219,14 +241,14 @@ impl Ladder {
             let read = (read_from, read_end);
             let is_same = printed
                 .said
-                .has_same_trees(&old, said, &back.says, &new, read);
+                .has_same_trees(old_ends, said, &back.says, new_ends, read);
             if (is_apart || !is_same) && self.fall(tree, is_apart) {
                 has_fallen = true;
             }
             tree_end = tree;
             read_end = read_from;
         }
-        Ok(has_fallen)
+        has_fallen
     }
 
     /// The blocks that keep their lines.
@@ -272,6 +294,19 @@ fn behind_mark(text: &str) -> &str {
     text.get(MARK.len()..).unwrap_or("")
 }
 
+/// A text whose lines end with line feeds in place of carriage returns, with line feeds behind them or without.
+fn with_line_feeds(alloc: Global, text: &str) -> Result<String, AllocError> {
+    let pairless = text.replace(alloc, "\r\n", "\n")?;
+    pairless.as_str().replace(alloc, "\r", "\n")
+}
+
+/// A text behind a byte order mark.
+fn with_mark(alloc: Global, text: &str) -> Result<String, AllocError> {
+    let mut whole = String::from_str(alloc, MARK)?;
+    whole.push_str(text)?;
+    Ok(whole)
+}
+
 /// A document that stays as it is, from its first line on.
 fn unchanged(alloc: Global, text: &str) -> Result<Formatted, AllocError>
     ensures { IfOk result (λ answer. string_bytes answer.text ≡ text.now) }
@@ -313,10 +348,7 @@ impl<R: PartReader> Formatter<'_, R> {
             mut tree,
             said,
         } = printing;
-        print_tree(&mut printer, &mut tree)?;
-        tree.let_go();
-        drop(tree);
-        printer.end()?;
+        print_end(&mut printer, &mut tree)?;
         let (text, blocks) = printer.into_text();
         Ok(Printed {
             text,
@@ -461,6 +493,18 @@ impl<R: PartReader> Formatter<'_, R> {
         }
     }
 
+    /// Takes what is read otherwise one step nearer to the source; false if there is no such step left.
+    fn fall(
+        &self,
+        source: &Source<'_>,
+        ladder: &mut Ladder,
+        printed: &Printed,
+        back: &ReadBack,
+    ) -> Result<bool, AllocError> {
+        let apart = self.blocks_apart(source, printed)?;
+        ladder.fall_all(self.alloc, printed, back, &apart)
+    }
+
     /// The document that reads as its source, if some round leads there.
     fn rounds(&self, source: &Source<'_>) -> Result<Option<Formatted>, AllocError>
         ensures { IfOk result (λ answer. IfSome answer (λ answer. AreAlike
@@ -477,8 +521,7 @@ impl<R: PartReader> Formatter<'_, R> {
                 let Printed { text, .. } = printed;
                 return Ok(Some(Formatted { text, left }));
             }
-            let apart = self.blocks_apart(source, &printed)?;
-            if !ladder.fall_all(self.alloc, &printed, &back, &apart)? {
+            if !self.fall(source, &mut ladder, &printed, &back)? {
                 return Ok(None);
             }
         }
@@ -506,8 +549,7 @@ impl<R: PartReader> Formatter<'_, R> {
             (R.reading self.now.reader.now) (R.definitions self.now.reader.now)
             (string_bytes answer.text) text.now) }
     {
-        let pairless = text.replace(self.alloc, "\r\n", "\n")?;
-        let bare = pairless.as_str().replace(self.alloc, "\r", "\n")?;
+        let bare = with_line_feeds(self.alloc, text)?;
         let Formatted { text: lines, left } = self.format_lines(bare.as_str())?;
         let whole = lines.as_str().replace(self.alloc, "\n", line_ending(text))?;
         if self.are_alike(whole.as_str(), text)? {
@@ -539,8 +581,7 @@ impl<R: PartReader> Formatter<'_, R> {
             (string_bytes answer.text) text.now)) }
     {
         let rest = self.format_text(behind_mark(text))?;
-        let mut whole = String::from_str(self.alloc, MARK)?;
-        whole.push_str(rest.text.as_str())?;
+        let whole = with_mark(self.alloc, rest.text.as_str())?;
         if !self.are_alike(whole.as_str(), text)? {
             return Ok(None);
         }

@@ -47,7 +47,7 @@ pub(crate) struct Inlines<'d, 'p, 'g> {
 }
 
 /// What stands between the lines of a slice of the source.
-#[derive(Clone, Copy, PartialEq, Eq)]
+#[derive(Clone, Copy)]
 enum Glue {
     Blank,
     Feed,
@@ -96,23 +96,36 @@ fn hinders_underscore(character: Option<char>) -> bool {
 /// How far before emphasis and before its end a bare web address is looked for, in bytes.
 const LONGEST_ADDRESS: usize = 256;
 
-/// How far before and behind emphasis double brackets are looked for, in bytes.
+/// How far before and behind emphasis brackets are looked for, in bytes.
 const LONGEST_BRACKETED: usize = 100;
 
-/// Whether a text ends within double brackets.
-fn ends_in_brackets(text: &str) -> bool {
-    match text.rsplit_once("[[") {
-        Some((_, inner)) => !inner.contains("]]"),
+/// Brackets of other programs: links of wikis or tables of contents, tags of Jekyll and Hugo, and those of templates.
+const BRACKETS: [(&str, &str); 4] = [("[[", "]]"), ("{{", "}}"), ("{%", "%}"), ("<%", "%>")];
+
+/// Whether a text ends within these brackets.
+fn ends_in_brackets(text: &str, open: &str, close: &str) -> bool {
+    match text.rsplit_once(open) {
+        Some((_, inner)) => !inner.contains(close),
         None => false,
     }
 }
 
-/// Whether a text begins within double brackets.
-fn begins_in_brackets(text: &str) -> bool {
-    match text.split_once("]]") {
-        Some((inner, _)) => !inner.contains("[["),
+/// Whether a text begins within these brackets.
+fn begins_in_brackets(text: &str, open: &str, close: &str) -> bool {
+    match text.split_once(close) {
+        Some((inner, _)) => !inner.contains(open),
         None => false,
     }
+}
+
+/// Whether some brackets are open between these texts.
+fn are_in_brackets(before: &str, behind: &str) -> bool {
+    for (open, close) in BRACKETS {
+        if ends_in_brackets(before, open, close) && begins_in_brackets(behind, open, close) {
+            return true;
+        }
+    }
+    false
 }
 
 /// Whether a text ends with a bare web or mail address. Programs that link such an address take the signs in it, and an
@@ -133,12 +146,75 @@ fn may_hold_formulas(text: &str) -> bool {
         .filter(|byte| **byte == b'$')
         .take(2)
         .count();
-    dollars == 2 || text.contains("\\(") || text.contains("\\[") || text.contains("\\f")
+    dollars == 2
+        || text.contains("\\(")
+        || text.contains("\\[")
+        || text.contains("\\f")
+        || text.contains("\\begin{")
 }
 
 /// Whether a character is a sign of emphasis.
 fn is_sign(character: Option<char>) -> bool {
     matches!(character, Some('*' | '_'))
+}
+
+impl Context<'_, '_, '_> {
+    /// Where a leaf goes on on a line of the source, and whether that could begin a block there, but that it is indented or
+    /// lazy.
+    fn next_line(&self, line_start: usize) -> (usize, bool) {
+        let source = self.source;
+        let place = self.page.stripped(source, line_start);
+        let at = source.past_blanks(place.at);
+        let mut columns = place.spare;
+        for byte in source.slice(place.at, at).as_bytes() {
+            columns = columns.saturating_add(if *byte == b'\t' { 4 } else { 1 });
+        }
+        let is_row = matches!(source.byte(at), b'=' | b'|' | b':' | b'-');
+        (at, columns >= 4 || (!place.is_met && is_row))
+    }
+
+    /// Adds to pieces a slice of the source that isn't broken, without the prefixes of containers in it.
+    fn add_slice(
+        &self,
+        pieces: &mut Pieces,
+        range: (usize, usize),
+        glue: Glue,
+    ) -> Result<(), AllocError> {
+        let source = self.source;
+        let (from, to) = range;
+        let mut end = source.line_end(from);
+        pieces.add_solid(source.slice(from, to.min(end)))?;
+        for _ in from..to {
+            let start = end.saturating_add(1);
+            if start > to || start > source.text.len() {
+                break;
+            }
+            let (place, is_deep) = self.next_line(start);
+            match glue {
+                Glue::Blank => pieces.add_solid(" ")?,
+                Glue::Feed => pieces.push(Piece::Feed { is_deep })?,
+            }
+            end = source.line_end(place);
+            pieces.add_solid(source.slice(place, to.min(end)))?;
+        }
+        Ok(())
+    }
+
+    /// The pieces of such a slice.
+    fn slice_pieces(&self, range: (usize, usize), glue: Glue) -> Result<Pieces, AllocError> {
+        let mut pieces = Pieces::new(self.alloc);
+        self.add_slice(&mut pieces, range, glue)?;
+        Ok(pieces)
+    }
+
+    /// The tail of a link that has several lines.
+    fn tail(&self, from: usize, end: usize) -> Result<String, AllocError> {
+        let pieces = self.slice_pieces((from, end), Glue::Feed)?;
+        let lines = pieces.lines(self.alloc)?;
+        let mut tail = String::new(self.alloc);
+        push_tail(&mut tail, lines.as_str())?;
+        Ok(tail)
+    }
 }
 
 impl<'d, 'p, 'g> Inlines<'d, 'p, 'g> {
@@ -160,50 +236,10 @@ impl<'d, 'p, 'g> Inlines<'d, 'p, 'g> {
         }
     }
 
-    /// Where a leaf goes on on a line of the source, and whether that could begin a block there, but that it is indented or
-    /// lazy.
-    fn next_line(&self, line_start: usize) -> (usize, bool) {
-        let source = self.context.source;
-        let place = self.context.page.stripped(source, line_start);
-        let at = source.past_blanks(place.at);
-        let mut columns = place.spare;
-        for byte in source.slice(place.at, at).as_bytes() {
-            columns = columns.saturating_add(if *byte == b'\t' { 4 } else { 1 });
-        }
-        let is_row = matches!(source.byte(at), b'=' | b'|' | b':' | b'-');
-        (at, columns >= 4 || (!place.is_met && is_row))
-    }
-
-    /// The pieces of a slice of the source that isn't broken, without the prefixes of containers in it.
-    fn slice_pieces(&self, from: usize, to: usize, glue: Glue) -> Result<Pieces, AllocError> {
-        let source = self.context.source;
-        let mut pieces = Pieces::new(self.context.alloc);
-        let mut end = source.line_end(from);
-        pieces.add_solid(source.slice(from, to.min(end)))?;
-        for _ in 0..to.saturating_sub(from) {
-            let start = end.saturating_add(1);
-            if start > to || start > source.text.len() {
-                break;
-            }
-            let (place, is_deep) = self.next_line(start);
-            match glue {
-                Glue::Blank => pieces.add_solid(" ")?,
-                Glue::Feed => pieces.push(Piece::Feed { is_deep })?,
-            }
-            end = source.line_end(place);
-            pieces.add_solid(source.slice(place, to.min(end)))?;
-        }
-        Ok(pieces)
-    }
-
     /// Adds a slice of the source that isn't broken, without the prefixes of containers in it.
     fn add_slice(&mut self, from: usize, to: usize) -> Result<(), AllocError> {
-        let source = self.context.source;
-        if to <= source.line_end(from) {
-            return self.pieces.add_solid(source.slice(from, to));
-        }
-        let pieces = self.slice_pieces(from, to, Glue::Feed)?;
-        self.pieces.append(&pieces)
+        self.context
+            .add_slice(&mut self.pieces, (from, to), Glue::Feed)
     }
 
     /// Adds what stands before an event: backslashes, or a blank for blanks and a line's end behind a task's box.
@@ -219,7 +255,7 @@ impl<'d, 'p, 'g> Inlines<'d, 'p, 'g> {
             let is_blank = without_blanks(text).is_empty();
             return self.pieces.add_solid(if is_blank { " " } else { text });
         }
-        let pieces = self.slice_pieces(from, start, Glue::Blank)?;
+        let pieces = self.context.slice_pieces((from, start), Glue::Blank)?;
         if without_blanks(pieces.text.as_str()).is_empty() {
             self.pieces.add_solid(" ")
         } else {
@@ -244,7 +280,7 @@ impl<'d, 'p, 'g> Inlines<'d, 'p, 'g> {
             // without it the break would be a hard one; a filled line doesn't end so
             self.pieces.add_solid(" ")?;
         }
-        let (place, is_deep) = self.next_line(end);
+        let (place, is_deep) = self.context.next_line(end);
         self.at = place;
         if self.wraps() && self.is_in_badge() {
             return self.pieces.add_solid(" ");
@@ -258,7 +294,7 @@ impl<'d, 'p, 'g> Inlines<'d, 'p, 'g> {
         if self.context.source.byte(start) == b'\\' {
             self.add_gap(start)?;
         }
-        let (place, is_deep) = self.next_line(end);
+        let (place, is_deep) = self.context.next_line(end);
         self.at = place;
         self.pieces.push(Piece::Hard { is_deep, is_blanks })
     }
@@ -318,8 +354,8 @@ impl<'d, 'p, 'g> Inlines<'d, 'p, 'g> {
         found
     }
 
-    /// Whether a stretch of the source stands between `[[` and `]]`, which are near it in the leaf. To programs that
-    /// know links of wikis or tables of contents, what stands there is a name.
+    /// Whether a stretch of the source stands between `[[` and `]]` or the signs of a tag, which are near it in the leaf.
+    /// To the programs that know them, what stands there is a name.
     fn is_bracketed(&self, range: (usize, usize)) -> bool {
         let (start, end) = range;
         let source = self.context.source;
@@ -329,8 +365,10 @@ impl<'d, 'p, 'g> Inlines<'d, 'p, 'g> {
         let back = source
             .text
             .floor_char_boundary(end.saturating_add(LONGEST_BRACKETED));
-        ends_in_brackets(source.slice(front.max(self.range.0), start))
-            && begins_in_brackets(source.slice(end, back.min(self.range.1)))
+        are_in_brackets(
+            source.slice(front.max(self.range.0), start),
+            source.slice(end, back.min(self.range.1)),
+        )
     }
 
     /// The sign of emphasis: that of the look, if the source has it neither in nor beside the emphasis, and if it can
@@ -410,11 +448,8 @@ impl<'d, 'p, 'g> Inlines<'d, 'p, 'g> {
         if end <= source.line_end(from) {
             return self.pieces.add_tail(source.slice(from, end));
         }
-        let pieces = self.slice_pieces(from, end, Glue::Feed)?;
-        let tail = pieces.lines(self.context.alloc)?;
-        let mut whole = String::new(self.context.alloc);
-        push_tail(&mut whole, tail.as_str())?;
-        self.add_lines(whole.as_str())
+        let tail = self.context.tail(from, end)?;
+        self.add_lines(tail.as_str())
     }
 
     /// Adds lines that aren't broken otherwise.
@@ -454,8 +489,8 @@ impl<'d, 'p, 'g> Inlines<'d, 'p, 'g> {
 
     /// Adds a slice of the source as one line. The reader takes its line feeds for blanks.
     fn add_joined(&mut self, from: usize, to: usize) -> Result<(), AllocError> {
-        let pieces = self.slice_pieces(from, to, Glue::Blank)?;
-        self.pieces.append(&pieces)
+        self.context
+            .add_slice(&mut self.pieces, (from, to), Glue::Blank)
     }
 
     /// Adds a code span, whose lines are joined if lines are filled.

@@ -3,13 +3,14 @@
 
 use crate::page::Kind;
 use crate::part::{Mark, Opening, Part, is_inline};
+use crate::piece::blanks;
 use crate::printer::Printer;
-use crate::source::without_blanks;
+use crate::source::{without_blanks, without_end_blanks};
 use crate::spans::Span;
 use std::alloc::AllocError;
 
 /// What ends a stretch that a comment keeps.
-#[derive(Clone, Copy, Debug, PartialEq, Eq)]
+#[derive(Clone, Copy)]
 enum Until {
     /// The next block.
     Next,
@@ -75,16 +76,8 @@ fn comment_at(part: &Part, at: usize) -> Option<&str> {
 impl Printer<'_> {
     /// Prints a part of a line of the source, behind the blanks that a tab leaves over.
     fn print_rest(&mut self, spare: usize, from: usize, to: usize) -> Result<(), AllocError> {
-        let rest = self.source.slice(from, to);
-        if spare == 0 {
-            return self.page.line(rest);
-        }
-        let mut line = String::new(self.alloc);
-        for _ in 0..spare {
-            line.push(' ')?;
-        }
-        line.push_str(rest)?;
-        self.page.line(line.as_str())
+        self.page
+            .line_with(blanks(spare), self.source.slice(from, to))
     }
 
     /// Prints the source's lines from one place to another, unchanged but for the prefixes of the open containers.
@@ -220,7 +213,7 @@ impl Printer<'_> {
             return Some((until, Kind::Kept));
         }
         let span = self.span_at(part, at, end)?;
-        let kind = if self.source.byte(span.from) == b'-' {
+        let kind = if span.from == 0 && without_end_blanks(self.source.line(0)) == "---" {
             Kind::Metadata
         } else {
             Kind::Foreign

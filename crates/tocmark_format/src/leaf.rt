@@ -6,22 +6,24 @@ use crate::inline::{Context, Inlines};
 use crate::lines::{Lines, line_end};
 use crate::page::Kind;
 use crate::part::{Mark, Part};
-use crate::piece::{Piece, Pieces};
+use crate::piece::{INDENT, Piece, Pieces, ends_with_backslash, push_repeated};
 use crate::printer::Printer;
 use crate::source::{is_blank, without_blanks};
 use crate::style::{Rule, Wrap};
+use crate::width::width;
 use std::alloc::AllocError;
 use std::mem;
 use tocmark_event::event::HeadingLevel;
 
-fn level_number(level: HeadingLevel) -> usize {
+/// The signs before the text of a heading.
+fn heading_signs(level: HeadingLevel) -> &'static str {
     match level {
-        HeadingLevel::H1 => 1,
-        HeadingLevel::H2 => 2,
-        HeadingLevel::H3 => 3,
-        HeadingLevel::H4 => 4,
-        HeadingLevel::H5 => 5,
-        HeadingLevel::H6 => 6,
+        HeadingLevel::H1 => "# ",
+        HeadingLevel::H2 => "## ",
+        HeadingLevel::H3 => "### ",
+        HeadingLevel::H4 => "#### ",
+        HeadingLevel::H5 => "##### ",
+        HeadingLevel::H6 => "###### ",
     }
 }
 
@@ -59,15 +61,12 @@ fn attributes_in(tail: &str) -> Option<&str> {
     tail.get(from..from.saturating_add(inner.len()).saturating_add(2))
 }
 
-/// Whether a text ends with signs of a heading behind a blank, or is nothing else.
-fn ends_with_hashes(line: &str) -> bool {
-    let bare = line.trim_end_matches('#');
-    if bare.len() == line.len() {
-        return false;
-    }
-    match bare.as_bytes().last() {
-        Some(byte) => is_blank(*byte),
-        None => true,
+/// Whether a text ends with a sign of a heading. Behind `#` that would be a closing sign; to pandoc, kramdown and
+/// Python-Markdown also if no blank stands before it, as in `C#`.
+fn ends_with_sign(line: &str) -> bool {
+    match line.strip_suffix('#') {
+        Some(before) => !ends_with_backslash(before),
+        None => false,
     }
 }
 
@@ -86,13 +85,6 @@ fn least_fence(text: &str, sign: u8) -> usize {
     } else {
         longest.saturating_add(1)
     }
-}
-
-fn repeated(text: &mut String, byte: u8, count: usize) -> Result<(), AllocError> {
-    for _ in 0..count {
-        text.push(char::from(byte))?;
-    }
-    Ok(())
 }
 
 impl<'d> Printer<'d> {
@@ -143,7 +135,7 @@ impl<'d> Printer<'d> {
         }
         let mut line = String::from_str(self.alloc, text)?;
         line.push_str(tail)?;
-        let indent = if is_hazard(line.as_str()) { "    " } else { "" };
+        let indent = if is_hazard(line.as_str()) { INDENT } else { "" };
         self.page.line_with(indent, line.as_str())
     }
 
@@ -194,28 +186,29 @@ impl<'d> Printer<'d> {
             return self.page.line(text);
         }
         let (pieces, _) = self.pieces_of(part, events, start)?;
-        match self.look.wrap {
-            Wrap::Keep => self.print_kept_lines(&pieces)?,
-            Wrap::No => {
-                let lines = self.filled_lines(&pieces, usize::MAX)?;
-                self.print_all(&lines)?;
-            }
-            Wrap::At(limit) => {
-                let lines = self.filled_lines(&pieces, limit)?;
-                self.print_all(&lines)?;
-            }
-        }
+        let printed = self.print_pieces(&pieces);
         self.keep_room(pieces);
-        Ok(())
+        printed
+    }
+
+    /// Prints pieces with the lines of the style.
+    fn print_pieces(&mut self, pieces: &Pieces) -> Result<(), AllocError> {
+        let limit = match self.look.wrap {
+            Wrap::Keep => return self.print_kept_lines(pieces),
+            Wrap::No => usize::MAX,
+            Wrap::At(limit) => limit,
+        };
+        let lines = self.filled_lines(pieces, limit)?;
+        self.print_all(&lines)
     }
 
     /// Prints the title of a definition list. A line more would be a title of its own.
     pub(crate) fn print_title(&mut self, part: &Part, at: usize) -> Result<(), AllocError> {
         let events = (at.saturating_add(1), part.end(at));
         let (pieces, _) = self.pieces_of(part, events, part.range(at).0)?;
-        self.print_kept_lines(&pieces)?;
+        let printed = self.print_kept_lines(&pieces);
         self.keep_room(pieces);
-        Ok(())
+        printed
     }
 
     fn print_all(&mut self, lines: &Lines) -> Result<(), AllocError> {
@@ -235,18 +228,8 @@ impl<'d> Printer<'d> {
         let source = self.source;
         let (start, end) = part.range(at);
         let signs = signs_length(source.slice(start, end.min(source.line_end(start))));
-        let first = at.saturating_add(1);
-        let text = start.saturating_add(signs);
-        let (pieces, behind) = self.pieces_of(part, (first, part.end(at)), text)?;
-        let joins = self.look.wrap != Wrap::Keep;
-        let mut lines = Lines::kept(self.alloc, &pieces, joins)?;
-        self.keep_room(pieces);
-        let tail = source.slice(behind, end.min(source.line_end(behind)));
-        if let Some(attributes) = attributes_in(tail) {
-            lines.add_to_last(" ")?;
-            lines.add_to_last(attributes)?;
-        }
-        let has_box = matches!(part.event(first), Some(Mark::TaskBox));
+        let lines = self.heading_lines(part, at, start.saturating_add(signs))?;
+        let has_box = matches!(part.event(at.saturating_add(1)), Some(Mark::TaskBox));
         let has_signs = signs > 0;
         let own = if lines.len() > 1 && !has_signs {
             self.own_underline((start, end))
@@ -255,12 +238,30 @@ impl<'d> Printer<'d> {
         };
         let is_underlined = lines.len() > 1
             || has_box
-            || (!has_signs && (self.look.is_literal || ends_with_hashes(lines.last())));
+            || (!has_signs && (self.look.is_literal || ends_with_sign(lines.last())));
         if is_underlined {
             self.print_underlined(&lines, level, own)
         } else {
-            self.print_behind_signs(&lines, level)
+            self.print_behind_signs(lines.last(), level)
         }
+    }
+
+    /// The lines of a heading whose text starts here in the source, with its attributes behind the last one.
+    fn heading_lines(&mut self, part: &Part, at: usize, start: usize) -> Result<Lines, AllocError> {
+        let events = (at.saturating_add(1), part.end(at));
+        let (pieces, behind) = self.pieces_of(part, events, start)?;
+        let joins = self.look.wrap != Wrap::Keep;
+        let lines = Lines::kept(self.alloc, &pieces, joins);
+        self.keep_room(pieces);
+        let (_, end) = part.range(at);
+        let tail = self
+            .source
+            .slice(behind, end.min(self.source.line_end(behind)));
+        let mut lines = lines?;
+        if let Some(attributes) = attributes_in(tail) {
+            lines.add_to_last(attributes)?;
+        }
+        Ok(lines)
     }
 
     /// The underline of a heading that has this range in the source; empty if it isn't just signs.
@@ -291,28 +292,20 @@ impl<'d> Printer<'d> {
         if !own.is_empty() {
             return self.page.line(own);
         }
-        let sign = if level == HeadingLevel::H1 {
-            b'='
-        } else {
-            b'-'
-        };
+        let sign = if level == HeadingLevel::H1 { '=' } else { '-' };
         let mut underline = String::new(self.alloc);
-        repeated(
-            &mut underline,
-            sign,
-            crate::width::width(lines.last()).max(3),
-        )?;
+        push_repeated(&mut underline, sign, width(lines.last()).max(3))?;
         self.page.line(underline.as_str())
     }
 
-    fn print_behind_signs(&mut self, lines: &Lines, level: HeadingLevel) -> Result<(), AllocError> {
-        let mut line = String::new(self.alloc);
-        repeated(&mut line, b'#', level_number(level))?;
-        if !lines.last().is_empty() {
-            line.push(' ')?;
-            line.push_str(lines.last())?;
+    fn print_behind_signs(&mut self, line: &str, level: HeadingLevel) -> Result<(), AllocError> {
+        let signs = heading_signs(level);
+        let text = line.trim_end_matches(' ');
+        if text.is_empty() {
+            self.page.line(signs.trim_end_matches(' '))
+        } else {
+            self.page.line_with(signs, text)
         }
-        self.page.line(line.as_str().trim_end_matches(' '))
     }
 
     /// Prints lines of code or HTML. The last one may have no line feed, if the source ends in it.
@@ -329,14 +322,9 @@ impl<'d> Printer<'d> {
 
     fn print_indented(&mut self, text: &str) -> Result<(), AllocError> {
         self.is_cut = !text.is_empty() && !text.ends_with('\n');
-        let mut line = String::new(self.alloc);
         for code in text.strip_suffix('\n').unwrap_or(text).split('\n') {
-            line.truncate(0);
-            if !code.is_empty() {
-                line.push_str("    ")?;
-                line.push_str(code)?;
-            }
-            self.page.line(line.as_str())?;
+            let indent = if code.is_empty() { "" } else { INDENT };
+            self.page.line_with(indent, code)?;
         }
         Ok(())
     }
@@ -346,18 +334,29 @@ impl<'d> Printer<'d> {
         let own = head.as_bytes().first().copied().unwrap_or(b'`');
         let own_length = run(head, own);
         let info = head.get(own_length..).unwrap_or("");
-        let mut fence = String::new(self.alloc);
-        if self.look.is_literal {
-            repeated(&mut fence, own, own_length)?;
-            return Ok(fence);
-        }
         let sign = match self.look.fence {
             Some(sign) if !info.contains('`') => sign,
             _ => own,
         };
-        let length = least_fence(text, sign).max(self.look.fence_length);
-        repeated(&mut fence, sign, length)?;
+        let length = if self.look.is_literal {
+            own_length
+        } else {
+            least_fence(text, sign).max(self.look.fence_length)
+        };
+        let mut fence = String::new(self.alloc);
+        push_repeated(&mut fence, char::from(sign), length)?;
         Ok(fence)
+    }
+
+    /// Prints code between fences, the first one with what stands behind it.
+    fn print_fenced(&mut self, text: &str, fence: &str, info: &str) -> Result<(), AllocError> {
+        self.page.line_with(fence, info)?;
+        self.print_raw(text)?;
+        if self.is_cut {
+            Ok(())
+        } else {
+            self.page.line(fence)
+        }
     }
 
     pub(crate) fn print_code(
@@ -376,15 +375,8 @@ impl<'d> Printer<'d> {
             .slice(start, end.min(self.source.line_end(start)));
         let fence = self.fence_of(head, text)?;
         let own = run(head, head.as_bytes().first().copied().unwrap_or(b'`'));
-        let mut line = String::from_str(self.alloc, fence.as_str())?;
-        line.push_str(without_blanks(head.get(own..).unwrap_or("")))?;
-        self.page.line(line.as_str())?;
-        self.print_raw(text)?;
-        if self.is_cut {
-            Ok(())
-        } else {
-            self.page.line(fence.as_str())
-        }
+        let info = without_blanks(head.get(own..).unwrap_or(""));
+        self.print_fenced(text, fence.as_str(), info)
     }
 
     pub(crate) fn print_html(&mut self, part: &Part, at: usize) -> Result<(), AllocError> {

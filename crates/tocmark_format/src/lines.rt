@@ -1,7 +1,7 @@
 //! The lines of a leaf.
 
 use crate::hazard::is_hazard;
-use crate::piece::{Piece, Pieces, cut_blanks, ends_with_backslash};
+use crate::piece::{INDENT, Piece, Pieces, cut_blanks, ends_with_backslash};
 use std::alloc::{AllocError, Global};
 
 /// The lines of a leaf.
@@ -63,8 +63,9 @@ impl Lines {
         self.line(self.len().saturating_sub(1))
     }
 
-    /// Adds to the last line.
+    /// Adds a blank and a text to the last line.
     pub(crate) fn add_to_last(&mut self, text: &str) -> Result<(), AllocError> {
+        self.text.push(' ')?;
         self.text.push_str(text)?;
         let length = self.text.len();
         if let Some(end) = self.ends.last_mut() {
@@ -86,7 +87,7 @@ impl Lines {
     /// Ends the line. It gets four blanks in front if it would begin a block without them.
     pub(crate) fn end_line(&mut self, is_deep: bool) -> Result<(), AllocError> {
         if is_deep && is_hazard(self.line.as_str()) {
-            self.text.push_str("    ")?;
+            self.text.push_str(INDENT)?;
         }
         self.text.push_str(self.line.as_str())?;
         self.line.truncate(0);
@@ -113,30 +114,35 @@ impl Lines {
         self.line.push(' ')
     }
 
-    /// The lines of pieces, broken where the source breaks them; or, if `joins` says so, only at hard breaks.
-    pub(crate) fn kept(alloc: Global, pieces: &Pieces, joins: bool) -> Result<Lines, AllocError> {
-        let mut lines = Lines::new(alloc);
+    /// Adds the lines of pieces, as `kept` has them.
+    fn add_all(&mut self, pieces: &Pieces, joins: bool) -> Result<(), AllocError> {
         let mut from = 0usize;
         let mut is_deep = false;
         for piece in &pieces.list {
             let next_is_deep = match piece {
                 Piece::Text(end) | Piece::Solid(end) => {
-                    lines.push(pieces.text.as_str().get(from..*end).unwrap_or(""))?;
+                    self.push(pieces.text.as_str().get(from..*end).unwrap_or(""))?;
                     from = *end;
                     continue;
                 }
                 Piece::Soft { .. } if joins => {
-                    lines.join_line()?;
+                    self.join_line()?;
                     continue;
                 }
                 Piece::Feed { is_deep } | Piece::Soft { is_deep } | Piece::Hard { is_deep, .. } =>
                     *is_deep,
             };
-            lines.break_line(*piece)?;
-            lines.end_line(is_deep)?;
+            self.break_line(*piece)?;
+            self.end_line(is_deep)?;
             is_deep = next_is_deep;
         }
-        lines.end_line(is_deep)?;
+        self.end_line(is_deep)
+    }
+
+    /// The lines of pieces, broken where the source breaks them; or, if `joins` says so, only at hard breaks.
+    pub(crate) fn kept(alloc: Global, pieces: &Pieces, joins: bool) -> Result<Lines, AllocError> {
+        let mut lines = Lines::new(alloc);
+        lines.add_all(pieces, joins)?;
         Ok(lines)
     }
 }

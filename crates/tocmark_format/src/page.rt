@@ -1,13 +1,13 @@
 //! What is printed, and the containers that are open in it.
 
-use crate::piece::cut_blanks;
+use crate::piece::{cut_blanks, push_repeated};
 use crate::source::{Source, is_blank};
 use crate::width::width;
 use std::alloc::{AllocError, Global};
 use std::mem;
 
 /// What a block is.
-#[derive(Clone, Copy, Debug, PartialEq, Eq)]
+#[derive(Clone, Copy, PartialEq, Eq)]
 pub(crate) enum Kind {
     Document,
     Quote,
@@ -140,18 +140,11 @@ impl Frame {
     }
 }
 
-fn push_blanks(text: &mut String, count: usize) -> Result<(), AllocError> {
-    for _ in 0..count {
-        text.push(' ')?;
-    }
-    Ok(())
-}
-
 fn push_lead(text: &mut String, lead: Lead) -> Result<(), AllocError> {
     match lead {
         Lead::Nothing => Ok(()),
         Lead::Quote => text.push_str("> "),
-        Lead::Blanks(count) => push_blanks(text, count),
+        Lead::Blanks(count) => push_repeated(text, ' ', count),
     }
 }
 

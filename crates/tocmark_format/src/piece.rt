@@ -4,7 +4,7 @@ use crate::link::push_tail;
 use std::alloc::{AllocError, Global};
 
 /// A part of a leaf's text.
-#[derive(Clone, Copy, Debug, PartialEq, Eq)]
+#[derive(Clone, Copy)]
 pub(crate) enum Piece {
     /// A text, up to this byte, which may be broken at its blanks.
     Text(usize),
@@ -133,4 +133,24 @@ pub(crate) fn cut_blanks(text: &mut String, most: usize) {
         }
         text.pop();
     }
+}
+
+/// Four blanks, which keep a line from beginning a block.
+pub(crate) const INDENT: &str = "    ";
+
+/// Some blanks, at most four.
+pub(crate) fn blanks(count: usize) -> &'static str {
+    INDENT.get(..count).unwrap_or(INDENT)
+}
+
+/// Adds a character so many times.
+pub(crate) fn push_repeated(
+    text: &mut String,
+    character: char,
+    count: usize,
+) -> Result<(), AllocError> {
+    for _ in 0..count {
+        text.push(character)?;
+    }
+    Ok(())
 }

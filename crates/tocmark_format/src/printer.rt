@@ -10,7 +10,7 @@ use crate::source::Source;
 use std::alloc::{AllocError, Global};
 
 /// How near to the source a tree at the top is printed.
-#[derive(Clone, Copy, Debug, PartialEq, Eq)]
+#[derive(Clone, Copy, PartialEq, Eq)]
 pub(crate) enum Step {
     /// In the style.
     Styled,
@@ -283,6 +283,8 @@ impl<'d> Printer<'d> {
         let behind = part.end(at).saturating_add(1);
         if kind == Kind::Item {
             self.separate(kind, true)?;
+            // what stands in another item isn't above
+            self.foreign = None;
         } else if self.is_foreign(kind, start, end) {
             self.print_foreign(start, end)?;
             return Ok(behind);

@@ -44,16 +44,23 @@ impl LineStarts {
     fn of(alloc: Global, text: &str) -> Result<LineStarts, AllocError> {
         let mut lines = LineStarts {
             starts: Vec::new(alloc),
-            index: Vec::with_capacity(alloc, (text.len() / STRETCH).saturating_add(1))?,
+            index: Vec::new(alloc),
         };
+        lines.add_all(text)?;
+        Ok(lines)
+    }
+
+    /// Adds the lines of a text.
+    fn add_all(&mut self, text: &str) -> Result<(), AllocError> {
+        self.index
+            .reserve((text.len() / STRETCH).saturating_add(1))?;
         let mut at = 0usize;
         for line in text.split('\n') {
-            lines.index_to(at)?;
-            lines.starts.push(at)?;
+            self.index_to(at)?;
+            self.starts.push(at)?;
             at = at.saturating_add(line.len()).saturating_add(1);
         }
-        lines.index_to(at)?;
-        Ok(lines)
+        self.index_to(at)
     }
 
     /// Indexes the bytes before a place: they stand on the last line, or are indexed already.

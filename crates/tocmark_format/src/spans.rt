@@ -1,6 +1,7 @@
 //! Lines that other programs read as one, and that keep their bytes: front matter in which the reader finds rules and texts,
-//! and what stands between a tag of Liquid, a shortcode of Hugo or a command of Doxygen and its closing one.
+//! tables of pandoc, and what stands between a tag of Liquid, a shortcode of Hugo or a command of Doxygen and its closing one.
 
+use crate::columns::Columns;
 use crate::source::{is_blank, without_end_blanks};
 use std::alloc::{AllocError, Global};
 
@@ -219,6 +220,56 @@ fn add_span(spans: &mut Vec<Span>, span: Span) -> Result<(), AllocError> {
     Ok(())
 }
 
+/// The span that ends with a line, if that closes a tag. Tags that it opens, and those that are open then, stand in the list.
+fn tagged<'t>(
+    open: &mut Vec<TagLine<'t>>,
+    text: &'t str,
+    start: usize,
+) -> Result<Option<Span>, AllocError> {
+    let Some(line) = line_with_sign(text, start) else {
+        return Ok(None);
+    };
+    let Some(tag) = tag_at(line, start) else {
+        return Ok(None);
+    };
+    if !tag.is_closing {
+        open.push(tag)?;
+        return Ok(None);
+    }
+    let Some(at) = opening_of(open, &tag) else {
+        return Ok(None);
+    };
+    let from = open.get(at).map_or(start, |opening| opening.from);
+    open.truncate(at);
+    let to = start.saturating_add(line.len());
+    Ok(Some(Span { from, to }))
+}
+
+/// Adds the spans of a text, behind its front matter, whose lines begin at these places.
+fn add_spans(
+    alloc: Global,
+    spans: &mut Vec<Span>,
+    text: &str,
+    starts: &[usize],
+) -> Result<(), AllocError> {
+    let mut open = Vec::new(alloc);
+    let mut columns = Columns::new();
+    for (number, start) in starts.iter().enumerate() {
+        let next = starts.get(number.saturating_add(1)).copied();
+        let end = next.map_or(text.len(), |next| next.saturating_sub(1));
+        if let Some((from, to)) = columns.take(text.get(*start..end).unwrap_or(""), *start) {
+            add_span(spans, Span { from, to })?;
+        }
+        if let Some(span) = tagged(&mut open, text, *start)? {
+            add_span(spans, span)?;
+        }
+    }
+    match columns.end() {
+        Some((from, to)) => add_span(spans, Span { from, to }),
+        None => Ok(()),
+    }
+}
+
 /// The spans of a text whose lines begin at these places, in their order.
 pub(crate) fn spans_of(
     alloc: Global,
@@ -229,22 +280,6 @@ pub(crate) fn spans_of(
     if let Some(to) = front_end(text) {
         spans.push(Span { from: 0, to })?;
     }
-    let mut open = Vec::new(alloc);
-    for start in starts {
-        let Some(line) = line_with_sign(text, *start) else {
-            continue;
-        };
-        let Some(tag) = tag_at(line, *start) else {
-            continue;
-        };
-        if !tag.is_closing {
-            open.push(tag)?;
-        } else if let Some(at) = opening_of(&open, &tag) {
-            let from = open.get(at).map_or(*start, |opening| opening.from);
-            open.truncate(at);
-            let to = start.saturating_add(line.len());
-            add_span(&mut spans, Span { from, to })?;
-        }
-    }
+    add_spans(alloc, &mut spans, text, starts)?;
     Ok(spans)
 }

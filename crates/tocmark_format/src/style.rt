@@ -4,7 +4,7 @@ ghost use Rattle.std.specs.Prelude.{◌≡◌};
 ghost use Rattle.tocmark_format.specs.Defaults.{usual_style};
 
 /// What stands before an item of a bullet list.
-#[derive(Clone, Copy, Debug, PartialEq, Eq)]
+#[derive(Clone, Copy)]
 pub enum Bullet {
     /// `*`
     Asterisk,
@@ -15,7 +15,7 @@ pub enum Bullet {
 }
 
 /// What stands behind the number of an item.
-#[derive(Clone, Copy, Debug, PartialEq, Eq)]
+#[derive(Clone, Copy)]
 pub enum Delimiter {
     /// `.`
     Period,
@@ -24,7 +24,7 @@ pub enum Delimiter {
 }
 
 /// What stands round emphasis: once for emphasis, twice for strong emphasis.
-#[derive(Clone, Copy, Debug, PartialEq, Eq)]
+#[derive(Clone, Copy)]
 pub enum Marker {
     /// `*`
     Asterisk,
@@ -33,7 +33,7 @@ pub enum Marker {
 }
 
 /// What a code fence is made of.
-#[derive(Clone, Copy, Debug, PartialEq, Eq)]
+#[derive(Clone, Copy)]
 pub enum Fence {
     /// A backtick.
     Backtick,
@@ -42,7 +42,7 @@ pub enum Fence {
 }
 
 /// The numbers of an ordered list.
-#[derive(Clone, Copy, Debug, PartialEq, Eq)]
+#[derive(Clone, Copy, PartialEq, Eq)]
 pub enum Numbering {
     /// Each item has its number in the source.
     Source,
@@ -53,7 +53,7 @@ pub enum Numbering {
 }
 
 /// How lines break that aren't joined.
-#[derive(Clone, Copy, Debug, PartialEq, Eq)]
+#[derive(Clone, Copy)]
 pub enum HardBreak {
     /// As in the source.
     Source,
@@ -64,7 +64,7 @@ pub enum HardBreak {
 }
 
 /// What a thematic break is.
-#[derive(Clone, Copy, Debug, PartialEq, Eq)]
+#[derive(Clone, Copy)]
 pub enum Rule {
     /// As in the source.
     Source,
@@ -73,7 +73,7 @@ pub enum Rule {
 }
 
 /// Where the lines of paragraphs break.
-#[derive(Clone, Copy, Debug, PartialEq, Eq)]
+#[derive(Clone, Copy, PartialEq, Eq)]
 pub enum Wrap {
     /// As in the source.
     Keep,
@@ -84,7 +84,7 @@ pub enum Wrap {
 }
 
 /// Where the content of a list's items begins.
-#[derive(Clone, Copy, Debug, PartialEq, Eq)]
+#[derive(Clone, Copy)]
 pub enum ListIndent {
     /// One blank behind the marker.
     Marker,
@@ -93,7 +93,7 @@ pub enum ListIndent {
 }
 
 /// How a document is to look. `None` says: as in the source.
-#[derive(Clone, Copy, Debug, PartialEq, Eq)]
+#[derive(Clone, Copy)]
 pub struct Style {
     /// The bullet of all lists; `None`: each list has that of its first item in the source.
     pub bullet: Option<Bullet>,

@@ -1,6 +1,7 @@
 //! Tables: columns of one width, if the whole isn't too wide, or if the source has them so.
 
 use crate::part::{Mark, Part};
+use crate::piece::push_repeated;
 use crate::printer::Printer;
 use crate::source::{is_blank, without_blanks};
 use crate::width::width;
@@ -35,15 +36,20 @@ fn push_dashes(line: &mut String, alignment: Alignment, width: usize) -> Result<
     if left {
         line.push(':')?;
     }
-    for _ in 0..width.saturating_sub(colons) {
-        line.push('-')?;
-    }
+    push_repeated(line, '-', width.saturating_sub(colons))?;
     if right { line.push(':') } else { Ok(()) }
 }
 
-fn push_blanks(line: &mut String, count: usize) -> Result<(), AllocError> {
-    for _ in 0..count {
+/// The row of dashes for columns of these widths, behind its first bar.
+fn push_delimiters(
+    line: &mut String,
+    alignments: &[Alignment],
+    widths: &[usize],
+) -> Result<(), AllocError> {
+    for (alignment, width) in alignments.iter().zip(widths) {
         line.push(' ')?;
+        push_dashes(line, *alignment, (*width).max(3))?;
+        line.push_str(" |")?;
     }
     Ok(())
 }
@@ -66,9 +72,9 @@ fn push_cell(
         return line.push_str(" |");
     }
     line.push(' ')?;
-    push_blanks(line, before)?;
+    push_repeated(line, ' ', before)?;
     line.push_str(text)?;
-    push_blanks(line, spare.saturating_sub(before))?;
+    push_repeated(line, ' ', spare.saturating_sub(before))?;
     line.push_str(" |")
 }
 
@@ -213,9 +219,9 @@ impl Printer<'_> {
         }
         let text = self.source.past_blanks(start);
         let (pieces, _) = self.pieces_of(part, events, text)?;
-        cells.add(pieces.text.as_str())?;
+        let added = cells.add(pieces.text.as_str());
         self.keep_room(pieces);
-        Ok(())
+        added
     }
 
     /// Whether the delimiter row of a table begins like an item. To `cmark-gfm` it is one.
@@ -226,26 +232,40 @@ impl Printer<'_> {
         source.byte(text) == b'-' && is_blank(source.byte(text.saturating_add(1)))
     }
 
-    /// The cells of a table; none if a row has more of them than the head, which are in no event, and if other programs
-    /// read no table there.
-    fn cells_of(&mut self, part: &Part, at: usize) -> Result<Option<Cells>, AllocError> {
-        if self.has_row_like_item(part.range(at).0) {
-            return Ok(None);
+    /// Whether a cell of the delimiter row has blanks between its dashes. To `cmark-gfm` that is no such row.
+    fn has_split_dashes(&self, start: usize) -> bool {
+        let source = self.source;
+        let row = source.line(source.line_of(start).saturating_add(1));
+        for cell in row.trim_start_matches(&[' ', '\t', '>']).split('|') {
+            if without_blanks(cell).find(&[' ', '\t']).is_some() {
+                return true;
+            }
         }
-        let mut cells = Cells::new(self.alloc);
+        false
+    }
+
+    /// Whether other programs read no table there, or a shorter one.
+    fn is_read_otherwise(&self, start: usize, end: usize) -> bool {
+        self.has_row_like_item(start)
+            || self.has_split_dashes(start)
+            || self.has_deep_row(start, end)
+    }
+
+    /// Adds the cells of a table. `Ok(false)`: a row has more of them than the head, and no event has those.
+    fn add_cells(&mut self, cells: &mut Cells, part: &Part, at: usize) -> Result<bool, AllocError> {
         let mut first = at.saturating_add(1);
         let mut cell_end = 0usize;
         for inner in first..part.end(at) {
             let (_, end) = part.range(inner);
             match part.event(inner) {
                 Some(Mark::End(TagEnd::TableCell)) => {
-                    self.add_cell(&mut cells, part, (first, inner))?;
+                    self.add_cell(cells, part, (first, inner))?;
                     cell_end = end;
                 }
                 Some(Mark::End(TagEnd::TableHead | TagEnd::TableRow)) => {
                     let rest = self.source.slice(cell_end, end);
                     if !rest.trim_matches(&['|', ' ', '\t', '\n']).is_empty() {
-                        return Ok(None);
+                        return Ok(false);
                     }
                     cells.end_row()?;
                 }
@@ -253,7 +273,7 @@ impl Printer<'_> {
             }
             first = inner.saturating_add(1);
         }
-        Ok(Some(cells))
+        Ok(true)
     }
 
     /// Whether the bars of a table stand below one another in the source.
@@ -299,32 +319,47 @@ impl Printer<'_> {
         let widths = self.column_widths(cells, alignments.len(), range)?;
         let mut line = String::new(self.alloc);
         for row in 0..cells.ends.len() {
-            line.truncate(0);
-            cells.push_row(&mut line, row, alignments, &widths)?;
-            self.page.line(line.as_str())?;
-            if row == 0 {
-                line.truncate(0);
-                line.push('|')?;
-                for (alignment, width) in alignments.iter().zip(&widths) {
-                    line.push(' ')?;
-                    push_dashes(&mut line, *alignment, (*width).max(3))?;
-                    line.push_str(" |")?;
-                }
-                self.page.line(line.as_str())?;
-            }
+            self.print_row(&mut line, cells, row, (alignments, &widths))?;
         }
         Ok(())
     }
 
-    pub(crate) fn print_table(&mut self, part: &Part, at: usize) -> Result<(), AllocError> {
-        let range = part.range(at);
-        match self.cells_of(part, at)? {
-            Some(mut cells) => {
-                self.print_rows(&cells, part.alignments(at), range)?;
-                cells.let_go();
-                Ok(())
-            }
-            None => self.print_lines(range.0, range.1),
+    /// Prints a row, and below the head that of dashes. `line` has room for each.
+    fn print_row(
+        &mut self,
+        line: &mut String,
+        cells: &Cells,
+        row: usize,
+        columns: (&[Alignment], &[usize]),
+    ) -> Result<(), AllocError> {
+        let (alignments, widths) = columns;
+        line.truncate(0);
+        cells.push_row(line, row, alignments, widths)?;
+        self.page.line(line.as_str())?;
+        if row > 0 {
+            return Ok(());
         }
+        line.truncate(0);
+        line.push('|')?;
+        push_delimiters(line, alignments, widths)?;
+        self.page.line(line.as_str())
+    }
+
+    /// Prints a table with columns of one width. It keeps its lines if a cell is in no event, and if other programs read no
+    /// table there.
+    fn print_with(&mut self, cells: &mut Cells, part: &Part, at: usize) -> Result<(), AllocError> {
+        let range = part.range(at);
+        if self.is_read_otherwise(range.0, range.1) || !self.add_cells(cells, part, at)? {
+            self.print_lines(range.0, range.1)
+        } else {
+            self.print_rows(cells, part.alignments(at), range)
+        }
+    }
+
+    pub(crate) fn print_table(&mut self, part: &Part, at: usize) -> Result<(), AllocError> {
+        let mut cells = Cells::new(self.alloc);
+        let printed = self.print_with(&mut cells, part, at);
+        cells.let_go();
+        printed
     }
 }
