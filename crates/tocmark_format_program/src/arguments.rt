@@ -319,17 +319,28 @@ pub fn color_of(matches: &ArgMatches<'_>) -> Result<Color, Refused> {
 fn values_of(alloc: Global, matches: &ArgMatches<'_>) -> Result<Vec<Setting>, Refused> {
     let mut values = Vec::new(alloc);
     for (option, key, wanted) in &KEYS {
-        let before = values.len();
-        for word in matches.get_strs(option).unwrap_or(&[]) {
-            let word = String::from_str(alloc, word)?;
-            values.push(Setting { key: *key, word })?;
-        }
-        let added = values.get(before..).unwrap_or(&[]);
-        if set_all(&mut Settings::new(), added).is_err() {
+        let words = matches.get_strs(option).unwrap_or(&[]);
+        if !add_values(alloc, &mut values, *key, words)? {
             return Err(Refused::Option(*option, *wanted));
         }
     }
     Ok(values)
+}
+
+/// Adds an option with each of its values. `Ok(false)`: it takes no such value.
+fn add_values(
+    alloc: Global,
+    values: &mut Vec<Setting>,
+    key: Key,
+    words: &[&str],
+) -> Result<bool, AllocError> {
+    let before = values.len();
+    for word in words {
+        let word = String::from_str(alloc, word)?;
+        values.push(Setting { key, word })?;
+    }
+    let added = values.get(before..).unwrap_or(&[]);
+    Ok(set_all(&mut Settings::new(), added).is_ok())
 }
 
 /// The globs of an option, for files below the working folder. `None`: the option isn't given.
@@ -343,24 +354,37 @@ fn globs_of(
     };
     let folder = whole_path(rt, ".")?;
     let mut rules = Rules::new(rt.alloc(), folder.as_str())?;
+    if add_globs(rt.alloc(), &mut rules, globs)? {
+        Ok(Some(rules))
+    } else {
+        Err(Refused::Option(option, WANTED))
+    }
+}
+
+/// Adds globs to rules. `Ok(false)`: one of them is none.
+fn add_globs(alloc: Global, rules: &mut Rules, globs: &[&str]) -> Result<bool, AllocError> {
     for glob in globs {
-        if !rules.add_glob(rt.alloc(), glob)? {
-            return Err(Refused::Option(option, WANTED));
+        if !rules.add_glob(alloc, glob)? {
+            return Ok(false);
         }
     }
-    Ok(Some(rules))
+    Ok(true)
+}
+
+/// The globs of `exclude`.
+fn exclude_of(rt: &HostRuntime, matches: &ArgMatches<'_>) -> Result<Rules, Refused> {
+    match globs_of(rt, matches, "exclude")? {
+        Some(rules) => Ok(rules),
+        None => Ok(Rules::new(rt.alloc(), "/")?),
+    }
 }
 
 /// What a command line says of all files.
 pub fn choice_of(rt: &HostRuntime, matches: &ArgMatches<'_>) -> Result<Choice, Refused> {
     let values = values_of(rt.alloc(), matches)?;
-    let exclude = match globs_of(rt, matches, "exclude")? {
-        Some(rules) => rules,
-        None => Rules::new(rt.alloc(), "/")?,
-    };
     Ok(Choice {
         values,
-        exclude,
+        exclude: exclude_of(rt, matches)?,
         include: globs_of(rt, matches, "include")?,
         respects_ignores: !matches.get_flag("no-ignore"),
     })

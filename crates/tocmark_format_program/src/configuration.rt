@@ -27,7 +27,7 @@ struct Override {
 }
 
 /// What is wrong with the text of a configuration file.
-#[derive(Debug, Drop)]
+#[derive(Drop)]
 pub enum ConfigError {
     /// The first line that isn't UTF-8.
     NotUtf8(usize),
@@ -173,6 +173,17 @@ impl<'t> Source<'t> {
             Some(_) => return Err(self.wrong(key, GLOBS)),
         };
         let mut rules = Rules::new(self.alloc, self.folder)?;
+        self.add_globs(&mut rules, key, values)?;
+        Ok(Some(rules))
+    }
+
+    /// Adds the globs in the list that a key has.
+    fn add_globs(
+        self,
+        rules: &mut Rules,
+        key: &'static str,
+        values: &[Value],
+    ) -> Result<(), ConfigError> {
         for value in values {
             let Some(glob) = value.as_str() else {
                 return Err(self.wrong(key, GLOBS));
@@ -181,7 +192,7 @@ impl<'t> Source<'t> {
                 return Err(self.wrong(key, WANTED));
             }
         }
-        Ok(Some(rules))
+        Ok(())
     }
 
     /// Adds an option with a value of its own, or with each value of a list. `Ok(false)`: it takes no such value.
@@ -236,16 +247,27 @@ impl<'t> Source<'t> {
     /// The options of a table, but for these keys. A syntax comes before the extensions that are added to it.
     fn values(self, table: &Table, others: &[&str]) -> Result<Vec<Setting>, ConfigError> {
         let mut values = Vec::new(self.alloc);
+        self.add_values(&mut values, table, others)?;
+        Ok(values)
+    }
+
+    /// Adds these options.
+    fn add_values(
+        self,
+        values: &mut Vec<Setting>,
+        table: &Table,
+        others: &[&str],
+    ) -> Result<(), ConfigError> {
         if let Some(value) = table.get("syntax") {
-            self.add_named(&mut values, "syntax", value)?;
+            self.add_named(values, "syntax", value)?;
         }
         for (name, value) in table {
             let name = name.as_str();
             if name != "syntax" && !is_among(others, name) {
-                self.add_named(&mut values, name, value)?;
+                self.add_named(values, name, value)?;
             }
         }
-        Ok(values)
+        Ok(())
     }
 
     /// The source from the next line on that names `overrides`, if there is one.
@@ -285,24 +307,41 @@ impl<'t> Source<'t> {
 
     fn overrides(self, table: &Table) -> Result<Vec<Override>, ConfigError> {
         let mut overrides = Vec::new(self.alloc);
-        let items = match table.get("overrides") {
-            None => return Ok(overrides),
-            Some(Value::Array(items)) => items,
+        match table.get("overrides") {
+            None => {}
+            Some(Value::Array(items)) => self.add_overrides(&mut overrides, items)?,
             Some(_) => return Err(self.wrong("overrides", OVERRIDES)),
-        };
-        let mut source = self;
-        for item in items {
-            let Value::Table(table) = item else {
-                return Err(self.wrong("overrides", OVERRIDES));
-            };
-            source = source.next_override();
-            let Some(files) = source.globs(table, "files")? else {
-                return Err(self.wrong("overrides", OVERRIDES));
-            };
-            let values = source.values(table, &["files"])?;
-            overrides.push(Override { files, values })?;
         }
         Ok(overrides)
+    }
+
+    /// Adds the options for some files that each of these values is.
+    fn add_overrides(
+        self,
+        overrides: &mut Vec<Override>,
+        items: &[Value],
+    ) -> Result<(), ConfigError> {
+        let mut source = self;
+        for item in items {
+            source = source.next_override();
+            match source.override_in(item)? {
+                Some(next) => overrides.push(next)?,
+                None => return Err(self.wrong("overrides", OVERRIDES)),
+            }
+        }
+        Ok(())
+    }
+
+    /// The options for some files that a value is. `None`: it is no table with `files`.
+    fn override_in(self, item: &Value) -> Result<Option<Override>, ConfigError> {
+        let Value::Table(table) = item else {
+            return Ok(None);
+        };
+        let Some(files) = self.globs(table, "files")? else {
+            return Ok(None);
+        };
+        let values = self.values(table, &["files"])?;
+        Ok(Some(Override { files, values }))
     }
 }
 

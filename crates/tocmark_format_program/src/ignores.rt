@@ -30,6 +30,17 @@ fn lines_in(rt: &HostRuntime, path: Path<'_>) -> io::Result<Option<String>> {
     }
 }
 
+/// The rules of the file of a folder. `Ok(None)`: there is no such file.
+fn rules_in(rt: &HostRuntime, folder: &str) -> io::Result<Option<Rules>> {
+    let path: PathBuf = Path::new(folder).join(rt.alloc(), ".gitignore")?;
+    let Some(text) = lines_in(rt, path.as_path())? else {
+        return Ok(None);
+    };
+    let mut rules = Rules::new(rt.alloc(), folder)?;
+    rules.add_lines(rt.alloc(), text.as_str())?;
+    Ok(Some(rules))
+}
+
 impl Ignores {
     pub fn new(alloc: Global) -> Ignores {
         Ignores {
@@ -44,12 +55,9 @@ impl Ignores {
         folder: &str,
         above: Option<usize>,
     ) -> io::Result<Option<usize>> {
-        let path: PathBuf = Path::new(folder).join(rt.alloc(), ".gitignore")?;
-        let Some(text) = lines_in(rt, path.as_path())? else {
+        let Some(rules) = rules_in(rt, folder)? else {
             return Ok(above);
         };
-        let mut rules = Rules::new(rt.alloc(), folder)?;
-        rules.add_lines(rt.alloc(), text.as_str())?;
         let level = self.levels.len();
         self.levels.push(Level { rules, above })?;
         Ok(Some(level))

@@ -12,7 +12,7 @@ use std::{fmt, fs, io};
 const NAME: &str = ".tocmark.toml";
 
 /// Why a call is refused before anything is done.
-#[derive(Debug, Drop)]
+#[derive(Drop)]
 pub enum Refused {
     /// An option of the command line, and what it takes.
     Option(&'static str, &'static str),
@@ -45,35 +45,34 @@ impl<T: Drop> From<AllocFailed<T>> for Refused {
     }
 }
 
+impl Refused {
+    /// The file that it is about.
+    fn path(&self) -> Option<&str> {
+        match self {
+            Refused::Missing(path) | Refused::Dangling(path) => Some(path.as_str()),
+            Refused::Unreadable(path, _) => Some(path.as_str()),
+            Refused::List(path, _) | Refused::ListLine(path, _, _) => Some(path.as_str()),
+            Refused::Wrong(path, _) => Some(path.as_str()),
+            _ => None,
+        }
+    }
+}
+
 impl fmt::Display for Refused {
     fn fmt<W: fmt::Write>(&self, f: &mut fmt::Formatter<W>) -> fmt::Result {
+        if let Some(path) = self.path() {
+            let path = Quoted(path);
+            write!(f, "{path}")?;
+        }
         match self {
             Refused::Option(option, wanted) => write!(f, "--{option} wants {wanted}"),
             Refused::Usage(why) => f.write_str(why),
-            Refused::Missing(path) => {
-                let path = Quoted(path.as_str());
-                write!(f, "{path}: no such file")
-            }
-            Refused::Dangling(path) => {
-                let path = Quoted(path.as_str());
-                write!(f, "{path}: is a link to a file that isn't there")
-            }
-            Refused::Unreadable(path, error) => {
-                let path = Quoted(path.as_str());
-                write!(f, "{path}: cannot be read: {error}")
-            }
-            Refused::List(path, why) => {
-                let path = Quoted(path.as_str());
-                write!(f, "{path}: the list of files has {why}")
-            }
-            Refused::ListLine(path, line, why) => {
-                let path = Quoted(path.as_str());
-                write!(f, "{path}:{line}: {why}")
-            }
-            Refused::Wrong(path, error) => {
-                let path = Quoted(path.as_str());
-                write!(f, "{path}{error}")
-            }
+            Refused::Missing(_) => f.write_str(": no such file"),
+            Refused::Dangling(_) => f.write_str(": is a link to a file that isn't there"),
+            Refused::Unreadable(_, error) => write!(f, ": cannot be read: {error}"),
+            Refused::List(_, why) => write!(f, ": the list of files has {why}"),
+            Refused::ListLine(_, line, why) => write!(f, ":{line}: {why}"),
+            Refused::Wrong(_, error) => write!(f, "{error}"),
             Refused::OutOfMemory => f.write_str("out of memory"),
         }
     }
@@ -140,6 +139,14 @@ fn configuration_in(rt: &HostRuntime, path: &str) -> Result<Option<Configuration
     }
 }
 
+/// The configuration in a file that has to be there.
+fn named_configuration(rt: &HostRuntime, path: &str) -> Result<Configuration, Refused> {
+    match configuration_in(rt, path)? {
+        Some(configuration) => Ok(configuration),
+        None => Err(Refused::Missing(String::from_str(rt.alloc(), path)?)),
+    }
+}
+
 /// The configuration of a folder itself. `Ok(None)`: it has none.
 fn configuration_of(rt: &HostRuntime, folder: Path<'_>) -> Result<Option<Configuration>, Refused> {
     let path: PathBuf = folder.join(rt.alloc(), NAME)?;
@@ -165,10 +172,7 @@ impl Configurations {
     pub fn new(rt: &HostRuntime, path: Option<&str>) -> Result<Configurations, Refused> {
         let first = match path {
             None => Configuration::new(rt.alloc())?,
-            Some(path) => match configuration_in(rt, path)? {
-                Some(configuration) => configuration,
-                None => return Err(Refused::Missing(String::from_str(rt.alloc(), path)?)),
-            },
+            Some(path) => named_configuration(rt, path)?,
         };
         let mut all = Vec::new(rt.alloc());
         all.push(first)?;
@@ -198,11 +202,23 @@ impl Configurations {
                 break;
             }
         }
-        for above in Path::new(folder).ancestors().take(passed) {
+        self.note(rt, folder, passed, nearest)?;
+        Ok(nearest)
+    }
+
+    /// Notes which configuration a folder and the next ones above it have, so many in all.
+    fn note(
+        &mut self,
+        rt: &HostRuntime,
+        folder: &str,
+        count: usize,
+        nearest: usize,
+    ) -> Result<(), Refused> {
+        for above in Path::new(folder).ancestors().take(count) {
             let above = String::from_str(rt.alloc(), above.as_str())?;
             self.by_folder.insert(above, nearest)?;
         }
-        Ok(nearest)
+        Ok(())
     }
 
     pub(crate) fn get(&self, at: usize) -> Option<&Configuration> {

@@ -34,9 +34,9 @@ mod text;
 mod walk;
 mod words;
 
-use arguments::{Color, NAME, Task, choice_of, color_of, command, task_of, voice_of};
+use arguments::{Color, NAME, Task, Voice, choice_of, color_of, command, task_of, voice_of};
 use clap::ArgMatches;
-use decide::decided;
+use decide::{Decision, decided};
 use diff::{Look, unified_diff};
 use fault::Fault;
 use list::add_list;
@@ -97,6 +97,22 @@ fn shown_change(
     Ok(unified_diff(alloc, old, new, look)?)
 }
 
+/// What became of a text by a decision that is carried out.
+fn passed_by(decision: Decision) -> Passed {
+    let outcome = outcome_of(&decision);
+    let Decision { left, .. } = decision;
+    Passed { outcome, left }
+}
+
+/// Shows what a decision would change in the text of a file.
+fn show_change(rt: &HostRuntime, work: Work, name: &str, decision: &Decision) -> Result<(), Fault> {
+    let Some(new) = &decision.new else {
+        return Ok(());
+    };
+    let shown = shown_change(rt.alloc(), work, name, decision.old.as_str(), new.as_str())?;
+    write_out(&mut rt.stdout(), shown.as_str()).map_err(Fault::Output)
+}
+
 /// Shows what would change in the text of a file, and changes nothing.
 fn preview(
     rt: &HostRuntime,
@@ -106,15 +122,8 @@ fn preview(
     text: String,
 ) -> Result<Passed, Fault> {
     let decision = decided(rt.alloc(), text, &READER, settings)?;
-    if let Some(new) = &decision.new {
-        let shown = shown_change(rt.alloc(), work, name, decision.old.as_str(), new.as_str())?;
-        write_out(&mut rt.stdout(), shown.as_str()).map_err(Fault::Output)?;
-    }
-    let outcome = outcome_of(&decision);
-    Ok(Passed {
-        outcome,
-        left: decision.left,
-    })
+    show_change(rt, work, name, &decision)?;
+    Ok(passed_by(decision))
 }
 
 /// Formats a file in place. A file whose text stays isn't touched.
@@ -132,11 +141,7 @@ fn format_file(
         syncs: work.task.syncs,
     };
     replace_text(rt, path, &change).map_err(Fault::Replace)?;
-    let outcome = outcome_of(&decision);
-    Ok(Passed {
-        outcome,
-        left: decision.left,
-    })
+    Ok(passed_by(decision))
 }
 
 /// The text of a file.
@@ -209,6 +214,21 @@ fn outcome_said(
     }
 }
 
+/// Formats a text and reports what became of it, and whether no other one is formatted behind it.
+fn do_one(
+    rt: &HostRuntime,
+    work: Work,
+    target: &Target,
+    report: &mut Report<BufWriter<Stderr>>,
+) -> (Outcome, bool) {
+    let done = done(rt, work, target);
+    let is_last = match &done {
+        Ok(_) => false,
+        Err(fault) => fault.is_of_output(),
+    };
+    (outcome_said(report, target.path.as_str(), &done), is_last)
+}
+
 /// Formats all texts, or stops once standard output can't be written, and reports what became of them.
 fn do_all(
     rt: &HostRuntime,
@@ -221,12 +241,8 @@ fn do_all(
         if work.task.is_dry() {
             report.clear();
         }
-        let done = done(rt, work, target);
-        let is_last = match &done {
-            Ok(_) => false,
-            Err(fault) => fault.is_of_output(),
-        };
-        outcomes.push(outcome_said(report, target.path.as_str(), &done))?;
+        let (outcome, is_last) = do_one(rt, work, target, report);
+        outcomes.push(outcome)?;
         if is_last {
             break;
         }
@@ -383,11 +399,14 @@ fn start(rt: &HostRuntime, matches: &ArgMatches<'_>, broken: &[String]) -> ExitC
         task: task_of(matches),
         is_colored: is_colored(rt, color),
     };
-    let found = match found_of(rt, matches, broken) {
-        Ok(found) => found,
-        Err(refused) => return refuse_call(rt, &refused),
-    };
-    let voice = voice_of(matches);
+    match found_of(rt, matches, broken) {
+        Ok(found) => report_all(rt, work, &found, voice_of(matches)),
+        Err(refused) => refuse_call(rt, &refused),
+    }
+}
+
+/// Formats all texts that were found, and writes what became of them to standard error.
+fn report_all(rt: &HostRuntime, work: Work, found: &Found, voice: Voice) -> ExitCode {
     let is_long = found.targets.len() >= MANY && !voice.is_quiet;
     let shows_progress = is_long && rt.stderr().is_terminal();
     let Ok(out) = BufWriter::new(rt.alloc(), rt.stderr()) else {
@@ -397,7 +416,7 @@ fn start(rt: &HostRuntime, matches: &ArgMatches<'_>, broken: &[String]) -> ExitC
     if shows_progress {
         report.show_progress();
     }
-    match perform(rt, work, &found, &mut report) {
+    match perform(rt, work, found, &mut report) {
         Ok(status) => ExitCode::from(status),
         Err(_) => {
             FORMAT.complain(&mut rt.stderr(), &Fault::OutOfMemory);
@@ -426,18 +445,23 @@ fn refuse_call(rt: &HostRuntime, refused: &Refused) -> ExitCode {
     ExitCode::from(2)
 }
 
+/// Does what words ask for, with this help of `--syntax`.
+fn call(rt: &HostRuntime, words: &Words, syntax_help: &str) -> ExitCode {
+    let Ok(command) = command(rt.alloc(), syntax_help) else {
+        return refuse_call(rt, &Refused::OutOfMemory);
+    };
+    match command.try_get_matches_from(words.words.as_slice()) {
+        Ok(matches) => start(rt, &matches, &words.broken),
+        Err(error) => show(rt, &error),
+    }
+}
+
 fn main(rt: HostRuntime) -> ExitCode {
-    let Ok(Words { words, broken }) = words_of(&rt) else {
-        return FORMAT.refuse(&mut rt.stderr(), "out of memory");
-    };
     let Ok(syntax_help) = syntax_help(rt.alloc(), SYNTAX) else {
-        return FORMAT.refuse(&mut rt.stderr(), "out of memory");
+        return refuse_call(&rt, &Refused::OutOfMemory);
     };
-    let Ok(command) = command(rt.alloc(), syntax_help.as_str()) else {
-        return FORMAT.refuse(&mut rt.stderr(), "out of memory");
-    };
-    match command.try_get_matches_from(words.as_slice()) {
-        Ok(matches) => start(&rt, &matches, &broken),
-        Err(error) => show(&rt, &error),
+    match words_of(&rt) {
+        Ok(words) => call(&rt, &words, syntax_help.as_str()),
+        Err(_) => refuse_call(&rt, &Refused::OutOfMemory),
     }
 }

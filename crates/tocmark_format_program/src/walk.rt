@@ -34,6 +34,25 @@ struct Walk {
     targets: Vec<Target>,
 }
 
+impl Walk {
+    /// Adds a folder that is still to be searched.
+    fn add_folder(
+        &mut self,
+        rt: &HostRuntime,
+        path: &str,
+        whole: String,
+        ignores: Option<usize>,
+    ) -> Result<(), Refused> {
+        let path = String::from_str(rt.alloc(), path)?;
+        self.folders.push(Folder {
+            path,
+            whole,
+            ignores,
+        })?;
+        Ok(())
+    }
+}
+
 /// Why a folder's entry can't be looked at. Only a name that isn't UTF-8 is no valid one here.
 fn entry_fault(error: io::Error) -> Fault {
     if error.kind() == io::ErrorKind::InvalidFilename {
@@ -55,18 +74,26 @@ impl Search {
             folders: Vec::new(rt.alloc()),
             targets: Vec::new(rt.alloc()),
         };
-        walk.folders.push(Folder {
-            path: String::from_str(rt.alloc(), path)?,
-            whole,
-            ignores,
-        })?;
+        walk.add_folder(rt, path, whole, ignores)?;
+        self.walk(rt, &mut walk)?;
+        let Walk { targets, .. } = walk;
+        self.add_sorted(targets)
+    }
+
+    /// Searches the folders that are still to be searched, and those that are found in them.
+    fn walk(&mut self, rt: &HostRuntime, walk: &mut Walk) -> Result<(), Refused> {
         for _ in 0..u64::MAX {
             let Some(folder) = walk.folders.pop() else {
                 break;
             };
-            self.look_into(rt, &mut walk, &folder)?;
+            self.look_into(rt, walk, &folder)?;
         }
-        let Walk { mut targets, .. } = walk;
+        Ok(())
+    }
+
+    /// Adds texts in the order of their paths' bytes.
+    fn add_sorted(&mut self, targets: Vec<Target>) -> Result<(), Refused> {
+        let mut targets = targets;
         targets.sort_by(|one, other| one.path.cmp(&other.path))?;
         for target in targets {
             self.found.targets.push(target)?;
@@ -155,25 +182,33 @@ impl Search {
         if self.passes_by(scope.configuration, entry.file_name()) {
             return Ok(());
         }
-        let whole = joined(rt.alloc(), scope.whole, entry.file_name())?;
         let path = entry.path();
         let kind = match entry.file_type() {
             Ok(kind) => kind,
             Err(error) => return self.fail(rt, path.as_str(), Fault::Read(error)),
         };
-        if kind.is_dir() {
-            if self.is_walked(rt, scope, whole.as_str(), true)? {
-                walk.folders.push(Folder {
-                    path: String::from_str(rt.alloc(), path.as_str())?,
-                    whole,
-                    ignores: scope.ignores,
-                })?;
-            }
-        } else if kind.is_file()
-            && self.includes(rt, scope.configuration, whole.as_str())?
-            && self.is_walked(rt, scope, whole.as_str(), false)?
-            && let Some(target) = self.target(rt, scope.configuration, path.as_str(), whole)?
-        {
+        let whole = joined(rt.alloc(), scope.whole, entry.file_name())?;
+        if kind.is_file() {
+            self.look_at_file(rt, walk, scope, path.as_str(), whole)
+        } else if kind.is_dir() && self.is_walked(rt, scope, whole.as_str(), true)? {
+            walk.add_folder(rt, path.as_str(), whole, scope.ignores)
+        } else {
+            Ok(())
+        }
+    }
+
+    /// Adds a file of a folder with this path and this whole path, if it is one of those that are formatted.
+    fn look_at_file(
+        &mut self,
+        rt: &HostRuntime,
+        walk: &mut Walk,
+        scope: Scope<'_>,
+        path: &str,
+        whole: String,
+    ) -> Result<(), Refused> {
+        let is_found = self.includes(rt, scope.configuration, whole.as_str())?
+            && self.is_walked(rt, scope, whole.as_str(), false)?;
+        if is_found && let Some(target) = self.target(rt, scope.configuration, path, whole)? {
             walk.targets.push(target)?;
         }
         Ok(())

@@ -47,20 +47,33 @@ fn word_at(rt: &HostRuntime, place: usize) -> io::Result<Option<Vec<u8>>> {
 
 /// The words of this call. It fails if memory runs out.
 pub fn words_of(rt: &HostRuntime) -> io::Result<Words> {
-    let mut words = Vec::new(rt.alloc());
-    let mut broken = Vec::new(rt.alloc());
-    for place in 0..usize::MAX {
-        let Some(bytes) = word_at(rt, place)? else {
-            break;
-        };
-        match String::from_utf8(bytes) {
-            Ok(word) => words.push(word)?,
-            Err(error) => {
-                let word = String::from_utf8_lossy(rt.alloc(), error.as_bytes())?;
-                broken.push(word.clone()?)?;
-                words.push(word)?;
+    let mut words = Words {
+        words: Vec::new(rt.alloc()),
+        broken: Vec::new(rt.alloc()),
+    };
+    words.add_all(rt)?;
+    Ok(words)
+}
+
+impl Words {
+    fn add_all(&mut self, rt: &HostRuntime) -> io::Result<()> {
+        for place in 0..usize::MAX {
+            let Some(bytes) = word_at(rt, place)? else {
+                break;
+            };
+            match String::from_utf8(bytes) {
+                Ok(word) => self.words.push(word)?,
+                Err(error) => self.add_broken(rt, error.as_bytes())?,
             }
         }
+        Ok(())
     }
-    Ok(Words { words, broken })
+
+    /// Adds a word that isn't UTF-8.
+    fn add_broken(&mut self, rt: &HostRuntime, bytes: &[u8]) -> io::Result<()> {
+        let word = String::from_utf8_lossy(rt.alloc(), bytes)?;
+        self.broken.push(word.clone()?)?;
+        self.words.push(word)?;
+        Ok(())
+    }
 }
