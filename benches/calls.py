@@ -2,8 +2,9 @@
 
     calls.py CALL TIMES FILE ..
 
-CALL is `read`, `write` (over the file as the source) or `both`; or `library-read` or `library-write`, the same calls of the
-library alone, with bytes that are ready. It prints the seconds of processor time of the calls.
+CALL is `read`, `write` (over the file as the source) or `both`; or `library-read` or `library-write`, calls of the library
+alone, with bytes that are ready. `library-read` is the call that makes JSON, whatever call `read` makes: so figures stay
+comparable. It prints the seconds of processor time of the calls.
 """
 import sys
 import time

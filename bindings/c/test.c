@@ -440,6 +440,16 @@ static int is_no_error(ptrdiff_t code) {
   return size == sizeof none - 1 && memcmp(out, none, sizeof none - 1) == 0;
 }
 
+/* The bytes for Python begin with 4 values and end with where the ranges end: the events of `---`. */
+static void marshals(void) {
+  static const uint8_t rule[] = {'[', 1, 0, 0, 0, 'r', 11, 0, 0, 0, '[', 1, 0, 0, 0, 'i', 0, 0, 0, 0, '[', 1, 0, 0, 0, 'i', 3, 0, 0, 0};
+  uint8_t out[1000];
+  ptrdiff_t size = tocmark_read_marshal((const uint8_t *)"---", 3, 0, out, sizeof out);
+  if (size < 100 || size > 1000 || out[0] != ')' || out[1] != 4 ||
+      memcmp(out + size - sizeof rule, rule, sizeof rule) != 0)
+    wrong("bytes for Python", NULL);
+}
+
 static void errors(void) {
   static const char rule[] = "[\"Rule\"]";
   uint8_t out[100];
@@ -481,13 +491,15 @@ static void errors(void) {
   expect(checks(rule), 3, "a rule that is read again");
   expect(checks("[1]"), TOCMARK_NOT_EVENTS, "a number that is read again");
   expect(tocmark_read_json((const uint8_t *)"", 0, 0, out, sizeof out), 2, "an empty text");
+  expect(tocmark_read_marshal((const uint8_t *)"\xFF", 1, 0, out, sizeof out), TOCMARK_NOT_UTF8, "a text for Python");
+  marshals();
   expect(tocmark_error_text(TOCMARK_OUT_OF_MEMORY, out, sizeof out), 13, "the text of an error");
   if (memcmp(out, "out of memory", 13) != 0)
     wrong("the text of an error", NULL);
-  for (ptrdiff_t code = -16; code < 0; code++)
+  for (ptrdiff_t code = -17; code < 0; code++)
     if (is_no_error(code))
       wrong("an error has no text", NULL);
-  if (!is_no_error(-17) || !is_no_error(0) || !is_no_error(1) || !is_no_error(PTRDIFF_MIN) || !is_no_error(PTRDIFF_MAX))
+  if (!is_no_error(-18) || !is_no_error(0) || !is_no_error(1) || !is_no_error(PTRDIFF_MIN) || !is_no_error(PTRDIFF_MAX))
     wrong("what is no error has a text", NULL);
 }
 

@@ -67,7 +67,8 @@ enum tocmark_error {
   TOCMARK_FINISHED = -13,             /* events after the end; these functions never return it */
   TOCMARK_FAILED = -14,               /* a call after an error; these functions never return it */
   TOCMARK_INVALID_STYLE = -15,        /* a style has another size, or a number that means nothing */
-  TOCMARK_CHANGED = -16               /* the text would parse to other events */
+  TOCMARK_CHANGED = -16,              /* the text would parse to other events */
+  TOCMARK_TOO_LONG = -17              /* the bytes for Python would be more than 2,147,483,647 */
 };
 
 /* Returns the version: 65,536 times the first number, 256 times the second, and the third. */
@@ -80,6 +81,11 @@ ptrdiff_t tocmark_error_text(ptrdiff_t code, uint8_t *out, size_t out_len);
  * text. Errors: TOCMARK_OUT_OF_MEMORY, TOCMARK_NOT_UTF8. */
 ptrdiff_t tocmark_read_json(const uint8_t *text, size_t text_len, uint32_t flags, uint8_t *out, size_t out_len);
 
+/* Parses Markdown, and writes the bytes of which Python's marshal.loads makes a tuple: the names of the form; a list of the
+ * events that the JSON has; and two lists of numbers, where the events' ranges begin and end. Python 3.4 to 3.14 read them.
+ * Errors: TOCMARK_OUT_OF_MEMORY, TOCMARK_NOT_UTF8, TOCMARK_TOO_LONG. */
+ptrdiff_t tocmark_read_marshal(const uint8_t *text, size_t text_len, uint32_t flags, uint8_t *out, size_t out_len);
+
 /* Writes the Markdown of events as JSON: an array of events, or of [event, range] or [event, null]. All blocks get one layout;
  * tocmark_rewrite keeps the layout of a source.
  *
@@ -87,7 +93,7 @@ ptrdiff_t tocmark_read_json(const uint8_t *text, size_t text_len, uint32_t flags
  * flags: the extensions under which the result has to parse back.
  * options: a JSON object, such as {"list_token": "-"}. Without options, the default ones are used.
  *
- * Errors: all but TOCMARK_FINISHED, TOCMARK_FAILED, TOCMARK_INVALID_STYLE and TOCMARK_CHANGED. If there are several, the
+ * Errors: all but TOCMARK_FINISHED, TOCMARK_FAILED, TOCMARK_INVALID_STYLE, TOCMARK_CHANGED and TOCMARK_TOO_LONG. If there are several, the
  * result is the first in this order: TOCMARK_NOT_UTF8, TOCMARK_SOURCE_NOT_UTF8, TOCMARK_OPTIONS_NOT_UTF8, those of the
  * options, those of the JSON, those of the events. */
 ptrdiff_t tocmark_write_json(const uint8_t *json, size_t json_len, const uint8_t *source, size_t source_len, uint32_t flags,
@@ -224,6 +230,11 @@ static inline ptrdiff_t tocmark_read_json_(const uint8_t *text, size_t text_len,
   return tocmark_read_json(tocmark_text_(text), text_len, flags, tocmark_room_(out), out_len);
 }
 
+static inline ptrdiff_t tocmark_read_marshal_(const uint8_t *text, size_t text_len, uint32_t flags, uint8_t *out,
+                                              size_t out_len) {
+  return tocmark_read_marshal(tocmark_text_(text), text_len, flags, tocmark_room_(out), out_len);
+}
+
 static inline ptrdiff_t tocmark_write_json_(const uint8_t *json, size_t json_len, const uint8_t *source, size_t source_len,
                                             uint32_t flags, const uint8_t *options, size_t options_len, uint8_t *out,
                                             size_t out_len) {
@@ -289,6 +300,7 @@ static inline ptrdiff_t tocmark_format_also_(const uint8_t *text, size_t text_le
 
 #define tocmark_error_text tocmark_error_text_
 #define tocmark_read_json tocmark_read_json_
+#define tocmark_read_marshal tocmark_read_marshal_
 #define tocmark_write_json tocmark_write_json_
 #define tocmark_write_checked tocmark_write_checked_
 #define tocmark_write_json_at tocmark_write_json_at_

@@ -180,6 +180,26 @@ class Writing(unittest.TestCase):
                              [event for event, _ in tocmark.read(written)], text)
 
 
+class Loading(unittest.TestCase):
+    def test_events_are_those_of_json(self):
+        for text in ["", ODD, "a {{b}}\n\n# c {#d .e f=g h}\n\n$h$ $$i$$ [[i]] [[j|k]] <l@m.n>\n\no\n: p\n\n7. q\n", *examples()]:
+            for syntax in ("gfm", "all"):
+                with mock.patch("marshal.loads", side_effect=ValueError):
+                    wanted = tocmark.read(text, syntax=syntax)
+                found = tocmark.read(text, syntax=syntax)
+                self.assertEqual(repr(found), repr(wanted), text)
+
+    def test_bytes_that_are_too_long_are_read_as_json(self):
+        with mock.patch("tocmark._library.filled", side_effect=lambda function, *arguments, guess: (-17, None)):
+            with mock.patch("tocmark._library.answer", side_effect=lambda *arguments, guess: (2, b"[]")):
+                self.assertEqual(tocmark.read("a"), [])
+
+    def test_events_share_no_part_that_changes(self):
+        events = tocmark.read("[a](b) [a](b)")
+        events[1][0]["Start"]["Link"]["dest_url"] = "c"
+        self.assertEqual(events[5][0]["Start"]["Link"]["dest_url"], "b")
+
+
 class Packing(unittest.TestCase):
     def test_a_text_is_as_the_header_says(self):
         self.assertEqual(packed([{"Text": "hi"}]), bytes([0, 6, 2, 0, 0, 0, 0, 0, 0, 0]) + b"hi")

@@ -1,7 +1,8 @@
 """Reading, writing, rewriting and formatting texts."""
 import gc
 import json
-from typing import TYPE_CHECKING, Any, Iterable, List, Sequence, Tuple, Union
+import marshal
+from typing import TYPE_CHECKING, Any, Callable, Iterable, List, Sequence, Tuple, Union
 
 from . import _library
 from ._errors import error_of
@@ -66,14 +67,37 @@ def _json_of(items: List[Any]) -> bytes:
 
 
 def _parsed(text: str) -> List[Placed]:
-    """Returns the events of a JSON text. Meanwhile Python doesn't look for garbage: it would walk through them many times."""
+    """Returns the events of a JSON text."""
+    return [(event, range(place["start"], place["end"])) for event, place in json.loads(text)]
+
+
+def _loaded(data: Any) -> List[Placed]:
+    """Returns the events of bytes for `marshal.loads`, which may have others behind them. `tocmark.h` has their form."""
+    _, events, starts, ends = marshal.loads(data)
+    return list(zip(events, map(range, starts, ends)))
+
+
+def _uncollected(make: Callable[[Any], List[Placed]], data: Any) -> List[Placed]:
+    """Makes events. Meanwhile Python doesn't look for garbage: it would walk through them many times."""
     was_enabled = gc.isenabled()
     gc.disable()
     try:
-        return [(event, range(place["start"], place["end"])) for event, place in json.loads(text)]
+        return make(data)
     finally:
         if was_enabled:
             gc.enable()
+
+
+def _read(data: bytes, flags: int) -> List[Placed]:
+    """Returns the events of a text, by way of JSON if its bytes for `marshal.loads` are too long or can't be loaded."""
+    size, room = _library.filled(_library.read_marshal, data, len(data), flags, guess=9 * len(data) + 4096)
+    if size >= 0:
+        try:
+            return _uncollected(_loaded, room)
+        except (EOFError, TypeError, ValueError):
+            pass
+    found = _text(*_library.answer(_library.read_json, data, len(data), flags, guess=12 * len(data) + 4096))
+    return _uncollected(_parsed, found)
 
 
 def read(text: str, *, syntax: str = "gfm", extensions: Iterable[str] = ()) -> List[Placed]:
@@ -87,10 +111,7 @@ def read(text: str, *, syntax: str = "gfm", extensions: Iterable[str] = ()) -> L
 
     Raises `UnicodeEncodeError` if the text has half a surrogate pair, and `MemoryError`.
     """
-    data = encoded("text", text)
-    flags = flags_of(syntax, extensions)
-    found = _text(*_library.answer(_library.read_json, data, len(data), flags, guess=12 * len(data) + 4096))
-    return _parsed(found)
+    return _read(encoded("text", text), flags_of(syntax, extensions))
 
 
 def write(events: Iterable[Given], source: str = "", *, syntax: str = "gfm", extensions: Iterable[str] = (),

@@ -62,6 +62,7 @@ error_text = _function("tocmark_error_text", ctypes.c_ssize_t, *_room)
 format_text = _function("tocmark_format_also", *_text, ctypes.c_uint32, ctypes.POINTER(ctypes.c_uint32), ctypes.c_size_t,
                         ctypes.POINTER(Style), *_room)
 read_json = _function("tocmark_read_json", *_text, ctypes.c_uint32, *_room)
+read_marshal = _function("tocmark_read_marshal", *_text, ctypes.c_uint32, *_room)
 rewrite = _function("tocmark_rewrite", *_text, *_text, ctypes.c_uint32, *_text, ctypes.POINTER(Place), *_room)
 write_checked = _function("tocmark_write_checked_at", *_text, *_text, ctypes.c_uint32, *_text, ctypes.POINTER(Place), *_room)
 write_packed = _function("tocmark_write_packed_at", *_text, *_text, ctypes.c_uint32, *_text, ctypes.POINTER(Place), *_room)
@@ -74,12 +75,18 @@ def _buffers(bits: int) -> Any:
     return ctypes.c_char * (1 << bits)
 
 
-def answer(function: Any, *arguments: Any, guess: int) -> Tuple[int, bytes]:
+def filled(function: Any, *arguments: Any, guess: int) -> Tuple[int, Any]:
     """Calls a function with a buffer of at least this many bytes, and again if that is too small. Returns its number and the
-    text."""
+    buffer."""
     while True:
         room = _buffers(guess.bit_length())()
         size = function(*arguments, room, len(room))
         if size <= len(room):
-            return size, ctypes.string_at(room, max(size, 0))
+            return size, room
         guess = size
+
+
+def answer(function: Any, *arguments: Any, guess: int) -> Tuple[int, bytes]:
+    """Calls a function as `filled` does. Returns its number and the text."""
+    size, room = filled(function, *arguments, guess=guess)
+    return size, ctypes.string_at(room, max(size, 0))

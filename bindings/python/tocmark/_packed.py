@@ -30,7 +30,7 @@ _QUOTES = {None: b"\0", **{name: b"\1" + byte for name, byte in _bytes_of(
 _METADATA = _bytes_of("YamlStyle", "PlusesStyle")
 _number = struct.Struct("<Q").pack
 _range = struct.Struct("<BQQ").pack
-_text_event = struct.Struct("<BBQ").pack
+_placed_code = struct.Struct("<BQQ2s").pack
 _placed_text = struct.Struct("<BQQBQ").pack
 
 
@@ -129,39 +129,55 @@ def _with_parts(name: str, content: Any) -> bytes:
     return found
 
 
-def _pair_of(item: Any) -> Tuple[Any, Any]:
-    """Returns an event, and its range or `None`."""
-    if not isinstance(item, (tuple, list)):
-        return item, None
-    event, place = item
-    return event, place
+def _event(event: Any) -> bytes:
+    """Returns the bytes of an event without its range."""
+    if type(event) is str:
+        return _BREAKS[event]
+    (name, content), = event.items()
+    if name in _TEXTS:
+        return bytes([_TEXTS[name]]) + _text(content)
+    return _PLAIN_TAGS[name][content] if isinstance(content, str) else _with_parts(name, content)
 
 
-def _packed(items: Iterable[Any]) -> bytes:
+def _packed(pairs: Iterable[Tuple[Any, Any]]) -> Optional[bytes]:
+    """Returns the bytes of events, each with its range or `None`, or `None` if one isn't just as JSON has it. Those that are
+    frequent and have a range take one call of `pack`, and call no function of this module."""
     parts: List[bytes] = []
-    append = parts.append
-    for item in items:
-        event, place = item if type(item) is tuple else _pair_of(item)
-        if type(event) is str:
-            code = _BREAKS[event]
-        else:
-            name, = event
-            content = event[name]
-            if name in _TEXTS:
-                text = str.encode(content)
-                append(_text_event(0, _TEXTS[name], len(text)) if place is None else
-                       _placed_text(1, place.start, place.stop, _TEXTS[name], len(text)))
-                append(text)
-                continue
-            code = _PLAIN_TAGS[name][content] if isinstance(content, str) else _with_parts(name, content)
-        append(b"\0" if place is None else _range(1, place.start, place.stop))
-        append(code)
+    append, encode = parts.append, str.encode
+    placed_text, placed_code, starts, ends = _placed_text, _placed_code, _STARTS, _ENDS
+    try:
+        for event, place in pairs:
+            if place is not None and len(event) == 1:
+                if "Text" in event:
+                    text = encode(event["Text"])
+                    append(placed_text(1, place.start, place.stop, 6, len(text)))
+                    append(text)
+                    continue
+                if "Start" in event:
+                    tag = event["Start"]
+                    if type(tag) is str:
+                        append(placed_code(1, place.start, place.stop, starts[tag]))
+                        continue
+                elif "End" in event:
+                    tag = event["End"]
+                    if type(tag) is str:
+                        append(placed_code(1, place.start, place.stop, ends[tag]))
+                        continue
+                elif "Code" in event:
+                    text = encode(event["Code"])
+                    append(placed_text(1, place.start, place.stop, 7, len(text)))
+                    append(text)
+                    continue
+            append(b"\0" if place is None else _range(1, place.start, place.stop))
+            append(_event(event))
+    except _OTHERWISE:
+        return None
     return b"".join(parts)
 
 
-def packed(items: Iterable[Any]) -> Optional[bytes]:
+def packed(items: List[Any]) -> Optional[bytes]:
     """Returns the bytes of events, each alone or with its range, or `None` if one isn't just as JSON has it."""
-    try:
-        return _packed(items)
-    except _OTHERWISE:
-        return None
+    found = _packed(items)
+    if found is None and not all(isinstance(item, (tuple, list)) for item in items):
+        found = _packed((item if isinstance(item, (tuple, list)) else (item, None)) for item in items)
+    return found

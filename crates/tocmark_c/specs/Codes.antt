@@ -33,6 +33,7 @@ order_of cause.Finished = 12
 order_of cause.Failed = 13
 order_of cause.InvalidStyle = 14
 order_of cause.Changed = 15
+order_of cause.TooLong = 16
 
 -- the code of a cause: -1 and below
 abbrev pub code_of : Cause → ℤ
@@ -104,4 +105,5 @@ error_text n =
     else if n == 14 then codes "a call after one that was refused"
     else if n == 15 then codes "the style has another size, or a number that means nothing"
     else if n == 16 then codes "the document would say something else than the events"
+    else if n == 17 then codes "the events are too long for Python"
     else codes "no error of tocmark"

@@ -1,4 +1,5 @@
 pub mod Codes
+pub mod MarshalCalls
 pub mod Answer
 pub mod Style
 pub mod PackedCalls

@@ -43,3 +43,4 @@ IsPackedWriteCause bits source options packed cause.Finished = IsPackedRefusedAs
 IsPackedWriteCause bits source options packed cause.Failed = IsPackedRefusedAs error.Failed bits source options packed
 IsPackedWriteCause bits source options packed cause.InvalidStyle = ⊥
 IsPackedWriteCause bits source options packed cause.Changed = ⊥
+IsPackedWriteCause bits source options packed cause.TooLong = ⊥

@@ -43,6 +43,8 @@ pub enum Cause {
     InvalidStyle,
     /// The document would parse to other events.
     Changed,
+    /// The bytes for Python would be too many for it.
+    TooLong,
 }
 
 impl Cause {
@@ -67,6 +69,7 @@ impl Cause {
             Cause::Failed => -14,
             Cause::InvalidStyle => -15,
             Cause::Changed => -16,
+            Cause::TooLong => -17,
         }
     }
 
@@ -171,6 +174,7 @@ pub fn error_text(code: isize) -> &'static str
         14 => "a call after one that was refused",
         15 => "the style has another size, or a number that means nothing",
         16 => "the document would say something else than the events",
+        17 => "the events are too long for Python",
         _ => "no error of tocmark",
     }
 }

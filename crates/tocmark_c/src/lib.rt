@@ -3,12 +3,13 @@
 //! Each function writes its result into a buffer that the caller lends (`room`). It returns the result's length in
 //! bytes, or a negative number, the code of an error (`cause`). If the buffer is too small, nothing is written. No
 //! state is kept between calls. `style` takes a style from C, and `place` tells C where an error is; `refusal` has an
-//! error with its place. `writing` and `packed_events` write events, and `rewriting` rewrites a source.
+//! error with its place. `marshal_reading` parses Markdown for Python. `writing` and `packed_events` write events, and `rewriting` rewrites a source.
 //!
 //! The crate stands on `tocmark_interchange` and `tocmark_format`.
 #![tactic(auto)]
 
 mod cause;
+mod marshal_reading;
 mod packed_events;
 mod place;
 mod refusal;
@@ -20,15 +21,17 @@ mod writing;
 ghost use Rattle.std.specs.Prelude.{◌≡◌, IfErr, IfOk, map, string_bytes};
 ghost use Rattle.tocmark_c.specs.Answer.{IsAnswer, IsErrorText, IsNever};
 ghost use Rattle.tocmark_c.specs.Calls.{IsDocumentCauseOf, IsFormatCause, IsMarkdownOf, IsReadCause, IsReadFrom, IsSameDocument, IsSameMarkdownOf, IsSameToAll, IsWriteCause, flags_of};
+ghost use Rattle.tocmark_c.specs.MarshalCalls.{IsMarshalCause, IsMarshalOf};
 ghost use Rattle.tocmark_c.specs.PackedCalls.{IsPackedMarkdown, IsPackedWriteCause};
 ghost use Rattle.tocmark_c.specs.Place.{IsTold};
 ghost use Rattle.tocmark_c.specs.Rewriting.{IsRewriteCauseOf, IsRewrittenOf};
 
 use cause::{Cause, error_text};
+use marshal_reading::read_bytes;
 use packed_events::write_packed_events;
 use place::TocmarkPlace;
 use rewriting::rewrite;
-use room::{answer, lay};
+use room::{answer, lay, lay_bytes};
 use std::alloc::{AllocError, Global};
 use style::{TocmarkStyle, style_of};
 use tocmark::event::ParserOptions;
@@ -61,6 +64,25 @@ pub extern "C" fn tocmark_read_json(alloc: Global, text: &[u8], flags: u32, out:
     ensures { IsAnswer (IsReadFrom flags text.now) (IsReadCause text.now) result out.old out.new }
 {
     answer(read(alloc, text, flags), out)
+}
+
+/// Parses Markdown under these flags, and writes the bytes of which Python's `marshal.loads` makes its events with their
+/// ranges into `out`.
+#[unsafe(no_mangle)]
+#[tactic(auto, using(crate::proofs::Answers::text_answered, crate::proofs::Answers::cause_answered))]
+pub extern "C" fn tocmark_read_marshal(
+    alloc: Global,
+    text: &[u8],
+    flags: u32,
+    out: &mut [u8],
+) -> isize
+    ensures { IsAnswer (IsMarshalOf flags text.now) (IsMarshalCause flags text.now)
+        result out.old out.new }
+{
+    match read_bytes(alloc, text, flags) {
+        Ok(bytes) => lay_bytes(&bytes, out),
+        Err(cause) => cause.code(),
+    }
 }
 
 /// Writes events that are given as JSON as Markdown into `out`. Ranges are bytes of the source; if that is empty, they

@@ -6,16 +6,24 @@ ghost use Rattle.tocmark_c.specs.Codes.{code_of};
 
 use crate::cause::Cause;
 
-/// Copies a text into the front of a buffer if it is large enough, and returns the text's length in bytes.
+/// Copies bytes into the front of a buffer if it is large enough, and returns how many they are.
+pub fn lay_bytes(bytes: &[u8], out: &mut [u8]) -> isize
+    ensures size { result ≡ pos (length bytes.now) }
+    ensures laid { out.new ≡ laid bytes.now out.old }
+{
+    let size = bytes.len();
+    if size <= out.len() {
+        out[..size].copy_from_slice(bytes);
+    }
+    size as isize
+}
+
+/// Copies a text as `lay_bytes` does, and returns its length in bytes.
 pub fn lay(text: &str, out: &mut [u8]) -> isize
     ensures size { result ≡ pos (length text.now) }
     ensures laid { out.new ≡ laid text.now out.old }
 {
-    let size = text.len();
-    if size <= out.len() {
-        out[..size].copy_from_slice(text.as_bytes());
-    }
-    size as isize
+    lay_bytes(text.as_bytes(), out)
 }
 
 /// Copies a text as `lay` does, or returns the code of a cause and leaves the buffer.

@@ -1,9 +1,11 @@
 pub mod Document
 pub mod Interchange
 pub mod Lines
+pub mod MarshalReading
 pub mod Options
 pub mod Packed
 pub mod PackedWriting
+pub mod Places
 pub mod Rewriting
 pub mod LineWriting
 pub mod Unpacked

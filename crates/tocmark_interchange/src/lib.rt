@@ -5,6 +5,7 @@
 //! `write_json` (`writing`) writes a whole document anew, and `write_checked` (`document`) parses that again.
 //!
 //! `lines` writes events as JSON by lines, and `line_writing` writes such lines as Markdown (`line_events` reads them).
+//! `marshal_reading` parses Markdown to the bytes of which Python makes its events.
 //! `packed` reads events from their compact form, and `packed_writing` writes these as Markdown. `checking` has the
 //! canonical form of events as JSON. `options` reads the writer's options from a JSON text, and `option_values` from a
 //! JSON value. `fault` has the errors, and `refusal` finds their places. `pairs` lends the events that are written, and
@@ -25,6 +26,7 @@ pub mod fault;
 mod line_events;
 pub mod line_writing;
 pub mod lines;
+pub mod marshal_reading;
 pub mod option_values;
 pub mod options;
 pub mod packed;
@@ -40,6 +42,7 @@ pub use document::{checked_over, write_checked};
 pub use fault::{DocumentError, OptionFault, OptionsTextError, RewriteError, WriteError};
 pub use line_writing::write_lines;
 pub use lines::{StreamError, array_of, stream_lines, stream_located_lines, write_bytes};
+pub use marshal_reading::read_marshal;
 pub use option_values::{options_from_json, set_option};
 pub use options::{options_from_text, options_in_json};
 pub use packed::{PackedError, pairs_from_packed};

@@ -1,9 +1,11 @@
 pub mod Lists
+pub mod Marshalled
 pub mod Nodes
 pub mod Members
 pub mod Turns
 pub mod Taking
 mod ElementExamples
+mod MarshalExamples
 pub mod Whole
 pub mod Inverse
 pub mod Passing

@@ -35,7 +35,7 @@ pub record IsListIn (has_ranges : Bool) (text : List ℕ) (pairs : List Pair) : 
 abbrev pub begins_with_array : Data → Bool
 begins_with_array value = is_some (option_and_then as_array (at 0 value))
 
--- the element that an error names is the first one that is none: no event with its range, or no event alone
+-- the element that an error names is the first one that is wrong: no event with its range, or no event alone
 abbrev pub IsNoListOf : Bool → Data → JsonError → Type 0
 IsNoListOf true value e = StandsIn located_json value e
 IsNoListOf false value e = StandsIn event_json value e

@@ -1,5 +1,6 @@
 pub mod Elements
 pub mod Json
+pub mod Marshal
 pub mod Node
 pub mod Place
 pub mod Positions

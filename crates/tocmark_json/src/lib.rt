@@ -1,6 +1,7 @@
 //! Events as JSON, in the form of pulldown-cmark's feature `serde`, and JSON as events. `docs/JSON.md` has the form.
 //!
-//! `printing` writes events as JSON text, and `locating` does so with lines and columns. `elements` reads the events of a
+//! `printing` writes events as JSON text, and `locating` does so with lines and columns. `marshalling` writes them as
+//! bytes for Python, with names by the numbers of `name_numbers`. `elements` reads the events of a
 //! JSON text one by one. `node` has the value of one element, and `reading` makes an event from it. `parts` takes a value
 //! apart, `ranges` reads ranges, and `names` has the names of variants. `positions` finds the lines and columns of a text.
 //! `fault` says what is wrong with a text or a value, and where. `laws` says that different events have different JSON.
@@ -12,6 +13,8 @@ pub mod elements;
 pub mod fault;
 pub mod laws;
 pub mod locating;
+pub mod marshalling;
+mod name_numbers;
 pub mod names;
 pub mod node;
 pub mod number;
