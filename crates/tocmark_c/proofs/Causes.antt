@@ -20,19 +20,19 @@ use Rattle.tocmark_c.specs.Codes.{document_cause, options_cause, write_cause}
 write_by_error : (bits : ℕ) (source options json : List ℕ) (o : OptionsView) → AreOptions options o → (e : WriteError) → IsCause o (flags_of bits) (has_source source) source json e → IsWriteCause bits source options json (write_cause e)
 write_by_error bits source options json o are (write_error.NotJson x) h = h
 write_by_error bits source options json o are (write_error.NotEvents x) h = (h.0, h.1, x, h.2)
-write_by_error bits source options json o are (write_error.Refused p (error.FormatFailed f)) h = tt
-write_by_error bits source options json o are (write_error.Refused p error.UnexpectedEvent) h = (o, are, h.0, h.1, h.2)
-write_by_error bits source options json o are (write_error.Refused p error.Unrepresentable) h = (o, are, h.0, h.1, h.2)
-write_by_error bits source options json o are (write_error.Refused p error.InvalidSourceRange) h = (o, are, h.0, h.1, h.2)
-write_by_error bits source options json o are (write_error.Refused p error.Finished) h = (o, are, h.0, h.1, h.2)
-write_by_error bits source options json o are (write_error.Refused p error.Failed) h = (o, are, h.0, h.1, h.2)
-write_by_error bits source options json o are (write_error.Refused p error.OutOfMemory) h = tt
+write_by_error bits source options json o are (write_error.Refused p (error.FormatFailed f)) h = absurd h.2.comes
+write_by_error bits source options json o are (write_error.Refused p error.UnexpectedEvent) h = (o, are, h.0, h.1, h.2.comes)
+write_by_error bits source options json o are (write_error.Refused p error.Unrepresentable) h = (o, are, h.0, h.1, h.2.comes)
+write_by_error bits source options json o are (write_error.Refused p error.InvalidSourceRange) h = (o, are, h.0, h.1, h.2.comes)
+write_by_error bits source options json o are (write_error.Refused p error.Finished) h = (o, are, h.0, h.1, h.2.comes)
+write_by_error bits source options json o are (write_error.Refused p error.Failed) h = (o, are, h.0, h.1, h.2.comes)
+write_by_error bits source options json o are (write_error.Refused p error.OutOfMemory) h = absurd h.2.comes
 write_by_error bits source options json o are write_error.OutOfMemory h = tt
 
 -- why a text has no options
 options_by_error : (bits : ℕ) (source options json : List ℕ) (e : OptionsTextError) → IsOptionsCause (flags_of bits) options e → IsWriteCause bits source options json (options_cause e)
 options_by_error bits source options json (options_error.NotJson x) h = h
-options_by_error bits source options json (options_error.NotOptions line) h = h
+options_by_error bits source options json (options_error.NotOptions line) h = (h.0, h.1, h.2)
 options_by_error bits source options json (options_error.Invalid x) h = (h.0, h.1, fault_of x, h.2)
 options_by_error bits source options json options_error.OutOfMemory h = tt
 
@@ -63,12 +63,13 @@ document_too bits source options json cause.Finished h = h
 document_too bits source options json cause.Failed h = h
 document_too bits source options json cause.InvalidStyle h = absurd h
 document_too bits source options json cause.Changed h = absurd h
+document_too bits source options json cause.TooLong h = absurd h
 
 -- why events are no document that says the same
 document_by_error : (bits : ℕ) (source options json : List ℕ) (o : OptionsView) → AreOptions options o → (e : DocumentError) → IsDocumentCause o (flags_of bits) (has_source source) source json e → IsDocumentCauseOf bits source options json (document_cause e)
 document_by_error bits source options json o are (document_error.Write e) h =
     document_too bits source options json (write_cause e) (write_by_error bits source options json o are e h)
-document_by_error bits source options json o are (document_error.Changed n) h = (o, are, h)
+document_by_error bits source options json o are (document_error.Changed n) h = (o, are, n, h)
 
 -- the same of the cause that is told
 pub document_told : (bits : ℕ) (source options json : List ℕ) (o : OptionsView) (e : DocumentError) (cause : Cause) → AreOptions options o → cause ≡ document_cause e → IsDocumentCause o (flags_of bits) (has_source source) source json e → IsDocumentCauseOf bits source options json cause

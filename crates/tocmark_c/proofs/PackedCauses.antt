@@ -16,18 +16,18 @@ use Rattle.tocmark_c.specs.declared.cause.Cause.{Cause}
 
 packed_by_error : (bits : ℕ) (source options packed : List ℕ) (o : OptionsView) → AreOptions options o → (e : PackedWriteError) → IsPackedCause o (flags_of bits) (has_source source) source packed e → IsPackedWriteCause bits source options packed (packed_cause e)
 packed_by_error bits source options packed o are (packed_error.NotPacked n) h = (n, h)
-packed_by_error bits source options packed o are (packed_error.Refused p (error.FormatFailed f)) h = tt
-packed_by_error bits source options packed o are (packed_error.Refused p error.UnexpectedEvent) h = (o, are, h.0, h.1, h.2)
-packed_by_error bits source options packed o are (packed_error.Refused p error.Unrepresentable) h = (o, are, h.0, h.1, h.2)
-packed_by_error bits source options packed o are (packed_error.Refused p error.InvalidSourceRange) h = (o, are, h.0, h.1, h.2)
-packed_by_error bits source options packed o are (packed_error.Refused p error.Finished) h = (o, are, h.0, h.1, h.2)
-packed_by_error bits source options packed o are (packed_error.Refused p error.Failed) h = (o, are, h.0, h.1, h.2)
-packed_by_error bits source options packed o are (packed_error.Refused p error.OutOfMemory) h = tt
+packed_by_error bits source options packed o are (packed_error.Refused p (error.FormatFailed f)) h = absurd h.2.comes
+packed_by_error bits source options packed o are (packed_error.Refused p error.UnexpectedEvent) h = (o, are, h.0, h.1, h.2.comes)
+packed_by_error bits source options packed o are (packed_error.Refused p error.Unrepresentable) h = (o, are, h.0, h.1, h.2.comes)
+packed_by_error bits source options packed o are (packed_error.Refused p error.InvalidSourceRange) h = (o, are, h.0, h.1, h.2.comes)
+packed_by_error bits source options packed o are (packed_error.Refused p error.Finished) h = (o, are, h.0, h.1, h.2.comes)
+packed_by_error bits source options packed o are (packed_error.Refused p error.Failed) h = (o, are, h.0, h.1, h.2.comes)
+packed_by_error bits source options packed o are (packed_error.Refused p error.OutOfMemory) h = absurd h.2.comes
 packed_by_error bits source options packed o are packed_error.OutOfMemory h = tt
 
 options_by_error : (bits : ℕ) (source options packed : List ℕ) (e : OptionsTextError) → IsOptionsCause (flags_of bits) options e → IsPackedWriteCause bits source options packed (options_cause e)
 options_by_error bits source options packed (options_error.NotJson x) h = h
-options_by_error bits source options packed (options_error.NotOptions line) h = h
+options_by_error bits source options packed (options_error.NotOptions line) h = (h.0, h.1, h.2)
 options_by_error bits source options packed (options_error.Invalid x) h = (h.0, h.1, fault_of x, h.2)
 options_by_error bits source options packed options_error.OutOfMemory h = tt
 

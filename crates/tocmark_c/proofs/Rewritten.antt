@@ -37,7 +37,7 @@ rewriting_by_error bits source options json rewrite_error.OutOfMemory h = tt
 -- why a text has no options
 options_by_error : (bits : ℕ) (source options json : List ℕ) (e : OptionsTextError) → IsOptionsCause (flags_of bits) options e → IsRewriteCauseOf bits source options json (options_cause e)
 options_by_error bits source options json (options_error.NotJson x) h = h
-options_by_error bits source options json (options_error.NotOptions line) h = h
+options_by_error bits source options json (options_error.NotOptions line) h = (h.0, h.1, h.2)
 options_by_error bits source options json (options_error.Invalid x) h = (h.0, h.1, fault_of x, h.2)
 options_by_error bits source options json options_error.OutOfMemory h = tt
 

@@ -102,6 +102,7 @@ IsWriteCause bits source options json cause.Finished = IsRefusedAs error.Finishe
 IsWriteCause bits source options json cause.Failed = IsRefusedAs error.Failed bits source options json
 IsWriteCause bits source options json cause.InvalidStyle = ⊥
 IsWriteCause bits source options json cause.Changed = ⊥
+IsWriteCause bits source options json cause.TooLong = ⊥
 
 -- a text is what the events of a JSON text are written as, and just these events are found in it
 abbrev pub IsSameMarkdownOf : ℕ → List ℕ → List ℕ → List ℕ → List ℕ → Type 0
@@ -109,7 +110,7 @@ IsSameMarkdownOf bits source options json output = (o : OptionsView) × AreOptio
 
 -- the events of a JSON text would be written as a text in which others are found
 abbrev pub IsChangedAs : ℕ → List ℕ → List ℕ → List ℕ → Type 0
-IsChangedAs bits source options json = (o : OptionsView) × AreOptions options o × IsChange o (flags_of bits) (has_source source) source json
+IsChangedAs bits source options json = (o : OptionsView) × AreOptions options o × (place : ℕ) × IsChange o (flags_of bits) (has_source source) source json place
 
 -- why events are not written as a document that says the same
 abbrev pub IsDocumentCauseOf : ℕ → List ℕ → List ℕ → List ℕ → Cause → Type 0

@@ -3,6 +3,7 @@ mod Taken
 mod Refused
 mod FoundAgain
 mod Stretches
+mod WrongKeys
 mod Rewritten
 mod Commas
 mod Again
@@ -14,3 +15,5 @@ mod PackedCuts
 mod PackedPairs
 mod PackedRefusals
 mod PackedWholes
+mod Placed
+mod PlaceExamples

@@ -53,15 +53,17 @@ shared = common_prefix_len same_event
 abbrev pub IsFirstLost : List EventView → List EventView → ℕ → Type 0
 IsFirstLost found given place = IsFirstBehind (shared (merged found) (merged given)) given place
 
--- the events that a text has as JSON, written over the source, are a text in which others are found
-pub record IsChange (options : OptionsView) (flags : ParserOptions) (has_source : Bool) (source input : List ℕ) : Type 0 where
+-- the events that a text has as JSON, written over the source, are a text in which others are found, and the given one at
+-- this place is the first that isn't
+pub record IsChange (options : OptionsView) (flags : ParserOptions) (has_source : Bool) (source input : List ℕ) (place : ℕ) : Type 0 where
   pub pairs : List Pair
   pub output : List ℕ
   pub is_text : IsTextOf input pairs
   pub is_written : IsWritten options flags source (in_source has_source pairs) output
   pub is_lost : ¬ (IsFoundIn flags output pairs)
+  pub is_first : IsFirstLost (events_read flags output) (without_range pairs) place
 
 -- why no document is written
 abbrev pub IsDocumentCause : OptionsView → ParserOptions → Bool → List ℕ → List ℕ → DocumentError → Type 0
 IsDocumentCause options flags has_source source input (document_error.Write e) = IsCause options flags has_source source input e
-IsDocumentCause options flags has_source source input (document_error.Changed n) = IsChange options flags has_source source input
+IsDocumentCause options flags has_source source input (document_error.Changed n) = IsChange options flags has_source source input n

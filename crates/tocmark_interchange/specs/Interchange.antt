@@ -1,5 +1,5 @@
 -- What is read and written, and why a text is refused.
-use Rattle.std.specs.Prelude.{◌≡◌, ◌⊎◌, ℕ, List, [], Bool, true, false, map, Ok, Err, Option, None, Some}
+use Rattle.std.specs.Prelude.{◌≡◌, ◌⊎◌, ℕ, List, [], Bool, true, false, map, Ok, Err, Option, None, Some, string_bytes}
 use Rattle.std.specs.Borrow.{Bor}
 use Rattle.std.specs.List.{concat}
 use Rattle.std.specs.Slice.Iter.{iter_rest}
@@ -19,11 +19,14 @@ use Rattle.tocmark_event.specs.declared.options.Error.TheVariants as error
 use Rattle.tocmark_json.specs.Elements.{IsNoList}
 use Rattle.tocmark_json.specs.Json.{IsPairsJson, events_json, listed, located_json, pair_view, pairs_json}
 use Rattle.tocmark_json.specs.Positions.{span_of}
-use Rattle.tocmark_interchange.specs.Options.{IsOptionsJson, is_options_object}
+use Rattle.tocmark_interchange.specs.Options.{IsOptionFault, IsOptionsJson, fault_line, is_options_object}
 use Rattle.tocmark_json.specs.declared.positions.Span.{Span}
+use Rattle.tocmark_rewrite.specs.declared.fault.Place.{Place}
+use Rattle.tocmark_interchange.specs.Places.{IsPlaceIn}
 use Rattle.tocmark_state.specs.Ranges.{Pair, Range, unranged}
 use Rattle.tocmark_state.specs.WorkView.{rendering}
 use Rattle.tocmark_state.specs.Walk.{Walk, Done, done, nothing_yet, script}
+use Rattle.tocmark_interchange.specs.declared.fault.OptionFault.{OptionFault}
 use Rattle.tocmark_interchange.specs.declared.fault.OptionsTextError.{OptionsTextError}
 use Rattle.tocmark_interchange.specs.declared.fault.OptionsTextError.TheVariants as options_error
 use Rattle.tocmark_interchange.specs.declared.fault.WriteError.{WriteError}
@@ -109,6 +112,17 @@ IsRefusal walk (error.FormatFailed f) = Unit {0}
 IsRefusal walk error.OutOfMemory = Unit {0}
 IsRefusal walk e = walk.outcome ≡ Err e
 
+-- the error is what the events come to: neither memory nor the writer that takes the texts
+abbrev pub ComesTo : Walk Done → Error → Type 0
+ComesTo walk (error.FormatFailed f) = ⊥
+ComesTo walk error.OutOfMemory = ⊥
+ComesTo walk e = walk.outcome ≡ Err e
+
+-- the events come to this error, and the place is one of theirs
+pub record IsRefusedAt (options : OptionsView) (flags : ParserOptions) (source : List ℕ) (pairs : List Pair) (place : Place) (e : Error) : Type 0 where
+  pub comes : ComesTo (writing options flags source pairs) e
+  pub is_place : IsPlaceIn source pairs place
+
 -- why a text is not the JSON of events
 abbrev pub IsNoEvents : List ℕ → WriteError → Type 0
 IsNoEvents input (write_error.NotJson e) = read input ≡ None
@@ -120,12 +134,12 @@ IsNoEvents input write_error.OutOfMemory = Unit {0}
 abbrev pub IsPairsCause : OptionsView → ParserOptions → List ℕ → List Pair → WriteError → Type 0
 IsPairsCause options flags source pairs (write_error.NotJson e) = ⊥
 IsPairsCause options flags source pairs (write_error.NotEvents e) = ⊥
-IsPairsCause options flags source pairs (write_error.Refused p e) = IsRefusal (writing options flags source pairs) e
+IsPairsCause options flags source pairs (write_error.Refused p e) = IsRefusedAt options flags source pairs p e
 IsPairsCause options flags source pairs write_error.OutOfMemory = Unit {0}
 
 -- why the events that a text has as JSON are not written
 abbrev pub IsCause : OptionsView → ParserOptions → Bool → List ℕ → List ℕ → WriteError → Type 0
-IsCause options flags has_source source input (write_error.Refused p e) = (pairs : List Pair) × IsTextOf input pairs × IsRefusal (writing options flags source (in_source has_source pairs)) e
+IsCause options flags has_source source input (write_error.Refused p e) = (pairs : List Pair) × IsTextOf input pairs × IsRefusedAt options flags source (in_source has_source pairs) p e
 IsCause options flags has_source source input e = IsNoEvents input e
 
 -- the options that a text has as JSON
@@ -136,17 +150,21 @@ HasOptions text options = (value : Data) × (read text ≡ Some value) × IsOpti
 abbrev pub AreOptions : List ℕ → OptionsView → Type 0
 AreOptions text options = ((text ≡ []) × (options ≡ default_options)) ⊎ HasOptions text options
 
--- why a value has no options: its fault has a line of its own
+-- a line says why a value is not that of options
+abbrev pub SaysFault : Data → List ℕ → Type 0
+SaysFault value line = (fault : OptionFault) × IsOptionFault value fault × (line ≡ fault_line fault)
+
+-- why a value has no options
 abbrev pub IsNoOptions : Data → OptionsTextError → Type 0
 IsNoOptions value (options_error.NotJson e) = ⊥
-IsNoOptions value (options_error.NotOptions line) = is_options_object value ≡ false
+IsNoOptions value (options_error.NotOptions line) = (is_options_object value ≡ false) × SaysFault value (string_bytes line)
 IsNoOptions value (options_error.Invalid e) = ⊥
 IsNoOptions value options_error.OutOfMemory = Unit {0}
 
 -- why a text has no options
 abbrev pub IsNoOptionsText : List ℕ → OptionsTextError → Type 0
 IsNoOptionsText text (options_error.NotJson e) = read text ≡ None
-IsNoOptionsText text (options_error.NotOptions line) = (value : Data) × (read text ≡ Some value) × (is_options_object value ≡ false)
+IsNoOptionsText text (options_error.NotOptions line) = (value : Data) × (read text ≡ Some value) × (is_options_object value ≡ false) × SaysFault value (string_bytes line)
 IsNoOptionsText text (options_error.Invalid e) = ⊥
 IsNoOptionsText text options_error.OutOfMemory = Unit {0}
 

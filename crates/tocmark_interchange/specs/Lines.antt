@@ -8,7 +8,7 @@ use Rattle.serde_json.specs.Read.{read}
 use Rattle.tocmark_event.specs.Options.{OptionsView}
 use Rattle.tocmark_event.specs.View.{EventView}
 use Rattle.tocmark_event.specs.declared.event.flags.ParserOptions.{ParserOptions}
-use Rattle.tocmark_interchange.specs.Interchange.{IsRefusal, IsWritten, in_source, located_in, writing}
+use Rattle.tocmark_interchange.specs.Interchange.{IsRefusedAt, IsWritten, in_source, located_in}
 use Rattle.tocmark_interchange.specs.declared.fault.WriteError.{WriteError}
 use Rattle.tocmark_interchange.specs.declared.fault.WriteError.TheVariants as write_error
 use Rattle.tocmark_json.specs.Elements.{IsElement, RefusesElement}
@@ -124,5 +124,5 @@ IsBadLine input e = IsFirstBadLine input e
 -- why the events that a text has by lines are not written: a line is that of none, the writer refuses them, or memory ran out
 abbrev pub IsLinesCause : OptionsView → ParserOptions → Bool → List ℕ → List ℕ → WriteError → Type 0
 IsLinesCause options flags has_source source input (write_error.Refused p e) =
-    (pairs : List Pair) × AreLinesOf (have_ranges input) (lines input) pairs × IsRefusal (writing options flags source (in_source has_source pairs)) e
+    (pairs : List Pair) × AreLinesOf (have_ranges input) (lines input) pairs × IsRefusedAt options flags source (in_source has_source pairs) p e
 IsLinesCause options flags has_source source input e = IsBadLine input e

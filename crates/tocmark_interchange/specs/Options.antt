@@ -1,10 +1,13 @@
 -- The JSON value of options: an object with a key for each field.
-use Rattle.std.specs.Prelude.{◌≡◌, ◌&&◌, ℕ, List, [], ◌∷◌, Bool, true, false, bytes_eq, codes}
+use Rattle.std.specs.Prelude.{◌≡◌, ◌&&◌, ◌++◌, if◌then◌else◌, ℕ, List, [], ◌∷◌, Bool, true, false, Option, Some, None, bytes_eq, codes, option_and_then}
 use Rattle.std.specs.Char.{encode_utf8}
 use Rattle.std.specs.List.{list_any}
 use Rattle.serde_json.specs.Data.{Data, boolean, number, unsigned, string, object, Members, no_members, member, put}
+use Rattle.serde_json.specs.Find.{as_object}
 use Rattle.tocmark_event.specs.Options.{OptionsView, default_options}
 use Rattle.tocmark_json.specs.Json.{size_json}
+use Rattle.tocmark_interchange.specs.declared.fault.OptionFault.{OptionFault}
+use Rattle.tocmark_interchange.specs.declared.fault.OptionFault.TheVariants as fault
 
 -- a character is a string of its own
 abbrev pub token_json : ℕ → Data
@@ -103,3 +106,23 @@ are_options (member key d ms) = is_option key d && are_options ms
 abbrev pub is_options_object : Data → Bool
 is_options_object (object ms) = are_options ms
 is_options_object d = false
+
+-- the first key, in their order, that is no option's or has a value that its option doesn't take
+abbrev pub first_wrong : Members → Option (List ℕ)
+first_wrong no_members = None
+first_wrong (member key d ms) = if is_option key d then first_wrong ms else Some key
+
+-- a fault names this key
+abbrev pub NamesKey : List ℕ → OptionFault → Type 0
+NamesKey key fault.NotAnObject = ⊥
+NamesKey key (fault.Wanted k wanted) = k.now ≡ key
+
+-- why a value is not that of options: it is no object, or the key that is named is the first wrong one
+abbrev pub IsOptionFault : Data → OptionFault → Type 0
+IsOptionFault value fault.NotAnObject = as_object value ≡ None
+IsOptionFault value (fault.Wanted key wanted) = option_and_then first_wrong (as_object value) ≡ Some key.now
+
+-- the line of a fault
+abbrev pub fault_line : OptionFault → List ℕ
+fault_line fault.NotAnObject = codes "expected an object of options"
+fault_line (fault.Wanted key wanted) = key.now ++ codes ": expected " ++ wanted.now

@@ -3,7 +3,7 @@ use Rattle.std.specs.Prelude.{◌≡◌, ℕ, List, Bool}
 use Rattle.tocmark_event.specs.Options.{OptionsView}
 use Rattle.tocmark_event.specs.declared.event.flags.ParserOptions.{ParserOptions}
 use Rattle.tocmark_state.specs.Ranges.{Pair}
-use Rattle.tocmark_interchange.specs.Interchange.{IsRefusal, IsWritten, in_source, writing}
+use Rattle.tocmark_interchange.specs.Interchange.{IsRefusedAt, IsWritten, in_source}
 use Rattle.tocmark_interchange.specs.Packed.{packed_pairs}
 use Rattle.tocmark_interchange.specs.Unpacked.{IsNotPacked}
 use Rattle.tocmark_interchange.specs.declared.packed.PackedError.TheVariants as packed_error
@@ -19,5 +19,5 @@ IsWrittenPacked options flags has_source source packed output =
 abbrev pub IsPackedCause : OptionsView → ParserOptions → Bool → List ℕ → List ℕ → PackedWriteError → Type 0
 IsPackedCause options flags has_source source packed (error.NotPacked number) = IsNotPacked packed (packed_error.Event number)
 IsPackedCause options flags has_source source packed (error.Refused p e) =
-    (pairs : List Pair) × (packed ≡ packed_pairs pairs) × IsRefusal (writing options flags source (in_source has_source pairs)) e
+    (pairs : List Pair) × (packed ≡ packed_pairs pairs) × IsRefusedAt options flags source (in_source has_source pairs) p e
 IsPackedCause options flags has_source source packed error.OutOfMemory = Unit {0}

@@ -109,6 +109,8 @@ fn lost(
     ensures other { IfOk result (λ answer. IfSome answer (λ place.
         ¬ (merged (events_read flags text.now)
         ≡ merged (without_range (map (pair_view text_of) given.now))))) }
+    ensures place { IfOk result (λ answer. IfSome answer (IsFirstLost (events_read flags text.now)
+        (without_range (map (pair_view text_of) given.now)))) }
 {
     let reader = ExtendedReader { names: Names::All };
     let reading = reader.read(alloc, text, flags)?;

@@ -144,7 +144,7 @@ impl std::error::Error for DocumentError {}
 pub enum OptionsTextError {
     /// The text isn't JSON, or is nested deeper than the kit's JSON reads.
     NotJson(serde_json::Error),
-    /// The JSON isn't that of options. The text says in a line what is wrong.
+    /// The JSON isn't that of options. The text says in a line what is wrong, at the first key at which it is.
     NotOptions(String),
     /// The writer doesn't take these options under these flags.
     Invalid(OptionsError),
@@ -180,6 +180,11 @@ pub enum OptionFault<'a> {
 }
 
 impl<'a> fmt::Display for OptionFault<'a> {
+    ghost use Rattle.std.specs.Prelude.{Some};
+    ghost use Rattle.tocmark_interchange.specs.Options.{fault_line};
+
+    ghost output = { λ fault. Some (fault_line fault) };
+
     fn fmt<W: fmt::Write>(&self, f: &mut fmt::Formatter<W>) -> fmt::Result {
         match self {
             OptionFault::NotAnObject => write!(f, "expected an object of options"),

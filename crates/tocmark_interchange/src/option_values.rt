@@ -1,11 +1,11 @@
 //! Options from their JSON value.
 
-ghost use Rattle.std.specs.Prelude.{◌≡◌, IfOk, is_ok};
+ghost use Rattle.std.specs.Prelude.{◌≡◌, IfErr, IfOk, is_ok};
 ghost use Rattle.serde_json.specs.Data.{boolean, number, string};
 ghost use Rattle.serde_json.specs.View.{number_view, view};
 ghost use Rattle.tocmark_event.specs.Options.{options_view};
 ghost use Rattle.tocmark_json.specs.Json.{size_json};
-ghost use Rattle.tocmark_interchange.specs.Options.{IsOptionsJson, IsPut, is_option, is_options_object};
+ghost use Rattle.tocmark_interchange.specs.Options.{IsOptionFault, IsOptionsJson, IsPut, NamesKey, is_option, is_options_object};
 
 use crate::fault::OptionFault;
 use serde_json::{Number, Value};
@@ -131,6 +131,7 @@ pub fn set_option<'k>(
     ensures put { IsPut (is_ok result) key.now (view value.now) (options_view options.old)
         (options_view options.new) }
     ensures taken { is_ok result ≡ is_option key.now (view value.now) }
+    ensures key { IfErr result (NamesKey key.now) }
 {
     if set_value(options, key, value) {
         return Ok(());
@@ -142,11 +143,12 @@ pub fn set_option<'k>(
 }
 
 /// Reads options from a JSON object. A field without a key there has its default. An unknown key, and a value that a
-/// field can't have, are refused: the error has the key and what is wanted there.
+/// field can't have, are refused: the error has the first such key in their order, and what is wanted there.
 pub fn options_from_json(value: &Value) -> Result<Options<'static>, OptionFault<'_>>
     ensures options { IfOk result (λ options.
         IsOptionsJson (view value.now) (options_view options)) }
     ensures taken { is_ok result ≡ is_options_object (view value.now) }
+    ensures fault { IfErr result (IsOptionFault (view value.now)) }
 {
     let Value::Object(members) = value else {
         return Err(OptionFault::NotAnObject);

@@ -30,7 +30,8 @@ impl<'a> EventPairs<'a> {
     }
 }
 
-fn kept(has_source: bool, range: Option<(usize, usize)>) -> Option<(usize, usize)>
+/// The range, if there is a source.
+pub(crate) fn kept(has_source: bool, range: Option<(usize, usize)>) -> Option<(usize, usize)>
     ensures { result ≡ kept has_source range }
 {
     if has_source { range } else { None }

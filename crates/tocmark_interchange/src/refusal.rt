@@ -1,10 +1,18 @@
 //! Where a list of events is refused.
 
-use crate::pairs::{EventPairs, Placed};
+ghost use Rattle.std.specs.List.{All};
+ghost use Rattle.std.specs.Prelude.{◌≡◌, ◌-◌, ◌≤◌, ◌<◌, IfOk, IfSome, length, map};
+ghost use Rattle.tocmark_event.specs.Text.{text_of};
+ghost use Rattle.tocmark_interchange.specs.Interchange.{in_source};
+ghost use Rattle.tocmark_interchange.specs.Places.{IsWithin, lines_at, lines_of, range_at};
+ghost use Rattle.tocmark_json.specs.Json.{pair_view};
+
+use crate::pairs::{EventPairs, Placed, kept};
 use std::alloc::{AllocError, Global};
 use std::fmt;
 use tocmark::event::{Event, ParserOptions};
 use tocmark::{Error, Options, State};
+use tocmark_json::positions::Positions;
 use tocmark_reader::{Names, UnitReader};
 use tocmark_rewrite::Place;
 
@@ -20,7 +28,9 @@ impl fmt::Write for Discarded {
 
 /// The number of the event that unbalances a list: of the first End that isn't the innermost open container's, or else of
 /// the innermost Start that has no End.
-pub(crate) fn unbalanced(alloc: Global, pairs: &[Placed<'_>]) -> Result<Option<usize>, AllocError> {
+pub(crate) fn unbalanced(alloc: Global, pairs: &[Placed<'_>]) -> Result<Option<usize>, AllocError>
+    ensures { IfOk result (λ answer. IfSome answer (λ at. at < length pairs.now)) }
+{
     let mut open = Vec::new(alloc);
     for at in 0..pairs.len() {
         match &pairs[at].0 {
@@ -51,7 +61,9 @@ struct Progress {
 
 impl Progress {
     /// The progress behind one more event, at which so many bytes were written.
-    fn behind(self, at: usize, event: &Event<'_>, written: usize) -> Progress {
+    fn behind(self, at: usize, event: &Event<'_>, written: usize) -> Progress
+        ensures { IsWithin at self → IsWithin at result }
+    {
         Progress {
             unwritten: if written > 0 { at } else { self.unwritten },
             tree: if self.depth == 0 { at } else { self.tree },
@@ -64,7 +76,9 @@ impl Progress {
     }
 
     /// The first event of what is refused when this event comes: of the unit before it, unless the event itself is wrong.
-    fn refused(self, at: usize, event: &Event<'_>, error: Error) -> usize {
+    fn refused(self, at: usize, event: &Event<'_>, error: Error) -> usize
+        ensures { IsWithin at self → result ≤ at }
+    {
         let is_wrong = match (event, error) {
             (_, Error::InvalidSourceRange) => true,
             (Event::End(_), Error::UnexpectedEvent) => true,
@@ -86,7 +100,9 @@ fn first_refused<'a>(
     pairs: &'a [Placed<'a>],
     source: &str,
     has_source: bool,
-) -> Result<usize, AllocError> {
+) -> Result<usize, AllocError>
+    ensures { IfOk result (λ event. event ≤ length pairs.now - 1) }
+{
     let mut progress = Progress {
         unwritten: 0,
         tree: 0,
@@ -107,35 +123,51 @@ fn first_refused<'a>(
     }
 }
 
-/// The number of the line on which a byte stands, counted from 1.
-fn line_of(source: &str, at: usize) -> usize {
-    let bytes = source.as_bytes();
-    let mut line = 1usize;
-    for k in 0..at.min(bytes.len()) {
-        let next = bytes.get(k.saturating_add(1));
-        match bytes.get(k) {
-            Some(b'\n') => line = line.saturating_add(1),
-            Some(b'\r') if next != Some(&b'\n') => line = line.saturating_add(1),
-            _ => {}
-        }
+/// The range of the event of this number; none if it has none, or if there is no source.
+fn range_at(pairs: &[Placed<'_>], event: usize, has_source: bool) -> Option<(usize, usize)>
+    ensures { result ≡ range_at (in_source has_source (map (pair_view text_of) pairs.now)) event }
+{
+    match pairs.get(event) {
+        Some(pair) => kept(has_source, pair.1),
+        None => None,
     }
-    line
+}
+
+/// The lines of a range of a source: those of its first byte and of its last one.
+fn lines_of(
+    alloc: Global,
+    source: &str,
+    range: (usize, usize),
+) -> Result<(usize, usize), AllocError>
+    ensures { IfOk result (λ lines. lines ≡ lines_of source.now range) }
+{
+    let positions = Positions::new(alloc, source)?;
+    let span = positions.span((range.0, range.1.saturating_sub(1)));
+    Ok((span.start.line, span.end.line.max(span.start.line)))
 }
 
 /// The place of an event in the list, with the lines of its range if it has one in this source.
-pub(crate) fn place_at(pairs: &[Placed<'_>], event: usize, source: Option<&str>) -> Place {
-    let range = match pairs.get(event) {
-        Some(pair) => pair.1,
-        None => None,
-    };
-    let lines = match (range, source) {
-        (Some((from, to)), Some(source)) => {
-            let first = line_of(source, from);
-            Some((first, line_of(source, to.saturating_sub(1)).max(first)))
+pub(crate) fn place_at(
+    alloc: Global,
+    pairs: &[Placed<'_>],
+    event: usize,
+    source: &str,
+    has_source: bool,
+) -> Result<Place, AllocError>
+    ensures event { IfOk result (λ place. place.event ≡ event) }
+    ensures lines { IfOk result (λ place. place.lines ≡ lines_at source.now
+        (in_source has_source (map (pair_view text_of) pairs.now)) event) }
+{
+    match range_at(pairs, event, has_source) {
+        Some(range) => {
+            let lines = lines_of(alloc, source, range)?;
+            Ok(Place {
+                event,
+                lines: Some(lines),
+            })
         }
-        _ => None,
-    };
-    Place { event, lines }
+        None => Ok(Place { event, lines: None }),
+    }
 }
 
 /// The number of the event at which the writer refuses a list that it refuses: the first one of the refused unit, or the one
@@ -149,7 +181,9 @@ pub(crate) fn refused_at<'a>(
     has_source: bool,
     flags: ParserOptions,
     options: Options<'static>,
-) -> Result<usize, AllocError> {
+) -> Result<usize, AllocError>
+    ensures { IfOk result (λ event. event ≤ length pairs.now - 1) }
+{
     let reader = UnitReader { names: Names::All };
     let Ok(mut state) = State::new(alloc, reader, flags, options) else {
         return Err(AllocError);

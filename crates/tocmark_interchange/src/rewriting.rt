@@ -30,7 +30,7 @@ fn unbalanced_place(
     source: &str,
 ) -> Result<Option<Place>, AllocError> {
     match unbalanced(alloc, pairs)? {
-        Some(at) => Ok(Some(place_at(pairs, at, Some(source)))),
+        Some(at) => Ok(Some(place_at(alloc, pairs, at, source, true)?)),
         None => Ok(None),
     }
 }

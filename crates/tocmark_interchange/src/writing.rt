@@ -1,12 +1,14 @@
 //! Writes the JSON text of events as Markdown.
 
-ghost use Rattle.std.specs.Prelude.{◌≡◌, IfErr, IfOk, None, is_some, map, string_bytes};
+ghost use Rattle.std.specs.Prelude.{◌≡◌, IfErr, IfOk, IfSome, None, is_some, map, string_bytes};
 ghost use Rattle.serde_json.specs.Read.{read};
 ghost use Rattle.tocmark_event.specs.Options.{options_view};
 ghost use Rattle.tocmark_event.specs.Text.{text_of};
 ghost use Rattle.tocmark_json.specs.Elements.{IsListIn};
 ghost use Rattle.tocmark_json.specs.Json.{pair_view};
-ghost use Rattle.tocmark_interchange.specs.Interchange.{IsCause, IsNoEvents, IsPairsCause, IsRefusal, IsTextOf, IsWritten, IsWrittenFrom, in_source, places_left, source_text, writing};
+ghost use Rattle.tocmark_interchange.specs.Interchange.{ComesTo, IsCause, IsNoEvents, IsPairsCause, IsRefusal, IsTextOf, IsWritten, IsWrittenFrom, in_source, places_left, source_text, writing};
+ghost use Rattle.tocmark_interchange.specs.Places.{IsPlaceIn};
+ghost use Rattle.tocmark_state.specs.Walk.{Done, Walk};
 
 use crate::fault::WriteError;
 use crate::pairs::{EventPairs, Placed};
@@ -103,15 +105,31 @@ fn refusal<'a>(
     has_source: bool,
     flags: ParserOptions,
     options: Options<'static>,
-) -> Result<Place, AllocError> {
+) -> Result<Place, AllocError>
+    ensures { IfOk result (IsPlaceIn source.now
+        (in_source has_source (map (pair_view text_of) pairs.now))) }
+{
     let event = refused_at(alloc, pairs, source, has_source, flags, options)?;
-    let lines_in = if has_source { Some(source) } else { None };
-    Ok(place_at(pairs, event, lines_in))
+    place_at(alloc, pairs, event, source, has_source)
+}
+
+/// What the events come to at this error; none if memory ran out. A string refuses a text only for want of memory, so
+/// `FormatFailed` says no more.
+fn refusal_in(error: Error) -> Option<Error>
+    ensures { (walk : Walk Done) → IsRefusal walk error → IfSome result (ComesTo walk) }
+{
+    match error {
+        Error::FormatFailed(_) => None,
+        Error::OutOfMemory => None,
+        Error::UnexpectedEvent => Some(Error::UnexpectedEvent),
+        Error::Unrepresentable => Some(Error::Unrepresentable),
+        Error::InvalidSourceRange => Some(Error::InvalidSourceRange),
+        Error::Finished => Some(Error::Finished),
+        Error::Failed => Some(Error::Failed),
+    }
 }
 
 /// The Markdown of events over the source of their ranges, which are dropped unless `has_source` is set.
-///
-/// The writer refuses a text only for want of memory, so `FormatFailed` is `OutOfMemory`.
 pub(crate) fn written_pairs<'a>(
     alloc: Global,
     pairs: &'a [Placed<'a>],
@@ -126,14 +144,16 @@ pub(crate) fn written_pairs<'a>(
         (in_source has_source (map (pair_view text_of) pairs.now))) }
 {
     let placed = EventPairs::new(pairs, has_source);
-    match written(alloc, placed, source, flags, options) {
-        Ok(output) => Ok(output),
-        Err(Error::OutOfMemory) => Err(WriteError::OutOfMemory),
-        Err(Error::FormatFailed(_)) => Err(WriteError::OutOfMemory),
-        Err(error) => match refusal(alloc, pairs, source, has_source, flags, options) {
-            Ok(place) => Err(WriteError::Refused(place, error)),
-            Err(_) => Err(WriteError::OutOfMemory),
-        },
+    let error = match written(alloc, placed, source, flags, options) {
+        Ok(output) => return Ok(output),
+        Err(error) => error,
+    };
+    let Some(error) = refusal_in(error) else {
+        return Err(WriteError::OutOfMemory);
+    };
+    match refusal(alloc, pairs, source, has_source, flags, options) {
+        Ok(place) => Err(WriteError::Refused(place, error)),
+        Err(_) => Err(WriteError::OutOfMemory),
     }
 }
 

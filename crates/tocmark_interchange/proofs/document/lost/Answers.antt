@@ -3,7 +3,7 @@ use Rattle.tocmark_event.specs.Merged.{merged}
 use Rattle.tocmark_event.specs.View.{EventView}
 use Rattle.tocmark_interchange.proofs.FoundAgain.{found_read, given_read}
 use Rattle.tocmark_compare.specs.Given.{given_events}
-use Rattle.tocmark_interchange.specs.Document.{events_read}
+use Rattle.tocmark_interchange.specs.Document.{IsFirstLost, events_read}
 use Rattle.tocmark_interchange.proofs.document.lost.Goals as goal
 
 pub returns-clause-same : goal.returns-clause-same
@@ -21,3 +21,11 @@ returns-clause-other c =
     (subst (λ (xs : List EventView). IfOk c.difference.result (λ answer. IfSome answer (λ place. ¬ (merged xs ≡ merged (given_events c.args.given.now)))))
     (ap given_events c.deref.ensures.value ∙ found_read c.in_ok-reading.reading c.args.flags c.args.text.now c.in_ok-reading.ensures.reading)
     c.difference.ensures.other)
+
+pub returns-clause-place : goal.returns-clause-place
+returns-clause-place c =
+    subst (λ (ys : List EventView). IfOk c.difference.result (λ answer. IfSome answer (IsFirstLost (events_read c.args.flags c.args.text.now) ys)))
+    (given_read c.args.given.now)
+    (subst (λ (xs : List EventView). IfOk c.difference.result (λ answer. IfSome answer (IsFirstLost xs (given_events c.args.given.now))))
+    (ap given_events c.deref.ensures.value ∙ found_read c.in_ok-reading.reading c.args.flags c.args.text.now c.in_ok-reading.ensures.reading)
+    c.difference.ensures.place)
