@@ -26,12 +26,12 @@ mod style;
 use crate::style::{Looks, looks_of};
 use serde_json::Value;
 use std::alloc::{AllocError, Global};
-use std::env;
 use std::io::{self, ErrorKind, Read, Write};
+use std::{env, mem};
 use tocmark::Options;
 use tocmark::core_reader::CoreReader;
 use tocmark::event::{CowStr, Event, LinkType, ParserOptions, Tag, TagEnd};
-use tocmark::reader::Reader;
+use tocmark::reader::{Reader, Reading};
 use tocmark_format::{Formatted, formatted};
 use tocmark_reader::{ExtendedReader, GFM};
 use tocmark_rewrite::edits::{Shift, join_heading_lines, set_destination, shift_headings};
@@ -174,6 +174,93 @@ fn edit_named(name: &str) -> io::Result<Edit<'_>> {
     }
 }
 
+/// An event with its range.
+type Pair = (Event<'static>, (usize, usize));
+
+/// Puts a value in another one's place.
+fn put<T: Drop>(place: &mut T, value: T) {
+    *place = value;
+}
+
+/// Adds an event to a list, if there was memory for it.
+fn add<E: Drop>(
+    list: &mut Vec<(E, (usize, usize))>,
+    event: Result<E, AllocError>,
+    range: (usize, usize),
+) -> Result<(), AllocError> {
+    match event {
+        Ok(event) => Ok(list.push((event, range))?),
+        Err(error) => Err(error),
+    }
+}
+
+/// A text that owns this word.
+fn owned_text(alloc: Global, word: &str) -> Result<CowStr<'static>, AllocError> {
+    Ok(CowStr::Owned(String::from_str(alloc, word)?))
+}
+
+/// Events with their ranges, to which others are added.
+#[derive(Drop)]
+struct Pairs {
+    alloc: Global,
+    all: Vec<Pair>,
+}
+
+impl Pairs {
+    fn new(alloc: Global) -> Pairs {
+        Pairs {
+            alloc,
+            all: Vec::new(alloc),
+        }
+    }
+
+    fn add(&mut self, event: Event<'static>, range: (usize, usize)) -> Result<(), AllocError> {
+        add(&mut self.all, Ok(event), range)
+    }
+
+    fn add_text(&mut self, word: &str, range: (usize, usize)) -> Result<(), AllocError> {
+        let text = owned_text(self.alloc, word);
+        add(&mut self.all, text.map(Event::Text), range)
+    }
+
+    fn add_code(&mut self, word: &str, range: (usize, usize)) -> Result<(), AllocError> {
+        let code = owned_text(self.alloc, word);
+        add(&mut self.all, code.map(Event::Code), range)
+    }
+
+    /// Adds a container that has this word.
+    fn add_in(
+        &mut self,
+        tag: Tag<'static>,
+        word: &str,
+        range: (usize, usize),
+    ) -> Result<(), AllocError> {
+        let end = tag.to_end();
+        self.add(Event::Start(tag), range)?;
+        self.add_text(word, range)?;
+        self.add(Event::End(end), range)
+    }
+
+    fn copy(&mut self, pair: &Pair) -> Result<(), AllocError> {
+        let (event, range) = pair;
+        add(&mut self.all, event.to_static(self.alloc), *range)
+    }
+
+    fn copy_all(&mut self, pairs: &[Pair]) -> Result<(), AllocError> {
+        for pair in pairs {
+            self.copy(pair)?;
+        }
+        Ok(())
+    }
+
+    /// Has the last event be a text.
+    fn set_last(&mut self, text: String) {
+        if let Some(last) = self.all.last_mut() {
+            put(&mut last.0, Event::Text(CowStr::Owned(text)));
+        }
+    }
+}
+
 /// Where an event leads, if it begins a link or an image.
 fn destination_in<'e>(event: &'e Event<'static>) -> Option<&'e str> {
     match event {
@@ -223,30 +310,20 @@ fn is_now(event: &Event<'static>) -> bool {
     }
 }
 
-/// The events with each text `now` stressed.
-fn stressed(
-    alloc: Global,
-    events: &[(Event<'static>, (usize, usize))],
-) -> Result<Vec<(Event<'static>, (usize, usize))>, AllocError> {
-    let mut all = Vec::new(alloc);
-    for (event, range) in events {
-        let is_now = is_now(event);
-        if is_now {
-            all.push((Event::Start(Tag::Emphasis), *range))?;
-        }
-        all.push((event.to_static(alloc)?, *range))?;
-        if is_now {
-            all.push((Event::End(TagEnd::Emphasis), *range))?;
+/// Adds the events with each text `now` stressed.
+fn stress(all: &mut Pairs, events: &[Pair]) -> Result<(), AllocError> {
+    for pair in events {
+        if is_now(&pair.0) {
+            all.add_in(Tag::Emphasis, "now", pair.1)?;
+        } else {
+            all.copy(pair)?;
         }
     }
-    Ok(all)
+    Ok(())
 }
 
 /// The places of the events of each block, and the one behind them.
-fn block_places(
-    alloc: Global,
-    events: &[(Event<'static>, (usize, usize))],
-) -> Result<Vec<(usize, usize)>, AllocError> {
+fn block_places(alloc: Global, events: &[Pair]) -> Result<Vec<(usize, usize)>, AllocError> {
     let mut all = Vec::new(alloc);
     let mut depth = 0usize;
     let mut first = 0usize;
@@ -264,88 +341,71 @@ fn block_places(
     Ok(all)
 }
 
-/// The events with a paragraph in front of the one at a place, which has an empty range.
-fn with_paragraph(
-    alloc: Global,
-    events: &[(Event<'static>, (usize, usize))],
+/// Adds the events with a paragraph in front of the one at a place, which has an empty range.
+fn put_paragraph(
+    all: &mut Pairs,
+    events: &[Pair],
     at: usize,
     byte: usize,
-) -> Result<Vec<(Event<'static>, (usize, usize))>, AllocError> {
-    let here = (byte, byte);
-    let mut all = Vec::new(alloc);
-    for place in 0..events.len().saturating_add(1) {
-        if place == at {
-            all.push((Event::Start(Tag::Paragraph), here))?;
-            all.push((Event::Text(CowStr::Borrowed("New.")), here))?;
-            all.push((Event::End(TagEnd::Paragraph), here))?;
-        }
-        if let Some((event, range)) = events.get(place) {
-            all.push((event.to_static(alloc)?, *range))?;
-        }
-    }
-    Ok(all)
+) -> Result<(), AllocError> {
+    all.copy_all(events.get(..at).unwrap_or(&[]))?;
+    all.add_in(Tag::Paragraph, "New.", (byte, byte))?;
+    all.copy_all(events.get(at..).unwrap_or(&[]))
 }
 
-/// The events but for those from one place to before another.
-fn without(
-    alloc: Global,
-    events: &[(Event<'static>, (usize, usize))],
+/// Adds the events but for those from one place to before another.
+fn leave_out(
+    all: &mut Pairs,
+    events: &[Pair],
     first: usize,
     past: usize,
-) -> Result<Vec<(Event<'static>, (usize, usize))>, AllocError> {
-    let mut all = Vec::new(alloc);
-    for (place, pair) in events.iter().enumerate() {
-        if place < first || place >= past {
-            all.push((pair.0.to_static(alloc)?, pair.1))?;
-        }
-    }
-    Ok(all)
+) -> Result<(), AllocError> {
+    all.copy_all(events.get(..first).unwrap_or(&[]))?;
+    all.copy_all(events.get(past..).unwrap_or(&[]))
 }
 
-/// The events without the last block or item of the first block.
-fn shortened(
-    alloc: Global,
-    events: &[(Event<'static>, (usize, usize))],
-) -> Result<Vec<(Event<'static>, (usize, usize))>, AllocError> {
-    let blocks = block_places(alloc, events)?;
+/// Adds the events without the last block or item of the first block.
+fn shorten(all: &mut Pairs, events: &[Pair]) -> Result<(), AllocError> {
+    let blocks = block_places(all.alloc, events)?;
     let (_first, past) = blocks.first().copied().unwrap_or((0, 0));
     let body = events.get(1..past.saturating_sub(1)).unwrap_or(&[]);
-    let inner = block_places(alloc, body)?;
+    let inner = block_places(all.alloc, body)?;
     let (first, past) = inner.last().copied().unwrap_or((0, 0));
-    without(
-        alloc,
-        events,
-        first.saturating_add(1),
-        past.saturating_add(1),
-    )
+    leave_out(all, events, first.saturating_add(1), past.saturating_add(1))
 }
 
-/// The events with a block put in or taken out at the block with a number.
-fn with_block_edit(
-    alloc: Global,
-    events: &[(Event<'static>, (usize, usize))],
-    edit: Edit<'_>,
-) -> Result<Vec<(Event<'static>, (usize, usize))>, AllocError> {
+/// The places of the events of the block with a number, and the one behind them.
+fn block_at(alloc: Global, events: &[Pair], number: usize) -> Result<(usize, usize), AllocError> {
     let places = block_places(alloc, events)?;
-    let number = match edit {
-        Edit::Behind(number) | Edit::Before(number) | Edit::Without(number) => number,
-        _ => return with_paragraph(alloc, events, 0, 0),
-    };
-    let number = if places.is_empty() {
-        0
-    } else {
-        number % places.len()
-    };
-    let (first, past) = places.get(number).copied().unwrap_or((0, 0));
+    if places.is_empty() {
+        return Ok((0, 0));
+    }
+    Ok(places.get(number % places.len()).copied().unwrap_or((0, 0)))
+}
+
+/// Adds the events with a paragraph put in front of a block or behind it.
+fn put_beside(
+    all: &mut Pairs,
+    events: &[Pair],
+    number: usize,
+    is_behind: bool,
+) -> Result<(), AllocError> {
+    let (first, past) = block_at(all.alloc, events, number)?;
     let (begins, ends) = match events.get(first) {
         Some(pair) => pair.1,
         None => (0, 0),
     };
-    match edit {
-        Edit::Behind(_) => with_paragraph(alloc, events, past, ends),
-        Edit::Before(_) => with_paragraph(alloc, events, first, begins),
-        _ => without(alloc, events, first, past),
+    if is_behind {
+        put_paragraph(all, events, past, ends)
+    } else {
+        put_paragraph(all, events, first, begins)
     }
+}
+
+/// Adds the events without the block with a number.
+fn take_out(all: &mut Pairs, events: &[Pair], number: usize) -> Result<(), AllocError> {
+    let (first, past) = block_at(all.alloc, events, number)?;
+    leave_out(all, events, first, past)
 }
 
 /// Whether the first text of an item or a cell comes next, by whether it did before an event.
@@ -357,31 +417,39 @@ fn begins_text(begins: bool, event: &Event<'static>) -> bool {
     }
 }
 
+/// Puts a word in front of a text.
+fn shout_text(alloc: Global, text: &mut CowStr<'static>) -> Result<(), AllocError> {
+    let longer = format!(in alloc; "New {text}")?;
+    put(text, CowStr::Owned(longer));
+    Ok(())
+}
+
 /// Puts a word in front of each item and each cell that begins with a text.
-fn shout(alloc: Global, events: &mut [(Event<'static>, (usize, usize))]) -> Result<(), AllocError> {
+fn shout(alloc: Global, events: &mut [Pair]) -> Result<(), AllocError> {
     let mut begins = false;
     for (event, _range) in events.iter_mut() {
         if let Event::Text(text) = event
             && begins
         {
-            let longer = format!(in alloc; "New {text}")?;
-            *text = CowStr::Owned(longer);
+            shout_text(alloc, text)?;
         }
         begins = begins_text(begins, event);
     }
     Ok(())
 }
 
+/// Puts a word in place of each `baz` of a text.
+fn say_in(alloc: Global, text: &mut CowStr<'static>, word: &str) -> Result<(), AllocError> {
+    let other = text.as_ref().replace(alloc, "baz", word)?;
+    put(text, CowStr::Owned(other));
+    Ok(())
+}
+
 /// Puts a word in place of each `baz` in a text.
-fn say(
-    alloc: Global,
-    events: &mut [(Event<'static>, (usize, usize))],
-    word: &str,
-) -> Result<(), AllocError> {
+fn say(alloc: Global, events: &mut [Pair], word: &str) -> Result<(), AllocError> {
     for (event, _range) in events.iter_mut() {
         if let Event::Text(text) = event {
-            let other = text.as_ref().replace(alloc, "baz", word)?;
-            *text = CowStr::Owned(other);
+            say_in(alloc, text, word)?;
         }
     }
     Ok(())
@@ -390,7 +458,7 @@ fn say(
 /// The text of the last of these events with that of the next one, if both are texts.
 fn joined_text(
     alloc: Global,
-    events: &[(Event<'static>, (usize, usize))],
+    events: &[Pair],
     next: &Event<'static>,
 ) -> Result<Option<String>, AllocError> {
     let Some((Event::Text(text), _range)) = events.last() else {
@@ -402,97 +470,79 @@ fn joined_text(
     }
 }
 
-/// The events with each text joined to the one before it.
-fn merged(
-    alloc: Global,
-    events: &[(Event<'static>, (usize, usize))],
-) -> Result<Vec<(Event<'static>, (usize, usize))>, AllocError> {
-    let mut all = Vec::new(alloc);
+/// Adds the events with each text joined to the one before it.
+fn merge(all: &mut Pairs, events: &[Pair]) -> Result<(), AllocError> {
     for pair in events {
-        match joined_text(alloc, &all, &pair.0)? {
-            Some(text) => {
-                if let Some(last) = all.last_mut() {
-                    last.0 = Event::Text(CowStr::Owned(text));
-                }
-            }
-            None => all.push((pair.0.to_static(alloc)?, pair.1))?,
+        match joined_text(all.alloc, &all.all, &pair.0)? {
+            Some(text) => all.set_last(text),
+            None => all.copy(pair)?,
         }
     }
-    Ok(all)
+    Ok(())
 }
 
-/// The events of a word that is put in something.
-fn wrapped_word(
-    alloc: Global,
+/// The tag that a word is put in, or nothing for code.
+fn wrapping_tag(wrapping: Wrapping) -> Option<Tag<'static>> {
+    match wrapping {
+        Wrapping::Emphasis => Some(Tag::Emphasis),
+        Wrapping::Strong => Some(Tag::Strong),
+        Wrapping::Strikethrough => Some(Tag::Strikethrough),
+        Wrapping::Link => Some(Tag::Link {
+            link_type: LinkType::Inline,
+            dest_url: CowStr::Borrowed("/u"),
+            title: CowStr::Borrowed(""),
+            id: CowStr::Borrowed(""),
+        }),
+        Wrapping::Code => None,
+    }
+}
+
+/// Adds a word that is put in something.
+fn add_wrapped(
+    all: &mut Pairs,
     word: &str,
     wrapping: Wrapping,
-) -> Result<Vec<Event<'static>>, AllocError> {
-    let text = CowStr::Owned(String::from_str(alloc, word)?);
-    let mut all = Vec::new(alloc);
-    let (tag, end) = match wrapping {
-        Wrapping::Emphasis => (Tag::Emphasis, TagEnd::Emphasis),
-        Wrapping::Strong => (Tag::Strong, TagEnd::Strong),
-        Wrapping::Strikethrough => (Tag::Strikethrough, TagEnd::Strikethrough),
-        Wrapping::Link => (
-            Tag::Link {
-                link_type: LinkType::Inline,
-                dest_url: CowStr::Borrowed("/u"),
-                title: CowStr::Borrowed(""),
-                id: CowStr::Borrowed(""),
-            },
-            TagEnd::Link,
-        ),
-        Wrapping::Code => {
-            all.push(Event::Code(text))?;
-            return Ok(all);
-        }
-    };
-    all.push(Event::Start(tag))?;
-    all.push(Event::Text(text))?;
-    all.push(Event::End(end))?;
-    Ok(all)
+    range: (usize, usize),
+) -> Result<(), AllocError> {
+    match wrapping_tag(wrapping) {
+        Some(tag) => all.add_in(tag, word, range),
+        None => all.add_code(word, range),
+    }
 }
 
-/// A text of which each of these words is put in something.
-fn wrapped_text(
-    alloc: Global,
+/// Adds a text of which each of these words is put in something.
+fn wrap_text(
+    all: &mut Pairs,
     text: &str,
     word: &str,
     wrapping: Wrapping,
-) -> Result<Vec<Event<'static>>, AllocError> {
-    let mut all = Vec::new(alloc);
+    range: (usize, usize),
+) -> Result<(), AllocError> {
     for (number, part) in text.split(word).enumerate() {
         if number > 0 {
-            for event in &wrapped_word(alloc, word, wrapping)? {
-                all.push(event.to_static(alloc)?)?;
-            }
+            add_wrapped(all, word, wrapping, range)?;
         }
         if !part.is_empty() {
-            all.push(Event::Text(CowStr::Owned(String::from_str(alloc, part)?)))?;
+            all.add_text(part, range)?;
         }
     }
-    Ok(all)
+    Ok(())
 }
 
-/// The events with each of these words in a text put in something.
-fn wrapped(
-    alloc: Global,
-    events: &[(Event<'static>, (usize, usize))],
+/// Adds the events with each of these words in a text put in something.
+fn wrap(
+    all: &mut Pairs,
+    events: &[Pair],
     word: &str,
     wrapping: Wrapping,
-) -> Result<Vec<(Event<'static>, (usize, usize))>, AllocError> {
-    let mut all = Vec::new(alloc);
-    for (event, range) in events {
-        match event {
-            Event::Text(text) => {
-                for part in &wrapped_text(alloc, text.as_ref(), word, wrapping)? {
-                    all.push((part.to_static(alloc)?, *range))?;
-                }
-            }
-            _ => all.push((event.to_static(alloc)?, *range))?,
+) -> Result<(), AllocError> {
+    for pair in events {
+        match &pair.0 {
+            Event::Text(text) => wrap_text(all, text.as_ref(), word, wrapping, pair.1)?,
+            _ => all.copy(pair)?,
         }
     }
-    Ok(all)
+    Ok(())
 }
 
 /// Whether an event begins or ends emphasis, strong emphasis or a strikethrough.
@@ -505,22 +555,18 @@ fn is_stress(event: &Event<'static>) -> bool {
     }
 }
 
-/// The events without emphasis, strong emphasis and strikethroughs.
-fn plain(
-    alloc: Global,
-    events: &[(Event<'static>, (usize, usize))],
-) -> Result<Vec<(Event<'static>, (usize, usize))>, AllocError> {
-    let mut all = Vec::new(alloc);
-    for (event, range) in events {
-        if !is_stress(event) {
-            all.push((event.to_static(alloc)?, *range))?;
+/// Adds the events without emphasis, strong emphasis and strikethroughs.
+fn calm(all: &mut Pairs, events: &[Pair]) -> Result<(), AllocError> {
+    for pair in events {
+        if !is_stress(&pair.0) {
+            all.copy(pair)?;
         }
     }
-    Ok(all)
+    Ok(())
 }
 
 /// Ticks each box that isn't, and the other way round.
-fn tick(events: &mut [(Event<'static>, (usize, usize))]) {
+fn tick(events: &mut [Pair]) {
     for (event, _range) in events.iter_mut() {
         if let Event::TaskListMarker(is_ticked) = event {
             *is_ticked = !*is_ticked;
@@ -528,49 +574,94 @@ fn tick(events: &mut [(Event<'static>, (usize, usize))]) {
     }
 }
 
-fn make_edit(
-    alloc: Global,
-    events: &mut Vec<(Event<'static>, (usize, usize))>,
-    edit: Edit<'_>,
-) -> Result<(), AllocError> {
+/// Has an event lead where the edit has it lead.
+fn lead(alloc: Global, event: &mut Event<'static>, edit: Edit<'_>) -> Result<(), AllocError> {
+    if let Some(destination) = changed(alloc, event, edit)? {
+        set_destination(event, CowStr::Owned(destination));
+    }
+    Ok(())
+}
+
+/// Has all events lead where the edit has them lead.
+fn lead_all(alloc: Global, events: &mut [Pair], edit: Edit<'_>) -> Result<(), AllocError> {
+    for (event, _range) in events.iter_mut() {
+        lead(alloc, event, edit)?;
+    }
+    Ok(())
+}
+
+/// Gives each link and each image another title.
+fn set_titles(events: &mut [Pair]) {
+    for (event, _range) in events.iter_mut() {
+        set_title(event, "new");
+    }
+}
+
+/// Adds the events that an edit puts in place of these.
+fn add_edited(all: &mut Pairs, events: &[Pair], edit: Edit<'_>) -> Result<(), AllocError> {
     match edit {
-        Edit::Nothing => {}
-        Edit::Front | Edit::Behind(_) | Edit::Before(_) | Edit::Without(_) => {
-            *events = with_block_edit(alloc, events, edit)?;
-        }
-        Edit::Shorten => *events = shortened(alloc, events)?,
-        Edit::Shout => shout(alloc, events)?,
-        Edit::Say(word) => say(alloc, events, word)?,
-        Edit::Merge(word) => {
-            *events = merged(alloc, events)?;
-            say(alloc, events, word)?;
-        }
+        Edit::Front => put_paragraph(all, events, 0, 0),
+        Edit::Before(number) => put_beside(all, events, number, false),
+        Edit::Behind(number) => put_beside(all, events, number, true),
+        Edit::Without(number) => take_out(all, events, number),
+        Edit::Shorten => shorten(all, events),
+        Edit::Stress => stress(all, events),
+        Edit::Wrap(wrapping, word) => wrap(all, events, word, wrapping),
+        Edit::Plain => calm(all, events),
+        _ => all.copy_all(events),
+    }
+}
+
+/// Puts the events of an edit in place of these.
+fn replace(alloc: Global, events: &mut Vec<Pair>, edit: Edit<'_>) -> Result<(), AllocError> {
+    let mut all = Pairs::new(alloc);
+    let added = add_edited(&mut all, events, edit);
+    mem::swap(events, &mut all.all);
+    added
+}
+
+/// Joins each text to the one before it.
+fn join_texts(alloc: Global, events: &mut Vec<Pair>) -> Result<(), AllocError> {
+    let mut all = Pairs::new(alloc);
+    let added = merge(&mut all, events);
+    mem::swap(events, &mut all.all);
+    added
+}
+
+/// Makes an edit that changes events where they stand.
+fn change(alloc: Global, events: &mut [Pair], edit: Edit<'_>) -> Result<(), AllocError> {
+    match edit {
+        Edit::Secure | Edit::Mark => return lead_all(alloc, events, edit),
+        Edit::Shout => return shout(alloc, events),
+        Edit::Say(word) => return say(alloc, events, word),
+        Edit::Lower => shift_headings(events, Shift::Down(1)),
         Edit::Join => {
             shift_headings(events, Shift::Down(1));
             join_heading_lines(events);
         }
-        Edit::Title => {
-            for (event, _range) in events.iter_mut() {
-                set_title(event, "new");
-            }
-        }
-        Edit::Stress => *events = stressed(alloc, events)?,
-        Edit::Wrap(wrapping, word) => {
-            *events = merged(alloc, events)?;
-            *events = wrapped(alloc, events, word, wrapping)?;
-        }
-        Edit::Plain => *events = plain(alloc, events)?,
+        Edit::Title => set_titles(events),
         Edit::Tick => tick(events),
-        Edit::Lower => shift_headings(events, Shift::Down(1)),
-        Edit::Secure | Edit::Mark => {
-            for (event, _range) in events.iter_mut() {
-                if let Some(destination) = changed(alloc, event, edit)? {
-                    set_destination(event, CowStr::Owned(destination));
-                }
-            }
-        }
+        _ => {}
     }
     Ok(())
+}
+
+fn make_edit(alloc: Global, events: &mut Vec<Pair>, edit: Edit<'_>) -> Result<(), AllocError> {
+    match edit {
+        Edit::Merge(word) => {
+            join_texts(alloc, events)?;
+            say(alloc, events, word)
+        }
+        Edit::Wrap(..) => {
+            join_texts(alloc, events)?;
+            replace(alloc, events, edit)
+        }
+        Edit::Front | Edit::Before(_) | Edit::Behind(_) | Edit::Without(_) => {
+            replace(alloc, events, edit)
+        }
+        Edit::Shorten | Edit::Stress | Edit::Plain => replace(alloc, events, edit),
+        _ => change(alloc, events, edit),
+    }
 }
 
 /// Whether an edit is made in a text with extensions.
@@ -582,6 +673,19 @@ fn has_extensions(edit: Edit<'_>) -> bool {
     }
 }
 
+/// What a text becomes that is to be read so.
+fn rewritten_by<R: DefinitionReader>(
+    alloc: Global,
+    text: &str,
+    reading: &Reading,
+    reader: &R,
+    flags: ParserOptions,
+) -> Result<String, Fault> {
+    let options = Options::default();
+    let answer = rewritten(alloc, text, reading.pairs(), reader, flags, options)?;
+    Ok(answer.text)
+}
+
 /// What a text becomes that a reader reads.
 fn edited_by<R: DefinitionReader>(
     alloc: Global,
@@ -590,17 +694,13 @@ fn edited_by<R: DefinitionReader>(
     flags: ParserOptions,
     how: Edit<'_>,
 ) -> Result<String, Fault> {
-    let mut reading = reader.read(alloc, text, flags)?;
-    make_edit(alloc, &mut reading.events, how)?;
-    let answer = rewritten(
-        alloc,
-        text,
-        reading.pairs(),
-        reader,
-        flags,
-        Options::default(),
-    )?;
-    Ok(answer.text)
+    match reader.read(alloc, text, flags) {
+        Ok(mut reading) => {
+            make_edit(alloc, &mut reading.events, how)?;
+            rewritten_by(alloc, text, &reading, reader, flags)
+        }
+        Err(error) => Err(Fault::from(error)),
+    }
 }
 
 /// What a text becomes.
@@ -721,6 +821,12 @@ fn formatted_as(alloc: Global, text: &str, looks: Looks) -> Result<Formatted, Al
     }
 }
 
+/// Whether a text that was put in a style stays as it is in that style.
+fn is_stable(alloc: Global, text: &str, looks: Looks) -> Result<bool, AllocError> {
+    let again = formatted_as(alloc, text, looks)?;
+    Ok(again.text.as_str() == text)
+}
+
 /// What a text becomes in a style, and how many of its blocks keep their lines.
 fn write_formatted<W: Write>(
     alloc: Global,
@@ -729,8 +835,7 @@ fn write_formatted<W: Write>(
     looks: Looks,
 ) -> io::Result<()> {
     let once = formatted_as(alloc, text, looks)?;
-    let twice = formatted_as(alloc, once.text.as_str(), looks)?;
-    let is_stable = once.text.as_str() == twice.text.as_str();
+    let is_stable = is_stable(alloc, once.text.as_str(), looks)?;
     let Formatted { text, left } = once;
     let value = Value::String(text);
     match (is_stable, left.len()) {
@@ -757,6 +862,28 @@ fn question_of(line: &str) -> io::Result<Option<Question<'_>>> {
     }
 }
 
+/// Answers the question of a text, which is a JSON string, or counts it.
+fn answer_text<W: Write>(
+    alloc: Global,
+    output: &mut W,
+    line: &str,
+    question: Question<'_>,
+    counts: &mut Counts,
+) -> io::Result<()> {
+    let text = text_of(alloc, line)?;
+    match question {
+        Question::Three => answer(alloc, output, text.as_str()),
+        Question::One(how) => write_edited(alloc, output, text.as_str(), how),
+        Question::Definitions => write_definitions(alloc, output, text.as_str()),
+        Question::Blocks => write_blocks(alloc, output, text.as_str()),
+        Question::Format(looks) => write_formatted(alloc, output, text.as_str(), looks),
+        Question::Count => {
+            *counts = counted(alloc, *counts, text.as_str());
+            Ok(())
+        }
+    }
+}
+
 fn answer_all<W: Write>(alloc: Global, output: &mut W, lines: &str) -> io::Result<()> {
     let mut question = Question::Three;
     let mut counts = Counts {
@@ -769,15 +896,7 @@ fn answer_all<W: Write>(alloc: Global, output: &mut W, lines: &str) -> io::Resul
         if let Some(other) = question_of(line)? {
             question = other;
         } else if !line.is_empty() && !line.starts_with('#') {
-            let text = text_of(alloc, line)?;
-            match question {
-                Question::Three => answer(alloc, output, text.as_str())?,
-                Question::One(how) => write_edited(alloc, output, text.as_str(), how)?,
-                Question::Definitions => write_definitions(alloc, output, text.as_str())?,
-                Question::Blocks => write_blocks(alloc, output, text.as_str())?,
-                Question::Format(looks) => write_formatted(alloc, output, text.as_str(), looks)?,
-                Question::Count => counts = counted(alloc, counts, text.as_str()),
-            }
+            answer_text(alloc, output, line, question, &mut counts)?;
         }
     }
     let Counts {

@@ -34,16 +34,23 @@ fn is_same_carried(left: Carried, right: Carried) -> bool {
         && left.open_html == right.open_html
 }
 
-fn is_same_held(left: &Option<Held>, right: &Option<Held>) -> bool {
-    match (left, right) {
-        (Some(left), Some(right)) => {
-            left.text == right.text
-                && left.source == right.source
-                && left.after_close == right.after_close
-        }
-        (None, None) => true,
-        _ => false,
-    }
+fn is_same_held(left: &Held, right: &Held) -> bool {
+    left.text == right.text && left.source == right.source && left.after_close == right.after_close
+}
+
+/// Whether the stretches of texts that were taken are the same.
+fn are_same_held(
+    left: Result<Option<Held>, AllocError>,
+    right: Result<Option<Held>, AllocError>,
+) -> Result<bool, AllocError> {
+    let are_same = match (&left, &right) {
+        (Ok(Some(left)), Ok(Some(right))) => Ok(is_same_held(left, right)),
+        (Ok(left), Ok(right)) => Ok(left.is_none() && right.is_none()),
+        _ => Err(AllocError),
+    };
+    drop(left);
+    drop(right);
+    are_same
 }
 
 /// Whether the open containers are as many, and put the same before each line.
@@ -126,8 +133,9 @@ pub fn difference_in_taken(
     if left.take_quote_line()? != right.take_quote_line()? {
         return Ok(Some("the quote line"));
     }
-    if !is_same_held(&left.take_held()?, &right.take_held()?) {
-        return Ok(Some("the stretch of texts"));
+    match are_same_held(left.take_held(), right.take_held()) {
+        Ok(true) => Ok(None),
+        Ok(false) => Ok(Some("the stretch of texts")),
+        Err(error) => Err(error),
     }
-    Ok(None)
 }

@@ -111,14 +111,17 @@ impl Batch {
         output: &mut O,
         faults: &mut F,
     ) -> Result<(), Fault> {
-        match self.lines.end() {
-            Ok(Some(script)) => self.answer(&script, last, output, faults),
+        let ended = self.lines.end();
+        let answered = match &ended {
+            Ok(Some(script)) => self.answer(script, last, output, faults),
             Ok(None) => Ok(()),
             Err(fault) => {
-                self.refuse(faults, fault);
+                self.refuse(faults, *fault);
                 Ok(())
             }
-        }
+        };
+        drop(ended);
+        answered
     }
 
     /// Takes the next line.

@@ -58,6 +58,11 @@ impl Events {
     }
 }
 
+/// Adds an item to a list.
+fn add<T: Drop>(list: &mut Vec<T>, item: T) -> Result<(), AllocError> {
+    Ok(list.push(item)?)
+}
+
 /// The units of a row, up to an End that isn't the innermost open container's.
 #[derive(Drop)]
 struct Row<'r> {
@@ -80,7 +85,7 @@ impl Row<'_> {
     ) -> Result<(), Error> {
         if self.pending.whole.is_whole() {
             let unit = mem::replace(&mut self.pending, Events::none(self.alloc));
-            self.units.push(unit)?;
+            add(&mut self.units, unit)?;
         } else if !is_first {
             self.pending.body.join(self.alloc, event, source)?;
         }

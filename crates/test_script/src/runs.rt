@@ -70,8 +70,22 @@ fn may_wait(waiting: usize, waited: usize, came: usize) -> bool {
     waiting <= all && waiting >= came.min(1)
 }
 
-/// Takes these events, with their ranges where there is a source. A line says how many wait where it can't be so
-/// many.
+/// Takes these events, with their ranges where there is a source.
+fn take(
+    state: &mut State<&RunReader<'_>>,
+    events: &[RangedEvent<'static>],
+    source: &Option<String>,
+    tape: &mut Tape,
+) -> Result<Progress, Error> {
+    match source {
+        Some(source) => {
+            state.process_with_source_range(RangedEvents(events.iter()), source.as_str(), tape)
+        }
+        None => state.process(Events(events.iter()), tape),
+    }
+}
+
+/// Takes these events. A line says how many wait where it can't be so many.
 fn process(
     state: &mut State<&RunReader<'_>>,
     events: &[RangedEvent<'static>],
@@ -79,12 +93,7 @@ fn process(
     tape: &mut Tape,
 ) -> Result<Progress, Error> {
     let waited = state.pending_events();
-    let progress = match source {
-        Some(source) => {
-            state.process_with_source_range(RangedEvents(events.iter()), source.as_str(), tape)?
-        }
-        None => state.process(Events(events.iter()), tape)?,
-    };
+    let progress = take(state, events, source, tape)?;
     let waiting = state.pending_events();
     if !may_wait(waiting, waited, events.len()) {
         writeln!(tape.answer, "{waiting} events wait")?;
@@ -198,11 +207,14 @@ fn answer_script(
     tape: &mut Tape,
 ) -> Result<usize, AllocError> {
     let reader = CountedReader::new(&script.reader, refused_reading);
-    match State::new(alloc, &reader, script.flags, script.options()) {
-        Ok(mut state) => answer_calls(&mut state, script, calls, shows_calls, tape)?,
-        Err(error) => write_outcome(&mut tape.answer, &Err(error))?,
+    let answered = match State::new(alloc, &reader, script.flags, script.options()) {
+        Ok(mut state) => answer_calls(&mut state, script, calls, shows_calls, tape),
+        Err(error) => write_outcome(&mut tape.answer, &Err(error)),
+    };
+    match answered {
+        Ok(()) => Ok(reader.readings()),
+        Err(error) => Err(error),
     }
-    Ok(reader.readings())
 }
 
 /// What these calls come to where a text and a reading are refused, with a line for each call or one at

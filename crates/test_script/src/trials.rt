@@ -56,13 +56,12 @@ struct Trial<'t, 'u, 'o> {
     entered: Option<&'u OwnedEvent>,
 }
 
-/// A renderer that stands where the mark is set.
-fn begun<'u>(trial: Trial<'_, 'u, '_>) -> Result<Renderer<'u>, AllocError> {
-    let mut renderer = trial.front.renderer(trial.unit.alloc)?;
-    if let Some(event) = trial.entered {
-        enter(&mut renderer, trial.unit.alloc, event)?;
+/// Has a renderer of the unit go where the mark is set.
+fn begin<'u>(trial: Trial<'_, 'u, '_>, renderer: &mut Renderer<'u>) -> Result<(), AllocError> {
+    match trial.entered {
+        Some(event) => enter(renderer, trial.unit.alloc, event),
+        None => Ok(()),
     }
-    Ok(renderer)
 }
 
 /// What differs between two renderers, of which both wrote the same, if anything.
@@ -83,18 +82,19 @@ fn difference_after(
     }
 }
 
-/// Writes a unit in one manner behind a mark, and goes back; `alone` writes it, too. Both stand where the
-/// mark is set.
+/// Writes a unit in one manner behind a mark, and goes back; `alone`, which is new, writes it, too.
 fn try_beside<'u>(
-    unit: &Unit<'u, '_>,
+    trial: Trial<'_, 'u, '_>,
     renderer: &mut Renderer<'u>,
     alone: &mut Renderer<'u>,
     place: TrialName,
     manner: &Manner<'_>,
     report: &mut Report,
 ) -> Result<(), AllocError>
-    requires { HasFindings unit.now }
+    requires { HasFindings trial.unit.now }
 {
+    begin(trial, alone)?;
+    let unit = trial.unit;
     let start = alone.text().len();
     let before = difference(renderer, alone, start)?;
     report.note_difference(place, "before it", before)?;
@@ -117,16 +117,18 @@ fn try_one<'u>(
 ) -> Result<(), AllocError>
     requires { HasFindings trial.unit.now }
 {
-    let mut alone = begun(trial)?;
     let first = usize::from(trial.entered.is_some());
     let place = TrialName {
         first,
         manner: number,
     };
-    try_beside(trial.unit, renderer, &mut alone, place, manner, report)
+    match trial.front.renderer(trial.unit.alloc) {
+        Ok(mut alone) => try_beside(trial, renderer, &mut alone, place, manner, report),
+        Err(error) => Err(error),
+    }
 }
 
-/// Tries the unit in each of these manners, by one renderer.
+/// Tries the unit in each of these manners, by one renderer, which is new.
 fn try_each<'u>(
     trial: Trial<'_, 'u, '_>,
     renderer: &mut Renderer<'u>,
@@ -135,6 +137,7 @@ fn try_each<'u>(
 ) -> Result<(), AllocError>
     requires { HasFindings trial.unit.now }
 {
+    begin(trial, renderer)?;
     for (place, manner) in manners.iter().enumerate() {
         try_one(trial, renderer, place + 1, manner, report)?;
     }
@@ -156,8 +159,10 @@ fn try_behind<'u>(
         front,
         entered,
     };
-    let mut renderer = begun(trial)?;
-    try_each(trial, &mut renderer, manners, report)
+    match front.renderer(unit.alloc) {
+        Ok(mut renderer) => try_each(trial, &mut renderer, manners, report),
+        Err(error) => Err(error),
+    }
 }
 
 /// The manners in which units are tried, and the first one again.

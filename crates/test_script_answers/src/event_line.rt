@@ -5,8 +5,9 @@ use json::Scratch;
 use std::alloc::Global;
 use std::slice::Iter;
 use tocmark_event::event::Event;
-use tocmark_json::fault::TextError;
+use tocmark_json::fault::{Fault, TextError};
 use tocmark_json::node::Node;
+use tocmark_json::ranges::Location;
 use tocmark_json::reading::{event_from_json, pair_from_json};
 
 /// An event and its range in bytes, if it has one.
@@ -69,6 +70,32 @@ fn node_of<'a>(
     }
 }
 
+/// What was read, with its range alone.
+fn with_range<E>(
+    read: Result<(E, Location), Fault>,
+) -> Result<(E, Option<(usize, usize)>), LineFault> {
+    match read {
+        Ok((event, location)) => Ok((event, location.range)),
+        Err(fault) => Err(LineFault::from(fault)),
+    }
+}
+
+/// What was read, without a range.
+fn without_range<E>(read: Result<E, Fault>) -> Result<(E, Option<(usize, usize)>), LineFault> {
+    match read {
+        Ok(event) => Ok((event, None)),
+        Err(fault) => Err(LineFault::from(fault)),
+    }
+}
+
+/// The event of JSON, which is that of an event, or an array of an event and its range.
+fn event_of(alloc: Global, node: &Node<'_>) -> Result<RangedEvent<'static>, LineFault> {
+    match node {
+        Node::Array(_) => with_range(pair_from_json(alloc, node)),
+        _ => without_range(event_from_json(alloc, node)),
+    }
+}
+
 /// The event of a JSON text, which is that of an event, or an array of an event and its range.
 ///
 /// # Errors
@@ -76,10 +103,8 @@ fn node_of<'a>(
 /// The fault that the text isn't JSON, or has something else than an event at some key, or that memory ran out.
 pub fn event_in_json(alloc: Global, json: &str) -> Result<RangedEvent<'static>, LineFault> {
     let mut scratch = Scratch::new(alloc);
-    let node = node_of(alloc, json, &mut scratch)?;
-    if let Node::Array(_) = node {
-        let (event, location) = pair_from_json(alloc, &node)?;
-        return Ok((event, location.range));
+    match &node_of(alloc, json, &mut scratch) {
+        Ok(node) => event_of(alloc, node),
+        Err(fault) => Err(*fault),
     }
-    Ok((event_from_json(alloc, &node)?, None))
 }

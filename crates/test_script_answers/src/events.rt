@@ -22,11 +22,21 @@ fn write_token_count(
     }
 }
 
-/// Writes the line of the only element of a JSON array.
-pub fn write_element(answer: &mut String, array: &str) -> Result<(), AllocError> {
+/// The only element of a JSON array.
+fn only_element(array: &str) -> &str {
     let element = array.strip_prefix('[').unwrap_or("");
-    let element = element.strip_suffix(']').unwrap_or("");
-    writeln!(answer, "{element}")
+    element.strip_suffix(']').unwrap_or("")
+}
+
+/// Writes the line of the only element of a JSON array, if there was memory for the array.
+pub fn write_element(
+    answer: &mut String,
+    array: &Result<String, AllocError>,
+) -> Result<(), AllocError> {
+    match array {
+        Ok(array) => writeln!(answer, "{}", only_element(array.as_str())),
+        Err(_) => Err(AllocError),
+    }
 }
 
 /// Writes the lines of events with their ranges.
@@ -36,107 +46,145 @@ fn write_pairs(
     pairs: &[RangedEvent<'static>],
 ) -> Result<(), AllocError> {
     for pair in pairs.chunks(1) {
-        write_element(answer, pairs_to_text(alloc, pair)?.as_str())?;
+        write_element(answer, &pairs_to_text(alloc, pair))?;
     }
     Ok(())
 }
 
-/// Copies of the events, without what stands beside them.
-fn plain<R>(
-    alloc: Global,
-    events: &[(Event<'static>, R)],
-) -> Result<Vec<Event<'static>>, AllocError> {
-    let mut plain = Vec::new(alloc);
-    for (event, _) in events {
-        plain.push(event.to_static(alloc)?)?;
+/// Adds what was made to a list.
+fn add_made<T: Drop>(list: &mut Vec<T>, made: Result<T, AllocError>) -> Result<(), AllocError> {
+    match made {
+        Ok(item) => Ok(list.push(item)?),
+        Err(error) => Err(error),
     }
-    Ok(plain)
+}
+
+/// How many items a list has that was made.
+fn count_made<T: Drop>(made: Result<Vec<T>, AllocError>) -> Result<usize, AllocError> {
+    match made {
+        Ok(items) => Ok(items.len()),
+        Err(error) => Err(error),
+    }
+}
+
+/// Adds copies of the events, without what stands beside them.
+fn add_plain<R>(
+    alloc: Global,
+    plain: &mut Vec<Event<'static>>,
+    events: &[(Event<'static>, R)],
+) -> Result<(), AllocError> {
+    for (event, _) in events {
+        add_made(plain, event.to_static(alloc))?;
+    }
+    Ok(())
 }
 
 /// The events, with each stretch of texts as one.
-pub fn merged<R>(
+fn merged<R>(
     alloc: Global,
     events: &[(Event<'static>, R)],
 ) -> Result<Vec<Event<'static>>, AllocError> {
-    merge_texts(alloc, &plain(alloc, events)?)
+    let mut plain: Vec<Event<'static>> = Vec::new(alloc);
+    match add_plain(alloc, &mut plain, events) {
+        Ok(()) => merge_texts(alloc, &plain),
+        Err(error) => Err(error),
+    }
+}
+
+/// How many events there are, with each stretch of texts as one.
+pub fn merged_count<R>(alloc: Global, events: &[(Event<'static>, R)]) -> Result<usize, AllocError> {
+    count_made(merged(alloc, events))
 }
 
 /// Writes the lines of events without ranges.
-pub fn write_events(
+fn write_events(
     alloc: Global,
     answer: &mut String,
     events: &[Event<'static>],
 ) -> Result<(), AllocError> {
     for event in events.chunks(1) {
-        write_element(answer, events_to_text(alloc, event)?.as_str())?;
+        write_element(answer, &events_to_text(alloc, event))?;
     }
     Ok(())
 }
 
-/// How many events there are where each owns its texts, merged.
-fn owned_count(alloc: Global, events: &[RangedEvent<'static>]) -> Result<usize, AllocError> {
-    let owned: Vec<OwnedEvent> = merge_all(alloc, &plain(alloc, events)?)?;
-    Ok(owned.len())
+/// Writes the lines of the events without ranges, with each stretch of texts as one.
+pub fn write_merged<R>(
+    alloc: Global,
+    answer: &mut String,
+    events: &[(Event<'static>, R)],
+) -> Result<(), AllocError> {
+    match &merged(alloc, events) {
+        Ok(merged) => write_events(alloc, answer, merged),
+        Err(_) => Err(AllocError),
+    }
 }
 
-/// Writes the lines of the merged events, and how many of them there are where each owns its texts.
-fn write_merged(
+/// How many events there are where each owns its texts, merged.
+fn owned_count(alloc: Global, events: &[RangedEvent<'static>]) -> Result<usize, AllocError> {
+    let mut plain: Vec<Event<'static>> = Vec::new(alloc);
+    match add_plain(alloc, &mut plain, events) {
+        Ok(()) => {
+            let owned: Result<Vec<OwnedEvent>, AllocError> = merge_all(alloc, &plain);
+            count_made(owned)
+        }
+        Err(error) => Err(error),
+    }
+}
+
+/// Writes the lines of the merged events without ranges, and how many there are where each owns its texts.
+fn write_merged_and_count(
     alloc: Global,
     answer: &mut String,
     events: &[RangedEvent<'static>],
 ) -> Result<(), AllocError> {
-    write_events(alloc, answer, &merged(alloc, events)?)?;
+    write_merged(alloc, answer, events)?;
     let count = owned_count(alloc, events)?;
     writeln!(answer, "{count} events")
 }
 
-/// Whether a text is equal to its copy, lent and owned.
-fn text_has_copies(alloc: Global, text: &CowStr<'static>) -> Result<bool, AllocError> {
-    let lent = CowStr::Borrowed(text.as_str());
-    let copy = CowStr::Owned(String::from_str(alloc, text.as_str())?);
-    let again = copy.clone()?;
-    Ok(again == lent)
+/// Whether a copy is equal to the original.
+fn is_copy<T: PartialEq + Drop>(
+    copy: Result<T, AllocError>,
+    original: &T,
+) -> Result<bool, AllocError> {
+    match copy {
+        Ok(copy) => Ok(copy == *original),
+        Err(error) => Err(error),
+    }
 }
 
-fn is_copy<T: PartialEq + Drop>(copy: T, original: &T) -> bool {
-    copy == *original
+/// Whether a text is equal to its copy, lent and owned.
+fn text_has_copies(alloc: Global, text: &CowStr<'static>) -> Result<bool, AllocError> {
+    let owned = CowStr::Owned(String::from_str(alloc, text.as_str())?);
+    is_copy(owned.clone(), &CowStr::Borrowed(text.as_str()))
 }
 
 /// Whether the tag or the text of an event is equal to its copies.
 fn part_has_copies(alloc: Global, event: &Event<'static>) -> Result<bool, AllocError> {
     match event {
-        EventOf::Start(tag) => Ok(is_copy(tag.copied(alloc)?, tag)),
+        EventOf::Start(tag) => is_copy(tag.copied(alloc), tag),
         EventOf::Text(text) => text_has_copies(alloc, text),
         _ => Ok(true),
     }
 }
 
-fn has_static_copy(alloc: Global, event: &Event<'static>) -> Result<bool, AllocError> {
-    Ok(is_copy(event.to_static(alloc)?, event))
-}
-
-fn has_clone(event: &Event<'static>) -> Result<bool, AllocError> {
-    Ok(is_copy(event.clone()?, event))
-}
-
 /// Whether an event is equal to the copy of its copy that owns its texts.
-fn has_copy_in(
-    alloc: Global,
-    owned: &OwnedEvent,
-    event: &Event<'static>,
-) -> Result<bool, AllocError> {
-    Ok(is_copy(owned.copied(alloc)?, event))
-}
-
 fn has_owned_copy(alloc: Global, event: &Event<'static>) -> Result<bool, AllocError> {
-    has_copy_in(alloc, &event.copied(alloc)?, event)
+    let owned: Result<OwnedEvent, AllocError> = event.copied(alloc);
+    let is_same = match &owned {
+        Ok(owned) => is_copy(owned.copied(alloc), event),
+        Err(_) => Err(AllocError),
+    };
+    drop(owned);
+    is_same
 }
 
 /// Whether an event is equal to each of its copies.
 fn has_copies(alloc: Global, event: &Event<'static>) -> Result<bool, AllocError> {
     Ok(
-        has_static_copy(alloc, event)?
-            && has_clone(event)?
+        is_copy(event.to_static(alloc), event)?
+            && is_copy(event.clone(), event)?
             && has_owned_copy(alloc, event)?
             && part_has_copies(alloc, event)?,
     )
@@ -186,7 +234,7 @@ pub fn write_events_answer(
     match question {
         EventsQuestion::CountTokens => write_token_count(answer, events),
         EventsQuestion::Show => write_pairs(alloc, answer, events),
-        EventsQuestion::ShowMerged => write_merged(alloc, answer, events),
+        EventsQuestion::ShowMerged => write_merged_and_count(alloc, answer, events),
         EventsQuestion::CountCopies => write_copies(alloc, answer, events),
         EventsQuestion::CountSame => write_same(answer, events),
     }

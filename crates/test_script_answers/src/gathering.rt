@@ -70,13 +70,56 @@ fn add<T: Drop>(list: &mut Vec<T>, item: T) -> Result<(), AllocError> {
     Ok(list.push(item)?)
 }
 
-/// Adds an event to a reading, where one without a range gets an empty one.
-fn add_read(
-    events: &mut ReadEvents<'static>,
-    event: RangedEvent<'static>,
-) -> Result<(), AllocError> {
-    let (event, range) = event;
-    add(events, (event, range.unwrap_or((0, 0))))
+/// Puts a value that was read in another one's place.
+fn put_read<T: Drop>(place: &mut T, read: Result<T, LineFault>) -> Result<(), LineFault> {
+    match read {
+        Ok(value) => {
+            put(place, value);
+            Ok(())
+        }
+        Err(fault) => Err(fault),
+    }
+}
+
+/// Has a value that was read stand in this place.
+fn put_some<T: Drop>(place: &mut Option<T>, read: Result<T, LineFault>) -> Result<(), LineFault> {
+    match read {
+        Ok(value) => {
+            put(place, Some(value));
+            Ok(())
+        }
+        Err(fault) => Err(fault),
+    }
+}
+
+/// Adds what was made to a list.
+fn add_made<T: Drop>(list: &mut Vec<T>, made: Result<T, LineFault>) -> Result<(), LineFault> {
+    match made {
+        Ok(item) => Ok(add(list, item)?),
+        Err(fault) => Err(fault),
+    }
+}
+
+/// Adds an event that was made to a reading, where one without a range gets an empty one.
+fn add_read<E: Drop>(
+    events: &mut Vec<(E, (usize, usize))>,
+    made: Result<(E, Option<(usize, usize)>), LineFault>,
+) -> Result<(), LineFault> {
+    match made {
+        Ok((event, range)) => Ok(add(events, (event, range.unwrap_or((0, 0))))?),
+        Err(fault) => Err(fault),
+    }
+}
+
+/// A copy that was made of an event, with its range.
+fn with_range<E>(
+    copy: Result<E, AllocError>,
+    range: Option<(usize, usize)>,
+) -> Result<(E, Option<(usize, usize)>), LineFault> {
+    match copy {
+        Ok(event) => Ok((event, range)),
+        Err(error) => Err(LineFault::from(error)),
+    }
 }
 
 /// Has a text be read as these events, or any other text if none is given.
@@ -160,17 +203,20 @@ impl Gathering<'static> {
         }
     }
 
-    /// Adds an event, to the open reading if there is one.
-    fn add_event(&mut self, event: RangedEvent<'static>) -> Result<(), AllocError> {
+    /// Adds an event that was made, to the open reading if there is one.
+    fn add_event(
+        &mut self,
+        made: Result<RangedEvent<'static>, LineFault>,
+    ) -> Result<(), LineFault> {
         match &mut self.reading {
-            Some(reading) => add_read(&mut reading.events, event),
-            None => add(&mut self.script.events, event),
+            Some(reading) => add_read(&mut reading.events, made),
+            None => add_made(&mut self.script.events, made),
         }
     }
 
-    fn add_copy(&mut self, event: &RangedEvent<'static>) -> Result<(), AllocError> {
+    fn add_copy(&mut self, event: &RangedEvent<'static>) -> Result<(), LineFault> {
         let (event, range) = event;
-        self.add_event((event.to_static(self.alloc)?, *range))
+        self.add_event(with_range(event.to_static(self.alloc), *range))
     }
 
     /// Makes room for so many events where the next one goes.
@@ -182,12 +228,26 @@ impl Gathering<'static> {
     }
 
     /// Adds so many copies of an event.
-    fn add_copies(&mut self, event: &RangedEvent<'static>, times: usize) -> Result<(), AllocError> {
+    fn add_copies(&mut self, event: &RangedEvent<'static>, times: usize) -> Result<(), LineFault> {
         self.reserve(times)?;
         for _ in 0..times {
             self.add_copy(event)?;
         }
         Ok(())
+    }
+
+    /// Adds an event that was made so many times.
+    fn add_times(
+        &mut self,
+        made: Result<RangedEvent<'static>, LineFault>,
+        times: usize,
+    ) -> Result<(), LineFault> {
+        let added = match &made {
+            Ok(event) => self.add_copies(event, times),
+            Err(fault) => Err(*fault),
+        };
+        drop(made);
+        added
     }
 
     /// Adds an event, which is all that is left of a line, so many times.
@@ -198,10 +258,7 @@ impl Gathering<'static> {
             return Err(words.expected("an event"));
         }
         words.pass_all();
-        let event = event_in_json(self.alloc, json)?;
-        let added = self.add_copies(&event, times);
-        drop(event);
-        Ok(added?)
+        self.add_times(event_in_json(self.alloc, json), times)
     }
 
     fn set_reader(&mut self, words: &mut WordsLeft<'_>) -> Result<(), LineFault> {
@@ -219,22 +276,28 @@ impl Gathering<'static> {
     /// Has a setting of this name hold, with the value behind the name.
     fn set(&mut self, name: SettingName, words: &mut WordsLeft<'_>) -> Result<(), LineFault> {
         match name {
-            SettingName::Flags => self.script.flags = flags(words)?,
-            SettingName::Option => set_option(self.alloc, &mut self.script, words)?,
-            SettingName::Source => put(&mut self.script.source, Some(words.string(self.alloc)?)),
-            SettingName::Calls => self.script.shows_calls = true,
-            SettingName::Cuts => self.script.compares_cuts = true,
-            SettingName::Reader => self.set_reader(words)?,
-            SettingName::FailAt => self.script.refused_text = Some(place(words, A_TEXT)?),
+            SettingName::Flags => put_read(&mut self.script.flags, flags(words)),
+            SettingName::Option => set_option(self.alloc, &mut self.script, words),
+            SettingName::Source => put_some(&mut self.script.source, words.string(self.alloc)),
+            SettingName::Calls => {
+                self.script.shows_calls = true;
+                Ok(())
+            }
+            SettingName::Cuts => {
+                self.script.compares_cuts = true;
+                Ok(())
+            }
+            SettingName::Reader => self.set_reader(words),
+            SettingName::FailAt => put_some(&mut self.script.refused_text, place(words, A_TEXT)),
             SettingName::ReadFailAt => {
-                self.script.refused_reading = Some(place(words, A_READING)?);
+                put_some(&mut self.script.refused_reading, place(words, A_READING))
             }
         }
-        Ok(())
     }
 
-    fn ask(&mut self, question: Question) -> Result<(), LineFault> {
-        Ok(add(&mut self.script.questions, question)?)
+    /// Adds a question that was made.
+    fn ask(&mut self, question: Result<Question, LineFault>) -> Result<(), LineFault> {
+        add_made(&mut self.script.questions, question)
     }
 
     /// Takes a statement of this name in the line with this number, whose parts come next.
@@ -253,15 +316,15 @@ impl Gathering<'static> {
             StatementName::Set(name) => self.set(name, words),
             StatementName::AskOfEvents(question) => {
                 let events = self.script.events.len();
-                self.ask(Question::OfEvents { question, events })
+                self.ask(Ok(Question::OfEvents { question, events }))
             }
-            StatementName::AskOfScript(question) => self.ask(Question::OfScript(question)),
+            StatementName::AskOfScript(question) => self.ask(Ok(Question::OfScript(question))),
             StatementName::AskOfText(question) => {
-                self.ask(text_question(self.alloc, question, words)?)
+                self.ask(text_question(self.alloc, question, words))
             }
-            StatementName::Escape => self.ask(escape_question(self.alloc, words)?),
-            StatementName::CloseLink => self.ask(close_question(self.alloc, words)?),
-            StatementName::LongestRun => self.ask(longest_question(self.alloc, words)?),
+            StatementName::Escape => self.ask(escape_question(self.alloc, words)),
+            StatementName::CloseLink => self.ask(close_question(self.alloc, words)),
+            StatementName::LongestRun => self.ask(longest_question(self.alloc, words)),
         }
     }
 
@@ -282,7 +345,7 @@ impl Gathering<'static> {
         if line.ends_with('\r') {
             Err(LineFault::Wrong(A_CARRIAGE_RETURN))
         } else if begins_event(line) {
-            Ok(self.add_event(event_in_json(self.alloc, line)?)?)
+            self.add_event(event_in_json(self.alloc, line))
         } else if line == "End of reading" {
             self.end_reading()
         } else {
@@ -331,21 +394,15 @@ impl Gathering<'static> {
         Ok(())
     }
 
-    /// Takes the whole script out.
-    fn take_script(&mut self) -> Result<Script<'static>, LineFault> {
-        self.complete()?;
-        Ok(mem::replace(&mut self.script, Script::new(self.alloc)))
-    }
-
-    /// The whole script, behind its last line.
+    /// Takes the whole script out, behind its last line.
     ///
     /// # Errors
     ///
     /// The fault that a reading has no end, or that memory ran out.
-    pub fn end(self) -> Result<Script<'static>, LineFault> {
-        let mut whole = self;
-        let script = whole.take_script();
-        drop(whole);
-        script
+    pub fn end(&mut self) -> Result<Script<'static>, LineFault> {
+        match self.complete() {
+            Ok(()) => Ok(mem::replace(&mut self.script, Script::new(self.alloc))),
+            Err(fault) => Err(fault),
+        }
     }
 }

@@ -2,9 +2,8 @@
 
 use crate::gathering::Gathering;
 use crate::line_fault::NumberedFault;
-use crate::script::Script;
+use crate::script::{Script, put};
 use std::alloc::Global;
-use std::mem;
 
 /// Scripts whose lines are taken one after the other.
 #[derive(Drop)]
@@ -16,22 +15,6 @@ pub struct ScriptLines {
     is_faulty: bool,
     /// The number of the last line, counted from 1.
     line: usize,
-}
-
-/// The script whose lines were taken. Behind the last of them, which has this number, something can be missing.
-fn whole(
-    gathering: Gathering<'static>,
-    last: usize,
-) -> Result<Script<'static>, NumberedFault<'static>> {
-    let number = gathering.unclosed().unwrap_or(last);
-    match gathering.end() {
-        Ok(script) => Ok(script),
-        Err(fault) => Err(NumberedFault {
-            number,
-            line: "",
-            fault,
-        }),
-    }
 }
 
 impl ScriptLines {
@@ -79,14 +62,28 @@ impl ScriptLines {
         }
     }
 
+    /// The script whose lines were taken, or nothing where one of them had a fault. Behind the last of them something
+    /// can be missing.
+    fn whole(&mut self) -> Result<Option<Script<'static>>, NumberedFault<'static>> {
+        if self.is_faulty {
+            return Ok(None);
+        }
+        match self.gathering.end() {
+            Ok(script) => Ok(Some(script)),
+            Err(fault) => Err(NumberedFault {
+                number: self.gathering.unclosed().unwrap_or(self.line),
+                line: "",
+                fault,
+            }),
+        }
+    }
+
     /// The script whose lines were taken, or nothing where one of them had a fault. The next line begins another
     /// script.
     pub fn end(&mut self) -> Result<Option<Script<'static>>, NumberedFault<'static>> {
-        let gathering = mem::replace(&mut self.gathering, Gathering::new(self.alloc));
-        if mem::replace(&mut self.is_faulty, false) {
-            drop(gathering);
-            return Ok(None);
-        }
-        whole(gathering, self.line).map(Some)
+        let whole = self.whole();
+        put(&mut self.gathering, Gathering::new(self.alloc));
+        self.is_faulty = false;
+        whole
     }
 }

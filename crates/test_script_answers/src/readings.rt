@@ -1,7 +1,7 @@
 //! Questions about what a text is read as, and their answers.
 
 use crate::errors::{ended, error_name};
-use crate::events::{merged, write_element, write_events};
+use crate::events::{merged_count, write_element, write_merged};
 use crate::script::Script;
 use crate::strings::Quoted;
 use std::alloc::{AllocError, Global};
@@ -22,19 +22,9 @@ fn write_labels(answer: &mut String, name: &str, labels: &[String]) -> Result<()
 /// Writes the events of a reading with their ranges.
 fn write_pairs(alloc: Global, answer: &mut String, reading: &Reading) -> Result<(), AllocError> {
     for pair in reading.events.chunks(1) {
-        write_element(answer, ranged_to_text(alloc, pair)?.as_str())?;
+        write_element(answer, &ranged_to_text(alloc, pair))?;
     }
     Ok(())
-}
-
-/// Writes the events of a reading without ranges, each stretch of texts as one.
-fn write_merged(alloc: Global, answer: &mut String, reading: &Reading) -> Result<(), AllocError> {
-    write_events(alloc, answer, &merged(alloc, &reading.events)?)
-}
-
-fn write_count(alloc: Global, answer: &mut String, reading: &Reading) -> Result<(), AllocError> {
-    let count = merged(alloc, &reading.events)?.len();
-    writeln!(answer, "{count} events")
 }
 
 /// Writes the events of a reading, with their ranges or merged, and its labels.
@@ -45,7 +35,7 @@ fn write_reading(
     is_merged: bool,
 ) -> Result<(), AllocError> {
     if is_merged {
-        write_merged(alloc, answer, reading)?;
+        write_merged(alloc, answer, &reading.events)?;
     } else {
         write_pairs(alloc, answer, reading)?;
     }
@@ -66,7 +56,10 @@ pub fn write_read(
     is_merged: bool,
 ) -> Result<(), AllocError> {
     let (reader, flags) = (&script.reader, script.flags);
-    write_reading(alloc, answer, &reader.read(alloc, text, flags)?, is_merged)
+    match &reader.read(alloc, text, flags) {
+        Ok(reading) => write_reading(alloc, answer, reading, is_merged),
+        Err(_) => Err(AllocError),
+    }
 }
 
 /// Writes how many events the reading of a text has, each stretch of texts as one.
@@ -80,11 +73,11 @@ pub fn write_read_count(
     script: &Script<'static>,
     text: &str,
 ) -> Result<(), AllocError> {
-    write_count(
-        alloc,
-        answer,
-        &script.reader.read(alloc, text, script.flags)?,
-    )
+    let count = match &script.reader.read(alloc, text, script.flags) {
+        Ok(reading) => merged_count(alloc, &reading.events)?,
+        Err(_) => return Err(AllocError),
+    };
+    writeln!(answer, "{count} events")
 }
 
 /// Writes back the events of a reading.
@@ -153,13 +146,10 @@ fn rewritten(
     has_source: bool,
 ) -> Result<String, Error> {
     let (reader, flags) = (&script.reader, script.flags);
-    written_back(
-        alloc,
-        script,
-        text,
-        &reader.read(alloc, text, flags)?,
-        has_source,
-    )
+    match &reader.read(alloc, text, flags) {
+        Ok(reading) => written_back(alloc, script, text, reading, has_source),
+        Err(_) => Err(Error::OutOfMemory),
+    }
 }
 
 /// Writes what a text is read and written back as, with the ranges of the reading or without, or the error's name.

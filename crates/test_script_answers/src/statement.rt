@@ -104,6 +104,12 @@ fn flag_bits(words: &mut WordsLeft<'_>) -> Result<u32, LineFault> {
     bits.ok_or(fault)
 }
 
+/// The bits of a flag behind `|`.
+fn more_bits(words: &mut WordsLeft<'_>) -> Result<u32, LineFault> {
+    words.expect_known(&[("|", ())], "| and another flag")?;
+    flag_bits(words)
+}
+
 /// Flags with `|` between them.
 ///
 /// # Errors
@@ -115,8 +121,7 @@ pub fn flags(words: &mut WordsLeft<'_>) -> Result<ParserOptions, LineFault> {
         if words.is_at_end() {
             break;
         }
-        words.expect_known(&[("|", ())], "| and another flag")?;
-        all |= flag_bits(words)?;
+        all |= more_bits(words)?;
     }
     Ok(ParserOptions(all))
 }

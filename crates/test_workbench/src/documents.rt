@@ -3,26 +3,47 @@
 //! the document is.
 
 use crate::rewriting::{CORE, are_read_alike, rewritten, rewritten_from_source};
-use std::alloc::Global;
+use std::alloc::{AllocError, Global};
 use std::io::{self, Write};
 use tocmark::Error;
 
-/// Writes what a document is written back as, and a line behind it.
+/// Writes a text that a document is written back as, and a line behind it.
+fn write_text<W: Write>(
+    alloc: Global,
+    output: &mut W,
+    document: &str,
+    text: &str,
+) -> io::Result<()> {
+    if are_read_alike(alloc, CORE, document, text)? {
+        writeln!(output, "{text}\n%")
+    } else {
+        writeln!(output, "{text}\n% is read otherwise")
+    }
+}
+
+/// Writes what a document is written back as, or why it isn't, and a line behind it.
 fn answer<W: Write>(
     alloc: Global,
     output: &mut W,
     document: &str,
     written: Result<String, Error>,
 ) -> io::Result<()> {
-    let text = match written {
-        Ok(text) => text,
-        Err(error) => return writeln!(output, "% {error}"),
-    };
-    if are_read_alike(alloc, CORE, document, text.as_str())? {
-        writeln!(output, "{text}\n%")
-    } else {
-        writeln!(output, "{text}\n% is read otherwise")
+    match &written {
+        Ok(text) => write_text(alloc, output, document, text.as_str()),
+        Err(error) => writeln!(output, "% {error}"),
     }
+}
+
+/// Writes a document back twice: escaped, and with its texts as they stand in it.
+fn answer_twice<W: Write>(alloc: Global, output: &mut W, document: &str) -> io::Result<()> {
+    answer(alloc, output, document, rewritten(alloc, CORE, document))?;
+    let from_source = rewritten_from_source(alloc, CORE, document);
+    answer(alloc, output, document, from_source)
+}
+
+fn add_line(document: &mut String, line: &str) -> Result<(), AllocError> {
+    document.push_str(line)?;
+    document.push('\n')
 }
 
 /// Writes each document of a text back. Lines behind the last `%` are no document.
@@ -34,18 +55,10 @@ pub fn answer_documents<W: Write>(alloc: Global, output: &mut W, text: &str) -> 
     let mut document = String::new(alloc);
     for line in text.split('\n') {
         if line == "%" {
-            let whole = document.as_str();
-            answer(alloc, output, whole, rewritten(alloc, CORE, whole))?;
-            answer(
-                alloc,
-                output,
-                whole,
-                rewritten_from_source(alloc, CORE, whole),
-            )?;
-            document = String::new(alloc);
+            answer_twice(alloc, output, document.as_str())?;
+            document.clear();
         } else {
-            document.push_str(line)?;
-            document.push('\n')?;
+            add_line(&mut document, line)?;
         }
     }
     Ok(())

@@ -31,39 +31,51 @@ use std::process::ExitCode;
 use tocmark_event::event::ParserOptions;
 
 /// What the arguments ask for.
-#[derive(Drop)]
-enum Task {
+#[derive(Clone, Copy)]
+enum Task<'a> {
     ComeBack,
     Read(u64, Option<ParserOptions>),
-    Write(String, usize, How),
+    Write(&'a str, usize, How),
 }
 
 fn invalid() -> io::Error {
     io::Error::from(io::ErrorKind::InvalidInput)
 }
 
-fn task_of(rt: &HostRuntime) -> io::Result<Task> {
-    let mut words = env::args(rt)?.skip(1);
-    let Some(first) = words.next() else {
-        return Ok(Task::ComeBack);
+/// The words behind the name of the program.
+fn words_of(rt: &HostRuntime) -> io::Result<Vec<String>> {
+    let mut words = Vec::new(rt.alloc());
+    for word in env::args(rt)?.skip(1) {
+        words.push(word)?;
+    }
+    Ok(words)
+}
+
+/// What `read` asks for.
+fn read_task(count: &str, digits: Option<&String>) -> Option<Task<'static>> {
+    let count = count.parse().ok()?;
+    match digits {
+        None => Some(Task::Read(count, None)),
+        Some(digits) => Some(Task::Read(count, Some(flags_of(digits.as_str()).ok()?))),
+    }
+}
+
+/// What `write` asks for.
+fn write_task<'a>(shape: &'a str, count: &str, how: &str) -> Option<Task<'a>> {
+    Some(Task::Write(shape, count.parse().ok()?, How::named(how)?))
+}
+
+/// What the words ask for, or nothing where they are wrong.
+fn task_of(words: &[String]) -> Option<Task<'_>> {
+    let Some(first) = words.first() else {
+        return Some(Task::ComeBack);
     };
-    let second = words.next().ok_or(invalid())?;
-    if first.as_str() == "read" {
-        let count = second.as_str().parse().map_err(|_| invalid())?;
-        let flags = match words.next() {
-            None => None,
-            Some(digits) => Some(flags_of(digits.as_str())?),
-        };
-        return Ok(Task::Read(count, flags));
+    let second = words.get(1)?.as_str();
+    match first.as_str() {
+        "read" => read_task(second, words.get(2)),
+        "write" => write_task(second, words.get(2)?.as_str(), words.get(3)?.as_str()),
+        _ => None,
     }
-    if first.as_str() != "write" {
-        return Err(invalid());
-    }
-    let count = words.next().ok_or(invalid())?;
-    let count = count.as_str().parse().map_err(|_| invalid())?;
-    let how = words.next().ok_or(invalid())?;
-    let how = How::named(how.as_str()).ok_or(invalid())?;
-    Ok(Task::Write(second, count, how))
 }
 
 fn come_back<R: Read, W: Write>(alloc: Global, input: &mut R, output: &mut W) -> io::Result<()> {
@@ -77,9 +89,9 @@ fn come_back<R: Read, W: Write>(alloc: Global, input: &mut R, output: &mut W) ->
     answer_short_texts(alloc, output)
 }
 
-fn run(rt: &HostRuntime) -> io::Result<()> {
+fn perform(rt: &HostRuntime, task: Task<'_>) -> io::Result<()> {
     let alloc = rt.alloc();
-    match task_of(rt)? {
+    match task {
         Task::ComeBack => come_back(alloc, &mut rt.stdin(), &mut rt.stdout()),
         Task::Read(count, extensions) => {
             let text = io::read_to_string(alloc, rt.stdin())?;
@@ -87,8 +99,16 @@ fn run(rt: &HostRuntime) -> io::Result<()> {
             measure_readings(alloc, rt, text.as_str(), (count, extensions), output, times)
         }
         Task::Write(shape, count, how) => {
-            measure_writing(alloc, shape.as_str(), count, how, &mut rt.stdout())
+            measure_writing(alloc, shape, count, how, &mut rt.stdout())
         }
+    }
+}
+
+fn run(rt: &HostRuntime) -> io::Result<()> {
+    let words = words_of(rt)?;
+    match task_of(&words) {
+        Some(task) => perform(rt, task),
+        None => Err(invalid()),
     }
 }
 

@@ -30,23 +30,48 @@ impl Syntax {
     }
 }
 
+/// Adds what was made to a list.
+pub fn add_made<T: Drop>(list: &mut Vec<T>, made: Result<T, AllocError>) -> Result<(), AllocError> {
+    match made {
+        Ok(item) => Ok(list.push(item)?),
+        Err(error) => Err(error),
+    }
+}
+
+/// Adds copies of the events of a reading.
+fn add_events(
+    alloc: Global,
+    events: &mut Vec<OwnedEvent>,
+    reading: &Reading,
+) -> Result<(), AllocError> {
+    for (event, _range) in &reading.events {
+        add_made(events, event.copied(alloc))?;
+    }
+    Ok(())
+}
+
 /// The events of a reading, each stretch of texts as one.
 ///
 /// # Errors
 ///
 /// `AllocError` where memory runs out.
 pub fn merged(alloc: Global, reading: &Reading) -> Result<Vec<OwnedEvent>, AllocError> {
-    let mut events: Vec<OwnedEvent> = Vec::new(alloc);
-    for (event, _range) in &reading.events {
-        events.push(event.copied(alloc)?)?;
+    let mut events = Vec::new(alloc);
+    match add_events(alloc, &mut events, reading) {
+        Ok(()) => merge_all(alloc, &events),
+        Err(error) => Err(error),
     }
-    merge_all(alloc, &events)
 }
 
 /// The events of a text, each stretch of texts as one.
 fn events_in(alloc: Global, syntax: Syntax, text: &str) -> Result<Vec<OwnedEvent>, AllocError> {
-    let reading = syntax.reader.read(alloc, text, syntax.flags)?;
-    merged(alloc, &reading)
+    let reading = syntax.reader.read(alloc, text, syntax.flags);
+    let events = match &reading {
+        Ok(reading) => merged(alloc, reading),
+        Err(_) => Err(AllocError),
+    };
+    drop(reading);
+    events
 }
 
 /// Whether two texts are read as the same events, each stretch of texts as one.
@@ -65,6 +90,14 @@ pub fn are_read_alike(
     Ok(same_events(&left, &right))
 }
 
+/// Lets go what a call gave, and keeps its error.
+pub fn ended<T: Drop>(given: Result<T, Error>) -> Result<(), Error> {
+    match given {
+        Ok(_) => Ok(()),
+        Err(error) => Err(error),
+    }
+}
+
 /// Writes the events of a reading.
 fn write(
     alloc: Global,
@@ -72,8 +105,7 @@ fn write(
     reading: &Reading,
     output: &mut StringWriter,
 ) -> Result<(), Error> {
-    drop(cmark(alloc, reading.events(), output, syntax.reader, syntax.flags)?);
-    Ok(())
+    ended(cmark(alloc, reading.events(), output, syntax.reader, syntax.flags))
 }
 
 /// The text that the events of a text are written as.
@@ -98,8 +130,7 @@ fn write_from_source(
     output: &mut String,
 ) -> Result<(), Error> {
     let pairs = reading.pairs();
-    drop(cmark_with_source_range(alloc, pairs, source, output, syntax.reader, syntax.flags)?);
-    Ok(())
+    ended(cmark_with_source_range(alloc, pairs, source, output, syntax.reader, syntax.flags))
 }
 
 /// The text that the events of a text are written as, with the spelling of its texts taken from it.

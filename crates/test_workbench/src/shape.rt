@@ -13,6 +13,7 @@
 //! line of HTML, `!` HTML within a line, `$` the mathematics `a`, `^` a reference to a footnote, `#` a checked box and `-` a
 //! thematic break.
 
+use crate::rewriting::add_made;
 use std::alloc::{AllocError, Global};
 use tocmark_event::event::{
     Alignment, CodeBlockKindOf, CowStr, Event, EventOf, HeadingLevel, LinkType, MetadataBlockKind,
@@ -201,7 +202,7 @@ fn event_of(
     place: EventSurroundings,
 ) -> Result<Event<'static>, AllocError> {
     if letter.is_ascii_uppercase() {
-        Ok(EventOf::Start(tag_of(alloc, letter, place)?))
+        tag_of(alloc, letter, place).map(EventOf::Start)
     } else if letter.is_ascii_lowercase() {
         Ok(end_of(letter))
     } else {
@@ -217,7 +218,35 @@ fn add(
     place: EventSurroundings,
 ) -> Result<(), AllocError> {
     for letter in letters.as_bytes() {
-        events.push(event_of(alloc, *letter, place)?)?;
+        add_made(events, event_of(alloc, *letter, place))?;
+    }
+    Ok(())
+}
+
+/// Adds the events of some letters so many times.
+fn add_times(
+    alloc: Global,
+    events: &mut Vec<Event<'static>>,
+    letters: &str,
+    count: usize,
+    times: usize,
+) -> Result<(), AllocError> {
+    for repeat in 0..times {
+        add(alloc, events, letters, EventSurroundings { count, repeat })?;
+    }
+    Ok(())
+}
+
+/// Adds the events of a shape, with what is in braces so many times.
+fn add_shape(
+    alloc: Global,
+    events: &mut Vec<Event<'static>>,
+    shape: &str,
+    count: usize,
+) -> Result<(), AllocError> {
+    for (at, letters) in shape.split(['{', '}']).enumerate() {
+        let times = if at % 2 == 0 { 1 } else { count };
+        add_times(alloc, events, letters, count, times)?;
     }
     Ok(())
 }
@@ -228,17 +257,9 @@ pub fn events_of(
     shape: &str,
     count: usize,
 ) -> Result<Vec<Event<'static>>, AllocError> {
-    let mut events = Vec::new(alloc);
-    for (at, letters) in shape.split(['{', '}']).enumerate() {
-        let times = if at % 2 == 0 { 1 } else { count };
-        for repeat in 0..times {
-            add(
-                alloc,
-                &mut events,
-                letters,
-                EventSurroundings { count, repeat },
-            )?;
-        }
+    let mut events: Vec<Event<'static>> = Vec::new(alloc);
+    match add_shape(alloc, &mut events, shape, count) {
+        Ok(()) => Ok(events),
+        Err(error) => Err(error),
     }
-    Ok(events)
 }

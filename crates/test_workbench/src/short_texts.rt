@@ -1,7 +1,7 @@
 //! Every text of one and of two characters from U+0020 to U+007E that doesn't end with a space, written and
 //! read back, and counted: alone in a paragraph, and as its second line behind the line `a`.
 
-use crate::rewriting::merged;
+use crate::rewriting::{ended, merged};
 use std::alloc::{AllocError, Global};
 use std::fmt;
 use std::io::{self, Write};
@@ -40,7 +40,7 @@ fn is_read_as(alloc: Global, text: &str, events: &[Event<'_>]) -> Result<bool, A
 
 /// Whether events are written.
 fn is_written(alloc: Global, events: &[Event<'_>], paper: &mut Paper) -> bool {
-    cmark(alloc, events.iter(), paper, CoreReader, FLAGS).is_ok()
+    ended(cmark(alloc, events.iter(), paper, CoreReader, FLAGS)).is_ok()
 }
 
 /// Whether events are written as exactly one text, which is read as them.

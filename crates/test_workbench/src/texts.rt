@@ -57,17 +57,47 @@ fn comes_back<W: Write>(
     Ok(is_same)
 }
 
-/// How many texts a list had so far, and how many of them came back.
+/// A list of texts: how its texts are read, how many it had so far, and how many of them came back.
 #[derive(Clone, Copy)]
-struct Counts {
+struct List {
+    syntax: Syntax,
     texts: usize,
     same: usize,
 }
 
-const NONE: Counts = Counts { texts: 0, same: 0 };
+const EMPTY: List = List {
+    syntax: CORE,
+    texts: 0,
+    same: 0,
+};
 
-fn write_counts<W: Write>(output: &mut W, counts: Counts) -> io::Result<()> {
-    let Counts { texts, same } = counts;
+impl List {
+    /// Takes a text, as a JSON string.
+    fn take_text<W: Write>(&mut self, alloc: Global, output: &mut W, line: &str) -> io::Result<()> {
+        self.texts = self.texts.saturating_add(1);
+        let text = text_of(alloc, line)?;
+        if comes_back(alloc, self.syntax, output, self.texts, text.as_str())? {
+            self.same = self.same.saturating_add(1);
+        }
+        Ok(())
+    }
+
+    /// Takes the next line.
+    fn take<W: Write>(&mut self, alloc: Global, output: &mut W, line: &str) -> io::Result<()> {
+        if line == "%" {
+            write_counts(output, *self)?;
+            *self = EMPTY;
+        } else if let Some(digits) = line.strip_prefix("Flags ") {
+            self.syntax = Syntax::extended(flags_of(digits)?);
+        } else if !line.is_empty() && !line.starts_with('#') {
+            self.take_text(alloc, output, line)?;
+        }
+        Ok(())
+    }
+}
+
+fn write_counts<W: Write>(output: &mut W, list: List) -> io::Result<()> {
+    let List { texts, same, .. } = list;
     writeln!(
         output,
         "{same} of {texts} texts come back as the same events"
@@ -80,22 +110,9 @@ fn write_counts<W: Write>(output: &mut W, counts: Counts) -> io::Result<()> {
 ///
 /// `InvalidData` at a line that is no JSON string and sets no flags, and the error of the output or of memory.
 pub fn answer_lists<W: Write>(alloc: Global, output: &mut W, lines: &str) -> io::Result<()> {
-    let mut counts = NONE;
-    let mut syntax = CORE;
+    let mut list = EMPTY;
     for line in lines.split('\n') {
-        if line == "%" {
-            write_counts(output, counts)?;
-            counts = NONE;
-            syntax = CORE;
-        } else if let Some(digits) = line.strip_prefix("Flags ") {
-            syntax = Syntax::extended(flags_of(digits)?);
-        } else if !line.is_empty() && !line.starts_with('#') {
-            counts.texts = counts.texts.saturating_add(1);
-            let text = text_of(alloc, line)?;
-            if comes_back(alloc, syntax, output, counts.texts, text.as_str())? {
-                counts.same = counts.same.saturating_add(1);
-            }
-        }
+        list.take(alloc, output, line)?;
     }
-    write_counts(output, counts)
+    write_counts(output, list)
 }

@@ -1,6 +1,7 @@
 //! How long writing a list of events takes.
 
 use crate::paper::Paper;
+use crate::rewriting::ended;
 use crate::shape::events_of;
 use std::alloc::Global;
 use std::io::{self, Write};
@@ -35,9 +36,7 @@ const FLAGS: ParserOptions = ParserOptions(0);
 
 /// Writes events by one call.
 fn write_whole(alloc: Global, events: &[Event<'static>], paper: &mut Paper) -> Result<(), Error> {
-    let state = cmark(alloc, events.iter(), paper, CoreReader, FLAGS)?;
-    drop(state);
-    Ok(())
+    ended(cmark(alloc, events.iter(), paper, CoreReader, FLAGS))
 }
 
 /// Takes each event by a call of its own, and then their end.
