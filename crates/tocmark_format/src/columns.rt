@@ -1,6 +1,6 @@
 //! Tables of pandoc whose columns are marked by dashes. To the reader their lines are texts, rules and code.
 
-use crate::source::without_blanks;
+use crate::source::{is_blank, without_blanks};
 
 /// What a line is to such a table.
 #[derive(Clone, Copy, PartialEq, Eq)]
@@ -34,11 +34,17 @@ pub(crate) struct Columns {
     open: Option<Open>,
 }
 
-/// What a line is, without the blanks round it.
-fn row_of(bare: &str) -> Row {
-    if bare.is_empty() {
-        return Row::Blank;
+/// What a line is. Only one that begins with a dash is looked at whole.
+fn row_of(line: &str) -> Row {
+    match line.as_bytes().iter().find(|byte| !is_blank(**byte)) {
+        None => Row::Blank,
+        Some(b'-') => row_of_dashes(without_blanks(line)),
+        Some(_) => Row::Text,
     }
+}
+
+/// What a line is that begins with a dash, without the blanks round it.
+fn row_of_dashes(bare: &str) -> Row {
     let are_dashes = bare.starts_with("--")
         && bare.contains("---")
         && bare
@@ -52,11 +58,12 @@ fn row_of(bare: &str) -> Row {
     }
 }
 
-/// Whether a table can begin with a line: it begins no list, quote, heading, code or HTML.
+/// Whether a table can begin with a line: it begins no list, quote, heading, code, HTML or definition of a link.
 fn can_begin(bare: &str) -> bool {
     match bare.as_bytes().first() {
         Some(b'-') => bare.starts_with("--"),
         Some(b'+' | b'*' | b'>' | b'#' | b'|' | b'`' | b'~' | b'<' | b':') => false,
+        Some(b'[') => !bare.contains("]:"),
         Some(b'0'..=b'9') => !bare.contains(". ") && !bare.contains(") "),
         _ => true,
     }
@@ -75,15 +82,18 @@ impl Columns {
 
     /// Takes the line that begins at a place. A table that it ends has the bytes between two places.
     pub(crate) fn take(&mut self, line: &str, from: usize) -> Option<(usize, usize)> {
-        let bare = without_blanks(line);
-        let row = row_of(bare);
+        let row = row_of(line);
         if row == Row::Blank {
             let found = self.end();
             self.last = row;
             return found;
         }
         if self.last == Row::Blank {
-            self.front = if can_begin(bare) { Some(from) } else { None };
+            self.front = if can_begin(without_blanks(line)) {
+                Some(from)
+            } else {
+                None
+            };
             self.is_ruled = row == Row::Rule;
         }
         self.to = from.saturating_add(line.len());

@@ -171,11 +171,15 @@ impl Printer<'_> {
 
     /// The lines that other programs read as one, if the block at a place has some of them; it ends
     /// here in the source. A container that begins before them leaves them to its blocks. Lines that
-    /// begin in code don't count.
+    /// begin in code don't count, nor do those that begin in a container and end behind it.
     fn span_at(&mut self, part: &Part, at: usize, end: usize) -> Option<Span> {
         let (start, _) = part.range(at);
         let span = self.source.span_behind(start, self.code_end)?;
         if span.from >= end {
+            return None;
+        }
+        if span.to > self.source.line_end(self.page.top().end) {
+            self.code_end = span.from.saturating_add(1);
             return None;
         }
         let Some(Mark::Start(opening)) = part.event(at) else {
@@ -200,11 +204,26 @@ impl Printer<'_> {
         Some(span)
     }
 
+    /// Whether front matter isn't at the front. Most programs read a rule there, and what is behind it otherwise. Behind
+    /// blank lines that counts only if a text goes on behind the last line.
+    fn is_stray(&self, range: (usize, usize)) -> bool {
+        let (start, end) = range;
+        if start == 0 {
+            return false;
+        }
+        if !self.page.text.is_empty() {
+            return true;
+        }
+        let last = self.source.line_of(end.saturating_sub(1));
+        let next = self.source.line(last.saturating_add(1));
+        without_end_blanks(self.source.line(last)) != "---" && !without_blanks(next).is_empty()
+    }
+
     /// What ends the stretch that begins with a block, and what it is: one that a comment names, one that other programs
-    /// read, or one of front matter that isn't at the front. Most programs read a rule there, and all behind it otherwise.
+    /// read, or one of front matter that isn't at the front.
     fn kept_from(&mut self, part: &Part, at: usize, end: usize) -> Option<(Until, Kind)> {
         match part.event(at) {
-            Some(Mark::Start(Opening::Metadata)) if !self.page.text.is_empty() => {
+            Some(Mark::Start(Opening::Metadata)) if self.is_stray(part.range(at)) => {
                 return Some((Until::End, Kind::Kept));
             }
             _ => {}

@@ -8,7 +8,7 @@ use crate::page::Kind;
 use crate::part::{Mark, Part};
 use crate::piece::{INDENT, Piece, Pieces, ends_with_backslash, push_repeated};
 use crate::printer::Printer;
-use crate::source::{is_blank, without_blanks};
+use crate::source::{is_blank, without_blanks, without_end_blanks};
 use crate::style::{Rule, Wrap};
 use crate::width::width;
 use std::alloc::AllocError;
@@ -175,6 +175,22 @@ impl<'d> Printer<'d> {
         }
     }
 
+    /// The box of a task without a text, which starts here in the source, with the blank behind it that GitHub wants.
+    fn lone_box(&self, part: &Part, events: (usize, usize), start: usize) -> Option<&'d str> {
+        if self.source.byte(start) != b'[' || self.page.top().kind != Kind::Item {
+            return None;
+        }
+        let (_, end) = part.range(events.1.saturating_sub(1));
+        let line = self.source.slice(start, self.source.line_end(end));
+        let sign = line.get(..4)?;
+        let is_box = matches!(sign, "[ ] " | "[x] " | "[X] ");
+        if is_box && without_end_blanks(line).len() == 3 {
+            Some(sign)
+        } else {
+            None
+        }
+    }
+
     /// Prints a paragraph's lines.
     pub(crate) fn print_text(
         &mut self,
@@ -182,6 +198,9 @@ impl<'d> Printer<'d> {
         events: (usize, usize),
         start: usize,
     ) -> Result<(), AllocError> {
+        if let Some(sign) = self.lone_box(part, events, start) {
+            return self.page.line(sign);
+        }
         if let Some(text) = self.only_text(part, events, start) {
             return self.page.line(text);
         }

@@ -180,17 +180,10 @@ fn tag_at(line: &str, from: usize) -> Option<TagLine<'_>> {
     None
 }
 
-/// The line of a text that begins at a place, if a sign of tags is its first character behind blanks.
-fn line_with_sign(text: &str, at: usize) -> Option<&str> {
-    let rest = text.get(at..)?;
-    let first = rest.as_bytes().iter().find(|byte| !is_blank(**byte))?;
-    if !matches!(*first, b'{' | b'@' | b'\\') {
-        return None;
-    }
-    match rest.find('\n') {
-        Some(end) => rest.get(..end),
-        None => Some(rest),
-    }
+/// Whether a sign of tags is the first character of a line behind blanks.
+fn has_sign(line: &str) -> bool {
+    let first = line.as_bytes().iter().find(|byte| !is_blank(**byte));
+    matches!(first, Some(b'{' | b'@' | b'\\'))
 }
 
 /// The place among the openings of the one that a tag closes: the last one of its name that isn't indented less.
@@ -220,15 +213,16 @@ fn add_span(spans: &mut Vec<Span>, span: Span) -> Result<(), AllocError> {
     Ok(())
 }
 
-/// The span that ends with a line, if that closes a tag. Tags that it opens, and those that are open then, stand in the list.
+/// The span that ends with the line that begins at a place, if that closes a tag. Tags that it opens, and those that are open
+/// then, stand in the list.
 fn tagged<'t>(
     open: &mut Vec<TagLine<'t>>,
-    text: &'t str,
+    line: &'t str,
     start: usize,
 ) -> Result<Option<Span>, AllocError> {
-    let Some(line) = line_with_sign(text, start) else {
+    if !has_sign(line) {
         return Ok(None);
-    };
+    }
     let Some(tag) = tag_at(line, start) else {
         return Ok(None);
     };
@@ -257,10 +251,11 @@ fn add_spans(
     for (number, start) in starts.iter().enumerate() {
         let next = starts.get(number.saturating_add(1)).copied();
         let end = next.map_or(text.len(), |next| next.saturating_sub(1));
-        if let Some((from, to)) = columns.take(text.get(*start..end).unwrap_or(""), *start) {
+        let line = text.get(*start..end).unwrap_or("");
+        if let Some((from, to)) = columns.take(line, *start) {
             add_span(spans, Span { from, to })?;
         }
-        if let Some(span) = tagged(&mut open, text, *start)? {
+        if let Some(span) = tagged(&mut open, line, *start)? {
             add_span(spans, span)?;
         }
     }

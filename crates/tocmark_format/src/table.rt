@@ -232,12 +232,15 @@ impl Printer<'_> {
         source.byte(text) == b'-' && is_blank(source.byte(text.saturating_add(1)))
     }
 
-    /// Whether a cell of the delimiter row has blanks between its dashes. To `cmark-gfm` that is no such row.
-    fn has_split_dashes(&self, start: usize) -> bool {
+    /// Whether a cell of the delimiter row is more than dashes with a colon at an end. To `cmark-gfm` that is no such row.
+    fn has_odd_dashes(&self, start: usize) -> bool {
         let source = self.source;
         let row = source.line(source.line_of(start).saturating_add(1));
         for cell in row.trim_start_matches(&[' ', '\t', '>']).split('|') {
-            if without_blanks(cell).find(&[' ', '\t']).is_some() {
+            let cell = without_blanks(cell);
+            let behind = cell.strip_prefix(':').unwrap_or(cell);
+            let dashes = behind.strip_suffix(':').unwrap_or(behind);
+            if !dashes.trim_start_matches('-').is_empty() {
                 return true;
             }
         }
@@ -246,9 +249,7 @@ impl Printer<'_> {
 
     /// Whether other programs read no table there, or a shorter one.
     fn is_read_otherwise(&self, start: usize, end: usize) -> bool {
-        self.has_row_like_item(start)
-            || self.has_split_dashes(start)
-            || self.has_deep_row(start, end)
+        self.has_row_like_item(start) || self.has_odd_dashes(start) || self.has_deep_row(start, end)
     }
 
     /// Adds the cells of a table. `Ok(false)`: a row has more of them than the head, and no event has those.
