@@ -2,6 +2,7 @@
 
 use crate::fault::Fault;
 use crate::lookup::Refused;
+use crate::quoted::unquoted;
 use crate::search::Search;
 use std::io::Read;
 use std::{fs, io, str};
@@ -46,11 +47,19 @@ fn fault_of(bytes: &[u8], end: u8) -> Option<&'static str> {
     }
 }
 
-/// Whether a carriage return ends this line of a list, and not the name of a file.
-fn ends_with_return(rt: &HostRuntime, line: &[u8]) -> bool {
+/// Whether a line of a list is the name of something that is there.
+fn is_there(rt: &HostRuntime, line: &[u8]) -> bool {
     match str::from_utf8(line) {
-        Ok(name) => name.ends_with('\r') && fs::symlink_metadata(rt, name).is_err(),
+        Ok(name) => fs::symlink_metadata(rt, name).is_ok(),
         Err(_) => false,
+    }
+}
+
+/// Adds what a line of a list means: a name, also one that Git quotes.
+fn add_line(rt: &HostRuntime, search: &mut Search, line: &[u8]) -> Result<(), Refused> {
+    match unquoted(rt.alloc(), line)? {
+        Some(name) if !is_there(rt, line) => add_name(rt, search, &name),
+        _ => add_name(rt, search, line),
     }
 }
 
@@ -65,11 +74,16 @@ fn add_names(
     let mut number = 0usize;
     for name in bytes.split(|byte| *byte == end) {
         number = number.saturating_add(1);
-        if end == b'\n' && ends_with_return(rt, name) {
+        if end == b'\n' && name.ends_with(b"\r") && !is_there(rt, name) {
             let path = String::from_str(rt.alloc(), shown_name(path))?;
             return Err(Refused::ListLine(path, number, RETURN));
         }
-        if !name.is_empty() {
+        if name.is_empty() {
+            continue;
+        }
+        if end == b'\n' {
+            add_line(rt, search, name)?;
+        } else {
             add_name(rt, search, name)?;
         }
     }
