@@ -137,7 +137,7 @@ const LINES: CommandOption<'static> = CommandOption {
 };
 
 /// The options of `read`.
-const READ_OPTIONS: [CommandOption<'static>; 2] = [
+static READ_OPTIONS: [CommandOption<'static>; 2] = [
     LINES,
     CommandOption {
         name: "positions",
@@ -148,7 +148,7 @@ const READ_OPTIONS: [CommandOption<'static>; 2] = [
 ];
 
 /// The options that only `write` has.
-const WRITE_OPTIONS: [CommandOption<'static>; 3] = [
+static WRITE_OPTIONS: [CommandOption<'static>; 3] = [
     CommandOption {
         name: "source",
         letter: None,
@@ -170,7 +170,7 @@ const WRITE_OPTIONS: [CommandOption<'static>; 3] = [
 ];
 
 /// The options that only `rewrite` has.
-const REWRITE_OPTIONS: [CommandOption<'static>; 3] = [
+static REWRITE_OPTIONS: [CommandOption<'static>; 3] = [
     CommandOption {
         name: "source",
         letter: None,
@@ -192,7 +192,7 @@ const REWRITE_OPTIONS: [CommandOption<'static>; 3] = [
 ];
 
 /// The options of each command that writes Markdown.
-const MARKDOWN_OPTIONS: [CommandOption<'static>; 3] = [
+static MARKDOWN_OPTIONS: [CommandOption<'static>; 3] = [
     LINES,
     CommandOption {
         name: "options",

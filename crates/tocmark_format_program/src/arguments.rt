@@ -75,7 +75,7 @@ const COLORS: [(&str, Color); 3] = [
 ];
 
 /// The options that say how a document looks.
-const STYLE: [CommandOption<'static>; 13] = [
+static STYLE: [CommandOption<'static>; 13] = [
     CommandOption {
         name: "also-read",
         letter: None,
@@ -157,7 +157,7 @@ const STYLE: [CommandOption<'static>; 13] = [
 ];
 
 /// The options that say what is done.
-const TASK: [CommandOption<'static>; 5] = [
+static TASK: [CommandOption<'static>; 5] = [
     CommandOption {
         name: "check",
         letter: None,
@@ -191,7 +191,7 @@ const TASK: [CommandOption<'static>; 5] = [
 ];
 
 /// The options that say which files are meant.
-const FILES: [CommandOption<'static>; 6] = [
+static FILES: [CommandOption<'static>; 6] = [
     CommandOption {
         name: "exclude",
         letter: None,
@@ -231,7 +231,7 @@ const FILES: [CommandOption<'static>; 6] = [
 ];
 
 /// The options for the configuration and the messages.
-const VOICE: [CommandOption<'static>; 4] = [
+static VOICE: [CommandOption<'static>; 4] = [
     CommandOption {
         name: "config",
         letter: None,
