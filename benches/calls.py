@@ -3,14 +3,14 @@
     calls.py CALL TIMES FILE ..
 
 CALL is `read`, `write` (over the file as the source) or `both`; or `library-read` or `library-write`, calls of the library
-alone, with bytes that are ready. `library-read` is the call that makes JSON, whatever call `read` makes: so figures stay
-comparable. It prints the seconds of processor time of the calls.
+alone, with bytes that are ready. They are the calls that make and take JSON, whatever calls `read` and `write` make: so
+figures stay comparable. It prints the seconds of processor time of the calls.
 """
 import sys
 import time
 
 import tocmark
-from tocmark import _library, _options, _packed
+from tocmark import _calls, _library, _options
 
 FLAGS = _options.flags_of("gfm", ())
 
@@ -28,8 +28,8 @@ def prepared(call, text):
     events = tocmark.read(text)
     if call == "write":
         return lambda: tocmark.write(events, text)
-    given, place = _packed.packed(events), _library.Place(size=_library.ctypes.sizeof(_library.Place))
-    return lambda: _library.write_packed(given, len(given), data, len(data), FLAGS, b"", 0, place, room, len(room))
+    given, place = _calls._json_of(events), _library.Place(size=_library.ctypes.sizeof(_library.Place))
+    return lambda: _library.write_json(given, len(given), data, len(data), FLAGS, b"", 0, place, room, len(room))
 
 
 def main(call, times, *paths):

@@ -363,6 +363,52 @@ static void packed(void) {
          "options and no place");
 }
 
+/* --- events by Python's marshal.dumps --- */
+
+/* Writes the events of these bytes over a source, where what is wanted is a text, or an error's code. */
+static void dumps(const uint8_t *bytes, size_t size, const char *source, const char *wanted, ptrdiff_t code) {
+  uint8_t out[100];
+  place = (struct tocmark_place){sizeof place, 7, 8, 9};
+  ptrdiff_t written = tocmark_write_marshal_at(bytes, size, (const uint8_t *)source, strlen(source), TOCMARK_GFM, NULL, 0,
+                                               &place, out, sizeof out);
+  expect(written, code < 0 ? code : (ptrdiff_t)strlen(wanted), "events by marshal.dumps");
+  if (written >= 0 && memcmp(out, wanted, (size_t)written) != 0)
+    wrong("events by marshal.dumps are written as another text", &(struct text){out, (size_t)written});
+  if (written >= 0)
+    is_at(7, 8, 9);
+}
+
+#define DUMPS(source, wanted, code, ...) \
+  dumps((const uint8_t[]){__VA_ARGS__}, sizeof((const uint8_t[]){__VA_ARGS__}), source, wanted, code)
+#define LENGTH(n) n, 0, 0, 0
+#define RULE 'u', LENGTH(4), 'R', 'u', 'l', 'e'
+
+static void dumped(void) {
+  DUMPS("", "---", 0, '[', LENGTH(3), 'N', 'N', RULE);
+  DUMPS("", "", 0, '[', LENGTH(0));
+  /* {"Start": "Paragraph"}, {"Text": "hi"}, {"End": "Paragraph"} */
+  DUMPS("hi\n", "hi", 0, '[', LENGTH(9), 'i', LENGTH(0), 'i', LENGTH(2), '{', 'u', LENGTH(5), 'S', 't', 'a', 'r', 't', 'u',
+        LENGTH(9), 'P', 'a', 'r', 'a', 'g', 'r', 'a', 'p', 'h', '0', 'i', LENGTH(0), 'i', LENGTH(2), '{', 'u', LENGTH(4), 'T',
+        'e', 'x', 't', 'u', LENGTH(2), 'h', 'i', '0', 'i', LENGTH(0), 'i', LENGTH(2), '{', 'u', LENGTH(3), 'E', 'n', 'd', 'u',
+        LENGTH(9), 'P', 'a', 'r', 'a', 'g', 'r', 'a', 'p', 'h', '0');
+  dumps(NULL, 0, "", "", TOCMARK_NOT_EVENTS);
+  is_at(SIZE_MAX, 0, 0);
+  DUMPS("", "", TOCMARK_NOT_EVENTS, '[', LENGTH(4), 'N', 'N', RULE, RULE);
+  is_at(SIZE_MAX, 0, 0);
+  DUMPS("", "", TOCMARK_NOT_EVENTS, '[', LENGTH(6), 'N', 'N', RULE, 'N', 'i', LENGTH(1), RULE);
+  is_at(1, 0, 0);
+  DUMPS("", "", TOCMARK_NOT_EVENTS, '[', LENGTH(255), 'N', 'N', 'u', LENGTH(1), 0xFF);
+  is_at(0, 0, 0);
+  DUMPS("", "", TOCMARK_NOT_EVENTS, '[', LENGTH(3), 'N', 'N', RULE, 'N');
+  is_at(1, 0, 0);
+  DUMPS("a\nb\n", "", TOCMARK_INVALID_SOURCE_RANGE, '[', LENGTH(6), 'N', 'N', RULE, 'i', LENGTH(2), 'i', LENGTH(9), RULE);
+  is_at(1, 2, 3);
+  DUMPS("\xFF", "", TOCMARK_SOURCE_NOT_UTF8, '[', LENGTH(0));
+  is_at(SIZE_MAX, 0, 0);
+  expect(tocmark_write_marshal_at(NULL, 0, NULL, 0, 0, (const uint8_t *)"{", 1, NULL, NULL, 0), TOCMARK_OPTIONS_NOT_JSON,
+         "options and no place");
+}
+
 /* NULL is an empty text, a buffer without room, and the default style. */
 static void nulls(void) {
   expect(tocmark_error_text(TOCMARK_OUT_OF_MEMORY, NULL, 0), 13, "the text of an error for no room");
@@ -578,6 +624,7 @@ int main(void) {
   rewriting();
   places();
   packed();
+  dumped();
   nulls();
   styles();
   other_syntaxes();

@@ -165,6 +165,15 @@ ptrdiff_t tocmark_write_packed_at(const uint8_t *packed, size_t packed_len, cons
                                   uint32_t flags, const uint8_t *options, size_t options_len, struct tocmark_place *where,
                                   uint8_t *out, size_t out_len);
 
+/* Does what tocmark_write_json_at does, with the bytes that Python's marshal.dumps(values, 2) makes of a list. It has three
+ * values for each event: where its range begins and ends, or None twice, and the event as json.loads makes it. Numbers are
+ * below 2^31, and the list ends with the bytes.
+ *
+ * Errors: those of tocmark_write_packed_at. TOCMARK_NOT_EVENTS has no `event` if the bytes begin with no such list. */
+ptrdiff_t tocmark_write_marshal_at(const uint8_t *bytes, size_t bytes_len, const uint8_t *source, size_t source_len,
+                                   uint32_t flags, const uint8_t *options, size_t options_len, struct tocmark_place *where,
+                                   uint8_t *out, size_t out_len);
+
 /* Replaces the events of a source by others: all lines whose events stay are kept byte for byte, and the result parses to just
  * the new events. Texts side by side count as one. If the events are those of the source, the result is the source.
  *
@@ -275,6 +284,15 @@ static inline ptrdiff_t tocmark_write_packed_at_(const uint8_t *packed, size_t p
                                  tocmark_text_(options), options_len, where ? where : &unread, tocmark_room_(out), out_len);
 }
 
+static inline ptrdiff_t tocmark_write_marshal_at_(const uint8_t *bytes, size_t bytes_len, const uint8_t *source,
+                                                  size_t source_len, uint32_t flags, const uint8_t *options,
+                                                  size_t options_len, struct tocmark_place *where, uint8_t *out,
+                                                  size_t out_len) {
+  struct tocmark_place unread = {sizeof unread, 0, 0, 0};
+  return tocmark_write_marshal_at(tocmark_text_(bytes), bytes_len, tocmark_text_(source), source_len, flags,
+                                  tocmark_text_(options), options_len, where ? where : &unread, tocmark_room_(out), out_len);
+}
+
 static inline ptrdiff_t tocmark_rewrite_(const uint8_t *json, size_t json_len, const uint8_t *source, size_t source_len,
                                          uint32_t flags, const uint8_t *options, size_t options_len,
                                          struct tocmark_place *where, uint8_t *out, size_t out_len) {
@@ -306,6 +324,7 @@ static inline ptrdiff_t tocmark_format_also_(const uint8_t *text, size_t text_le
 #define tocmark_write_json_at tocmark_write_json_at_
 #define tocmark_write_checked_at tocmark_write_checked_at_
 #define tocmark_write_packed_at tocmark_write_packed_at_
+#define tocmark_write_marshal_at tocmark_write_marshal_at_
 #define tocmark_rewrite tocmark_rewrite_
 #define tocmark_format tocmark_format_
 #define tocmark_format_also tocmark_format_also_

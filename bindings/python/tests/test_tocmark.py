@@ -10,12 +10,13 @@ import subprocess
 import sys
 import tempfile
 import threading
+import typing
 import unittest
 from unittest import mock
 
 import tocmark
 from tocmark import _mdbook
-from tocmark._packed import packed
+from tocmark._calls import _dumped
 
 HERE = os.path.dirname(os.path.realpath(__file__))
 EXAMPLES = os.path.join(HERE, "../../../crates/test_workbench/stdin")
@@ -167,10 +168,15 @@ class Writing(unittest.TestCase):
         self.assertEqual(tocmark.write(PARAGRAPH, check_document=True), "a")
 
     def test_what_is_no_json(self):
-        with self.assertRaises(TypeError):
-            tocmark.write([{"Text": b"a"}])
-        with self.assertRaisesRegex(TypeError, "events must be a list of events, and not str"):
-            tocmark.write("Rule")
+        for event, error, what in (({"Text": b"a"}, TypeError, "event 1: JSON has no bytes"),
+                                   ({"Text": float("nan")}, ValueError, "event 1: Out of range float values"),
+                                   (("Rule", slice(0, 3)), TypeError, "event 1: JSON has no slice")):
+            for call in (tocmark.write, lambda events: tocmark.rewrite("---", events)):
+                with self.assertRaisesRegex(error, what):
+                    call(["Rule", event])
+        for call in (tocmark.write, tocmark.tree):
+            with self.assertRaisesRegex(TypeError, "events must be a list of events, and not str"):
+                call("Rule")
 
     def test_texts_come_back(self):
         for text in examples():
@@ -200,31 +206,64 @@ class Loading(unittest.TestCase):
         self.assertEqual(events[5][0]["Start"]["Link"]["dest_url"], "b")
 
 
-class Packing(unittest.TestCase):
+class Dumping(unittest.TestCase):
     def test_a_text_is_as_the_header_says(self):
-        self.assertEqual(packed([{"Text": "hi"}]), bytes([0, 6, 2, 0, 0, 0, 0, 0, 0, 0]) + b"hi")
+        text = b"{u\4\0\0\0Textu\2\0\0\0hi0"
+        self.assertEqual(_dumped([{"Text": "hi"}]), b"[\3\0\0\0NN" + text)
+        self.assertEqual(_dumped([({"Text": "hi"}, range(1, 3))]), b"[\3\0\0\0i\1\0\0\0i\3\0\0\0" + text)
+        self.assertEqual(_dumped([]), b"[\0\0\0\0")
 
-    def test_packed_events_are_written_as_those_in_json(self):
+    def test_dumped_events_are_written_as_those_in_json(self):
         for text in [ODD, "a {{b}}\n\n# c {#d .e f=g}\n\n$h$ [[i]] [[j|k]] <l@m.n>\n\no\n: p\n\n---\n", *examples()]:
             events = tocmark.read(text, syntax="all")
-            self.assertIsNotNone(packed(events), text)
-            for given, source in ((events, text), ([event for event, _ in events], ""), ([list(pair) for pair in events], text)):
-                found = tocmark.write(given, source, syntax="all")
-                with mock.patch("tocmark._calls.packed", lambda items: None):
+            alone = [event for event, _ in events]
+            for given, source in ((events, text), (alone, ""), ([list(pair) for pair in events], text),
+                                  ([(event, place if at % 2 else None) for at, (event, place) in enumerate(events)], text)):
+                with mock.patch("tocmark._calls._json_of", side_effect=AssertionError):
+                    found = tocmark.write(given, source, syntax="all")
+                with mock.patch("tocmark._calls._dumped", lambda items: None):
                     self.assertEqual(tocmark.write(given, source, syntax="all"), found, text)
 
-    def test_what_json_says_otherwise_is_not_packed(self):
+    def answers_as_json(self, events):
+        """What `write` answers, which has to be the same by way of JSON."""
+        def answer():
+            try:
+                return tocmark.write(events, syntax="all")
+            except (TypeError, ValueError) as error:
+                return type(error), str(error)
+        found = answer()
+        with mock.patch("tocmark._calls._dumped", lambda items: None):
+            self.assertEqual(answer(), found, events)
+        return found
+
+    def test_what_is_refused_is_refused_as_json(self):
         link = {"link_type": "Inline", "dest_url": "a", "title": "", "id": ""}
         heading = {"level": "H1", "id": None, "classes": [], "attrs": []}
         starts = ["Link", {"Link": {}}, {"Link": {**link, "more": 1}}, {"Link": {**link, "link_type": "x"}}, {"Link": {**link, "id": None}},
                   {"Link": {**link, "link_type": {"WikiLink": {"has_pothole": 1}}}}, {"Heading": {**heading, "classes": "a"}},
                   {"Heading": {**heading, "attrs": ["ab"]}}, {"Heading": {**heading, "level": "H7"}}, {"List": True}, {"List": -1},
                   {"List": 2**64}, {"Table": "None"}, {"BlockQuote": "x"}, {"CodeBlock": "x"}, {"CodeBlock": {"Fenced": None}}, {}, None]
-        for event in [*({"Start": start} for start in starts), {"Text": b"a"}, {"Text": "a", "Code": "b"}, {"Rule": None}, {}, [], None,
-                      {"TaskListMarker": 1}, {"End": {"List": None}}, {"End": {"Heading": heading}}, "Text", "Rul", 1, {1: 2}]:
-            self.assertIsNone(packed([event]), event)
-        for place in (range(-1, 2), range(0, 2**64), {"start": 0, "end": 1}, 1):
-            self.assertIsNone(packed([("Rule", place)]), place)
+        wrong = [*({"Start": start} for start in starts), {"Text": b"a"}, {"Text": "a", "Code": "b"}, {"Rule": None}, {}, [], None,
+                 {"TaskListMarker": 1}, {"End": {"List": None}}, {"End": {"Heading": heading}}, "Text", "Rul", 1, {1: 2}, {"Text": "\ud800"}]
+        for events in [*(["Rule", event] for event in wrong), *([("Rule", None), (event, None)] for event in wrong),
+                       *([("Rule", place)] for place in (range(-1, 2), range(0, 2**64), {"start": 1}, 1)), [("Rule", None, 1)], [["Rule"]]]:
+            self.assertIsInstance(self.answers_as_json(events), tuple, events)
+
+    def test_what_json_has_otherwise_is_written(self):
+        class Text(str):
+            pass
+
+        class Event(dict):
+            pass
+
+        heading = {"Heading": {"level": "H1", "id": None, "classes": ("a",), "attrs": (("b", "c"),)}}
+        for event in ({"Start": heading}, Event(Start=heading), {Text("Start"): heading}):
+            events = [event, {"Text": "d"}, {"End": {"Heading": "H1"}}]
+            self.assertIn("d", self.answers_as_json(events))
+            self.assertIn("d", self.answers_as_json([(each, None) for each in events]))
+        for events in (["Rule", ("Rule", {"start": 0, "end": 3})], [("Rule", range(0, 2**31))], [(Text("Rule"), range(0))], [["Rule", None]]):
+            self.assertIn("---", self.answers_as_json(events))
+        self.assertEqual(tocmark.write(event for event in ["Rule"]), "---")
 
 
 class Rewriting(unittest.TestCase):
@@ -245,6 +284,9 @@ class Rewriting(unittest.TestCase):
     def test_another_event_is_taken(self):
         found = tocmark.edit(ODD, lambda event: {"Text": "g"} if event == {"Text": "f"} else event)
         self.assertEqual(found, ODD.replace("[^1]:  f", "[^1]:  g"))
+
+    def test_extensions_may_be_an_iterator(self):
+        self.assertEqual(tocmark.edit("$a$\n", lambda event: None, extensions=iter(["math"])), "$a$\n")
 
     def test_an_end_follows_its_start(self):
         def stronger(event):
@@ -357,6 +399,7 @@ class Formatting(unittest.TestCase):
         for part in ("bullet", "delimiter", "emphasis", "strong", "fence"):
             self.refused("a", **{part: "x"})
             self.refused("a", **{part: "--"})
+            self.refused("a", **{part: None})
         with self.assertRaisesRegex(ValueError, "'x' is none of source, first, increment"):
             tocmark.format("a", numbering="x")
         with self.assertRaisesRegex(ValueError, "'x' is none of source, backslash, spaces"):
@@ -367,6 +410,10 @@ class Formatting(unittest.TestCase):
             tocmark.format("a", table_width=0)
         with self.assertRaisesRegex(ValueError, "and not 2"):
             tocmark.format("a", fence_length=2)
+        for size in ("80", True, 1.5):
+            for part in ("table_width", "fence_length", "wrap"):
+                with self.assertRaisesRegex(ValueError, f"{part} must be .* 1000, and not {size!r}"):
+                    tocmark.format("a", **{part: size})
         with self.assertRaisesRegex(ValueError, "keep, no, or from 1 to 1000, and not 0"):
             tocmark.format("a", wrap=0)
         with self.assertRaisesRegex(ValueError, "marker or 4, and not 2"):
@@ -464,11 +511,14 @@ class Commands(unittest.TestCase):
         self.assertEqual(self.run_module("write", "--check-document", given='["Rule"]'), "---\n")
         self.run_module("rewrite", "--source", self.path, given='["Rule", 1]', status=1)
         self.assertEqual(self.said, "tocmark: event 1: the JSON is not that of events\n")
-        self.run_module("write", given="[", status=1)
-        self.assertTrue(self.said.startswith("tocmark: "), self.said)
+        for wrong in ("[", "[" * 100_000):
+            self.run_module("write", given=wrong, status=1)
+            self.assertTrue(self.said.startswith("tocmark: "), self.said[:100])
 
     def test_formatting(self):
         self.assertEqual(self.run_module("format", "--bullet", "-", given="*  a"), "- a\n")
+        self.assertEqual(self.run_module("format", "--check", given="*  a", status=1), "")
+        self.assertEqual(self.run_module("format", "--check", given="* a\n"), "")
         self.assertEqual(self.run_module("format", "--check", self.path, status=1), self.path + "\n")
         self.assertEqual(self.run_module("format", self.path), "")
         self.assertEqual(self.run_module("format", "--check", self.path), "")
@@ -535,6 +585,18 @@ class Books(unittest.TestCase):
         for _ in range(300):
             inner = chapter("y", "y\n", inner)
         self.assertEqual(sum(1 for _ in _mdbook.chapters({"items": [inner]})), 301)
+
+
+class Imports(unittest.TestCase):
+    def test_another_library_is_named(self):
+        done = subprocess.run([sys.executable, "-c", "import tocmark"], env={**os.environ, "TOCMARK_LIBRARY": "libc.so.6"},
+                              capture_output=True, check=False)
+        self.assertIn("ImportError: libc.so.6 isn't the library of tocmark: it has no tocmark_version", done.stderr.decode())
+
+    @unittest.skipIf(sys.version_info < (3, 11), "typing has no Unpack")
+    def test_types_are_found(self):
+        for call in (tocmark.write, tocmark.rewrite, tocmark.edit, tocmark.format, tocmark.format_file):
+            self.assertIn("return", typing.get_type_hints(call))
 
 
 class Threads(unittest.TestCase):

@@ -37,7 +37,11 @@ def _format(words: argparse.Namespace) -> int:
     style = {name: value for name in ("bullet", "delimiter", "numbering", "emphasis", "strong", "fence", "hard_break", "rule",
                                       "fence_length", "table_width", "wrap", "list_indent") if (value := getattr(words, name)) is not None}
     if not words.file:
-        _print(format(_read_input(), also=words.also, **style, **_syntax_of(words)))
+        text = _read_input()
+        formatted = format(text, also=words.also, **style, **_syntax_of(words))
+        if words.check:
+            return int(formatted != text)
+        _print(formatted)
         return 0
     status = 0
     for path in words.file:
@@ -143,7 +147,7 @@ def main(arguments: Optional[List[str]] = None) -> int:
         parser.error("mdbook needs a command: mdbook -- COMMAND [ARG..]")
     try:
         return int(words.run(words))
-    except (Error, MemoryError, OSError, TypeError, ValueError) as error:
+    except (Error, MemoryError, OSError, RecursionError, TypeError, ValueError) as error:
         print(f"tocmark: {error}", file=sys.stderr)
         return 1
 

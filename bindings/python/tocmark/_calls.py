@@ -2,15 +2,17 @@
 import gc
 import json
 import marshal
-from typing import TYPE_CHECKING, Any, Callable, Iterable, List, Sequence, Tuple, Union
+import sys
+from typing import TYPE_CHECKING, Any, Callable, Iterable, List, Optional, Sequence, Tuple, Union
 
 from . import _library
-from ._errors import error_of
+from ._errors import NotEvents, error_of
 from ._options import flags_of, flags_of_each, options_of, style_of
-from ._packed import packed
 from .events import Change, Event, Options, Placed, Style
 
-if TYPE_CHECKING:
+if sys.version_info >= (3, 11):
+    from typing import Unpack
+elif TYPE_CHECKING:
     from typing_extensions import Unpack
 
 #: An event alone, or with its range in bytes or `None`.
@@ -45,25 +47,73 @@ def _placed(function: Any, data: bytes, source: bytes, flags: int, options: byte
 def _place_of(place: Any) -> Any:
     """Returns what JSON has for a range."""
     if not isinstance(place, range):
-        raise TypeError(f"Object of type {type(place).__name__} is not JSON serializable")
+        raise TypeError(f"JSON has no {type(place).__name__}")
     return {"start": place.start, "end": place.stop}
 
 
-_ENCODER = json.JSONEncoder(ensure_ascii=False, separators=(",", ":"), check_circular=False, default=_place_of)
+_ENCODER = json.JSONEncoder(ensure_ascii=False, separators=(",", ":"), check_circular=False, allow_nan=False, default=_place_of)
 
 
-def _listed(events: Iterable[Given]) -> List[Any]:
+def listed(events: Iterable[Given]) -> List[Any]:
     """Returns the list of events."""
     if isinstance(events, (str, bytes, dict)):
         raise TypeError(f"events must be a list of events, and not {type(events).__name__}")
     return list(events)
 
 
+def _first_wrong(items: List[Any]) -> int:
+    """Returns the number of the first event that has what JSON hasn't."""
+    for at, item in enumerate(items):
+        try:
+            _ENCODER.encode(item)
+        except (TypeError, ValueError):
+            return at
+    return len(items)
+
+
 def _json_of(items: List[Any]) -> bytes:
     """Returns the JSON of events. If one has a range, each has one or `None`."""
     if any(isinstance(item, (tuple, list)) for item in items):
         items = [item if isinstance(item, (tuple, list)) else (item, None) for item in items]
-    return _ENCODER.encode(items).encode()
+    try:
+        text = _ENCODER.encode(items)
+    except (TypeError, ValueError) as error:
+        raise type(error)(f"event {_first_wrong(items)}: {error}") from None
+    return text.encode()
+
+
+def _taken_apart(items: List[Any]) -> List[Any]:
+    """Returns for each event where its range begins, where that ends, and the event. Raises `TypeError` or
+    `ValueError` if not all items are events, nor pairs of an event and its range or `None`."""
+    values: List[Any] = []
+    if set(map(type, items[:1])) <= {dict, str}:
+        if not set(map(type, items)) <= {dict, str}:
+            raise TypeError
+        values = [None] * (3 * len(items))
+        values[2::3] = items
+        return values
+    if not set(map(type, items)) <= {tuple, list}:
+        raise TypeError
+    append = values.append
+    for event, place in items:
+        if type(place) is range:
+            append(place.start)
+            append(place.stop)
+        elif place is None:
+            append(None)
+            append(None)
+        else:
+            raise TypeError
+        append(event)
+    return values
+
+
+def _dumped(items: List[Any]) -> Optional[bytes]:
+    """Returns the bytes of events by `marshal.dumps`, or `None` if that knows no such values. `tocmark.h` has their form."""
+    try:
+        return marshal.dumps(_taken_apart(items), 2)
+    except (TypeError, ValueError):
+        return None
 
 
 def _parsed(text: str) -> List[Placed]:
@@ -120,9 +170,10 @@ def write(events: Iterable[Given], source: str = "", *, syntax: str = "gfm", ext
 
     To change a text, call `rewrite`, which keeps all other lines. `write` gives all blocks one layout.
 
-    `source` is the text that the ranges refer to; without it, they are dropped. The text has to parse back under `syntax` and
-    `extensions`. `options` are those of the writer, such as `list_token="-"`. With `check_document`, the whole text is parsed
-    and refused unless it has just these events. Texts side by side count as one.
+    `source` is the text that the ranges refer to; without it, they are dropped. Paragraphs, headings and the like have to parse
+    back under `syntax` and `extensions`. `options` are those of the writer, such as `list_token="-"`. With `check_document`, the
+    whole text is parsed and refused unless it has just these events: pass it for events that you made. Texts side by side count
+    as one.
 
     >>> import tocmark
     >>> tocmark.write(["Rule"])
@@ -137,11 +188,14 @@ def write(events: Iterable[Given], source: str = "", *, syntax: str = "gfm", ext
     for any other error of the library; `TypeError` if JSON has no such value; `MemoryError`. `Error.event` is the number of the
     refused block's first event, and `Error.lines` has its lines in the source.
     """
-    items, over = _listed(events), encoded("source", source)
+    items, over = listed(events), encoded("source", source)
     chosen, flags = options_of(options), flags_of(syntax, extensions)
-    data = None if check_document else packed(items)
+    data = None if check_document else _dumped(items)
     if data is not None:
-        return _placed(_library.write_packed, data, over, flags, chosen, len(data) + 256)
+        try:
+            return _placed(_library.write_marshal, data, over, flags, chosen, len(data) + 256)
+        except NotEvents:
+            pass  # JSON has more values, such as tuples and great numbers, and its error names the event.
     data = _json_of(items)
     function = _library.write_checked if check_document else _library.write_json
     return _placed(function, data, over, flags, chosen, len(data) + 256)
@@ -169,7 +223,7 @@ def rewrite(source: str, events: Iterable[Given], *, syntax: str = "gfm", extens
 
     Raises what `write` does.
     """
-    over, data = encoded("source", source), _json_of(_listed(events))
+    over, data = encoded("source", source), _json_of(listed(events))
     chosen, flags = options_of(options), flags_of(syntax, extensions)
     return _placed(_library.rewrite, data, over, flags, chosen, len(over) + 4096)
 
@@ -222,8 +276,9 @@ def edit(source: str, change: Change, *, syntax: str = "gfm", extensions: Iterab
 
     Raises what `rewrite` does.
     """
-    events = changed(read(source, syntax=syntax, extensions=extensions), change)
-    return rewrite(source, events, syntax=syntax, extensions=extensions, **options)
+    names = extensions if isinstance(extensions, str) else list(extensions)
+    events = changed(read(source, syntax=syntax, extensions=names), change)
+    return rewrite(source, events, syntax=syntax, extensions=names, **options)
 
 
 def format(text: str, *, syntax: str = "gfm", extensions: Iterable[str] = (), also: Union[str, Iterable[str]] = (),
@@ -246,7 +301,7 @@ def format(text: str, *, syntax: str = "gfm", extensions: Iterable[str] = (), al
     'a\\n|b|\\n|-|\\n'
     >>> tocmark.format("a", bullet="x")
     Traceback (most recent call last):
-    tocmark.InvalidStyle: the style has another size, or a number that means nothing
+    tocmark.InvalidStyle: bullet must be one of * - +, or empty, and not 'x'
 
     Raises `InvalidStyle`; `ValueError` for another name or number; `UnicodeEncodeError` as `read`; `MemoryError`.
     """

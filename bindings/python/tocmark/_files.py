@@ -1,13 +1,16 @@
 """Files that are replaced whole."""
 import os
 import stat
+import sys
 import tempfile
 from typing import TYPE_CHECKING, Iterable, Union
 
 from . import _calls
 from .events import Style
 
-if TYPE_CHECKING:
+if sys.version_info >= (3, 11):
+    from typing import Unpack
+elif TYPE_CHECKING:
     from typing_extensions import Unpack
 
 Path = Union[str, "os.PathLike[str]"]

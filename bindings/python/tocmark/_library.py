@@ -24,6 +24,8 @@ def _load() -> ctypes.CDLL:
     named = os.environ.get("TOCMARK_LIBRARY")
     places = [named] if named else [place for place in _PLACES if os.sep not in place or os.path.exists(place)]
     library = _open(places[0])
+    if not hasattr(library, "tocmark_version"):
+        raise ImportError(f"{places[0]} isn't the library of tocmark: it has no tocmark_version")
     library.tocmark_version.restype = ctypes.c_uint32
     library.tocmark_version.argtypes = []
     if library.tocmark_version() != _VERSION:
@@ -37,7 +39,9 @@ _library = _load()
 
 
 def _function(name: str, *types: Any) -> Any:
-    function = getattr(_library, name)
+    function = getattr(_library, name, None)
+    if function is None:
+        raise ImportError(f"{_library._name} is another version than this package needs: it has no {name}")
     function.restype = ctypes.c_ssize_t
     function.argtypes = list(types)
     return function
@@ -65,7 +69,7 @@ read_json = _function("tocmark_read_json", *_text, ctypes.c_uint32, *_room)
 read_marshal = _function("tocmark_read_marshal", *_text, ctypes.c_uint32, *_room)
 rewrite = _function("tocmark_rewrite", *_text, *_text, ctypes.c_uint32, *_text, ctypes.POINTER(Place), *_room)
 write_checked = _function("tocmark_write_checked_at", *_text, *_text, ctypes.c_uint32, *_text, ctypes.POINTER(Place), *_room)
-write_packed = _function("tocmark_write_packed_at", *_text, *_text, ctypes.c_uint32, *_text, ctypes.POINTER(Place), *_room)
+write_marshal = _function("tocmark_write_marshal_at", *_text, *_text, ctypes.c_uint32, *_text, ctypes.POINTER(Place), *_room)
 write_json = _function("tocmark_write_json_at", *_text, *_text, ctypes.c_uint32, *_text, ctypes.POINTER(Place), *_room)
 
 

@@ -58,4 +58,5 @@ def mdbook(change: Change, *, syntax: str = "gfm", extensions: Iterable[str] = E
 
         tocmark.mdbook(https)
     """
-    sys.exit(preprocess(sys.argv[1:], lambda text: edit(text, change, syntax=syntax, extensions=extensions)))
+    names = extensions if isinstance(extensions, str) else list(extensions)
+    sys.exit(preprocess(sys.argv[1:], lambda text: edit(text, change, syntax=syntax, extensions=names)))

@@ -3,7 +3,7 @@ import json
 from typing import Any, Iterable, Mapping
 
 from . import _library
-from ._errors import InvalidOptions
+from ._errors import InvalidOptions, InvalidStyle
 
 #: The extensions, by their names, with the flag of each.
 EXTENSIONS: Mapping[str, int] = {
@@ -24,6 +24,8 @@ SYNTAXES: Mapping[str, int] = {
 _NUMBERINGS = {"source": 0, "first": 1, "increment": 2}
 _HARD_BREAKS = {"source": 0, "backslash": 1, "spaces": 2}
 _RULES = {"---": 0, "source": 1}
+_MARKS = {"bullet": ("", "*", "-", "+"), "delimiter": ("", ".", ")"), "fence": ("", "`", "~"), "emphasis": ("", "*", "_"),
+          "strong": ("", "*", "_")}
 _WRAPS: dict[int | str, int] = {"keep": 0, "no": 2**32 - 1}
 
 _TOKENS = {"code_block_token": ("`", "~"), "list_token": ("*", "-", "+"), "ordered_list_token": (".", ")"),
@@ -77,18 +79,22 @@ def options_of(options: Mapping[str, Any]) -> bytes:
     return json.dumps(options).encode() if options else b""
 
 
+def _is_size(value: Any, least: int) -> bool:
+    return isinstance(value, int) and not isinstance(value, bool) and least <= value <= 1000
+
+
 def style_of(*, bullet: str = "", delimiter: str = "", numbering: str = "source", emphasis: str = "*", strong: str = "*",
              fence: str = "", fence_length: int = 3, hard_break: str = "source", rule: str = "---",
              table_width: int = 120, wrap: int | str = "keep", list_indent: int | str = "marker") -> _library.Style:
-    """Returns a style, or raises `ValueError` if a name or a number can't be. The library looks at the characters."""
+    """Returns a style, or raises `ValueError` if a name or a number can't be, and `InvalidStyle` if a character can't."""
     for name, known in ((numbering, _NUMBERINGS), (hard_break, _HARD_BREAKS), (rule, _RULES)):
         if name not in known:
             raise ValueError(f"{name!r} is none of {', '.join(known)}")
-    if not 3 <= fence_length <= 1000:
-        raise ValueError(f"fence_length must be from 3 to 1000, and not {fence_length}")
-    if not 1 <= table_width <= 1000:
-        raise ValueError(f"table_width must be from 1 to 1000, and not {table_width}")
-    if wrap not in _WRAPS and not (isinstance(wrap, int) and 1 <= wrap <= 1000):
+    if not _is_size(fence_length, 3):
+        raise ValueError(f"fence_length must be from 3 to 1000, and not {fence_length!r}")
+    if not _is_size(table_width, 1):
+        raise ValueError(f"table_width must be from 1 to 1000, and not {table_width!r}")
+    if wrap not in _WRAPS and not _is_size(wrap, 1):
         raise ValueError(f"wrap must be keep, no, or from 1 to 1000, and not {wrap!r}")
     if list_indent not in ("marker", 4):
         raise ValueError(f"list_indent must be marker or 4, and not {list_indent!r}")
@@ -96,6 +102,8 @@ def style_of(*, bullet: str = "", delimiter: str = "", numbering: str = "source"
                            fence_length=fence_length, table_width=table_width, wrap=_WRAPS.get(wrap, wrap),
                            list_indent=0 if list_indent == "marker" else 4)
     for part, mark in (("bullet", bullet), ("delimiter", delimiter), ("emphasis", emphasis), ("strong", strong), ("fence", fence)):
-        setattr(style, part, ord(mark) if len(mark) == 1 else min(len(mark), 1))
+        if mark not in _MARKS[part]:
+            raise InvalidStyle(-15, cause=f"{part} must be one of {' '.join(_MARKS[part][1:])}, or empty, and not {mark!r}")
+        setattr(style, part, ord(mark) if mark else 0)
     style.size = _library.ctypes.sizeof(style)
     return style

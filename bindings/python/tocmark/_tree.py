@@ -5,7 +5,7 @@ from dataclasses import dataclass, field
 from functools import lru_cache
 from typing import Any, Iterable, Iterator, List, Optional, Tuple
 
-from ._calls import Given, encoded, end_of
+from ._calls import Given, encoded, end_of, listed
 from ._errors import UnexpectedEvent
 from .events import Event, Placed
 
@@ -163,7 +163,7 @@ def tree(events: Iterable[Given], source: Optional[str] = None) -> List[Node]:
     """
     top: List[Node] = []
     open_nodes: List[Tuple[Node, int]] = []
-    for number, item in enumerate(events):
+    for number, item in enumerate(listed(events)):
         event, place = item if isinstance(item, (tuple, list)) else (item, None)
         if isinstance(event, dict) and "End" in event:
             if not open_nodes:

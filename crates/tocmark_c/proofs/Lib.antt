@@ -1,4 +1,5 @@
 mod Answers
 mod Causes
+mod DumpCauses
 mod PackedCauses
 mod Rewritten

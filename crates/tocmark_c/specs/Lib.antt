@@ -1,5 +1,6 @@
 pub mod Codes
 pub mod MarshalCalls
+pub mod MarshalWriting
 pub mod Answer
 pub mod Style
 pub mod PackedCalls

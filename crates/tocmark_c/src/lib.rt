@@ -3,13 +3,15 @@
 //! Each function writes its result into a buffer that the caller lends (`room`). It returns the result's length in
 //! bytes, or a negative number, the code of an error (`cause`). If the buffer is too small, nothing is written. No
 //! state is kept between calls. `style` takes a style from C, and `place` tells C where an error is; `refusal` has an
-//! error with its place. `marshal_reading` parses Markdown for Python. `writing` and `packed_events` write events, and `rewriting` rewrites a source.
+//! error with its place. `marshal_reading` parses Markdown for Python, and `marshal_writing` writes events that Python gives.
+//! `writing` and `packed_events` write events, too, and `rewriting` rewrites a source.
 //!
 //! The crate stands on `tocmark_interchange` and `tocmark_format`.
 #![tactic(auto)]
 
 mod cause;
 mod marshal_reading;
+mod marshal_writing;
 mod packed_events;
 mod place;
 mod refusal;
@@ -22,12 +24,14 @@ ghost use Rattle.std.specs.Prelude.{◌≡◌, IfErr, IfOk, map, string_bytes};
 ghost use Rattle.tocmark_c.specs.Answer.{IsAnswer, IsErrorText, IsNever};
 ghost use Rattle.tocmark_c.specs.Calls.{IsDocumentCauseOf, IsFormatCause, IsMarkdownOf, IsReadCause, IsReadFrom, IsSameDocument, IsSameMarkdownOf, IsSameToAll, IsWriteCause, flags_of};
 ghost use Rattle.tocmark_c.specs.MarshalCalls.{IsMarshalCause, IsMarshalOf};
+ghost use Rattle.tocmark_c.specs.MarshalWriting.{IsDumpMarkdown, IsDumpWriteCause};
 ghost use Rattle.tocmark_c.specs.PackedCalls.{IsPackedMarkdown, IsPackedWriteCause};
 ghost use Rattle.tocmark_c.specs.Place.{IsTold};
 ghost use Rattle.tocmark_c.specs.Rewriting.{IsRewriteCauseOf, IsRewrittenOf};
 
 use cause::{Cause, error_text};
 use marshal_reading::read_bytes;
+use marshal_writing::write_marshal_events;
 use packed_events::write_packed_events;
 use place::TocmarkPlace;
 use rewriting::rewrite;
@@ -190,6 +194,29 @@ pub extern "C" fn tocmark_write_packed_at(
 {
     match write_packed_events(alloc, packed, source, flags, options) {
         Ok(written) => lay(written.as_str(), out),
+        Err(refusal) => refusal.told(place),
+    }
+}
+
+/// Writes the events of bytes that Python's `marshal.dumps` makes as Markdown, as `tocmark_write_json_at` does with those
+/// of JSON.
+#[unsafe(no_mangle)]
+#[tactic(auto, using(crate::proofs::Answers::text_answered, crate::proofs::Answers::cause_answered, crate::proofs::Answers::place_kept, crate::proofs::Answers::place_filled))]
+pub extern "C" fn tocmark_write_marshal_at(
+    alloc: Global,
+    bytes: &[u8],
+    source: &[u8],
+    flags: u32,
+    options: &[u8],
+    place: &mut TocmarkPlace,
+    out: &mut [u8],
+) -> isize
+    ensures answer { IsAnswer (IsDumpMarkdown flags source.now options.now bytes.now)
+        (IsDumpWriteCause flags source.now options.now bytes.now) result out.old out.new }
+    ensures told { IsTold result place.old place.new }
+{
+    match write_marshal_events(alloc, bytes, source, flags, options) {
+        Ok(output) => lay(output.as_str(), out),
         Err(refusal) => refusal.told(place),
     }
 }

@@ -2,6 +2,7 @@ pub mod Document
 pub mod Interchange
 pub mod Lines
 pub mod MarshalReading
+pub mod MarshalWriting
 pub mod Options
 pub mod Packed
 pub mod PackedWriting

@@ -5,7 +5,8 @@
 //! `write_json` (`writing`) writes a whole document anew, and `write_checked` (`document`) parses that again.
 //!
 //! `lines` writes events as JSON by lines, and `line_writing` writes such lines as Markdown (`line_events` reads them).
-//! `marshal_reading` parses Markdown to the bytes of which Python makes its events.
+//! `marshal_reading` parses Markdown to the bytes of which Python makes its events, and `marshal_writing` writes the
+//! events of bytes that Python makes.
 //! `packed` reads events from their compact form, and `packed_writing` writes these as Markdown. `checking` has the
 //! canonical form of events as JSON. `options` reads the writer's options from a JSON text, and `option_values` from a
 //! JSON value. `fault` has the errors, and `refusal` finds their places. `pairs` lends the events that are written, and
@@ -27,6 +28,7 @@ mod line_events;
 pub mod line_writing;
 pub mod lines;
 pub mod marshal_reading;
+pub mod marshal_writing;
 pub mod option_values;
 pub mod options;
 pub mod packed;
@@ -43,6 +45,7 @@ pub use fault::{DocumentError, OptionFault, OptionsTextError, RewriteError, Writ
 pub use line_writing::write_lines;
 pub use lines::{StreamError, array_of, stream_lines, stream_located_lines, write_bytes};
 pub use marshal_reading::read_marshal;
+pub use marshal_writing::write_marshal;
 pub use option_values::{options_from_json, set_option};
 pub use options::{options_from_text, options_in_json};
 pub use packed::{PackedError, pairs_from_packed};

@@ -44,8 +44,8 @@ impl fmt::Display for PackedWriteError {
 
 impl std::error::Error for PackedWriteError {}
 
-/// The Markdown of events that were read, as `write_packed` has it.
-fn write_read<'a>(
+/// The Markdown of events that were read.
+pub(crate) fn write_read<'a>(
     alloc: Global,
     pairs: &'a [Placed<'a>],
     source: Option<&str>,

@@ -5,3 +5,4 @@ pub mod Node
 pub mod Place
 pub mod Positions
 pub mod Printed
+pub mod Unmarshal

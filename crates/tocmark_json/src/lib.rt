@@ -1,10 +1,11 @@
 //! Events as JSON, in the form of pulldown-cmark's feature `serde`, and JSON as events. `docs/JSON.md` has the form.
 //!
 //! `printing` writes events as JSON text, and `locating` does so with lines and columns. `marshalling` writes them as
-//! bytes for Python, with names by the numbers of `name_numbers`. `elements` reads the events of a
-//! JSON text one by one. `node` has the value of one element, and `reading` makes an event from it. `parts` takes a value
-//! apart, `ranges` reads ranges, and `names` has the names of variants. `positions` finds the lines and columns of a text.
-//! `fault` says what is wrong with a text or a value, and where. `laws` says that different events have different JSON.
+//! bytes for Python, with names by the numbers of `name_numbers`, and `unmarshalling` reads Python's bytes. `elements`
+//! reads the events of a JSON text one by one. `node` has the value of one element, and `reading` makes an event from
+//! it. `parts` takes a value apart, `ranges` reads ranges, and `names` has the names of variants. `positions` finds the
+//! lines and columns of a text. `fault` says what is wrong with a text or a value, and where. `laws` says that different
+//! events have different JSON.
 //!
 //! The crate stands on `tocmark_event` and the kit's `fast_float`, `json` and `serde_json`.
 #![tactic(auto)]
@@ -23,3 +24,4 @@ pub mod positions;
 pub mod printing;
 pub mod ranges;
 pub mod reading;
+pub mod unmarshalling;
