@@ -85,6 +85,27 @@ fn begins_foreign_block(text: &str) -> bool {
     }
 }
 
+/// Whether bytes are a letter, and letters, digits, blanks, `-` and `_` behind it.
+fn is_key(bytes: &[u8]) -> bool {
+    bytes.first().is_some_and(|byte| byte.is_ascii_alphabetic())
+        && bytes.iter().all(|byte| byte.is_ascii_alphanumeric()
+            || matches!(*byte, b' ' | b'-' | b'_'))
+}
+
+/// Whether a text is empty or begins with a blank.
+fn begins_blank(text: &str) -> bool {
+    text.is_empty() || text.starts_with(&[' ', '\t'])
+}
+
+/// Whether a line begins with a key of metadata, as MultiMarkdown and Pelican read them: words, and a colon with a blank behind
+/// it.
+fn begins_key(line: &str) -> bool {
+    match line.split_once(':') {
+        Some((key, value)) => is_key(key.as_bytes()) && begins_blank(value),
+        None => false,
+    }
+}
+
 /// Whether a line is one tag of HTML or MDX. `cmark-gfm` and MDX take such a lazy line for a block behind the list or quote.
 fn is_lone_tag(line: &str) -> bool {
     let bytes = line.as_bytes();
@@ -171,6 +192,28 @@ impl Printer<'_> {
         false
     }
 
+    /// Whether a paragraph whose lines don't stay is metadata at the front of the document, as MultiMarkdown and Pelican read
+    /// them: two lines or more with a key each, and lines that go on with them.
+    fn has_keys(&self, start: usize, end: usize) -> bool {
+        let is_first = self.page.depth() == 0 && self.page.top().last.is_none();
+        if self.look.wrap == Wrap::Keep || !is_first {
+            return false;
+        }
+        let source = self.source;
+        let first = source.line_of(start);
+        let last = source.line_of(end.saturating_sub(1));
+        let mut keys = 0usize;
+        for line in first..=last {
+            let text = source.line(line);
+            if begins_key(text) {
+                keys = keys.saturating_add(1);
+            } else if !begins_blank(text) {
+                return false;
+            }
+        }
+        keys > 1
+    }
+
     /// Whether the first line of a block is a fence of quotes, as GitLab reads it.
     fn begins_fenced_quote(&self, start: usize) -> bool {
         let line = self.source.line(self.source.line_of(start));
@@ -187,6 +230,7 @@ impl Printer<'_> {
                     || begins_foreign_block(text)
                     || self.has_foreign_line(start, end, false)
                     || self.has_table(start, end)
+                    || self.has_keys(start, end)
             }
             Kind::Table => self.has_foreign_line(start, end, false),
             Kind::List | Kind::Quote if self.page.depth() == 0 => {

@@ -8,20 +8,13 @@ use crate::width::width;
 use std::alloc::{AllocError, Global};
 use tocmark_event::event::{Alignment, TagEnd};
 
-/// A cell: where it ends in the text of all cells, and the columns that it takes. It begins where the one before it ends.
-#[derive(Clone, Copy)]
-struct Cell {
-    end: usize,
-    width: usize,
-}
-
-/// The cells of a table, row by row.
+/// The cells of a table, row by row. Each row has as many as the table has columns.
 #[derive(Drop)]
 struct Cells {
     text: String,
-    list: Vec<Cell>,
-    /// How many cells stand before the end of each row.
+    /// Where each cell ends in the text. It begins where the one before it ends.
     ends: Vec<usize>,
+    columns: usize,
 }
 
 /// The row of dashes below the head, for a column of this width.
@@ -54,21 +47,20 @@ fn push_delimiters(
     Ok(())
 }
 
-/// A cell with this text, which takes so many columns, in a column of this width.
+/// A cell with this text in a column of this width.
 fn push_cell(
     line: &mut String,
     text: &str,
-    columns: usize,
     alignment: Alignment,
-    width: usize,
+    column: usize,
 ) -> Result<(), AllocError> {
-    let spare = width.saturating_sub(columns);
+    let spare = column.saturating_sub(width(text));
     let before = match alignment {
         Alignment::Right => spare,
         Alignment::Center => spare / 2,
         _ => 0,
     };
-    if text.is_empty() && width == 0 {
+    if text.is_empty() && column == 0 {
         return line.push_str(" |");
     }
     line.push(' ')?;
@@ -126,20 +118,17 @@ fn is_wider(widths: &[usize], limit: usize) -> bool {
 }
 
 impl Cells {
-    fn new(alloc: Global) -> Cells {
+    fn new(alloc: Global, columns: usize) -> Cells {
         Cells {
             text: String::new(alloc),
-            list: Vec::new(alloc),
             ends: Vec::new(alloc),
+            columns,
         }
     }
 
     fn add(&mut self, text: &str) -> Result<(), AllocError> {
         self.text.push_str(text)?;
-        self.list.push(Cell {
-            end: self.text.len(),
-            width: width(text),
-        })?;
+        self.ends.push(self.text.len())?;
         Ok(())
     }
 
@@ -147,41 +136,40 @@ impl Cells {
     fn let_go(&mut self) {
         self.text.truncate(0);
         self.text.shrink_to(1);
-        self.list.truncate(0);
-        self.list.shrink_to(1);
         self.ends.truncate(0);
         self.ends.shrink_to(1);
     }
 
-    fn end_row(&mut self) -> Result<(), AllocError> {
-        self.ends.push(self.list.len())?;
-        Ok(())
+    /// How many rows there are.
+    fn rows(&self) -> usize {
+        self.ends.len().checked_div(self.columns).unwrap_or(0)
     }
 
-    /// The cells of a row, and where the first one begins in the text.
-    fn row(&self, at: usize) -> (usize, &[Cell]) {
-        let start = match at.checked_sub(1) {
+    /// Whether the last row has all of its cells.
+    fn is_whole(&self) -> bool {
+        self.ends.len() == self.rows().saturating_mul(self.columns)
+    }
+
+    /// The text of a cell.
+    fn cell(&self, row: usize, column: usize) -> &str {
+        let at = row.saturating_mul(self.columns).saturating_add(column);
+        let from = match at.checked_sub(1) {
             Some(before) => self.ends.get(before).copied().unwrap_or(0),
             None => 0,
         };
-        let end = self.ends.get(at).copied().unwrap_or(start);
-        let from = match start.checked_sub(1) {
-            Some(before) => self.list.get(before).map_or(0, |cell| cell.end),
-            None => 0,
-        };
-        (from, self.list.get(start..end).unwrap_or(&[]))
+        let end = self.ends.get(at).copied().unwrap_or(from);
+        self.text.as_str().get(from..end).unwrap_or("")
     }
 
     /// The width of each column.
-    fn widths(&self, alloc: Global, columns: usize) -> Result<Vec<usize>, AllocError> {
-        let mut widths = Vec::with_capacity(alloc, columns)?;
-        for _ in 0..columns {
-            widths.push(3usize)?;
-        }
-        for at in 0..self.ends.len() {
-            for (width, cell) in widths.iter_mut().zip(self.row(at).1) {
-                *width = (*width).max(cell.width);
+    fn widths(&self, alloc: Global) -> Result<Vec<usize>, AllocError> {
+        let mut widths = Vec::with_capacity(alloc, self.columns)?;
+        for column in 0..self.columns {
+            let mut widest = 3usize;
+            for row in 0..self.rows() {
+                widest = widest.max(width(self.cell(row, column)));
             }
+            widths.push(widest)?;
         }
         Ok(widths)
     }
@@ -189,16 +177,13 @@ impl Cells {
     fn push_row(
         &self,
         line: &mut String,
-        at: usize,
+        row: usize,
         alignments: &[Alignment],
         widths: &[usize],
     ) -> Result<(), AllocError> {
-        let (mut from, cells) = self.row(at);
         line.push('|')?;
-        for (cell, (alignment, width)) in cells.iter().zip(alignments.iter().zip(widths)) {
-            let text = self.text.as_str().get(from..cell.end).unwrap_or("");
-            push_cell(line, text, cell.width, *alignment, *width)?;
-            from = cell.end;
+        for (column, (alignment, width)) in alignments.iter().zip(widths).enumerate() {
+            push_cell(line, self.cell(row, column), *alignment, *width)?;
         }
         Ok(())
     }
@@ -252,7 +237,7 @@ impl Printer<'_> {
         self.has_row_like_item(start) || self.has_odd_dashes(start) || self.has_deep_row(start, end)
     }
 
-    /// Adds the cells of a table. `Ok(false)`: a row has more of them than the head, and no event has those.
+    /// Adds the cells of a table. `Ok(false)`: a row has more of them than the head, and no event has those, or it has fewer.
     fn add_cells(&mut self, cells: &mut Cells, part: &Part, at: usize) -> Result<bool, AllocError> {
         let mut first = at.saturating_add(1);
         let mut cell_end = 0usize;
@@ -268,7 +253,9 @@ impl Printer<'_> {
                     if !rest.trim_matches(&['|', ' ', '\t', '\n']).is_empty() {
                         return Ok(false);
                     }
-                    cells.end_row()?;
+                    if !cells.is_whole() {
+                        return Ok(false);
+                    }
                 }
                 _ => continue,
             }
@@ -296,10 +283,9 @@ impl Printer<'_> {
     fn column_widths(
         &self,
         cells: &Cells,
-        columns: usize,
         range: (usize, usize),
     ) -> Result<Vec<usize>, AllocError> {
-        let mut widths = cells.widths(self.alloc, columns)?;
+        let mut widths = cells.widths(self.alloc)?;
         let look = self.look;
         let is_aligned = !look.is_literal
             && (!is_wider(&widths, look.table_width) || self.is_aligned(range.0, range.1));
@@ -317,9 +303,9 @@ impl Printer<'_> {
         alignments: &[Alignment],
         range: (usize, usize),
     ) -> Result<(), AllocError> {
-        let widths = self.column_widths(cells, alignments.len(), range)?;
+        let widths = self.column_widths(cells, range)?;
         let mut line = String::new(self.alloc);
-        for row in 0..cells.ends.len() {
+        for row in 0..cells.rows() {
             self.print_row(&mut line, cells, row, (alignments, &widths))?;
         }
         Ok(())
@@ -358,7 +344,7 @@ impl Printer<'_> {
     }
 
     pub(crate) fn print_table(&mut self, part: &Part, at: usize) -> Result<(), AllocError> {
-        let mut cells = Cells::new(self.alloc);
+        let mut cells = Cells::new(self.alloc, part.alignments(at).len());
         let printed = self.print_with(&mut cells, part, at);
         cells.let_go();
         printed

@@ -30,7 +30,8 @@ use tocmark_read_lines::line::{Line, line_ended, line_left};
 use tocmark_read_page::definition::LinkDefinition;
 use tocmark_read_page::leaf::{Leaf, is_paragraph};
 use tocmark_read_page::line_start::{Known, LineStart, Row};
-use tocmark_read_page::page::{Block, BlocksSoFar};
+use tocmark_read_page::packed::PackedBlock;
+use tocmark_read_page::page::BlocksSoFar;
 use tocmark_read_page::piece::Piece;
 use tocmark_read_scan::basic::bytes_between;
 use tocmark_read_scan::class::has_byte;
@@ -39,7 +40,7 @@ use tocmark_read_scan::syntax::Syntax;
 /// What a text is made of, but for the inlines of paragraphs and headings.
 #[derive(Drop)]
 pub struct Blocks {
-    pub blocks: Vec<Block>,
+    pub blocks: Vec<PackedBlock>,
     pub pieces: Vec<Piece>,
     pub definitions: Vec<LinkDefinition>,
 }
@@ -62,8 +63,7 @@ fn take_underline(
 {
     so_far.settle(alloc, row.text)?;
     if so_far.has_text() {
-        make_heading(so_far, row, level);
-        return Ok(());
+        return make_heading(so_far, row, level);
     }
     let metadata = metadata_in(so_far, row, place, false);
     match metadata_or(metadata, rule_at(row.cells, tail, place.cursor.ink)) {
@@ -257,12 +257,12 @@ fn turn_in(so_far: &BlocksSoFar, row: &Row<'_, '_>, place: LineStart) -> Turn
 
 /// Ends the open leaf with this line.
 #[tactic(auto, unfolding(crate::specs::Blocks::leaf_ended))]
-fn end_leaf(so_far: &mut BlocksSoFar, line: Line)
-    ensures { page so_far.new ≡ leaf_ended line (page so_far.old) }
+fn end_leaf(so_far: &mut BlocksSoFar, line: Line) -> Result<(), AllocError>
+    ensures { OnOk result (page so_far.new ≡ leaf_ended line (page so_far.old)) }
 {
     so_far.end = line.end;
     so_far.line = line.number;
-    so_far.finish_leaf();
+    so_far.finish_leaf()
 }
 
 /// The open containers that go on in a line reach to it.
@@ -290,10 +290,7 @@ fn take_cells(so_far: &mut BlocksSoFar, alloc: Global, row: &Row<'_, '_>) -> Res
     let place = LineStart { cursor, depth };
     touch_line(so_far, row.line, depth);
     match turn_in(so_far, row, place) {
-        Turn::Closes => {
-            end_leaf(so_far, row.line);
-            Ok(())
-        }
+        Turn::Closes => end_leaf(so_far, row.line),
         Turn::Takes(column) => take_code(so_far, row, column),
         Turn::Passes => pass_line(so_far, alloc, row, place),
         Turn::Row(table) => take_row(so_far, row, place, table),

@@ -17,14 +17,15 @@ use tocmark_read_scan::basic::bytes_between;
 
 /// Closes an open HTML block whose last line this is.
 #[tactic(auto, unfolding(crate::specs::Codes::html_ended))]
-fn end_html(so_far: &mut BlocksSoFar, rest: &[u8])
-    ensures { page so_far.new ≡ html_ended rest.now (page so_far.old) }
+fn end_html(so_far: &mut BlocksSoFar, rest: &[u8]) -> Result<(), AllocError>
+    ensures { OnOk result (page so_far.new ≡ html_ended rest.now (page so_far.old)) }
 {
     if let Leaf::Html(kind) = so_far.leaf {
         if html_ends(kind, rest) {
-            so_far.finish_leaf();
+            so_far.finish_leaf()?;
         }
     }
+    Ok(())
 }
 
 /// Puts a line of code or HTML into the open leaf.
@@ -40,8 +41,7 @@ pub fn take_code(
     let code = code_piece(row.cells, column, row.line);
     let keeps = keeps_line(row.cells, column, so_far.leaf);
     so_far.take_piece(code, row.line, keeps)?;
-    end_html(so_far, bytes_between(row.text, code.start, code.end));
-    Ok(())
+    end_html(so_far, bytes_between(row.text, code.start, code.end))
 }
 
 #[tactic(auto, unfolding(crate::specs::Codes::indented_started))]

@@ -56,7 +56,7 @@ fn start_list(
     ensures { OnOk result (page so_far.new ≡ list_started item start line (page so_far.old)) }
 {
     if !is_in_list(so_far, item.sort) {
-        so_far.leave_list();
+        so_far.leave_list()?;
         let kind = BlockKind::List(item.number);
         so_far.open(Container::List(item.sort), kind, start, line)?;
     }

@@ -8,21 +8,22 @@ use std::alloc::{AllocError, Global};
 use tocmark_read_lines::cell::cell_place;
 use tocmark_read_page::leaf::{Leaf, is_paragraph};
 use tocmark_read_page::line_start::{LineStart, Row};
+use tocmark_read_page::packed::{block_at, set_block};
 use tocmark_read_page::page::{Block, BlockKind, BlocksSoFar};
 use tocmark_read_page::piece::text_piece;
-use tocmark_read_scan::basic::set;
 
 /// Where the open paragraph has no line, it begins with this one.
 #[tactic(auto, unfolding(crate::specs::Paragraphs::text_started))]
-fn start_text(so_far: &mut BlocksSoFar, start: usize)
-    ensures { page so_far.new ≡ text_started start (page so_far.old) }
+fn start_text(so_far: &mut BlocksSoFar, start: usize) -> Result<(), AllocError>
+    ensures { OnOk result (page so_far.new ≡ text_started start (page so_far.old)) }
 {
     let index = so_far.blocks.len().saturating_sub(1);
-    if let Some(block) = so_far.blocks.get(index).copied() {
+    if let Some(block) = block_at(&so_far.blocks, index) {
         if so_far.pieces.len() <= block.first {
-            set(&mut so_far.blocks, index, Block { start, ..block });
+            set_block(&mut so_far.blocks, index, Block { start, ..block })?;
         }
     }
+    Ok(())
 }
 
 /// Puts a line into the open paragraph, or begins one.
@@ -41,7 +42,7 @@ pub fn take_text(
         so_far.close_to(alloc, row.text, place.depth)?;
         so_far.open_leaf(Leaf::Paragraph, BlockKind::Paragraph, words.start, row.line)?;
     }
-    start_text(so_far, words.start);
+    start_text(so_far, words.start)?;
     so_far.take_piece(words, row.line, true)
 }
 
@@ -58,6 +59,5 @@ pub fn start_rule(
     so_far.close_to(alloc, row.text, place.depth)?;
     let start = cell_place(row.cells, place.cursor.ink, row.line.end);
     so_far.open_leaf(Leaf::Nothing, BlockKind::Rule, start, row.line)?;
-    so_far.finish_leaf();
-    Ok(())
+    so_far.finish_leaf()
 }

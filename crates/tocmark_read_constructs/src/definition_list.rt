@@ -10,8 +10,8 @@ use tocmark_read_lines::container::{Container, Opened};
 use tocmark_read_lines::definition_list::DefinitionStart;
 use tocmark_read_page::leaf::is_paragraph;
 use tocmark_read_page::line_start::{LineStart, Row};
+use tocmark_read_page::packed::{PackedBlock, block_at, push_block, set_block};
 use tocmark_read_page::page::{Block, BlockKind, BlocksSoFar, LeftList, is_definitions, list_of};
-use tocmark_read_scan::basic::set;
 
 /// Whether a kind is a paragraph.
 #[tactic(auto, unfolding(crate::specs::DefinitionLists::is_words))]
@@ -66,18 +66,18 @@ fn list_from(block: Block) -> Block
 }
 
 /// How many paragraphs that hold definitions of links alone stand last.
-fn spent_count(blocks: &[Block]) -> usize
+fn spent_count(blocks: &[PackedBlock]) -> usize
     ensures { result ≡ length (take_while is_spent (reverse blocks.now)) }
 {
     blocks
         .iter()
         .rev()
-        .take_while(|block| is_spent(**block))
+        .take_while(|packed| is_spent(packed.block()))
         .count()
 }
 
 /// The place of the last block but for paragraphs that hold definitions of links alone.
-fn last_inked(blocks: &[Block]) -> usize
+fn last_inked(blocks: &[PackedBlock]) -> usize
     ensures { result ≡ last_inked blocks.now }
 {
     blocks
@@ -87,11 +87,11 @@ fn last_inked(blocks: &[Block]) -> usize
 
 /// The paragraph before a line, with its place, if it may be a title.
 #[tactic(auto, unfolding(crate::specs::DefinitionLists::last_title))]
-fn last_title(depth: usize, blocks: &[Block]) -> Option<(usize, Block)>
+fn last_title(depth: usize, blocks: &[PackedBlock]) -> Option<(usize, Block)>
     ensures { result ≡ last_title depth blocks.now }
 {
     let place = last_inked(blocks);
-    let block = blocks.get(place).copied()?;
+    let block = block_at(blocks, place)?;
     if may_be_title(depth, block) {
         Some((place, block))
     } else {
@@ -100,14 +100,19 @@ fn last_title(depth: usize, blocks: &[Block]) -> Option<(usize, Block)>
 }
 
 #[tactic(auto, unfolding(crate::specs::DefinitionLists::loose_set))]
-fn set_loose(blocks: &mut Vec<Block>, list: Option<usize>, loose: bool)
-    ensures { blocks.new.items ≡ loose_set blocks.old.items list loose }
+fn set_loose(
+    blocks: &mut Vec<PackedBlock>,
+    list: Option<usize>,
+    loose: bool,
+) -> Result<(), AllocError>
+    ensures { OnOk result (blocks.new.items ≡ loose_set blocks.old.items list loose) }
 {
     if let Some(place) = list {
-        if let Some(block) = blocks.get(place).copied() {
-            set(blocks, place, Block { loose, ..block });
+        if let Some(block) = block_at(blocks, place) {
+            set_block(blocks, place, Block { loose, ..block })?;
         }
     }
+    Ok(())
 }
 
 #[tactic(auto, unfolding(crate::specs::DefinitionLists::is_last))]
@@ -160,8 +165,8 @@ fn begin_list(
 ) -> Result<(), AllocError>
     ensures { OnOk result (page so_far.new ≡ list_begun place block line (page so_far.old)) }
 {
-    set(&mut so_far.blocks, place, list_from(block));
-    so_far.blocks.push(title_of(block))?;
+    set_block(&mut so_far.blocks, place, list_from(block))?;
+    push_block(&mut so_far.blocks, title_of(block))?;
     open_definitions(so_far, place, block.end, line)
 }
 
@@ -178,8 +183,8 @@ fn resume_list(
         ≡ list_resumed place block line left (page so_far.old)) }
 {
     let list = list_of(&so_far.opened);
-    set_loose(&mut so_far.blocks, list, left.loose);
-    set(&mut so_far.blocks, place, title_of(block));
+    set_loose(&mut so_far.blocks, list, left.loose)?;
+    set_block(&mut so_far.blocks, place, title_of(block))?;
     open_definitions(so_far, left.list, block.end, line)
 }
 
@@ -228,7 +233,7 @@ fn end_text(so_far: &mut BlocksSoFar, alloc: Global, text: &[u8]) -> Result<bool
     }
     so_far.settle(alloc, text)?;
     if so_far.has_text() {
-        so_far.finish_leaf();
+        so_far.finish_leaf()?;
         Ok(true)
     } else {
         Ok(false)

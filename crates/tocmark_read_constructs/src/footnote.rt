@@ -28,8 +28,8 @@ pub fn open_note(
         (page so_far.old)) }
 {
     so_far.close_to(alloc, row.text, place.depth)?;
-    so_far.leave_list();
-    so_far.leave_note();
+    so_far.leave_list()?;
+    so_far.leave_note()?;
     let start = cell_place(row.cells, place.cursor.ink, row.line.end);
     let kind = BlockKind::Note(
         cell_place(row.cells, note.from, row.line.end),

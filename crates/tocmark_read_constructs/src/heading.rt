@@ -12,6 +12,7 @@ use tocmark_read_lines::cell::{Cells, cell_place};
 use tocmark_read_lines::line::Line;
 use tocmark_read_page::leaf::Leaf;
 use tocmark_read_page::line_start::{LineStart, Row};
+use tocmark_read_page::packed::{block_at, set_block};
 use tocmark_read_page::page::{Block, BlockKind, BlocksSoFar, Braces};
 use tocmark_read_page::piece::{Piece, heading_piece};
 use tocmark_read_scan::basic::{byte_at, bytes_between, set};
@@ -128,8 +129,7 @@ fn put_heading(
     let kind = BlockKind::Heading(heading.level, braces);
     so_far.open_leaf(Leaf::Nothing, kind, start, row.line)?;
     so_far.take_piece(heading_piece(row.cells, heading, row.line), row.line, true)?;
-    so_far.finish_leaf();
-    Ok(())
+    so_far.finish_leaf()
 }
 
 /// Ends the last line of the open paragraph before its braces; it goes if it has nothing else.
@@ -148,8 +148,14 @@ fn cut_before(so_far: &mut BlocksSoFar, piece: Piece, braces: Braces)
 
 /// Makes the open paragraph a heading, whose last line may end with attributes.
 #[tactic(auto, unfolding(crate::specs::Headings::underlined_attributed))]
-fn underline_attributed(so_far: &mut BlocksSoFar, text: &[u8], level: HeadingLevel, line: Line)
-    ensures { page so_far.new ≡ underlined_attributed text.now level line (page so_far.old) }
+fn underline_attributed(
+    so_far: &mut BlocksSoFar,
+    text: &[u8],
+    level: HeadingLevel,
+    line: Line,
+) -> Result<(), AllocError>
+    ensures { OnOk result (page so_far.new
+        ≡ underlined_attributed text.now level line (page so_far.old)) }
 {
     let last = so_far.pieces.len().saturating_sub(1);
     match so_far.pieces.get(last).copied() {
@@ -162,7 +168,7 @@ fn underline_attributed(so_far: &mut BlocksSoFar, text: &[u8], level: HeadingLev
                     to: piece.start.saturating_add(found.to),
                 };
                 cut_before(so_far, piece, found);
-                underline(so_far, level, Some(braces), line);
+                underline(so_far, level, Some(braces), line)
             }
         },
     }
@@ -170,29 +176,38 @@ fn underline_attributed(so_far: &mut BlocksSoFar, text: &[u8], level: HeadingLev
 
 /// Makes the open paragraph a heading that ends with this line.
 #[tactic(auto, unfolding(crate::specs::Headings::underlined))]
-fn underline(so_far: &mut BlocksSoFar, level: HeadingLevel, braces: Option<Braces>, line: Line)
-    ensures { page so_far.new ≡ underlined level braces line (page so_far.old) }
+fn underline(
+    so_far: &mut BlocksSoFar,
+    level: HeadingLevel,
+    braces: Option<Braces>,
+    line: Line,
+) -> Result<(), AllocError>
+    ensures { OnOk result (page so_far.new ≡ underlined level braces line (page so_far.old)) }
 {
     let index = so_far.blocks.len().saturating_sub(1);
-    if let Some(block) = so_far.blocks.get(index).copied() {
+    if let Some(block) = block_at(&so_far.blocks, index) {
         let kind = BlockKind::Heading(level, braces);
-        set(&mut so_far.blocks, index, Block { kind, ..block });
+        set_block(&mut so_far.blocks, index, Block { kind, ..block })?;
     }
     so_far.end = line.end;
     so_far.line = line.number;
-    so_far.finish_leaf();
+    so_far.finish_leaf()
 }
 
 /// Makes the open paragraph a heading of a level, whose underline is the line. Where attributes of headings are
 /// read, those behind its text leave it.
 #[tactic(auto, unfolding(crate::specs::Headings::underlined_in))]
-pub fn make_heading(so_far: &mut BlocksSoFar, row: &Row<'_, '_>, level: HeadingLevel)
-    ensures { page so_far.new
-        ≡ underlined_in row.now.known row.now.text.now level row.now.line (page so_far.old) }
+pub fn make_heading(
+    so_far: &mut BlocksSoFar,
+    row: &Row<'_, '_>,
+    level: HeadingLevel,
+) -> Result<(), AllocError>
+    ensures { OnOk result (page so_far.new
+        ≡ underlined_in row.now.known row.now.text.now level row.now.line (page so_far.old)) }
 {
     if row.known.syntax.heading_attributes {
-        underline_attributed(so_far, row.text, level, row.line);
+        underline_attributed(so_far, row.text, level, row.line)
     } else {
-        underline(so_far, level, None, row.line);
+        underline(so_far, level, None, row.line)
     }
 }

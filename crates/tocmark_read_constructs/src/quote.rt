@@ -13,9 +13,10 @@ use tocmark_read_lines::html::{HtmlKind, html_kind, same_word};
 use tocmark_read_lines::line::Line;
 use tocmark_read_page::leaf::Leaf;
 use tocmark_read_page::line_start::{LineStart, Row};
+use tocmark_read_page::packed::{block_at, set_block};
 use tocmark_read_page::page::{Block, BlockKind, BlocksSoFar, is_quote};
 use tocmark_read_page::piece::code_piece;
-use tocmark_read_scan::basic::{bytes_between, set};
+use tocmark_read_scan::basic::bytes_between;
 
 #[tactic(auto, unfolding(crate::specs::Quotes::kind_named))]
 fn kind_named(word: &[u8]) -> Option<BlockQuoteKind>
@@ -59,7 +60,7 @@ pub fn open_quote(
         ≡ quote_opened row.now.text.now row.now.cells.now row.now.line place (page so_far.old)) }
 {
     so_far.close_to(alloc, row.text, place.depth)?;
-    so_far.leave_list();
+    so_far.leave_list()?;
     let start = cell_place(row.cells, place.cursor.ink, row.line.end);
     so_far.open(Container::Quote, BlockKind::Quote(None), start, row.line)?;
     Ok(LineStart {
@@ -84,7 +85,7 @@ fn is_new_quote(so_far: &BlocksSoFar, line: Line) -> bool
 fn begins_in(so_far: &BlocksSoFar, line: Line, index: usize) -> bool
     ensures { result ≡ begins_in line (slice_get so_far.now.blocks.items index) }
 {
-    match so_far.blocks.get(index).copied() {
+    match block_at(&so_far.blocks, index) {
         None => false,
         Some(block) => line.start <= block.start,
     }
@@ -148,9 +149,9 @@ pub fn start_quote_kind(
         ≡ quote_kind_started row.now.cells.now row.now.line place kind (page so_far.old)) }
 {
     let index = so_far.blocks.len().saturating_sub(1);
-    if let Some(block) = so_far.blocks.get(index).copied() {
+    if let Some(block) = block_at(&so_far.blocks, index) {
         let kind = BlockKind::Quote(Some(kind));
-        set(&mut so_far.blocks, index, Block { kind, ..block });
+        set_block(&mut so_far.blocks, index, Block { kind, ..block })?;
     }
     let start = cell_place(row.cells, place.cursor.ink, row.line.end);
     so_far.open_leaf(Leaf::Paragraph, BlockKind::Paragraph, start, row.line)

@@ -17,9 +17,10 @@ use tocmark_read_lines::html::{HtmlKind, html_kind};
 use tocmark_read_lines::line::Line;
 use tocmark_read_page::leaf::{Leaf, Table};
 use tocmark_read_page::line_start::{LineStart, Row};
+use tocmark_read_page::packed::{block_at, push_block, set_block};
 use tocmark_read_page::page::{Block, BlockKind, BlocksSoFar, HeaderLine};
 use tocmark_read_page::piece::Piece;
-use tocmark_read_scan::basic::{byte_at, bytes_between, rest, set};
+use tocmark_read_scan::basic::{byte_at, bytes_between, rest};
 
 /// The marks of a column of a delimiter row so far.
 #[derive(Clone, Copy)]
@@ -401,10 +402,7 @@ fn last_piece(pieces: &[Piece]) -> Option<Piece>
 fn last_block(so_far: &BlocksSoFar) -> Option<Block>
     ensures { result ≡ last_block (page so_far.now) }
 {
-    so_far
-        .blocks
-        .get(so_far.blocks.len().saturating_sub(1))
-        .copied()
+    block_at(&so_far.blocks, so_far.blocks.len().saturating_sub(1))
 }
 
 /// Puts a row, or a cell of one, behind the blocks.
@@ -419,18 +417,20 @@ fn push_row(
     ensures { OnOk result (page so_far.new
         ≡ row_pushed deeper kind start end (page so_far.old)) }
 {
-    so_far.blocks.push(Block {
-        depth: so_far.opened.len().saturating_add(deeper),
-        kind,
-        start,
-        end,
-        first: so_far.pieces.len(),
-        last: so_far.pieces.len(),
-        loose: false,
-        list: None,
-        task: None,
-    })?;
-    Ok(())
+    push_block(
+        &mut so_far.blocks,
+        Block {
+            depth: so_far.opened.len().saturating_add(deeper),
+            kind,
+            start,
+            end,
+            first: so_far.pieces.len(),
+            last: so_far.pieces.len(),
+            loose: false,
+            list: None,
+            task: None,
+        },
+    )
 }
 
 /// Puts the cell at a place behind the blocks, and gives the place behind its bar.
@@ -596,8 +596,12 @@ fn settle_header(so_far: &mut BlocksSoFar, alloc: Global, text: &[u8]) -> Result
 
 /// Makes the block of a paragraph that has no more line a table.
 #[tactic(auto, unfolding(crate::specs::Tables::paragraph_turned))]
-fn turn_paragraph(so_far: &mut BlocksSoFar, kind: BlockKind, header: Piece)
-    ensures { page so_far.new ≡ paragraph_turned kind header (page so_far.old) }
+fn turn_paragraph(
+    so_far: &mut BlocksSoFar,
+    kind: BlockKind,
+    header: Piece,
+) -> Result<(), AllocError>
+    ensures { OnOk result (page so_far.new ≡ paragraph_turned kind header (page so_far.old)) }
 {
     if let Some(block) = last_block(so_far) {
         let index = so_far.blocks.len().saturating_sub(1);
@@ -608,8 +612,9 @@ fn turn_paragraph(so_far: &mut BlocksSoFar, kind: BlockKind, header: Piece)
             last: so_far.pieces.len(),
             ..block
         };
-        set(&mut so_far.blocks, index, turned);
+        set_block(&mut so_far.blocks, index, turned)?;
     }
+    Ok(())
 }
 
 /// Ends the paragraph before a header, two lines before a delimiter row, and begins a table.
@@ -658,7 +663,7 @@ fn start_table(
     let count = so_far.pieces.len().saturating_sub(1);
     so_far.pieces.truncate(count);
     if sole {
-        turn_paragraph(so_far, kind, header);
+        turn_paragraph(so_far, kind, header)?;
     } else {
         begin_table(so_far, alloc, text, line, kind, header)?;
     }

@@ -11,9 +11,10 @@ use tocmark_read_lines::container::is_empty_item;
 use tocmark_read_lines::line::Line;
 use tocmark_read_page::leaf::Leaf;
 use tocmark_read_page::line_start::{LineStart, Row};
+use tocmark_read_page::packed::{block_at, set_block};
 use tocmark_read_page::page::{Block, BlockKind, BlocksSoFar, Task};
 use tocmark_read_page::piece::Piece;
-use tocmark_read_scan::basic::{byte_at, set};
+use tocmark_read_scan::basic::byte_at;
 
 /// Whether a byte is a space, a tab, a vertical tab or a form feed.
 #[tactic(auto, unfolding(crate::specs::Tasks::is_box_space))]
@@ -101,14 +102,15 @@ pub fn task_in(so_far: &BlocksSoFar, row: &Row<'_, '_>, place: LineStart) -> Opt
 
 /// Gives the last block a box.
 #[tactic(auto, unfolding(crate::specs::Tasks::with_task))]
-fn set_task(so_far: &mut BlocksSoFar, done: bool, start: usize)
-    ensures { page so_far.new ≡ with_task done start (page so_far.old) }
+fn set_task(so_far: &mut BlocksSoFar, done: bool, start: usize) -> Result<(), AllocError>
+    ensures { OnOk result (page so_far.new ≡ with_task done start (page so_far.old)) }
 {
     let index = so_far.blocks.len().saturating_sub(1);
-    if let Some(block) = so_far.blocks.get(index).copied() {
+    if let Some(block) = block_at(&so_far.blocks, index) {
         let task = Some(Task { done, start });
-        set(&mut so_far.blocks, index, Block { task, ..block });
+        set_block(&mut so_far.blocks, index, Block { task, ..block })?;
     }
+    Ok(())
 }
 
 /// Begins a paragraph with a box, and the rest of its line.
@@ -127,7 +129,7 @@ fn take_boxed(
 {
     so_far.close_to(alloc, row.text, place.depth)?;
     so_far.open_leaf(Leaf::Paragraph, BlockKind::Paragraph, task.start, row.line)?;
-    set_task(so_far, task.done, task.start);
+    set_task(so_far, task.done, task.start)?;
     let words = Piece {
         spaces: 0,
         from: behind,
@@ -156,6 +158,5 @@ pub fn start_task(
     if behind < row.line.end {
         return take_boxed(so_far, alloc, row, place, Task { done, start }, behind);
     }
-    set_task(so_far, done, start);
-    Ok(())
+    set_task(so_far, done, start)
 }

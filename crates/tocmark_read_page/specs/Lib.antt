@@ -1,4 +1,5 @@
 pub mod Leaves
 pub mod Pieces
+pub mod Packed
 pub mod Definitions
 pub mod Pages

@@ -10,5 +10,6 @@
 pub mod definition;
 pub mod leaf;
 pub mod line_start;
+pub mod packed;
 pub mod page;
 pub mod piece;

@@ -2,10 +2,11 @@
 
 ghost use Rattle.std.specs.Prelude.{◌≡◌, drop, slice_get, slice_set, OnOk};
 ghost use Rattle.std.specs.Option.{option_map_or};
-ghost use Rattle.tocmark_read_page.specs.Pages.{ended, finished, list_of, is_apart, loosened, had_marked, is_list, is_quote, is_note, is_definitions, is_loose, shortened, page, first_page, raised_last, quote_left, quote_entered, piece_pushed, leaf_finished, settled, leaf_closed, one_closed, times, closed_to, list_left, left_noted, note_left, begun, opened_with, leaf_opened, piece_taken, table_finished, has_text};
+ghost use Rattle.tocmark_read_page.specs.Pages.{ended, finished, list_of, is_apart, loosened, made_loose, had_marked, is_list, is_quote, is_note, is_definitions, is_loose, shortened, page, first_page, raised_last, quote_left, quote_entered, piece_pushed, leaf_finished, settled, leaf_closed, one_closed, times, closed_to, list_left, left_noted, note_left, begun, opened_with, leaf_opened, piece_taken, table_finished, has_text};
 
 use crate::definition::{LinkDefinition, take_definitions};
 use crate::leaf::{Leaf, Table};
+use crate::packed::{PackedBlock, block_at, push_block, set_block};
 use crate::piece::Piece;
 use std::alloc::{AllocError, Global};
 use tocmark_event::event::{BlockQuoteKind, HeadingLevel, MetadataBlockKind};
@@ -101,7 +102,7 @@ pub struct LeftList {
 /// has the number `line`, and of the pieces the first `kept` ones stay if it is closed now.
 #[derive(Drop)]
 pub struct BlocksSoFar {
-    pub blocks: Vec<Block>,
+    pub blocks: Vec<PackedBlock>,
     pub pieces: Vec<Piece>,
     pub definitions: Vec<LinkDefinition>,
     pub opened: Vec<Opened>,
@@ -119,21 +120,27 @@ pub struct BlocksSoFar {
 }
 
 #[tactic(auto, unfolding(crate::specs::Pages::ended))]
-fn end_block(blocks: &mut Vec<Block>, index: usize, end: usize)
-    ensures { blocks.new.items ≡ ended blocks.old.items index end }
+fn end_block(blocks: &mut Vec<PackedBlock>, index: usize, end: usize) -> Result<(), AllocError>
+    ensures { OnOk result (blocks.new.items ≡ ended blocks.old.items index end) }
 {
-    if let Some(block) = blocks.get_mut(index) {
-        block.end = end;
+    match block_at(blocks, index) {
+        None => Ok(()),
+        Some(block) => set_block(blocks, index, Block { end, ..block }),
     }
 }
 
 #[tactic(auto, unfolding(crate::specs::Pages::finished))]
-fn finish_block(blocks: &mut Vec<Block>, index: usize, end: usize, last: usize)
-    ensures { blocks.new.items ≡ finished blocks.old.items index end last }
+fn finish_block(
+    blocks: &mut Vec<PackedBlock>,
+    index: usize,
+    end: usize,
+    last: usize,
+) -> Result<(), AllocError>
+    ensures { OnOk result (blocks.new.items ≡ finished blocks.old.items index end last) }
 {
-    if let Some(block) = blocks.get_mut(index) {
-        block.end = end;
-        block.last = last;
+    match block_at(blocks, index) {
+        None => Ok(()),
+        Some(block) => set_block(blocks, index, Block { end, last, ..block }),
     }
 }
 
@@ -170,17 +177,32 @@ fn is_apart(opened: &[Opened], number: usize) -> bool
     }
 }
 
+fn make_loose(blocks: &mut Vec<PackedBlock>, index: usize) -> Result<(), AllocError>
+    ensures { OnOk result (blocks.new.items ≡ made_loose blocks.old.items index) }
+{
+    match block_at(blocks, index) {
+        None => Ok(()),
+        Some(block) => set_block(
+            blocks,
+            index,
+            Block {
+                loose: true,
+                ..block
+            },
+        ),
+    }
+}
+
 #[tactic(auto, unfolding(crate::specs::Pages::loosened))]
-fn loosen(blocks: &mut Vec<Block>, list: Option<usize>, apart: bool)
-    ensures { blocks.new.items ≡ loosened list apart blocks.old.items }
+fn loosen(blocks: &mut Vec<PackedBlock>, list: Option<usize>, apart: bool) -> Result<(), AllocError>
+    ensures { OnOk result (blocks.new.items ≡ loosened list apart blocks.old.items) }
 {
     if !apart {
-        return;
+        return Ok(());
     }
-    if let Some(index) = list {
-        if let Some(block) = blocks.get_mut(index) {
-            block.loose = true;
-        }
+    match list {
+        None => Ok(()),
+        Some(index) => make_loose(blocks, index),
     }
 }
 
@@ -254,12 +276,12 @@ pub fn is_definitions(container: Container) -> bool
     }
 }
 
-fn is_loose(blocks: &[Block], list: Option<usize>) -> bool
+fn is_loose(blocks: &[PackedBlock], list: Option<usize>) -> bool
     ensures { result ≡ is_loose blocks.now list }
 {
     match list {
         None => false,
-        Some(index) => blocks.get(index).map_or(false, |block| block.loose),
+        Some(index) => block_at(blocks, index).map_or(false, |block| block.loose),
     }
 }
 
@@ -275,16 +297,15 @@ fn pieces_from(pieces: &[Piece], first: usize) -> &[Piece]
 
 /// Takes the first lines of a paragraph from it.
 #[tactic(auto, unfolding(crate::specs::Pages::shortened))]
-fn shorten(blocks: &mut Vec<Block>, index: usize, pieces: &[Piece], count: usize)
-    ensures { blocks.new.items ≡ option_map_or
-        (λ b. slice_set blocks.old.items index (shortened b pieces.now count))
-        (slice_get blocks.old.items index) blocks.old.items }
+fn shortened(block: Block, pieces: &[Piece], count: usize) -> Block
+    ensures { result ≡ shortened block pieces.now count }
 {
-    if let Some(block) = blocks.get_mut(index) {
-        block.first = block.first.saturating_add(count);
-        if let Some(line) = pieces.get(block.first) {
-            block.start = line.start;
-        }
+    let first = block.first.saturating_add(count);
+    let start = pieces.get(first).map_or(block.start, |line| line.start);
+    Block {
+        first,
+        start,
+        ..block
     }
 }
 
@@ -319,23 +340,25 @@ impl BlocksSoFar {
 
     /// Ends the open leaf. Its pieces behind those that it keeps go.
     #[tactic(auto, unfolding(crate::specs::Pages::leaf_finished))]
-    pub fn finish_leaf(&mut self)
-        ensures { page self.new ≡ leaf_finished (page self.old) }
+    pub fn finish_leaf(&mut self) -> Result<(), AllocError>
+        ensures { OnOk result (page self.new ≡ leaf_finished (page self.old)) }
     {
         self.pieces.truncate(self.kept);
         let index = self.blocks.len().saturating_sub(1);
-        finish_block(&mut self.blocks, index, self.end, self.pieces.len());
+        finish_block(&mut self.blocks, index, self.end, self.pieces.len())?;
         self.leaf = Leaf::Nothing;
         self.raise(self.end, self.line);
+        Ok(())
     }
 
     #[tactic(auto, unfolding(crate::specs::Pages::table_finished))]
-    fn finish_table(&mut self, table: Table)
-        ensures { page self.new ≡ table_finished table (page self.old) }
+    fn finish_table(&mut self, table: Table) -> Result<(), AllocError>
+        ensures { OnOk result (page self.new ≡ table_finished table (page self.old)) }
     {
-        end_block(&mut self.blocks, table.block, self.end);
+        end_block(&mut self.blocks, table.block, self.end)?;
         self.leaf = Leaf::Nothing;
         self.raise(self.end, self.line);
+        Ok(())
     }
 
     /// Takes the definitions at the front of the open paragraph.
@@ -344,13 +367,14 @@ impl BlocksSoFar {
         ensures { OnOk result (page self.new ≡ settled text.now (page self.old)) }
     {
         let index = self.blocks.len().saturating_sub(1);
-        if let Some(block) = self.blocks.get(index) {
+        if let Some(block) = block_at(&self.blocks, index) {
             if block.task.is_some() {
                 return Ok(());
             }
             let lines = pieces_from(&self.pieces, block.first);
             let count = take_definitions(alloc, text, lines, &mut self.definitions)?;
-            shorten(&mut self.blocks, index, &self.pieces, count);
+            let behind = shortened(block, &self.pieces, count);
+            set_block(&mut self.blocks, index, behind)?;
         }
         Ok(())
     }
@@ -361,10 +385,10 @@ impl BlocksSoFar {
         ensures { OnOk result (page self.new ≡ leaf_closed text.now (page self.old)) }
     {
         match self.leaf {
-            Leaf::Nothing => {}
+            Leaf::Nothing => Ok(()),
             Leaf::Paragraph => {
                 self.settle(alloc, text)?;
-                self.finish_leaf();
+                self.finish_leaf()
             }
             Leaf::Indented => self.finish_leaf(),
             Leaf::Fenced(_) => self.finish_leaf(),
@@ -372,7 +396,6 @@ impl BlocksSoFar {
             Leaf::Metadata(_) => self.finish_leaf(),
             Leaf::Table(table) => self.finish_table(table),
         }
-        Ok(())
     }
 
     fn leave_quote(&mut self, container: Container)
@@ -386,25 +409,27 @@ impl BlocksSoFar {
 
     /// Closes the innermost container. The one round it reaches as far.
     #[tactic(auto, unfolding(crate::specs::Pages::one_closed))]
-    fn close_one(&mut self)
-        ensures { page self.new ≡ one_closed (page self.old) }
+    fn close_one(&mut self) -> Result<(), AllocError>
+        ensures { OnOk result (page self.new ≡ one_closed (page self.old)) }
     {
         let last = self.opened.len().saturating_sub(1);
         if let Some(one) = self.opened.get(last).copied() {
             self.opened.truncate(last);
-            end_block(&mut self.blocks, one.block, one.end);
+            end_block(&mut self.blocks, one.block, one.end)?;
             self.raise(one.end, one.line);
             self.leave_quote(one.container);
         }
+        Ok(())
     }
 
     #[tactic(auto, using(crate::proofs::Steps::times_zero, crate::proofs::Steps::times_more))]
-    fn close_some(&mut self, count: usize)
-        ensures { page self.new ≡ times one_closed count (page self.old) }
+    fn close_some(&mut self, count: usize) -> Result<(), AllocError>
+        ensures { OnOk result (page self.new ≡ times one_closed count (page self.old)) }
     {
         for _left in (0..count).rev() {
-            self.close_one();
+            self.close_one()?;
         }
+        Ok(())
     }
 
     /// Closes the open leaf and the containers from a depth on.
@@ -414,8 +439,7 @@ impl BlocksSoFar {
     {
         self.close_leaf(alloc, text)?;
         let extra = self.opened.len().saturating_sub(depth);
-        self.close_some(extra);
-        Ok(())
+        self.close_some(extra)
     }
 
     /// Notes that a list of definitions, which is closed now, was left for the next block.
@@ -434,29 +458,31 @@ impl BlocksSoFar {
 
     /// Closes the innermost container if it is a list.
     #[tactic(auto, unfolding(crate::specs::Pages::list_left))]
-    pub fn leave_list(&mut self)
-        ensures { page self.new ≡ list_left (page self.old) }
+    pub fn leave_list(&mut self) -> Result<(), AllocError>
+        ensures { OnOk result (page self.new ≡ list_left (page self.old)) }
     {
         let last = self.opened.len().saturating_sub(1);
         if let Some(one) = self.opened.get(last).copied() {
             if is_list(one.container) {
-                self.close_one();
+                self.close_one()?;
                 self.remember_left(one);
             }
         }
+        Ok(())
     }
 
     /// Closes the innermost container if it is the definition of a footnote.
     #[tactic(auto, unfolding(crate::specs::Pages::note_left))]
-    pub fn leave_note(&mut self)
-        ensures { page self.new ≡ note_left (page self.old) }
+    pub fn leave_note(&mut self) -> Result<(), AllocError>
+        ensures { OnOk result (page self.new ≡ note_left (page self.old)) }
     {
         let last = self.opened.len().saturating_sub(1);
         if let Some(one) = self.opened.get(last).copied() {
             if is_note(one.container) {
-                self.close_one();
+                self.close_one()?;
             }
         }
+        Ok(())
     }
 
     /// Begins a block in the innermost container.
@@ -465,20 +491,22 @@ impl BlocksSoFar {
         ensures { OnOk result (page self.new ≡ begun kind start number (page self.old)) }
     {
         let list = list_of(&self.opened);
-        loosen(&mut self.blocks, list, is_apart(&self.opened, number));
+        loosen(&mut self.blocks, list, is_apart(&self.opened, number))?;
         mark_had(&mut self.opened);
-        self.blocks.push(Block {
-            depth: self.opened.len(),
-            kind,
-            start,
-            end: start,
-            first: self.pieces.len(),
-            last: self.pieces.len(),
-            loose: false,
-            list,
-            task: None,
-        })?;
-        Ok(())
+        push_block(
+            &mut self.blocks,
+            Block {
+                depth: self.opened.len(),
+                kind,
+                start,
+                end: start,
+                first: self.pieces.len(),
+                last: self.pieces.len(),
+                loose: false,
+                list,
+                task: None,
+            },
+        )
     }
 
     fn enter_quote(&mut self, container: Container) -> Result<(), AllocError>
@@ -524,7 +552,7 @@ impl BlocksSoFar {
     ) -> Result<(), AllocError>
         ensures { OnOk result (page self.new ≡ leaf_opened leaf kind start line (page self.old)) }
     {
-        self.leave_list();
+        self.leave_list()?;
         self.begin(kind, start, line.number)?;
         self.leaf = leaf;
         self.end = line.end;
@@ -562,11 +590,7 @@ impl BlocksSoFar {
     pub fn has_text(&self) -> bool
         ensures { result ≡ has_text (page self.now) }
     {
-        match self
-            .blocks
-            .get(self.blocks.len().saturating_sub(1))
-            .copied()
-        {
+        match block_at(&self.blocks, self.blocks.len().saturating_sub(1)) {
             None => false,
             Some(block) => block.first < self.pieces.len(),
         }

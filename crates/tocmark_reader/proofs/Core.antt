@@ -4,7 +4,6 @@ use Rattle.tocmark_event.specs.Reading.{ReadingView}
 use Rattle.tocmark_read_scan.specs.declared.syntax.Syntax.{Syntax}
 use Rattle.tocmark_read_scan.specs.declared.syntax.TheConstants.{CORE}
 use Rattle.tocmark_read_scan.specs.declared.syntax.Names.TheVariants.{Four}
-use Rattle.tocmark_event.specs.declared.event.flags.ParserOptions.{ParserOptions}
 use Rattle.tocmark_reader.specs.Reading.{core_reading, reading_of}
 use Rattle.tocmark_reader.specs.Flags.{syntax_of}
 

@@ -1,5 +1,5 @@
 -- Look-ups in a map are those in the list that it was made of.
-use Rattle.std.proofs.Common.{◌≡◌, ℕ, Bool, List, ap}
+use Rattle.std.proofs.Common.{◌≡◌, ℕ, List, ap}
 use Rattle.std.specs.HashMap.{get_by_text}
 use mathlib.Core.Path.{fun_ext}
 use Rattle.tocmark_read_tokens.specs.Label.{first_place}

@@ -4,7 +4,7 @@ use Rattle.std.specs.List.{fold}
 use Rattle.tocmark_read_scan.specs.Basic.{bytes_between}
 use Rattle.tocmark_reader.specs.Words.{cleaned}
 use Rattle.tocmark_event.specs.Text.{ParserEvent, text_of}
-use Rattle.tocmark_event.specs.View.{EventView, Start, End, Leaf, TagView, LeafView, Text, Code, Html, InlineHtml, SoftBreak, HardBreak, Rule, TaskListMarker, FootnoteReference, InlineMath, DisplayMath, tag_view, event_view, end_of}
+use Rattle.tocmark_event.specs.View.{EventView, Start, End, Leaf, TagView, LeafView, Text, event_view, end_of}
 use Rattle.tocmark_reader.specs.Range.{snapped}
 use Rattle.tocmark_reader.specs.declared.emit.Emission.{Emission}
 use Rattle.tocmark_reader.specs.declared.emit.Open.{Open}

@@ -17,6 +17,7 @@ use std::alloc::{AllocError, Global};
 use std::mem;
 use tocmark_event::event::Event;
 use tocmark_read_inlines::inlines::{Inlines, SpareLists, read_cell, read_inlines};
+use tocmark_read_page::packed::PackedBlock;
 use tocmark_read_page::page::{Block, BlockKind};
 use tocmark_read_page::piece::Piece;
 use tocmark_read_scan::content::{Content, ContentLine, content_of};
@@ -25,12 +26,12 @@ use tocmark_read_scan::table_cell::cell_content;
 use tocmark_read_spans::definitions::Definitions;
 
 /// For each block whether it is a loose list.
-pub(crate) fn loose_lists(alloc: Global, blocks: &[Block]) -> Result<Vec<bool>, AllocError>
+pub(crate) fn loose_lists(alloc: Global, blocks: &[PackedBlock]) -> Result<Vec<bool>, AllocError>
     ensures { IfOk result (λ loose. loose.items ≡ loose_lists blocks.now) }
 {
     let mut loose = Vec::with_capacity(alloc, blocks.len())?;
     for block in blocks {
-        loose.push(block.loose)?;
+        loose.push(block.block().loose)?;
     }
     Ok(loose)
 }

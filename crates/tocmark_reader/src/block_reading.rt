@@ -10,6 +10,7 @@ use crate::searched::SearchedText;
 use std::alloc::{AllocError, Global};
 use std::mem;
 use tocmark_event::reader::Reading;
+use tocmark_read_page::packed::PackedBlock;
 use tocmark_read_page::page::{Block, BlockKind};
 use tocmark_read_page::piece::Piece;
 use tocmark_read_scan::syntax::Syntax;
@@ -34,7 +35,7 @@ pub struct BlockReading<'t> {
     pub(crate) syntax: Syntax,
     pub(crate) text: SearchedText<'t>,
     /// The blocks whose events aren't made yet, the next one last.
-    pub(crate) blocks: Vec<Block>,
+    pub(crate) blocks: Vec<PackedBlock>,
     /// For each block of the text whether it is a loose list.
     pub(crate) loose: Vec<bool>,
     pub(crate) pieces: Vec<Piece>,
@@ -96,9 +97,9 @@ impl BlockReading<'_> {
     fn is_at_tree(&self) -> bool
         ensures { result ≡ is_at_tree self.now }
     {
-        match self.blocks.last().copied() {
+        match self.blocks.last() {
             None => true,
-            Some(block) => begins_tree(block),
+            Some(packed) => begins_tree(packed.block()),
         }
     }
 
@@ -116,9 +117,10 @@ impl BlockReading<'_> {
         ensures fewer { 0 < length self.old.blocks.items
             → length self.new.blocks.items + 1 ≡ length self.old.blocks.items }
     {
-        let Some(block) = self.blocks.pop() else {
+        let Some(packed) = self.blocks.pop() else {
             return Ok(());
         };
+        let block = packed.block();
         let unwrapped = is_unwrapped(&self.loose, block);
         let document = Document {
             syntax: self.syntax,
@@ -132,11 +134,12 @@ impl BlockReading<'_> {
     /// How many events the next tree is likely to have, or the next part of it.
     fn likely_in_tree(&self) -> usize {
         let mut all = 0usize;
-        for block in self.blocks.iter().rev() {
-            if all >= STRETCH || (all > 0 && begins_tree(*block)) {
+        for packed in self.blocks.iter().rev() {
+            let block = packed.block();
+            if all >= STRETCH || (all > 0 && begins_tree(block)) {
                 break;
             }
-            all = all.saturating_add(likely_in_block(*block));
+            all = all.saturating_add(likely_in_block(block));
         }
         all
     }

@@ -220,7 +220,7 @@ fn places_in(alloc: Global, text: &[u8], found: &Blocks) -> Result<Vec<Definitio
     let mut all = Vec::new(alloc);
     let mut next = 0usize;
     for block in &found.blocks {
-        next = place_step(alloc, text, &found.pieces, &mut all, next, *block)?;
+        next = place_step(alloc, text, &found.pieces, &mut all, next, block.block())?;
     }
     Ok(all)
 }

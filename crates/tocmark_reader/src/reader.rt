@@ -20,7 +20,8 @@ use tocmark_event::event::ParserOptions;
 use tocmark_event::reader::{Reader, Reading};
 use tocmark_read_blocks::{Blocks, read_blocks};
 use tocmark_read_page::definition::LinkDefinition;
-use tocmark_read_page::page::{Block, BlockKind};
+use tocmark_read_page::packed::PackedBlock;
+use tocmark_read_page::page::BlockKind;
 use tocmark_read_scan::basic::bytes_between;
 use tocmark_read_scan::syntax::{CORE, Names, Syntax};
 use tocmark_read_spans::definitions::{Collected, Definitions, Entry, distinct_labels};
@@ -76,13 +77,13 @@ fn note_all(
     alloc: Global,
     collected: &mut Collected,
     text: &[u8],
-    blocks: &[Block],
+    blocks: &[PackedBlock],
 ) -> Result<(), AllocError>
     ensures { OnOk result (collected_view collected.new
         ≡ noted text.now blocks.now (collected_view collected.old)) }
 {
     for block in blocks {
-        note(alloc, collected, text, block.kind)?;
+        note(alloc, collected, text, block.block().kind)?;
     }
     Ok(())
 }

@@ -1,4 +1,4 @@
-use Rattle.std.proofs.Common.{◌≡◌, ℕ, Option, sym, ap, ◌∙◌, arith}
+use Rattle.std.proofs.Common.{ℕ, Option, sym, ap, ◌∙◌, arith}
 use Rattle.tocmark_read_scan.proofs.Repeats.{repeated_stop}
 use Rattle.tocmark_read_constructs.specs.Tables.{count_once}
 use Rattle.tocmark_read_constructs.proofs.table.cell_count.Goals as goal

@@ -1,6 +1,6 @@
-use Rattle.std.proofs.Common.{◌≡◌, length}
+use Rattle.std.proofs.Common.{◌≡◌}
 use Rattle.tocmark_read_scan.specs.Repeat.{repeated}
-use Rattle.tocmark_read_constructs.specs.Tables.{count_once, first_cell, cell_count}
+use Rattle.tocmark_read_constructs.specs.Tables.{count_once, cell_count}
 use Rattle.tocmark_read_constructs.proofs.table.cell_count.Given as goal
 
 abbrev pub invariant-loop-steps_left : goal.invariant-loop-steps_left

@@ -1,4 +1,4 @@
-use Rattle.std.proofs.Common.{rules, ◌≡◌, ℕ, List, [], false, length, map, refl, ap, ◌∙◌, string_bytes, true}
+use Rattle.std.proofs.Common.{rules, ◌≡◌, ℕ, List, [], false, length, map, refl, ap, string_bytes, true}
 use Rattle.std.specs.Prelude.{◌==◌}
 use Rattle.std.proofs.lemmas.Bool.{eqb-true}
 use Rattle.std.proofs.lemmas.List.{nil_from_length}

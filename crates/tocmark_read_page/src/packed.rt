@@ -1,0 +1,308 @@
+//! Blocks as they are kept while a text is read: in 24 bytes each, so that a list of short items or a table of short cells
+//! takes little memory.
+
+ghost use Rattle.std.specs.Prelude.{ℕ, ◌≡◌, ◌<◌, ◌≤◌, ◌-◌, ◌^◌, ◌++◌, ◌∷◌, [], true, false, None, OnOk, IfOk, slice_get, slice_set};
+ghost use Rattle.std.specs.Option.{IfSome};
+ghost use Rattle.tocmark_read_page.specs.declared.page.Block.{Block};
+ghost use Rattle.tocmark_read_page.specs.declared.page.BlockKind.TheVariants as kind;
+ghost use Rattle.tocmark_read_page.specs.Packed.{block_in, kind_in, list_in, is_loose_in};
+
+use crate::page::{Block, BlockKind};
+use std::alloc::{AllocError, Global};
+use std::marker::Model;
+use tocmark_event::event::HeadingLevel;
+
+/// The kind of a block that is kept in few bytes. The flag of a list says that it is loose.
+#[derive(Clone, Copy)]
+enum SmallKind {
+    Quote,
+    Bullets(bool),
+    /// A list with its first number.
+    Numbers(bool, u8),
+    Item,
+    Paragraph,
+    Heading(HeadingLevel),
+    Indented,
+    /// How many bytes behind the start of a fenced code block its info string begins, and how many it has.
+    Fenced(u8, u8),
+    Html,
+    Rule,
+    TableHead,
+    TableRow,
+    TableCell,
+    DefinitionList,
+    DefinitionListTitle,
+    DefinitionListDefinition,
+}
+
+/// How a block is kept.
+#[derive(Drop)]
+enum Form {
+    /// In few bytes: its depth, how many pieces it has, its range, its first piece, and the number of its list with one
+    /// added, or 0 where it has none.
+    Small(SmallKind, u16, u16, u32, u32, u32, u32),
+    /// Whole, where a number is too large for that, and where its kind or a task wants more room.
+    Whole(Box<Block>),
+}
+
+/// A block in 24 bytes. A block that doesn't fit stands on the heap.
+#[derive(Drop)]
+pub struct PackedBlock {
+    form: Form,
+}
+
+const _: () = prove!(std::mem::size_of::<PackedBlock>() == 24);
+
+impl Model for PackedBlock {
+    ghost Value = { Block };
+
+    ghost view = { λ p. block_in p.form };
+}
+
+#[tactic(auto, unfolding(crate::specs::Packed::kind_in))]
+fn kind_of(kind: SmallKind, start: u32) -> BlockKind
+    ensures { result ≡ kind_in start kind }
+{
+    match kind {
+        SmallKind::Quote => BlockKind::Quote(None),
+        SmallKind::Bullets(_) => BlockKind::List(None),
+        SmallKind::Numbers(_, first) => BlockKind::List(Some(u64::from(first))),
+        SmallKind::Item => BlockKind::Item,
+        SmallKind::Paragraph => BlockKind::Paragraph,
+        SmallKind::Heading(level) => BlockKind::Heading(level, None),
+        SmallKind::Indented => BlockKind::Indented,
+        SmallKind::Fenced(behind, length) => {
+            let from = start as usize + behind as usize;
+            BlockKind::Fenced(from, from + length as usize)
+        }
+        SmallKind::Html => BlockKind::Html,
+        SmallKind::Rule => BlockKind::Rule,
+        SmallKind::TableHead => BlockKind::TableHead,
+        SmallKind::TableRow => BlockKind::TableRow,
+        SmallKind::TableCell => BlockKind::TableCell,
+        SmallKind::DefinitionList => BlockKind::DefinitionList,
+        SmallKind::DefinitionListTitle => BlockKind::DefinitionListTitle,
+        SmallKind::DefinitionListDefinition => BlockKind::DefinitionListDefinition,
+    }
+}
+
+#[tactic(auto, unfolding(crate::specs::Packed::is_loose_in))]
+fn is_loose(kind: SmallKind) -> bool
+    ensures { result ≡ is_loose_in kind }
+{
+    match kind {
+        SmallKind::Bullets(loose) | SmallKind::Numbers(loose, _) => loose,
+        _ => false,
+    }
+}
+
+#[tactic(auto, unfolding(crate::specs::Packed::list_in))]
+fn list_of(list: u32) -> Option<usize>
+    ensures { result ≡ list_in list }
+{
+    if list == 0 {
+        None
+    } else {
+        Some(list as usize - 1)
+    }
+}
+
+/// The kind of a fenced code block whose info string is short and stands near its start.
+#[tactic(auto, unfolding(crate::specs::Packed::kind_in, crate::specs::Packed::is_loose_in))]
+fn fenced(start: usize, from: usize, to: usize) -> Option<SmallKind>
+    ensures kind { IfSome result (λ small. kind_in start small ≡ kind.Fenced from to) }
+    ensures loose { IfSome result (λ small. is_loose_in small ≡ false) }
+{
+    if start <= from && from <= to && from - start < 256 && to - from < 256 {
+        Some(SmallKind::Fenced((from - start) as u8, (to - from) as u8))
+    } else {
+        None
+    }
+}
+
+/// The kind of a list whose first number is small.
+#[tactic(auto, unfolding(crate::specs::Packed::kind_in, crate::specs::Packed::is_loose_in))]
+fn list(loose: bool, first: Option<u64>) -> Option<SmallKind>
+    ensures kind { IfSome result (λ small. (start : ℕ) → kind_in start small ≡ kind.List first) }
+    ensures loose { IfSome result (λ small. is_loose_in small ≡ loose) }
+{
+    match first {
+        None => Some(SmallKind::Bullets(loose)),
+        Some(number) => {
+            if number < 256 {
+                Some(SmallKind::Numbers(loose, number as u8))
+            } else {
+                None
+            }
+        }
+    }
+}
+
+/// The kind of a block that is no list, if it is small.
+#[tactic(auto, unfolding(crate::specs::Packed::kind_in, crate::specs::Packed::is_loose_in))]
+fn other(start: usize, kind: BlockKind) -> Option<SmallKind>
+    ensures kind { IfSome result (λ small. kind_in start small ≡ kind) }
+    ensures loose { IfSome result (λ small. is_loose_in small ≡ false) }
+{
+    match kind {
+        BlockKind::Quote(None) => Some(SmallKind::Quote),
+        BlockKind::Item => Some(SmallKind::Item),
+        BlockKind::Paragraph => Some(SmallKind::Paragraph),
+        BlockKind::Heading(level, None) => Some(SmallKind::Heading(level)),
+        BlockKind::Indented => Some(SmallKind::Indented),
+        BlockKind::Fenced(from, to) => fenced(start, from, to),
+        BlockKind::Html => Some(SmallKind::Html),
+        BlockKind::Rule => Some(SmallKind::Rule),
+        BlockKind::TableHead => Some(SmallKind::TableHead),
+        BlockKind::TableRow => Some(SmallKind::TableRow),
+        BlockKind::TableCell => Some(SmallKind::TableCell),
+        BlockKind::DefinitionList => Some(SmallKind::DefinitionList),
+        BlockKind::DefinitionListTitle => Some(SmallKind::DefinitionListTitle),
+        BlockKind::DefinitionListDefinition => Some(SmallKind::DefinitionListDefinition),
+        _ => None,
+    }
+}
+
+/// The kind of a block in few bytes, if it is small. Of the others than lists none is loose.
+fn small_kind(block: Block) -> Option<SmallKind>
+    ensures kind { IfSome result (λ small. kind_in block.start small ≡ block.kind) }
+    ensures loose { IfSome result (λ small. is_loose_in small ≡ block.loose) }
+{
+    match block.kind {
+        BlockKind::List(first) => list(block.loose, first),
+        kind => {
+            if block.loose {
+                None
+            } else {
+                other(block.start, kind)
+            }
+        }
+    }
+}
+
+/// The number of a list with one added, if it is small; 0 for none.
+#[tactic(auto, unfolding(crate::specs::Packed::list_in))]
+fn list_number(list: Option<usize>) -> Option<u32>
+    ensures { IfSome result (λ number. list_in number ≡ list) }
+{
+    match list {
+        None => Some(0),
+        Some(number) => {
+            if number < 0xFFFF_FFFF {
+                Some(number as u32 + 1)
+            } else {
+                None
+            }
+        }
+    }
+}
+
+/// Whether the numbers of a block fit into few bytes.
+fn fits(block: Block) -> bool
+    ensures { result ≡ true → (block.depth < 65536) × (block.start < 2 ^ 32) × (block.end < 2 ^ 32) × (block.first < 2 ^ 32) × (block.first ≤ block.last) × (block.last - block.first < 65536) × (block.task ≡ None) }
+{
+    block.depth < 65536
+        && block.start <= 0xFFFF_FFFF
+        && block.end <= 0xFFFF_FFFF
+        && block.first <= block.last
+        && block.first <= 0xFFFF_FFFF
+        && block.last - block.first < 65536
+        && block.task.is_none()
+}
+
+/// A block in few bytes, if it fits.
+#[tactic(auto, unfolding(crate::specs::Packed::block_in))]
+fn small(block: Block) -> Option<Form>
+    ensures { IfSome result (λ form. block_in form ≡ block) }
+{
+    if !fits(block) {
+        return None;
+    }
+    let kind = small_kind(block)?;
+    let list = list_number(block.list)?;
+    Some(Form::Small(
+        kind,
+        block.depth as u16,
+        (block.last - block.first) as u16,
+        block.start as u32,
+        block.end as u32,
+        block.first as u32,
+        list,
+    ))
+}
+
+#[tactic(auto, unfolding(crate::specs::Packed::block_in))]
+fn form_of(alloc: Global, block: Block) -> Result<Form, AllocError>
+    ensures { IfOk result (λ form. block_in form ≡ block) }
+{
+    match small(block) {
+        Some(form) => Ok(form),
+        None => Ok(Form::Whole(Box::new(alloc, block)?)),
+    }
+}
+
+impl PackedBlock {
+    /// Takes a block into few bytes, or onto the heap where it doesn't fit.
+    pub fn new(alloc: Global, block: Block) -> Result<PackedBlock, AllocError>
+        ensures { IfOk result (λ packed. packed ≡ block) }
+    {
+        let form = form_of(alloc, block)?;
+        Ok(PackedBlock { form })
+    }
+
+    /// The block.
+    #[tactic(auto, unfolding(crate::specs::Packed::block_in))]
+    pub fn block(&self) -> Block
+        ensures { result ≡ self.now }
+    {
+        match &self.form {
+            Form::Whole(block) => **block,
+            Form::Small(kind, depth, count, start, end, first, list) => Block {
+                depth: usize::from(*depth),
+                kind: kind_of(*kind, *start),
+                start: *start as usize,
+                end: *end as usize,
+                first: *first as usize,
+                last: *first as usize + usize::from(*count),
+                loose: is_loose(*kind),
+                list: list_of(*list),
+                task: None,
+            },
+        }
+    }
+}
+
+/// The block at a place of a list.
+pub fn block_at(blocks: &[PackedBlock], place: usize) -> Option<Block>
+    ensures { result ≡ slice_get blocks.now place }
+{
+    match blocks.get(place) {
+        None => None,
+        Some(packed) => Some(packed.block()),
+    }
+}
+
+/// Puts a block behind the others.
+pub fn push_block(blocks: &mut Vec<PackedBlock>, block: Block) -> Result<(), AllocError>
+    ensures { OnOk result (blocks.new.items ≡ blocks.old.items ++ block ∷ []) }
+{
+    let alloc = *blocks.allocator();
+    blocks.push(PackedBlock::new(alloc, block)?)?;
+    Ok(())
+}
+
+/// Puts a block in the place of another; nothing changes where the list is shorter.
+pub fn set_block(
+    blocks: &mut Vec<PackedBlock>,
+    place: usize,
+    block: Block,
+) -> Result<(), AllocError>
+    ensures { OnOk result (blocks.new.items ≡ slice_set blocks.old.items place block) }
+{
+    let alloc = *blocks.allocator();
+    let packed = PackedBlock::new(alloc, block)?;
+    if place < blocks.len() {
+        blocks[place] = packed;
+    }
+    Ok(())
+}
