@@ -343,6 +343,8 @@ impl Part {
         if let Role::Item = container.role {
             match mark {
                 Mark::Start(Opening::Paragraph) => self.set(list, Spread::Loose),
+                // a box alone says nothing
+                Mark::TaskBox => {}
                 _ if is_inline => self.tell(list, Spread::Tight),
                 _ => {}
             }

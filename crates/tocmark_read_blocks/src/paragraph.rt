@@ -8,8 +8,8 @@ use std::alloc::{AllocError, Global};
 use tocmark_read_lines::cell::cell_place;
 use tocmark_read_page::leaf::{Leaf, is_paragraph};
 use tocmark_read_page::line_start::{LineStart, Row};
-use tocmark_read_page::packed::{block_at, set_block};
-use tocmark_read_page::page::{Block, BlockKind, BlocksSoFar};
+use tocmark_read_page::packed::set_start_at;
+use tocmark_read_page::page::{BlockKind, BlocksSoFar};
 use tocmark_read_page::piece::text_piece;
 
 /// Where the open paragraph has no line, it begins with this one.
@@ -18,9 +18,9 @@ fn start_text(so_far: &mut BlocksSoFar, start: usize) -> Result<(), AllocError>
     ensures { OnOk result (page so_far.new ≡ text_started start (page so_far.old)) }
 {
     let index = so_far.blocks.len().saturating_sub(1);
-    if let Some(block) = block_at(&so_far.blocks, index) {
-        if so_far.pieces.len() <= block.first {
-            set_block(&mut so_far.blocks, index, Block { start, ..block })?;
+    if let Some(block) = so_far.blocks.get(index) {
+        if so_far.pieces.len() <= block.first() {
+            set_start_at(&mut so_far.blocks, index, start)?;
         }
     }
     Ok(())

@@ -85,9 +85,9 @@ fn is_new_quote(so_far: &BlocksSoFar, line: Line) -> bool
 fn begins_in(so_far: &BlocksSoFar, line: Line, index: usize) -> bool
     ensures { result ≡ begins_in line (slice_get so_far.now.blocks.items index) }
 {
-    match block_at(&so_far.blocks, index) {
+    match so_far.blocks.get(index) {
         None => false,
-        Some(block) => line.start <= block.start,
+        Some(block) => line.start <= block.start(),
     }
 }
 

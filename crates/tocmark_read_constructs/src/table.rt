@@ -523,9 +523,9 @@ pub fn take_row(
 fn is_sole_line(so_far: &BlocksSoFar) -> bool
     ensures { result ≡ is_sole_line (page so_far.now) }
 {
-    match last_block(so_far) {
+    match so_far.blocks.get(so_far.blocks.len().saturating_sub(1)) {
         None => false,
-        Some(block) => block.first.saturating_add(1) == so_far.pieces.len(),
+        Some(block) => block.first().saturating_add(1) == so_far.pieces.len(),
     }
 }
 
@@ -534,9 +534,9 @@ fn is_sole_line(so_far: &BlocksSoFar) -> bool
 fn may_have_header(so_far: &BlocksSoFar) -> bool
     ensures { result ≡ may_have_header (page so_far.now) }
 {
-    match last_block(so_far) {
+    match so_far.blocks.get(so_far.blocks.len().saturating_sub(1)) {
         None => false,
-        Some(block) => block.first < so_far.pieces.len() && block.task.is_none(),
+        Some(block) => block.first() < so_far.pieces.len() && !block.has_task(),
     }
 }
 

@@ -3,8 +3,9 @@
 //!
 //! Below it stands `tocmark_read_lines`, above it `tocmark_read_constructs`, whose files read one construct each, and
 //! `tocmark_read_blocks`, which goes from line to line. Enter at `page`: the methods of `BlocksSoFar` open and close leaves
-//! and containers. `leaf` has the leaf that is open, `piece` what it keeps of a line, and `definition` the definitions of
-//! links in front of a paragraph. `line_start` has the line and the place of it that readers of blocks are lent.
+//! and containers. `packed` keeps each block in 24 bytes. `leaf` has the leaf that is open, `piece` what it keeps of a line,
+//! and `definition` the definitions of links in front of a paragraph. `line_start` has the line and the place of it that
+//! readers of blocks are lent.
 #![tactic(auto)]
 
 pub mod definition;

@@ -1,8 +1,10 @@
-//! Blocks as they are kept while a text is read: in 24 bytes each, so that a list of short items or a table of short cells
-//! takes little memory.
+//! Blocks as the reader keeps them: in 24 bytes each, so that a list of short items and a table of short cells take little
+//! memory. `Block` has 120 bytes.
+//!
+//! To a clause a `PackedBlock` is its `Block`, so that a list of them is a list of blocks.
 
 ghost use Rattle.std.specs.Prelude.{ℕ, ◌≡◌, ◌<◌, ◌≤◌, ◌-◌, ◌^◌, ◌++◌, ◌∷◌, [], true, false, None, OnOk, IfOk, slice_get, slice_set};
-ghost use Rattle.std.specs.Option.{IfSome};
+ghost use Rattle.std.specs.Option.{IfSome, is_some, option_map_or};
 ghost use Rattle.tocmark_read_page.specs.declared.page.Block.{Block};
 ghost use Rattle.tocmark_read_page.specs.declared.page.BlockKind.TheVariants as kind;
 ghost use Rattle.tocmark_read_page.specs.Packed.{block_in, kind_in, list_in, is_loose_in};
@@ -38,9 +40,19 @@ enum SmallKind {
 /// How a block is kept.
 #[derive(Drop)]
 enum Form {
-    /// In few bytes: its depth, how many pieces it has, its range, its first piece, and the number of its list with one
-    /// added, or 0 where it has none.
-    Small(SmallKind, u16, u16, u32, u32, u32, u32),
+    /// In few bytes.
+    Small {
+        kind: SmallKind,
+        depth: u16,
+        /// How many pieces it has.
+        count: u16,
+        start: u32,
+        end: u32,
+        /// Its first piece.
+        first: u32,
+        /// The number of its list with one added; 0 where it has none.
+        list: u32,
+    },
     /// Whole, where a number is too large for that, and where its kind or a task wants more room.
     Whole(Box<Block>),
 }
@@ -220,15 +232,15 @@ fn small(block: Block) -> Option<Form>
     }
     let kind = small_kind(block)?;
     let list = list_number(block.list)?;
-    Some(Form::Small(
+    Some(Form::Small {
         kind,
-        block.depth as u16,
-        (block.last - block.first) as u16,
-        block.start as u32,
-        block.end as u32,
-        block.first as u32,
+        depth: block.depth as u16,
+        count: (block.last - block.first) as u16,
+        start: block.start as u32,
+        end: block.end as u32,
+        first: block.first as u32,
         list,
-    ))
+    })
 }
 
 #[tactic(auto, unfolding(crate::specs::Packed::block_in))]
@@ -241,6 +253,51 @@ fn form_of(alloc: Global, block: Block) -> Result<Form, AllocError>
     }
 }
 
+/// Changes the end where it stands, if there is room for it.
+#[tactic(auto, unfolding(crate::specs::Packed::block_in))]
+fn set_end(form: &mut Form, to: usize) -> bool
+    ensures done { result ≡ true → block_in form.new ≡ record (block_in form.old) { end = to } }
+    ensures not_done { result ≡ false → form.new ≡ form.old }
+{
+    match form {
+        Form::Whole(block) => {
+            block.end = to;
+            true
+        }
+        Form::Small { end, .. } => {
+            if to <= 0xFFFF_FFFF {
+                *end = to as u32;
+                true
+            } else {
+                false
+            }
+        }
+    }
+}
+
+/// Changes how many pieces there are, if there is room for it.
+#[tactic(auto, unfolding(crate::specs::Packed::block_in))]
+fn set_last(form: &mut Form, to: usize) -> bool
+    ensures done { result ≡ true → block_in form.new ≡ record (block_in form.old) { last = to } }
+    ensures not_done { result ≡ false → form.new ≡ form.old }
+{
+    match form {
+        Form::Whole(block) => {
+            block.last = to;
+            true
+        }
+        Form::Small { first, count, .. } => {
+            let from = *first as usize;
+            if from <= to && to - from < 65536 {
+                *count = (to - from) as u16;
+                true
+            } else {
+                false
+            }
+        }
+    }
+}
+
 impl PackedBlock {
     /// Takes a block into few bytes, or onto the heap where it doesn't fit.
     pub fn new(alloc: Global, block: Block) -> Result<PackedBlock, AllocError>
@@ -250,6 +307,154 @@ impl PackedBlock {
         Ok(PackedBlock { form })
     }
 
+    /// Whether the block is a loose list.
+    #[tactic(auto, unfolding(crate::specs::Packed::block_in))]
+    pub fn is_loose(&self) -> bool
+        ensures { result ≡ self.now.loose }
+    {
+        match &self.form {
+            Form::Whole(block) => block.loose,
+            Form::Small { kind, .. } => is_loose(*kind),
+        }
+    }
+
+    /// The depth of the block.
+    #[tactic(auto, unfolding(crate::specs::Packed::block_in))]
+    pub fn depth(&self) -> usize
+        ensures { result ≡ self.now.depth }
+    {
+        match &self.form {
+            Form::Whole(block) => block.depth,
+            Form::Small { depth, .. } => usize::from(*depth),
+        }
+    }
+
+    /// The list of an item, or of a block that stands directly in an item.
+    #[tactic(auto, unfolding(crate::specs::Packed::block_in))]
+    pub fn list(&self) -> Option<usize>
+        ensures { result ≡ self.now.list }
+    {
+        match &self.form {
+            Form::Whole(block) => block.list,
+            Form::Small { list, .. } => list_of(*list),
+        }
+    }
+
+    /// What the block is.
+    #[tactic(auto, unfolding(crate::specs::Packed::block_in))]
+    pub fn kind(&self) -> BlockKind
+        ensures { result ≡ self.now.kind }
+    {
+        match &self.form {
+            Form::Whole(block) => block.kind,
+            Form::Small { kind, start, .. } => kind_of(*kind, *start),
+        }
+    }
+
+    /// Where the block begins.
+    #[tactic(auto, unfolding(crate::specs::Packed::block_in))]
+    pub fn start(&self) -> usize
+        ensures { result ≡ self.now.start }
+    {
+        match &self.form {
+            Form::Whole(block) => block.start,
+            Form::Small { start, .. } => *start as usize,
+        }
+    }
+
+    /// The first piece of a leaf.
+    #[tactic(auto, unfolding(crate::specs::Packed::block_in))]
+    pub fn first(&self) -> usize
+        ensures { result ≡ self.now.first }
+    {
+        match &self.form {
+            Form::Whole(block) => block.first,
+            Form::Small { first, .. } => *first as usize,
+        }
+    }
+
+    /// The place behind the last piece of a leaf.
+    #[tactic(auto, unfolding(crate::specs::Packed::block_in))]
+    pub fn last(&self) -> usize
+        ensures { result ≡ self.now.last }
+    {
+        match &self.form {
+            Form::Whole(block) => block.last,
+            Form::Small { first, count, .. } => *first as usize + usize::from(*count),
+        }
+    }
+
+    /// Whether the block has the box of a task.
+    #[tactic(auto, unfolding(crate::specs::Packed::block_in))]
+    pub fn has_task(&self) -> bool
+        ensures { result ≡ is_some self.now.task }
+    {
+        match &self.form {
+            Form::Whole(block) => block.task.is_some(),
+            Form::Small { .. } => false,
+        }
+    }
+
+    /// Puts another block in its place.
+    fn replace(&mut self, alloc: Global, block: Block) -> Result<(), AllocError>
+        ensures { OnOk result (self.new ≡ block) }
+    {
+        let form = form_of(alloc, block)?;
+        self.form = form;
+        Ok(())
+    }
+
+    /// Ends the block, behind its last piece.
+    pub fn finish(&mut self, alloc: Global, end: usize, last: usize) -> Result<(), AllocError>
+        ensures { OnOk result (self.new ≡ record self.old { end = end; last = last }) }
+    {
+        if set_end(&mut self.form, end) && set_last(&mut self.form, last) {
+            return Ok(());
+        }
+        let block = self.block();
+        self.replace(alloc, Block { end, last, ..block })
+    }
+
+    /// Gives the block another start.
+    pub fn set_start(&mut self, alloc: Global, start: usize) -> Result<(), AllocError>
+        ensures { OnOk result (self.new ≡ record self.old { start = start }) }
+    {
+        if self.start() == start {
+            return Ok(());
+        }
+        let block = self.block();
+        self.replace(alloc, Block { start, ..block })
+    }
+
+    /// Gives a leaf another first piece and another start.
+    pub fn set_front(&mut self, alloc: Global, first: usize, start: usize) -> Result<(), AllocError>
+        ensures { OnOk result (self.new ≡ record self.old { first = first; start = start }) }
+    {
+        if self.first() == first {
+            return self.set_start(alloc, start);
+        }
+        let block = self.block();
+        self.replace(
+            alloc,
+            Block {
+                first,
+                start,
+                ..block
+            },
+        )
+    }
+
+    /// Gives the block another end.
+    pub fn set_end(&mut self, alloc: Global, end: usize) -> Result<(), AllocError>
+        ensures { OnOk result (self.new ≡ record self.old { end = end }) }
+    {
+        if set_end(&mut self.form, end) {
+            return Ok(());
+        }
+        let block = self.block();
+        self.replace(alloc, Block { end, ..block })
+    }
+
     /// The block.
     #[tactic(auto, unfolding(crate::specs::Packed::block_in))]
     pub fn block(&self) -> Block
@@ -257,7 +462,15 @@ impl PackedBlock {
     {
         match &self.form {
             Form::Whole(block) => **block,
-            Form::Small(kind, depth, count, start, end, first, list) => Block {
+            Form::Small {
+                kind,
+                depth,
+                count,
+                start,
+                end,
+                first,
+                list,
+            } => Block {
                 depth: usize::from(*depth),
                 kind: kind_of(*kind, *start),
                 start: *start as usize,
@@ -305,4 +518,19 @@ pub fn set_block(
         blocks[place] = packed;
     }
     Ok(())
+}
+
+/// Gives the block at a place of a list another start.
+pub fn set_start_at(
+    blocks: &mut Vec<PackedBlock>,
+    place: usize,
+    start: usize,
+) -> Result<(), AllocError>
+    ensures { OnOk result (blocks.new.items ≡ option_map_or (λ b. slice_set blocks.old.items place (record b { start = start })) (slice_get blocks.old.items place) blocks.old.items) }
+{
+    let alloc = *blocks.allocator();
+    match blocks.get_mut(place) {
+        None => Ok(()),
+        Some(block) => block.set_start(alloc, start),
+    }
 }

@@ -123,9 +123,10 @@ pub struct BlocksSoFar {
 fn end_block(blocks: &mut Vec<PackedBlock>, index: usize, end: usize) -> Result<(), AllocError>
     ensures { OnOk result (blocks.new.items ≡ ended blocks.old.items index end) }
 {
-    match block_at(blocks, index) {
+    let alloc = *blocks.allocator();
+    match blocks.get_mut(index) {
         None => Ok(()),
-        Some(block) => set_block(blocks, index, Block { end, ..block }),
+        Some(block) => block.set_end(alloc, end),
     }
 }
 
@@ -138,9 +139,10 @@ fn finish_block(
 ) -> Result<(), AllocError>
     ensures { OnOk result (blocks.new.items ≡ finished blocks.old.items index end last) }
 {
-    match block_at(blocks, index) {
+    let alloc = *blocks.allocator();
+    match blocks.get_mut(index) {
         None => Ok(()),
-        Some(block) => set_block(blocks, index, Block { end, last, ..block }),
+        Some(block) => block.finish(alloc, end, last),
     }
 }
 
@@ -281,7 +283,7 @@ fn is_loose(blocks: &[PackedBlock], list: Option<usize>) -> bool
 {
     match list {
         None => false,
-        Some(index) => block_at(blocks, index).map_or(false, |block| block.loose),
+        Some(index) => blocks.get(index).map_or(false, |block| block.is_loose()),
     }
 }
 
@@ -297,15 +299,34 @@ fn pieces_from(pieces: &[Piece], first: usize) -> &[Piece]
 
 /// Takes the first lines of a paragraph from it.
 #[tactic(auto, unfolding(crate::specs::Pages::shortened))]
-fn shortened(block: Block, pieces: &[Piece], count: usize) -> Block
-    ensures { result ≡ shortened block pieces.now count }
+fn shorten_block(
+    alloc: Global,
+    block: &mut PackedBlock,
+    pieces: &[Piece],
+    count: usize,
+) -> Result<(), AllocError>
+    ensures { OnOk result (block.new ≡ shortened block.old pieces.now count) }
 {
-    let first = block.first.saturating_add(count);
-    let start = pieces.get(first).map_or(block.start, |line| line.start);
-    Block {
-        first,
-        start,
-        ..block
+    let first = block.first().saturating_add(count);
+    let start = pieces.get(first).map_or(block.start(), |line| line.start);
+    block.set_front(alloc, first, start)
+}
+
+/// Takes the first lines of the paragraph at a place from it.
+fn shorten(
+    blocks: &mut Vec<PackedBlock>,
+    index: usize,
+    pieces: &[Piece],
+    count: usize,
+) -> Result<(), AllocError>
+    ensures { OnOk result (blocks.new.items ≡ option_map_or
+        (λ b. slice_set blocks.old.items index (shortened b pieces.now count))
+        (slice_get blocks.old.items index) blocks.old.items) }
+{
+    let alloc = *blocks.allocator();
+    match blocks.get_mut(index) {
+        None => Ok(()),
+        Some(block) => shorten_block(alloc, block, pieces, count),
     }
 }
 
@@ -367,14 +388,13 @@ impl BlocksSoFar {
         ensures { OnOk result (page self.new ≡ settled text.now (page self.old)) }
     {
         let index = self.blocks.len().saturating_sub(1);
-        if let Some(block) = block_at(&self.blocks, index) {
-            if block.task.is_some() {
+        if let Some(block) = self.blocks.get(index) {
+            if block.has_task() {
                 return Ok(());
             }
-            let lines = pieces_from(&self.pieces, block.first);
+            let lines = pieces_from(&self.pieces, block.first());
             let count = take_definitions(alloc, text, lines, &mut self.definitions)?;
-            let behind = shortened(block, &self.pieces, count);
-            set_block(&mut self.blocks, index, behind)?;
+            shorten(&mut self.blocks, index, &self.pieces, count)?;
         }
         Ok(())
     }
@@ -590,9 +610,9 @@ impl BlocksSoFar {
     pub fn has_text(&self) -> bool
         ensures { result ≡ has_text (page self.now) }
     {
-        match block_at(&self.blocks, self.blocks.len().saturating_sub(1)) {
+        match self.blocks.get(self.blocks.len().saturating_sub(1)) {
             None => false,
-            Some(block) => block.first < self.pieces.len(),
+            Some(block) => block.first() < self.pieces.len(),
         }
     }
 }

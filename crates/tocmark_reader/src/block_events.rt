@@ -31,7 +31,7 @@ pub(crate) fn loose_lists(alloc: Global, blocks: &[PackedBlock]) -> Result<Vec<b
 {
     let mut loose = Vec::with_capacity(alloc, blocks.len())?;
     for block in blocks {
-        loose.push(block.block().loose)?;
+        loose.push(block.is_loose())?;
     }
     Ok(loose)
 }

@@ -75,21 +75,21 @@ fn likely_in_block(block: Block) -> usize {
 }
 
 /// Whether a block has events: a paragraph that holds definitions alone has none.
-fn has_events(block: Block) -> bool
-    ensures { result ≡ has_events block.kind block }
+fn has_events(block: &PackedBlock) -> bool
+    ensures { result ≡ has_events block.now.kind block.now }
 {
-    match block.kind {
-        BlockKind::Paragraph => block.first < block.last,
+    match block.kind() {
+        BlockKind::Paragraph => block.first() < block.last(),
         _ => true,
     }
 }
 
 /// Whether the events of a block begin a tree.
 #[tactic(auto, unfolding(crate::specs::Left::begins_tree))]
-fn begins_tree(block: Block) -> bool
-    ensures { result ≡ begins_tree block }
+fn begins_tree(block: &PackedBlock) -> bool
+    ensures { result ≡ begins_tree block.now }
 {
-    block.depth == 0 && block.list.is_none() && has_events(block)
+    block.depth() == 0 && block.list().is_none() && has_events(block)
 }
 
 impl BlockReading<'_> {
@@ -99,7 +99,7 @@ impl BlockReading<'_> {
     {
         match self.blocks.last() {
             None => true,
-            Some(packed) => begins_tree(packed.block()),
+            Some(block) => begins_tree(block),
         }
     }
 
@@ -134,12 +134,11 @@ impl BlockReading<'_> {
     /// How many events the next tree is likely to have, or the next part of it.
     fn likely_in_tree(&self) -> usize {
         let mut all = 0usize;
-        for packed in self.blocks.iter().rev() {
-            let block = packed.block();
+        for block in self.blocks.iter().rev() {
             if all >= STRETCH || (all > 0 && begins_tree(block)) {
                 break;
             }
-            all = all.saturating_add(likely_in_block(block));
+            all = all.saturating_add(likely_in_block(block.block()));
         }
         all
     }

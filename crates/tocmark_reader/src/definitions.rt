@@ -14,7 +14,7 @@ use crate::words::replaced_bytes;
 use std::alloc::{AllocError, Global};
 use tocmark_read_blocks::{Blocks, read_blocks};
 use tocmark_read_page::definition::LinkDefinition;
-use tocmark_read_page::page::Block;
+use tocmark_read_page::packed::PackedBlock;
 use tocmark_read_page::piece::Piece;
 use tocmark_read_scan::basic::bytes_between;
 use tocmark_read_scan::syntax::{Names, Syntax};
@@ -201,14 +201,14 @@ fn place_step(
     pieces: &[Piece],
     all: &mut Vec<DefinitionPlace>,
     next: usize,
-    block: Block,
+    block: &PackedBlock,
 ) -> Result<usize, AllocError>
     ensures { IfOk result (λ behind. (all.new.items, behind)
-        ≡ place_step text.now pieces.now (all.old.items, next) block) }
+        ≡ place_step text.now pieces.now (all.old.items, next) block.now) }
 {
-    place_on(alloc, text, pieces_of(pieces, next, block.first), all)?;
-    if next < block.last {
-        Ok(block.last)
+    place_on(alloc, text, pieces_of(pieces, next, block.first()), all)?;
+    if next < block.last() {
+        Ok(block.last())
     } else {
         Ok(next)
     }
@@ -220,7 +220,7 @@ fn places_in(alloc: Global, text: &[u8], found: &Blocks) -> Result<Vec<Definitio
     let mut all = Vec::new(alloc);
     let mut next = 0usize;
     for block in &found.blocks {
-        next = place_step(alloc, text, &found.pieces, &mut all, next, block.block())?;
+        next = place_step(alloc, text, &found.pieces, &mut all, next, block)?;
     }
     Ok(all)
 }

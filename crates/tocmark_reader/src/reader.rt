@@ -83,7 +83,7 @@ fn note_all(
         ≡ noted text.now blocks.now (collected_view collected.old)) }
 {
     for block in blocks {
-        note(alloc, collected, text, block.block().kind)?;
+        note(alloc, collected, text, block.kind())?;
     }
     Ok(())
 }
