@@ -1,5 +1,5 @@
 -- What is kept of a block in few bytes.
-use Rattle.std.specs.Prelude.{ℕ, suc, zero, ◌+◌, Bool, false, Option, Some, None}
+use Rattle.std.specs.Prelude.{ℕ, suc, zero, ◌+◌, ◌-◌, ◌^◌, ◌<◌, ◌≤◌, ◌≡◌, Bool, false, Option, Some, None}
 use Rattle.tocmark_read_page.specs.declared.page.Block.{Block}
 use Rattle.tocmark_read_page.specs.declared.page.BlockKind.{BlockKind}
 use Rattle.tocmark_read_page.specs.declared.page.BlockKind.TheVariants as kind
@@ -65,3 +65,9 @@ block_in (form.Small k depth count start end first list) = record {
   list = list_in list;
   task = None;
 }
+
+-- the numbers of a block that fits into few bytes; it has no box
+abbrev pub HasSmallNumbers : Block → Type 0
+HasSmallNumbers b =
+    (b.depth < 65536) × (b.start < 2 ^ 32) × (b.end < 2 ^ 32) × (b.first < 2 ^ 32) × (b.first ≤ b.last)
+    × (b.last - b.first < 65536) × (b.task ≡ None)

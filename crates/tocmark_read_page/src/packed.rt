@@ -7,7 +7,7 @@ ghost use Rattle.std.specs.Prelude.{ℕ, ◌≡◌, ◌<◌, ◌≤◌, ◌-◌,
 ghost use Rattle.std.specs.Option.{IfSome, is_some, option_map_or};
 ghost use Rattle.tocmark_read_page.specs.declared.page.Block.{Block};
 ghost use Rattle.tocmark_read_page.specs.declared.page.BlockKind.TheVariants as kind;
-ghost use Rattle.tocmark_read_page.specs.Packed.{block_in, kind_in, list_in, is_loose_in};
+ghost use Rattle.tocmark_read_page.specs.Packed.{HasSmallNumbers, block_in, kind_in, list_in, is_loose_in};
 
 use crate::page::{Block, BlockKind};
 use std::alloc::{AllocError, Global};
@@ -176,9 +176,9 @@ fn other(start: usize, kind: BlockKind) -> Option<SmallKind>
 }
 
 /// The kind of a block in few bytes, if it is small. Of the others than lists none is loose.
-fn small_kind(block: Block) -> Option<SmallKind>
-    ensures kind { IfSome result (λ small. kind_in block.start small ≡ block.kind) }
-    ensures loose { IfSome result (λ small. is_loose_in small ≡ block.loose) }
+fn small_kind(block: &Block) -> Option<SmallKind>
+    ensures kind { IfSome result (λ small. kind_in block.now.start small ≡ block.now.kind) }
+    ensures loose { IfSome result (λ small. is_loose_in small ≡ block.now.loose) }
 {
     match block.kind {
         BlockKind::List(first) => list(block.loose, first),
@@ -210,8 +210,8 @@ fn list_number(list: Option<usize>) -> Option<u32>
 }
 
 /// Whether the numbers of a block fit into few bytes.
-fn fits(block: Block) -> bool
-    ensures { result ≡ true → (block.depth < 65536) × (block.start < 2 ^ 32) × (block.end < 2 ^ 32) × (block.first < 2 ^ 32) × (block.first ≤ block.last) × (block.last - block.first < 65536) × (block.task ≡ None) }
+fn fits(block: &Block) -> bool
+    ensures { result ≡ true → HasSmallNumbers block.now }
 {
     block.depth < 65536
         && block.start <= 0xFFFF_FFFF
@@ -224,8 +224,8 @@ fn fits(block: Block) -> bool
 
 /// A block in few bytes, if it fits.
 #[tactic(auto, unfolding(crate::specs::Packed::block_in))]
-fn small(block: Block) -> Option<Form>
-    ensures { IfSome result (λ form. block_in form ≡ block) }
+fn small(block: &Block) -> Option<Form>
+    ensures { IfSome result (λ form. block_in form ≡ block.now) }
 {
     if !fits(block) {
         return None;
@@ -244,12 +244,12 @@ fn small(block: Block) -> Option<Form>
 }
 
 #[tactic(auto, unfolding(crate::specs::Packed::block_in))]
-fn form_of(alloc: Global, block: Block) -> Result<Form, AllocError>
-    ensures { IfOk result (λ form. block_in form ≡ block) }
+fn form_of(alloc: Global, block: &Block) -> Result<Form, AllocError>
+    ensures { IfOk result (λ form. block_in form ≡ block.now) }
 {
     match small(block) {
         Some(form) => Ok(form),
-        None => Ok(Form::Whole(Box::new(alloc, block)?)),
+        None => Ok(Form::Whole(Box::new(alloc, *block)?)),
     }
 }
 
@@ -300,8 +300,8 @@ fn set_last(form: &mut Form, to: usize) -> bool
 
 impl PackedBlock {
     /// Takes a block into few bytes, or onto the heap where it doesn't fit.
-    pub fn new(alloc: Global, block: Block) -> Result<PackedBlock, AllocError>
-        ensures { IfOk result (λ packed. packed ≡ block) }
+    pub fn new(alloc: Global, block: &Block) -> Result<PackedBlock, AllocError>
+        ensures { IfOk result (λ packed. packed ≡ block.now) }
     {
         let form = form_of(alloc, block)?;
         Ok(PackedBlock { form })
@@ -362,6 +362,17 @@ impl PackedBlock {
         }
     }
 
+    /// Where the block ends.
+    #[tactic(auto, unfolding(crate::specs::Packed::block_in))]
+    pub fn end(&self) -> usize
+        ensures { result ≡ self.now.end }
+    {
+        match &self.form {
+            Form::Whole(block) => block.end,
+            Form::Small { end, .. } => *end as usize,
+        }
+    }
+
     /// The first piece of a leaf.
     #[tactic(auto, unfolding(crate::specs::Packed::block_in))]
     pub fn first(&self) -> usize
@@ -399,7 +410,7 @@ impl PackedBlock {
     fn replace(&mut self, alloc: Global, block: Block) -> Result<(), AllocError>
         ensures { OnOk result (self.new ≡ block) }
     {
-        let form = form_of(alloc, block)?;
+        let form = form_of(alloc, &block)?;
         self.form = form;
         Ok(())
     }
@@ -500,7 +511,7 @@ pub fn push_block(blocks: &mut Vec<PackedBlock>, block: Block) -> Result<(), All
     ensures { OnOk result (blocks.new.items ≡ blocks.old.items ++ block ∷ []) }
 {
     let alloc = *blocks.allocator();
-    blocks.push(PackedBlock::new(alloc, block)?)?;
+    blocks.push(PackedBlock::new(alloc, &block)?)?;
     Ok(())
 }
 
@@ -513,7 +524,7 @@ pub fn set_block(
     ensures { OnOk result (blocks.new.items ≡ slice_set blocks.old.items place block) }
 {
     let alloc = *blocks.allocator();
-    let packed = PackedBlock::new(alloc, block)?;
+    let packed = PackedBlock::new(alloc, &block)?;
     if place < blocks.len() {
         blocks[place] = packed;
     }
@@ -526,7 +537,9 @@ pub fn set_start_at(
     place: usize,
     start: usize,
 ) -> Result<(), AllocError>
-    ensures { OnOk result (blocks.new.items ≡ option_map_or (λ b. slice_set blocks.old.items place (record b { start = start })) (slice_get blocks.old.items place) blocks.old.items) }
+    ensures { OnOk result (blocks.new.items ≡ option_map_or
+        (λ b. slice_set blocks.old.items place (record b { start = start }))
+        (slice_get blocks.old.items place) blocks.old.items) }
 {
     let alloc = *blocks.allocator();
     match blocks.get_mut(place) {

@@ -11,7 +11,7 @@ use std::alloc::{AllocError, Global};
 use std::mem;
 use tocmark_event::reader::Reading;
 use tocmark_read_page::packed::PackedBlock;
-use tocmark_read_page::page::{Block, BlockKind};
+use tocmark_read_page::page::BlockKind;
 use tocmark_read_page::piece::Piece;
 use tocmark_read_scan::syntax::Syntax;
 use tocmark_read_spans::definitions::{Definitions, distinct_labels};
@@ -63,14 +63,14 @@ fn likely_events(bytes: usize) -> usize {
 
 /// How many events a block is likely to have: code and HTML have one for each line, containers have a Start and
 /// an End.
-fn likely_in_block(block: Block) -> usize {
-    match block.kind {
+fn likely_in_block(block: &PackedBlock) -> usize {
+    match block.kind() {
         BlockKind::Indented | BlockKind::Fenced(_, _) | BlockKind::Html => {
-            block.last.saturating_sub(block.first).saturating_add(2)
+            block.last().saturating_sub(block.first()).saturating_add(2)
         }
         BlockKind::Quote(_) | BlockKind::List(_) | BlockKind::Item => 2,
         BlockKind::Table(_, _) | BlockKind::TableHead | BlockKind::TableRow => 2,
-        _ => likely_events(block.end.saturating_sub(block.start)),
+        _ => likely_events(block.end().saturating_sub(block.start())),
     }
 }
 
@@ -138,7 +138,7 @@ impl BlockReading<'_> {
             if all >= STRETCH || (all > 0 && begins_tree(block)) {
                 break;
             }
-            all = all.saturating_add(likely_in_block(block.block()));
+            all = all.saturating_add(likely_in_block(block));
         }
         all
     }
