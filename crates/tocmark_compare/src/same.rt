@@ -94,8 +94,8 @@ pub fn are_same<X, Y>(
     are_alike(alloc, found, given)
 }
 
-/// Whether the first events in which two lists differ are there on both sides, and neither is a text: then
-/// the lists say different things however texts are cut. It takes no memory.
+/// Whether two lists first differ at events that both have, and neither of which is a text. Then they differ however
+/// texts are cut. It takes no memory.
 pub fn differ(found: &[(Event<'_>, (usize, usize))], given: &[(Event<'_>, (usize, usize))]) -> bool
     ensures { result ≡ are_apart (given_events found.now) (given_events given.now) }
 {

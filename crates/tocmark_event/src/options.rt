@@ -354,7 +354,7 @@ pub enum Error {
     /// An End that isn't the innermost open container's, a container that is open at the end, or
     /// events that cannot stand where they do.
     UnexpectedEvent,
-    /// No spelling of a block with delimiters reads back.
+    /// None of the spellings that are tried for a block reads back.
     Unrepresentable,
     /// A range that is reversed, past the end of the source or not on character boundaries.
     InvalidSourceRange,

@@ -113,8 +113,8 @@ fn refusal<'a>(
     place_at(alloc, pairs, event, source, has_source)
 }
 
-/// What the events come to at this error; none if memory ran out. A string refuses a text only for want of memory, so
-/// `FormatFailed` says no more.
+/// The error as a refusal of the events. It is `None` for `OutOfMemory` and for `FormatFailed`, because a string
+/// refuses a text only if memory runs out.
 fn refusal_in(error: Error) -> Option<Error>
     ensures { (walk : Walk Done) → IsRefusal walk error → IfSome result (ComesTo walk) }
 {

@@ -26,11 +26,11 @@ ghost use Rattle.tocmark_spelling.specs.Plan.{Setting};
 
 use tocmark_state::taker::Taker;
 
-/// For one fenced code block alone exactly one text is handed: its fence and its info string on a line of
-/// their own, its texts as they are, and its fence where these end a line. The fence is longer than each
-/// run of its character in the texts, at least three characters long and at least as long as the options
-/// ask for, and of their character, but of tildes where that is a backtick and one stands in the info
-/// string. So it is under all flags, whatever reader is given, and under all options that don't ask that
+/// A fenced code block alone is written as exactly one text: a line with its fence and its info string, its texts
+/// as they are, and its fence again if these end a line. The fence is longer than each run of its character in the
+/// texts, has at least three characters, and at least as many as the options ask for. It has their character, or
+/// tildes if that is a backtick and the info string has one. This holds under all flags, with every reader, and under
+/// all options that don't ask that
 /// plain blocks be checked.
 pub fn code_is_fenced()
     ensures { CodeIsFenced }
@@ -71,7 +71,7 @@ pub fn a_link_is_appended<W: Taker>()
 
 /// A unit, the events of a forest, is refused as `UnexpectedEvent` only for an event that may not stand where it
 /// does (`causes`): an Item that isn't directly in a List, a Heading in a Heading, a TableHead that isn't directly
-/// in a Table, or a TableCell in no Table. It stands in no body in whose place an id is written. A unit with such an
+/// in a Table, or a TableCell in no Table. Events in a body that is replaced by an id don't count. A unit with such an
 /// event is refused so (`exact`).
 pub fn unexpected_units_are_misplaced()
     ensures causes { (s : Setting) (d : DocumentView) (unit : List SourcedEvent)

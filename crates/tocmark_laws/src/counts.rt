@@ -11,10 +11,10 @@ ghost use Rattle.tocmark_state.specs.Walk.{Rendering, nothing_yet, script, walk}
 
 use tocmark_state::taker::Taker;
 
-/// The counts of calls on one state over one source add up to those of one list. Where all calls and `finish`
+/// The counts of calls on one state over one source add up to those of one list. If all calls and `finish`
 /// succeed, the sum of their events is the number of all events, and the sum of their bytes is the length of all
-/// texts of the script of these events. Where one is refused, the counts of the calls before it add up to their
-/// events and to the texts of the walk of these. Each of these numbers is to be below 2^64, where counts stop.
+/// texts of the script of these events. If a call is refused, the counts of the calls before it add up to their
+/// events and to the texts of the walk of these. This holds if each of these numbers is below 2^64, where counts stop.
 pub fn counts_add_up<W: Taker>()
     ensures list { (how : Rendering) (flags : ParserOptions) (source : List ℕ)
         (calls : List (List Pair)) (w v : W) (counts : List Progress) (last : Progress)

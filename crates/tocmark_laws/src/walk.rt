@@ -26,7 +26,7 @@ ghost use Rattle.tocmark_state.specs.Writes.{Makes};
 use tocmark_state::taker::Taker;
 use tocmark_write_texts::laws::{code_spans_read_back, escapes_read_back};
 
-/// What later events add depends on where the earlier ones stand alone, whatever a unit comes to.
+/// What later events add depends only on the standing after the earlier ones.
 pub fn cuts_are_free()
     ensures { (how : Rendering) (source : List ℕ) (s t : Standing) (p q : List Pair)
         → (walk how source s p).outcome ≡ Ok t
@@ -34,9 +34,9 @@ pub fn cuts_are_free()
         walk how source u q) }
 {}
 
-/// The events up to the first bad range are whole trees, then a tree that isn't whole, then a wrong
-/// End. Each whole tree is a unit, which is written when a further event comes, up to the first that
-/// waits, from which all the rest is one unit; the texts are the choices in turn.
+/// Up to the first bad range, the events are whole trees, then an unfinished tree, then a wrong End. Each whole
+/// tree is a unit, and is written when the next event comes. From the first unit that waits on, all events are one
+/// unit. The texts are the choices for the units, in order.
 pub fn units_are_trees()
     ensures { (how : Rendering) (source : List ℕ) (kept : Kept) (p : List Pair)
         → (trees : Trees (ranged source 0 p).events)

@@ -183,11 +183,13 @@ fn answer<I: Read, O: Write>(
 
 /// The program: the status that it ends with.
 ///
-/// `words` are the arguments without the program's name: none, or `--source` alone, with which each text is
-/// written as it stands in the input, where that reads back. `input` is read whole, `output` gets the
-/// Markdown after success alone, and `faults` one line for a fault. The answer is 0 after success, 2 for
-/// wrong arguments, where no input is read, and 1 for any other fault: the input can't be read, it isn't
-/// UTF-8, its events are refused or memory runs out, or the output can't be written.
+/// `words` are the arguments without the program's name: none, or `--source` alone. With `--source` each text
+/// keeps its spelling of the input, if that reads back. `input` is read whole. After success `output` has the whole
+/// Markdown; if writing fails, it may have a part. `faults` gets one line for a fault.
+///
+/// The answer is 0 after success, and 2 for wrong arguments, with which no input is read. It is 1 for any other
+/// fault: the input can't be read, it isn't UTF-8, its events are refused, memory runs out, or the output can't be
+/// written.
 pub fn run<I: Read, O: Write, F: Write>(
     alloc: Global,
     words: &[String],

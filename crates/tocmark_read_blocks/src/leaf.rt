@@ -224,7 +224,7 @@ pub fn metadata_or(found: Option<MetadataBlockKind>, other: LeafStart) -> LeafSt
     }
 }
 
-/// A box where one stands, and else what does.
+/// The box of a task if one was found, and otherwise `other`.
 #[tactic(auto, unfolding(crate::specs::Leaves::task_or))]
 pub fn task_or(found: Option<bool>, other: LeafStart) -> LeafStart
     ensures { result ≡ task_or found other }

@@ -180,8 +180,8 @@ fn quote_from(quotes: &[usize], count: usize) -> Option<usize>
     quotes.iter().copied().find(|quote| count <= *quote)
 }
 
-/// How many containers go on in a line in which the one at `count` doesn't go on by what stands there:
-/// where nothing is left of the line, those up to the next quote.
+/// How many containers go on in a line if the one at `count` doesn't. If nothing is left of the line, those up to
+/// the next quote do.
 #[tactic(auto, unfolding(crate::specs::Containers::stopped))]
 fn stopped(
     cells: &Cells,

@@ -14,7 +14,7 @@ use std::alloc::{AllocError, Global};
 use std::marker::Model;
 use tocmark_event::event::HeadingLevel;
 
-/// The kind of a block that is kept in few bytes. The flag of a list says that it is loose.
+/// The kind of a block that is kept in few bytes. The flag of a list says whether it is loose.
 #[derive(Clone, Copy)]
 enum SmallKind {
     Quote,
@@ -50,10 +50,10 @@ enum Form {
         end: u32,
         /// Its first piece.
         first: u32,
-        /// The number of its list with one added; 0 where it has none.
+        /// The number of its list plus one; 0 if it has none.
         list: u32,
     },
-    /// Whole, where a number is too large for that, and where its kind or a task wants more room.
+    /// Whole, if a number is too large for that, or if its kind or a task needs more room.
     Whole(Box<Block>),
 }
 
@@ -175,7 +175,7 @@ fn other(start: usize, kind: BlockKind) -> Option<SmallKind>
     }
 }
 
-/// The kind of a block in few bytes, if it is small. Of the others than lists none is loose.
+/// The kind of a block in few bytes, if it is small. Only lists can be loose.
 fn small_kind(block: &Block) -> Option<SmallKind>
     ensures kind { IfSome result (λ small. kind_in block.now.start small ≡ block.now.kind) }
     ensures loose { IfSome result (λ small. is_loose_in small ≡ block.now.loose) }
@@ -192,7 +192,7 @@ fn small_kind(block: &Block) -> Option<SmallKind>
     }
 }
 
-/// The number of a list with one added, if it is small; 0 for none.
+/// The number of a list plus one, if that is small; 0 for none.
 #[tactic(auto, unfolding(crate::specs::Packed::list_in))]
 fn list_number(list: Option<usize>) -> Option<u32>
     ensures { IfSome result (λ number. list_in number ≡ list) }
@@ -253,7 +253,7 @@ fn form_of(alloc: Global, block: &Block) -> Result<Form, AllocError>
     }
 }
 
-/// Changes the end where it stands, if there is room for it.
+/// Changes the end in place, if it fits there; whether it did.
 #[tactic(auto, unfolding(crate::specs::Packed::block_in))]
 fn set_end(form: &mut Form, to: usize) -> bool
     ensures done { result ≡ true → block_in form.new ≡ record (block_in form.old) { end = to } }
@@ -275,7 +275,7 @@ fn set_end(form: &mut Form, to: usize) -> bool
     }
 }
 
-/// Changes how many pieces there are, if there is room for it.
+/// Changes the last piece in place, if it fits there; whether it did.
 #[tactic(auto, unfolding(crate::specs::Packed::block_in))]
 fn set_last(form: &mut Form, to: usize) -> bool
     ensures done { result ≡ true → block_in form.new ≡ record (block_in form.old) { last = to } }
@@ -299,7 +299,7 @@ fn set_last(form: &mut Form, to: usize) -> bool
 }
 
 impl PackedBlock {
-    /// Takes a block into few bytes, or onto the heap where it doesn't fit.
+    /// Packs a block into few bytes, or puts it on the heap if it doesn't fit.
     pub fn new(alloc: Global, block: &Block) -> Result<PackedBlock, AllocError>
         ensures { IfOk result (λ packed. packed ≡ block.now) }
     {
@@ -515,7 +515,7 @@ pub fn push_block(blocks: &mut Vec<PackedBlock>, block: Block) -> Result<(), All
     Ok(())
 }
 
-/// Puts a block in the place of another; nothing changes where the list is shorter.
+/// Puts a block in the place of another. If the list is too short, nothing changes.
 pub fn set_block(
     blocks: &mut Vec<PackedBlock>,
     place: usize,
@@ -531,7 +531,7 @@ pub fn set_block(
     Ok(())
 }
 
-/// Gives the block at a place of a list another start.
+/// Gives the block at a place of a list another start. If the list is too short, nothing changes.
 pub fn set_start_at(
     blocks: &mut Vec<PackedBlock>,
     place: usize,

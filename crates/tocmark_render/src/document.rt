@@ -442,11 +442,10 @@ impl Document {
     /// markers. The last unit, which no event follows, has a label that is reserved for its lists, if one
     /// needs a placeholder.
     ///
-    /// An `Err` is `UnexpectedEvent` where a container of the unit is open, and where an event
-    /// stands where it may not, as a heading in a heading; `Unrepresentable` where no spelling of a
-    /// unit that is checked is read back, though the options are accepted; and `OutOfMemory` where memory
-    /// ran out or the reader answered it. The document is then as it was, but that it may know labels of the
-    /// definitions that it has already.
+    /// The error is `UnexpectedEvent` if a container of the unit is open, or if an event stands where it may
+    /// not, such as a heading in a heading. It is `Unrepresentable` if the options are accepted and no spelling of
+    /// a checked unit reads back, and `OutOfMemory` if memory ran out or the reader answered it. After an error the
+    /// document is unchanged, except that it may know labels of the definitions that it was given.
     pub fn block<'u, R: Reader>(
         &mut self,
         tools: &'u Tools<'_, R>,

@@ -17,9 +17,8 @@ ghost use Rattle.tocmark_event.specs.Options.{OptionsView};
 ghost use Rattle.tocmark_event.specs.declared.options.Error.TheVariants.{Unrepresentable};
 ghost use Rattle.tocmark_write_labels.specs.Units.{labelled};
 
-/// For a unit without delimiters the source is all that there is to choose from, unless the options ask
-/// that it be checked: where none of its texts is known there, or the options have markers that Markdown
-/// doesn't read, it takes its preferred spelling.
+/// A unit without delimiters takes its preferred spelling, if `check_plain_blocks` is off, and if none of its texts
+/// has a spelling in the source or the options have markers that Markdown doesn't read.
 pub fn units_without_delimiters_are_preferred()
     ensures { (s : Setting) (d : DocumentView) (f : Trees) (next : Option EventView) →
         is_delimiter_block f ≡ false → s.options.check_plain_blocks ≡ false →

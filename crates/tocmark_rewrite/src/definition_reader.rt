@@ -10,9 +10,9 @@ use tocmark_reader::{
 
 /// A reader that can say where the links in a text are defined.
 ///
-/// Where a link by a label leads elsewhere, `rewritten` replaces the bytes of the label's definition at the place that
-/// its reader names. A reader that can't name any is taken as well: `impl DefinitionReader for MyReader {}`. Then the
-/// link is written with a definition of its own.
+/// If a link by a label gets another destination, `rewritten` replaces the bytes of the label's definition, at the
+/// place that the reader names. If your reader can't name definitions, write `impl DefinitionReader for MyReader {}`:
+/// then the link gets a definition of its own.
 pub trait DefinitionReader: Reader {
     /// The definitions of links that the reader finds in a text, in their order. It fails if memory runs out.
     fn reference_definitions(

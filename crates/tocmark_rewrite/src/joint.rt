@@ -111,7 +111,7 @@ impl<'e> Row<'_, 'e> {
         self.events.get(plan.tree.first)
     }
 
-    /// Whether a definition of the source comes to stand between the blocks before a number and a tree.
+    /// Whether a definition of the source lies between the block before `next` and the tree of a plan.
     fn is_divided(self, next: usize, plan: &Plan) -> bool {
         let Some(place) = plan.stands_for else {
             return false;
@@ -163,7 +163,7 @@ impl<'e> Row<'_, 'e> {
         }
     }
 
-    /// Whether indented code comes to stand behind what would take it.
+    /// Whether indented code follows a block that would absorb it.
     fn meets_code(self, before: Option<Joint>, plan: &Plan) -> bool {
         let Some(joint) = before else {
             return false;

@@ -754,7 +754,7 @@ pub fn rewritten_slice<'a, R: DefinitionReader>(
     Ok(answer(alloc, &work, output)?)
 }
 
-/// Writes an edited document, and leaves every byte as it is that you didn't edit.
+/// Writes an edited document, and keeps the bytes of what you didn't edit as far as it can (this is only tested).
 ///
 /// `events` are those that `reader` finds in `source` under `flags`, each with its range, after you changed, added or
 /// removed some. A new event has no range, or the range of what it replaces. `Reading::pairs` gives the events of a reading

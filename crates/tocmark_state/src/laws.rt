@@ -30,9 +30,9 @@ pub fn no_definitions_change_nothing()
         rendering_behind [] options reading ≡ rendering options reading }
 {}
 
-/// Behind the first unit that is written, a state that is told of definitions chooses each unit's text as any
-/// other state does in the same document (`choice`), and makes of all further events what that does (`walk`):
-/// it differs in the first unit, to which their labels are known, and in what is left at the end.
+/// After the first written unit, a state with given definitions chooses each unit's text as a state without them
+/// does in the same document (`choice`), and makes of all further events what that does (`walk`). It differs only in
+/// the first unit, which knows the labels, and in the definitions at the end.
 pub fn definitions_matter_first_and_last()
     ensures choice { (defined : List Reference) (options : OptionsView)
         (reading : List ℕ → ParserOptions → ReadingView) (kept : Kept) →

@@ -4,8 +4,8 @@ ghost use Rattle.std.specs.Prelude.{◌≡◌, ℕ, List, IsOk, IsErr};
 
 use std::fmt;
 
-/// Takes texts, each whole or not at all. Over this trait in place of `fmt::Write` a function can say
-/// that a fault which it answers is one that the writer had.
+/// Takes each text whole or not at all. Unlike the contract of `fmt::Write`, that of this trait also says when it
+/// refuses a text.
 pub trait Taker {
     /// The writer before a text that it took, and after it.
     ghost takes: { Self → List ℕ → Self → Type 0 };

@@ -147,8 +147,8 @@ pub(crate) fn push_feeds(text: &mut String, feeds: usize) -> Result<(), AllocErr
     Ok(())
 }
 
-/// The definitions of references, each once, after line feeds of which so many stand; nothing for no
-/// references. It takes time in proportion to the references and their texts.
+/// The definitions of references, each once; nothing for no references. `feeds` says how many line feeds precede
+/// them. It takes time in proportion to the references and their texts.
 #[tactic(auto, unfolding(crate::specs::Definitions::definitions_text))]
 pub fn definitions_text(
     alloc: Global,
