@@ -25,6 +25,9 @@ const BLOCK_OPENERS: [&str; 8] = [
     "+==",
 ];
 
+/// How many bytes beside the end of a list are looked at.
+const NEAR: usize = 64;
+
 /// A block of another dialect: how many containers are open round it, and the column where it begins in the innermost one.
 #[derive(Clone, Copy)]
 pub(crate) struct Foreign {
@@ -122,6 +125,62 @@ fn is_lone_tag(line: &str) -> bool {
         && line.trim_end_matches(&[' ', '\t']).ends_with('>')
 }
 
+/// What stands behind the marker of an item, if a line begins with one.
+fn behind_marker(line: &str) -> Option<&str> {
+    let behind = match line.as_bytes().first() {
+        Some(b'-' | b'*' | b'+') => line.get(1..)?,
+        Some(b'0'..=b'9') => {
+            let number = line.trim_start_matches(&[
+                '0', '1', '2', '3', '4', '5', '6', '7', '8', '9',
+            ]);
+            number.strip_prefix('.').or(number.strip_prefix(')'))?
+        }
+        _ => return None,
+    };
+    if begins_blank(behind) {
+        Some(behind.trim_start_matches(&[' ', '\t']))
+    } else {
+        None
+    }
+}
+
+/// Whether a line has markers of items alone.
+fn is_marker_alone(line: &str) -> bool {
+    let mut inner = line;
+    for _ in 0..line.len() {
+        match behind_marker(inner) {
+            None => break,
+            Some(behind) => inner = behind,
+        }
+    }
+    inner.is_empty() && !line.is_empty()
+}
+
+/// Whether a text begins with the box of a task.
+fn begins_box(text: &str) -> bool {
+    begins_with(text, &["[ ]", "[x]", "[X]"])
+}
+
+/// Whether a text ends with the marker of an item.
+fn ends_with_marker(text: &str) -> bool {
+    let mut bytes = text.as_bytes().iter().rev().copied();
+    match (bytes.next(), bytes.next()) {
+        (Some(b'-' | b'*' | b'+'), None | Some(b' ' | b'\t' | b'>')) => true,
+        (Some(b'.' | b')'), Some(before)) => before.is_ascii_digit(),
+        _ => false,
+    }
+}
+
+/// Whether a line ends with a marker and the box of a task alone behind it.
+fn ends_with_box(line: &str) -> bool {
+    let text = line.trim_end_matches(&[' ', '\t']);
+    let front = text.strip_suffix("[ ]").or(text.strip_suffix("[x]"));
+    match front.or(text.strip_suffix("[X]")) {
+        Some(front) => ends_with_marker(front.trim_end_matches(&[' ', '\t'])),
+        None => false,
+    }
+}
+
 /// Whether a line could be the delimiter row of a table.
 fn is_delimiter_row(line: &str) -> bool {
     let bytes = line.as_bytes();
@@ -175,15 +234,15 @@ impl Printer<'_> {
     }
 
     /// Whether a paragraph whose lines don't stay has a line that could be the delimiter row of a table. GitHub lets a table
-    /// begin below the first line of a paragraph.
+    /// begin anywhere in a paragraph, also below a header without a bar.
     fn has_table(&self, start: usize, end: usize) -> bool {
         if self.look.wrap == Wrap::Keep {
             return false;
         }
         let source = self.source;
-        let third = source.line_of(start).saturating_add(2);
+        let second = source.line_of(start).saturating_add(1);
         let last = source.line_of(end.saturating_sub(1));
-        for line in third..=last {
+        for line in second..=last {
             let row = source.line(line).trim_start_matches(&[' ', '\t', '>']);
             if is_delimiter_row(row) && self.could_be_row(line) {
                 return true;
@@ -214,6 +273,39 @@ impl Printer<'_> {
         keys > 1
     }
 
+    /// A line of the source without its indent and the signs of quotes.
+    fn bare_line(&self, line: usize) -> &str {
+        self.source.line(line).trim_start_matches(&[' ', '\t', '>'])
+    }
+
+    /// Whether a list or a quote ends with the box of a task alone, and the next line isn't blank. To GitHub both lines are
+    /// text. Of both lines it looks at a few bytes, because many lists may end in one line.
+    fn ends_with_bare_task(&self, end: usize) -> bool {
+        let source = self.source;
+        let front = source.line_start(end.saturating_sub(1));
+        let last = source.slice(front.max(end.saturating_sub(NEAR)), end);
+        let next = source.line_end(end.saturating_sub(1)).saturating_add(1);
+        let has_text = source
+            .bytes(next, next.saturating_add(NEAR))
+            .iter()
+            .take_while(|byte| **byte != b'\n')
+            .any(|byte| !matches!(*byte, b' ' | b'\t' | b'>'));
+        has_text && ends_with_box(last)
+    }
+
+    /// Whether a list has a marker alone on its line, and a task in a list below it. On one line GitHub shows no box.
+    fn has_task_below_marker(&self, start: usize, end: usize) -> bool {
+        let first = self.source.line_of(start);
+        let last = self.source.line_of(end.saturating_sub(1));
+        for line in first..last {
+            let below = behind_marker(self.bare_line(line.saturating_add(1)));
+            if is_marker_alone(self.bare_line(line)) && below.is_some_and(begins_box) {
+                return true;
+            }
+        }
+        false
+    }
+
     /// Whether the first line of a block is a fence of quotes, as GitLab reads it.
     fn begins_fenced_quote(&self, start: usize) -> bool {
         let line = self.source.line(self.source.line_of(start));
@@ -234,8 +326,12 @@ impl Printer<'_> {
             }
             Kind::Table => self.has_foreign_line(start, end, false),
             Kind::List | Kind::Quote if self.page.depth() == 0 => {
-                self.begins_fenced_quote(start) || self.has_foreign_line(start, end, true)
+                self.begins_fenced_quote(start)
+                    || self.has_foreign_line(start, end, true)
+                    || self.has_task_below_marker(start, end)
+                    || self.ends_with_bare_task(end)
             }
+            Kind::List => self.ends_with_bare_task(end),
             _ => false,
         }
     }
