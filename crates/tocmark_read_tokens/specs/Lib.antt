@@ -3,5 +3,7 @@ pub mod Html
 pub mod Autolink
 pub mod Reference
 pub mod Label
+pub mod Entries
+pub mod CharacterNames
 pub mod Name
 pub mod Notes

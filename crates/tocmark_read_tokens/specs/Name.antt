@@ -5,7 +5,7 @@ use Rattle.tocmark_read_scan.specs.Class.{run_end}
 use Rattle.tocmark_read_scan.specs.declared.class.Class.TheVariants.{TagName}
 use Rattle.tocmark_read_scan.specs.declared.syntax.Names.{Names}
 use Rattle.tocmark_read_scan.specs.declared.syntax.Names.TheVariants.{Four, All}
-use Rattle.tocmark_read_names.specs.Names.{characters_of}
+use Rattle.tocmark_read_tokens.specs.CharacterNames.{characters_of}
 use Rattle.tocmark_read_tokens.specs.declared.name.NamedReference.{NamedReference}
 
 -- the characters of a named reference, and the place behind it

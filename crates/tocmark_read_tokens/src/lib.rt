@@ -8,6 +8,8 @@
 #![tactic(auto)]
 
 pub mod autolink;
+pub mod character_names;
+mod entries;
 pub mod html;
 pub mod label;
 pub mod name;

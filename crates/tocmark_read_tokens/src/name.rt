@@ -1,10 +1,10 @@
 //! Character references by the names of HTML.
 
 ghost use Rattle.std.specs.Prelude.{◌≡◌};
-ghost use Rattle.tocmark_read_names.specs.Names.{found};
+ghost use Rattle.tocmark_read_tokens.specs.CharacterNames.{found};
 ghost use Rattle.tocmark_read_tokens.specs.Name.{name_end, name_at, named, named_view, named_in};
 
-use tocmark_read_names::characters_of;
+use crate::character_names::characters_of;
 use tocmark_read_scan::basic::{byte_at, bytes_between};
 use tocmark_read_scan::class::{Class, run_end};
 use tocmark_read_scan::syntax::Names;

@@ -2,7 +2,7 @@
 //! a line for each name. Made by `tools/make-names`.
 
 ghost use Rattle.std.specs.Prelude.{◌≡◌};
-ghost use Rattle.tocmark_read_names.specs.Entries.{entries_of};
+ghost use Rattle.tocmark_read_tokens.specs.Entries.{entries_of};
 
 /// The names that begin with `A`.
 pub const CAPITAL_A: &str = "

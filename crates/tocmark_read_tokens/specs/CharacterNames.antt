@@ -6,7 +6,7 @@ use Rattle.tocmark_read_scan.specs.Basic.{plus, byte_at, bytes_between, starts_a
 use Rattle.tocmark_read_scan.specs.Repeat.{iterated}
 use Rattle.tocmark_read_scan.specs.Class.{run_end}
 use Rattle.tocmark_read_scan.specs.declared.class.Class.TheVariants.{Except, TagName}
-use Rattle.tocmark_read_names.specs.Entries.{entries_of}
+use Rattle.tocmark_read_tokens.specs.Entries.{entries_of}
 
 -- the entry of a name begins at a place: the name, and a semicolon behind it
 unfoldable pub is_entry : List ℕ → List ℕ → ℕ → Bool

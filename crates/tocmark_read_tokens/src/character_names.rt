@@ -1,23 +1,17 @@
 //! The names of HTML's character references. There are 2,125; 93 of them stand for two characters.
 //!
-//! Below it stands `tocmark_read_scan`, above it the references (`tocmark_read_tokens`). Enter at `characters_of`.
-//! `entries` has the names, as `tools/make-names` writes them.
-#![tactic(auto)]
-
-mod entries;
-#[cfg(test)]
-mod tests;
+//! Enter at `characters_of`. `entries` has the names, as `tools/make-names` writes them.
 
 ghost use Rattle.std.specs.Prelude.{◌≡◌, length};
 ghost use Rattle.tocmark_read_scan.specs.Repeat.{iterated};
-ghost use Rattle.tocmark_read_names.specs.Names.{is_entry, next_line, entry_characters, characters_in, is_name, characters_of, found};
+ghost use Rattle.tocmark_read_tokens.specs.CharacterNames.{is_entry, next_line, entry_characters, characters_in, is_name, characters_of, found};
 
 use crate::entries::entries_of;
 use tocmark_read_scan::basic::{byte_at, bytes_between, starts_at};
 use tocmark_read_scan::class::{Class, run_end};
 
 /// Whether the entry of a name begins at a place.
-#[tactic(auto, unfolding(crate::specs::Names::is_entry))]
+#[tactic(auto, unfolding(crate::specs::CharacterNames::is_entry))]
 fn is_entry(entries: &[u8], name: &[u8], place: usize) -> bool
     ensures { result ≡ is_entry entries.now name.now place }
 {
@@ -25,7 +19,7 @@ fn is_entry(entries: &[u8], name: &[u8], place: usize) -> bool
 }
 
 /// The place of the next line, unless the entry of the name begins here or the text ends.
-#[tactic(auto, unfolding(crate::specs::Names::next_line))]
+#[tactic(auto, unfolding(crate::specs::CharacterNames::next_line))]
 fn next_line(entries: &[u8], name: &[u8], place: usize) -> Option<usize>
     ensures { result ≡ next_line entries.now name.now place }
 {
@@ -53,7 +47,7 @@ fn entry_place(entries: &[u8], name: &[u8]) -> usize
 }
 
 /// The characters of the entry whose semicolon stands just before a place.
-#[tactic(auto, unfolding(crate::specs::Names::entry_characters))]
+#[tactic(auto, unfolding(crate::specs::CharacterNames::entry_characters))]
 fn entry_characters(entries: &[u8], start: usize) -> &[u8]
     ensures { result.now ≡ entry_characters entries.now start }
 {
@@ -62,7 +56,7 @@ fn entry_characters(entries: &[u8], start: usize) -> &[u8]
 }
 
 /// The characters of the first entry of a name.
-#[tactic(auto, unfolding(crate::specs::Names::characters_in))]
+#[tactic(auto, unfolding(crate::specs::CharacterNames::characters_in))]
 fn characters_in<'a>(entries: &'a [u8], name: &[u8]) -> Option<&'a [u8]>
     ensures { found result ≡ characters_in entries.now name.now }
 {
@@ -75,7 +69,7 @@ fn characters_in<'a>(entries: &'a [u8], name: &[u8]) -> Option<&'a [u8]>
     }
 }
 
-#[tactic(auto, unfolding(crate::specs::Names::is_name))]
+#[tactic(auto, unfolding(crate::specs::CharacterNames::is_name))]
 fn is_name(name: &[u8]) -> bool
     ensures { result ≡ is_name name.now }
 {
@@ -87,7 +81,7 @@ fn is_name(name: &[u8]) -> bool
 /// The names are those of the HTML standard that end with a semicolon there, without their ampersand and
 /// semicolon: `characters_of(b"auml")` is `Some("ä".as_bytes())`. Case matters: `Auml` is another name,
 /// and `AUML` is none. A name is looked up among those with its first letter, 165 at most.
-#[tactic(auto, unfolding(crate::specs::Names::characters_of))]
+#[tactic(auto, unfolding(crate::specs::CharacterNames::characters_of))]
 pub fn characters_of(name: &[u8]) -> Option<&'static [u8]>
     ensures { found result ≡ characters_of name.now }
 {

@@ -1,7 +1,7 @@
 use Rattle.std.proofs.Common.{◌≡◌, length}
 use Rattle.tocmark_read_scan.specs.Repeat.{iterated}
-use Rattle.tocmark_read_names.specs.Names.{next_line}
-use Rattle.tocmark_read_names.proofs.entry_place.Given as goal
+use Rattle.tocmark_read_tokens.specs.CharacterNames.{next_line}
+use Rattle.tocmark_read_tokens.proofs.character_names.entry_place.Given as goal
 
 abbrev pub invariant-loop-steps_left : goal.invariant-loop-steps_left
 invariant-loop-steps_left l =
