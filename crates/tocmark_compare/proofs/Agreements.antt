@@ -6,7 +6,7 @@ use Rattle.std.proofs.lemmas.Bool.{false≢true, true≢false}
 use Rattle.std.proofs.lemmas.Bool.Decides.{nat_tests}
 use Rattle.std.proofs.lemmas.List.{drop-map, length-map}
 use Rattle.tocmark_event.specs.Merged.{after_text, merged}
-use Rattle.tocmark_event.specs.View.{EventView, SourcedEvent, Start, End, Leaf, Text, Paragraph, unsourced}
+use Rattle.tocmark_event.specs.View.{EventView, Start, End, Leaf, Text, Paragraph, unsourced}
 use Rattle.tocmark_event.specs.declared.event.TagEnd.TheVariants as end
 use Rattle.tocmark_spelling.specs.Buffered.{buffered_view, event_of, sourced}
 use Rattle.tocmark_spelling.specs.SameEvents.{same_event, same_events}

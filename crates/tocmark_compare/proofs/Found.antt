@@ -1,5 +1,5 @@
 -- The events of a reading, as they are lent and as they are read.
-use Rattle.std.proofs.Common.{◌≡◌, ℕ, map}
+use Rattle.std.proofs.Common.{◌≡◌, ℕ}
 use mathlib.Core.List.{map-map}
 use Rattle.tocmark_event.specs.Reading.{reading_view}
 use Rattle.tocmark_event.specs.Text.{text_of}

@@ -1,13 +1,16 @@
 -- The marks of Ends and Starts.
-use Rattle.std.proofs.Common.{◌≡◌, refl, ℕ, ◌+◌, ◌-◌, ◌^◌, min, Some, None, true, false}
+use Rattle.std.proofs.Common.{◌≡◌, refl, ◌+◌, ◌-◌, ◌^◌, min, Some, None, true, false}
 use Rattle.tocmark_event.specs.Ends.{end_code}
-use Rattle.tocmark_event.specs.View.{EventView, Start, End}
+use Rattle.tocmark_event.specs.View.{Image, Link, Start, End}
 use Rattle.tocmark_event.specs.declared.event.BlockQuoteKind.TheVariants as quote
 use Rattle.tocmark_event.specs.declared.event.HeadingLevel.TheVariants as level
+use Rattle.tocmark_event.specs.declared.event.LinkType.{LinkType}
+use Rattle.tocmark_event.specs.declared.event.LinkType.TheVariants as link
 use Rattle.tocmark_event.specs.declared.event.MetadataBlockKind.TheVariants as metadata
 use Rattle.tocmark_event.specs.declared.event.TagEnd.{TagEnd}
 use Rattle.tocmark_event.specs.declared.event.TagEnd.TheVariants as end
-use Rattle.tocmark_compare.specs.Digest.{marked, plain_start}
+use Rattle.tocmark_spelling.specs.SameEvents.{link_code}
+use Rattle.tocmark_compare.specs.Digest.{IsLinkMark, marked, plain_start}
 
 -- each End has a mark, and so has the container that it says all of
 pub end-marked : (k : TagEnd) → marked (end_code k) ≡ Some (End k)
@@ -83,3 +86,31 @@ start-marked end.Link = refl
 start-marked end.Image = refl
 start-marked (end.MetadataBlock metadata.YamlStyle) = refl
 start-marked (end.MetadataBlock metadata.PlusesStyle) = refl
+
+-- each type of link has a mark
+pub link-marked : (k : LinkType) → IsLinkMark (min (link_code k + 85) (2 ^ 8 - 1)) (λ d t i. Link k d t i)
+link-marked link.Inline = record { more = λ d. refl; all = λ d t i. refl }
+link-marked link.Reference = record { more = λ d. refl; all = λ d t i. refl }
+link-marked link.ReferenceUnknown = record { more = λ d. refl; all = λ d t i. refl }
+link-marked link.Collapsed = record { more = λ d. refl; all = λ d t i. refl }
+link-marked link.CollapsedUnknown = record { more = λ d. refl; all = λ d t i. refl }
+link-marked link.Shortcut = record { more = λ d. refl; all = λ d t i. refl }
+link-marked link.ShortcutUnknown = record { more = λ d. refl; all = λ d t i. refl }
+link-marked link.Autolink = record { more = λ d. refl; all = λ d t i. refl }
+link-marked link.Email = record { more = λ d. refl; all = λ d t i. refl }
+link-marked (link.WikiLink false) = record { more = λ d. refl; all = λ d t i. refl }
+link-marked (link.WikiLink true) = record { more = λ d. refl; all = λ d t i. refl }
+
+-- each type of link has a mark of images
+pub image-marked : (k : LinkType) → IsLinkMark (min (link_code k + 96) (2 ^ 8 - 1)) (λ d t i. Image k d t i)
+image-marked link.Inline = record { more = λ d. refl; all = λ d t i. refl }
+image-marked link.Reference = record { more = λ d. refl; all = λ d t i. refl }
+image-marked link.ReferenceUnknown = record { more = λ d. refl; all = λ d t i. refl }
+image-marked link.Collapsed = record { more = λ d. refl; all = λ d t i. refl }
+image-marked link.CollapsedUnknown = record { more = λ d. refl; all = λ d t i. refl }
+image-marked link.Shortcut = record { more = λ d. refl; all = λ d t i. refl }
+image-marked link.ShortcutUnknown = record { more = λ d. refl; all = λ d t i. refl }
+image-marked link.Autolink = record { more = λ d. refl; all = λ d t i. refl }
+image-marked link.Email = record { more = λ d. refl; all = λ d t i. refl }
+image-marked (link.WikiLink false) = record { more = λ d. refl; all = λ d t i. refl }
+image-marked (link.WikiLink true) = record { more = λ d. refl; all = λ d t i. refl }

@@ -1,16 +1,17 @@
 //! What a list of events says, in little memory: for a comparison when the list itself is gone.
 
-ghost use Rattle.std.specs.Prelude.{◌≡◌, ◌++◌, ◌∷◌, [], IfOk, IfSome, IsTrue, List, OnOk, Some, map};
+ghost use Rattle.std.specs.Prelude.{◌≡◌, ◌==◌, ◌++◌, ◌∷◌, [], false, true, IfOk, IfSome, IsTrue, List, OnOk, Some, map};
+ghost use Rattle.std.specs.List.{list_any};
 ghost use Rattle.tocmark_event.specs.Merged.{merged};
 ghost use Rattle.tocmark_event.specs.Text.{text_of};
-ghost use Rattle.tocmark_event.specs.View.{End, EventView, Start, end_of, event_view, tag_view};
-ghost use Rattle.tocmark_compare.specs.Digest.{IsSpanOf, IsTextOf, SaysFirst, marked, plain_start, says};
+ghost use Rattle.tocmark_event.specs.View.{End, EventView, Image, Link, Start, end_of, event_view, tag_view};
+ghost use Rattle.tocmark_compare.specs.Digest.{Adds, IsLinkMark, IsLinkOf, IsTextOf, SaysFirst, marked, plain_start, says, spelled};
 ghost use Rattle.tocmark_compare.specs.Given.{given_events};
 
 use crate::event::same_events;
-use crate::number::end_number;
+use crate::number::{end_number, link_number};
 use std::alloc::{AllocError, Global};
-use tocmark_event::event::{CodeBlockKind, Event, Tag, TagEnd};
+use tocmark_event::event::{CodeBlockKind, Event, LinkType, Tag, TagEnd};
 
 /// What stands before a mark. No text has such a byte.
 const SIGN: u8 = 255;
@@ -26,13 +27,35 @@ const RULE: u8 = 72;
 const UNCHECKED: u8 = 73;
 
 const CHECKED: u8 = 74;
-/// The mark of a code span, behind which stand its text and a sign.
-const SPAN: u8 = 75;
 /// The mark of an event that stands among the others.
-const OTHER: u8 = 76;
+const OTHER: u8 = 75;
+/// The marks of events with one text, behind which stand the text and a sign.
+const CODE: u8 = 76;
 
-/// What a list of events says: a byte for each byte of its texts, two for most other events, and an event of its own for
-/// one with more to it, as a link.
+const INLINE_MATH: u8 = 77;
+
+const DISPLAY_MATH: u8 = 78;
+
+const HTML: u8 = 79;
+
+const INLINE_HTML: u8 = 80;
+
+const FOOTNOTE_REFERENCE: u8 = 81;
+
+const FENCED: u8 = 82;
+
+const FOOTNOTE: u8 = 83;
+/// The mark of an ordered list with a small first number, which is a text of one byte.
+const NUMBER: u8 = 84;
+/// The first mark of a link, behind which stand its destination, title and label, and a sign behind each. Each type of
+/// link has a mark.
+const LINKS: u8 = 85;
+/// The first mark of an image.
+const IMAGES: u8 = 96;
+
+/// What a list of events says: a byte for each byte of its texts, two for an event without a text, a byte more for each
+/// text of another event, as a link has three, and an event of its own for one with more to it, as a heading with
+/// attributes.
 #[derive(Drop)]
 pub struct Digest {
     bytes: Vec<u8>,
@@ -118,18 +141,107 @@ fn bytes_of<'e>(event: &'e Event<'_>) -> Option<&'e [u8]>
     Some(bytes)
 }
 
-/// The bytes of a code span that can stand among the bytes of a digest.
-fn span_of<'e>(event: &'e Event<'_>) -> Option<&'e [u8]>
-    ensures { IfSome result (λ bytes. IsSpanOf bytes.now (event_view text_of event.now)) }
+/// The mark and the text of an event that has one text.
+fn word_of<'e>(event: &'e Event<'_>) -> Option<(u8, &'e str)>
+    ensures { IfSome result (λ word.
+        spelled word.0 (word.1.now ∷ []) ≡ Some (event_view text_of event.now)) }
 {
-    let Event::Code(text) = event else {
-        return None;
-    };
-    let bytes = text.as_ref().as_bytes();
-    if bytes.contains(&SIGN) {
-        return None;
+    match event {
+        Event::Code(text) => Some((CODE, text.as_ref())),
+        Event::InlineMath(text) => Some((INLINE_MATH, text.as_ref())),
+        Event::DisplayMath(text) => Some((DISPLAY_MATH, text.as_ref())),
+        Event::Html(text) => Some((HTML, text.as_ref())),
+        Event::InlineHtml(text) => Some((INLINE_HTML, text.as_ref())),
+        Event::FootnoteReference(label) => Some((FOOTNOTE_REFERENCE, label.as_ref())),
+        Event::Start(Tag::CodeBlock(CodeBlockKind::Fenced(info))) => Some((FENCED, info.as_ref())),
+        Event::Start(Tag::FootnoteDefinition(label)) => Some((FOOTNOTE, label.as_ref())),
+        _ => None,
     }
-    Some(bytes)
+}
+
+/// The first number of an ordered list, if it is small.
+fn number_of(event: &Event<'_>) -> Option<u8>
+    ensures event { IfSome result (λ number.
+        spelled 84 ((number ∷ []) ∷ []) ≡ Some (event_view text_of event.now)) }
+    ensures small { IfSome result (λ number. (number == 255) ≡ false) }
+{
+    match event {
+        Event::Start(Tag::List(Some(number))) if *number < 255 => Some(*number as u8),
+        _ => None,
+    }
+}
+
+/// The mark of a link.
+fn link_mark(link: LinkType) -> u8
+    ensures { IsLinkMark result (λ d t i. Link link d t i) }
+{
+    link_number(link).saturating_add(LINKS)
+}
+
+/// The mark of an image.
+fn image_mark(link: LinkType) -> u8
+    ensures { IsLinkMark result (λ d t i. Image link d t i) }
+{
+    link_number(link).saturating_add(IMAGES)
+}
+
+/// The mark, the destination, the title and the label of a link or an image.
+#[derive(Clone, Copy)]
+struct Linked<'e> {
+    mark: u8,
+    destination: &'e str,
+    title: &'e str,
+    label: &'e str,
+}
+
+/// What a digest keeps of the start of a link or an image.
+fn link_parts<'e>(tag: &'e Tag<'_>) -> Option<Linked<'e>>
+    ensures { IfSome result (λ link. IsLinkOf link.mark link.destination.now link.title.now
+        link.label.now (Start (tag_view text_of tag.now))) }
+{
+    match tag {
+        Tag::Link {
+            link_type,
+            dest_url,
+            title,
+            id,
+        } => Some(Linked {
+            mark: link_mark(*link_type),
+            destination: dest_url.as_ref(),
+            title: title.as_ref(),
+            label: id.as_ref(),
+        }),
+        Tag::Image {
+            link_type,
+            dest_url,
+            title,
+            id,
+        } => Some(Linked {
+            mark: image_mark(*link_type),
+            destination: dest_url.as_ref(),
+            title: title.as_ref(),
+            label: id.as_ref(),
+        }),
+        _ => None,
+    }
+}
+
+/// What a digest keeps of a link or an image.
+fn link_of<'e>(event: &'e Event<'_>) -> Option<Linked<'e>>
+    ensures { IfSome result (λ link. IsLinkOf link.mark link.destination.now link.title.now
+        link.label.now (event_view text_of event.now)) }
+{
+    match event {
+        Event::Start(tag) => link_parts(tag),
+        _ => None,
+    }
+}
+
+/// Whether a text can stand among the bytes of a digest.
+fn can_stand(text: &str) -> bool
+    ensures { result ≡ true → list_any (λ b. b == 255) text.now ≡ false }
+{
+    !text.as_bytes().contains(&SIGN)
 }
 
 /// What a byte is that comes next.
@@ -137,8 +249,8 @@ fn span_of<'e>(event: &'e Event<'_>) -> Option<&'e [u8]>
 enum Next {
     Text,
     Mark,
-    /// A byte of a code span.
-    Span,
+    /// A byte of the texts behind a mark, of which so many haven't ended.
+    Words(u8),
 }
 
 /// How deep a byte stands, and how many of the other events stand before it.
@@ -160,36 +272,37 @@ impl Walk {
 
     /// Takes a mark.
     fn take_mark(&mut self, mark: u8, others: &[Event<'static>]) {
-        self.next = if mark == SPAN { Next::Span } else { Next::Text };
-        if mark < ENDS {
-            self.depth = self.depth.saturating_sub(1);
-        } else if mark < SOFT_BREAK {
-            self.depth = self.depth.saturating_add(1);
-        } else if mark >= OTHER {
-            self.pass(others);
+        self.next = match mark {
+            0..=OTHER => Next::Text,
+            CODE..=NUMBER => Next::Words(1),
+            _ => Next::Words(3),
+        };
+        match mark {
+            0..ENDS => self.depth = self.depth.saturating_sub(1),
+            OTHER => self.pass(others),
+            SOFT_BREAK..FENCED => {}
+            _ => self.depth = self.depth.saturating_add(1),
         }
     }
 
     /// Takes a byte; true if it ends a tree at the top.
     fn take(&mut self, byte: u8, others: &[Event<'static>]) -> bool {
         match self.next {
-            Next::Mark => {
-                self.take_mark(byte, others);
-                self.depth == 0 && self.next == Next::Text
+            Next::Mark => self.take_mark(byte, others),
+            Next::Text if byte == SIGN => {
+                self.next = Next::Mark;
+                return false;
             }
-            Next::Text => {
-                if byte == SIGN {
-                    self.next = Next::Mark;
-                }
-                false
+            Next::Words(left) if byte == SIGN => {
+                self.next = if left > 1 {
+                    Next::Words(left - 1)
+                } else {
+                    Next::Text
+                };
             }
-            Next::Span => {
-                if byte == SIGN {
-                    self.next = Next::Text;
-                }
-                byte == SIGN && self.depth == 0
-            }
+            _ => return false,
         }
+        self.depth == 0 && self.next == Next::Text
     }
 }
 
@@ -218,14 +331,68 @@ impl Digest {
         self.put_bytes(&[SIGN, mark])
     }
 
-    fn put_span(&mut self, text: &[u8]) -> Result<(), AllocError>
+    /// Puts a text and a sign behind it.
+    fn put_text(&mut self, text: &[u8]) -> Result<(), AllocError>
         ensures bytes { OnOk result (self.new.bytes.items
-            ≡ ((self.old.bytes.items ++ 255 ∷ 75 ∷ []) ++ text.now) ++ 255 ∷ []) }
+            ≡ (self.old.bytes.items ++ text.now) ++ 255 ∷ []) }
         ensures others { self.new.others ≡ self.old.others }
     {
-        self.put_bytes(&[SIGN, SPAN])?;
         self.put_bytes(text)?;
         self.put_bytes(&[SIGN])
+    }
+
+    /// Puts a mark with its one text.
+    fn put_word(&mut self, mark: u8, text: &[u8]) -> Result<(), AllocError>
+        ensures bytes { OnOk result (self.new.bytes.items
+            ≡ ((self.old.bytes.items ++ 255 ∷ mark ∷ []) ++ text.now) ++ 255 ∷ []) }
+        ensures others { self.new.others ≡ self.old.others }
+    {
+        self.put_mark(mark)?;
+        self.put_text(text)
+    }
+
+    /// Puts an event that has one text, if it can stand among the bytes; whether it does.
+    fn put_worded(&mut self, event: &Event<'_>) -> Result<bool, AllocError>
+        ensures done { IfOk result (λ done. done ≡ true
+            → Adds self.old self.new (event_view text_of event.now)) }
+        ensures not_done { IfOk result (λ done. done ≡ false → self.new ≡ self.old) }
+    {
+        if let Some(number) = number_of(event) {
+            self.put_word(NUMBER, &[number])?;
+            return Ok(true);
+        }
+        let Some((mark, text)) = word_of(event) else {
+            return Ok(false);
+        };
+        if !can_stand(text) {
+            return Ok(false);
+        }
+        self.put_word(mark, text.as_bytes())?;
+        Ok(true)
+    }
+
+    /// Puts a link or an image, if it can stand among the bytes; whether it does.
+    fn put_linked(&mut self, event: &Event<'_>) -> Result<bool, AllocError>
+        ensures done { IfOk result (λ done. done ≡ true
+            → Adds self.old self.new (event_view text_of event.now)) }
+        ensures not_done { IfOk result (λ done. done ≡ false → self.new ≡ self.old) }
+    {
+        let Some(link) = link_of(event) else {
+            return Ok(false);
+        };
+        if !can_stand(link.destination) {
+            return Ok(false);
+        }
+        if !can_stand(link.title) {
+            return Ok(false);
+        }
+        if !can_stand(link.label) {
+            return Ok(false);
+        }
+        self.put_word(link.mark, link.destination.as_bytes())?;
+        self.put_text(link.title.as_bytes())?;
+        self.put_text(link.label.as_bytes())?;
+        Ok(true)
     }
 
     fn put_other(&mut self, alloc: Global, event: &Event<'_>) -> Result<(), AllocError>
@@ -239,21 +406,22 @@ impl Digest {
         Ok(())
     }
 
-    /// Puts an event behind the others.
+    /// Puts an event.
     fn put(&mut self, alloc: Global, event: &Event<'_>) -> Result<(), AllocError>
-        ensures { OnOk result ((events : List EventView) → SaysFirst self.old events
-            → SaysFirst self.new (events ++ event_view text_of event.now ∷ [])) }
+        ensures { OnOk result (Adds self.old self.new (event_view text_of event.now)) }
     {
         if let Some(bytes) = bytes_of(event) {
             self.put_bytes(bytes)?;
             return Ok(());
         }
-        if let Some(text) = span_of(event) {
-            self.put_span(text)?;
-            return Ok(());
-        }
         if let Some(mark) = mark_of(event) {
             self.put_mark(mark)?;
+            return Ok(());
+        }
+        if self.put_worded(event)? {
+            return Ok(());
+        }
+        if self.put_linked(event)? {
             return Ok(());
         }
         self.put_mark(OTHER)?;
