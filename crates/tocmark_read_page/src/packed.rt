@@ -134,6 +134,7 @@ fn fenced(start: usize, from: usize, to: usize) -> Option<SmallKind>
 
 /// The kind of a list whose first number is small.
 #[tactic(auto, unfolding(crate::specs::Packed::kind_in, crate::specs::Packed::is_loose_in))]
+#[inline(always)]
 fn list(loose: bool, first: Option<u64>) -> Option<SmallKind>
     ensures kind { IfSome result (λ small. (start : ℕ) → kind_in start small ≡ kind.List first) }
     ensures loose { IfSome result (λ small. is_loose_in small ≡ loose) }
@@ -152,6 +153,7 @@ fn list(loose: bool, first: Option<u64>) -> Option<SmallKind>
 
 /// The kind of a block that is no list, if it is small.
 #[tactic(auto, unfolding(crate::specs::Packed::kind_in, crate::specs::Packed::is_loose_in))]
+#[inline(always)]
 fn other(start: usize, kind: BlockKind) -> Option<SmallKind>
     ensures kind { IfSome result (λ small. kind_in start small ≡ kind) }
     ensures loose { IfSome result (λ small. is_loose_in small ≡ false) }
@@ -176,6 +178,7 @@ fn other(start: usize, kind: BlockKind) -> Option<SmallKind>
 }
 
 /// The kind of a block in few bytes, if it is small. Only lists can be loose.
+#[inline(always)]
 fn small_kind(block: &Block) -> Option<SmallKind>
     ensures kind { IfSome result (λ small. kind_in block.now.start small ≡ block.now.kind) }
     ensures loose { IfSome result (λ small. is_loose_in small ≡ block.now.loose) }
@@ -194,6 +197,7 @@ fn small_kind(block: &Block) -> Option<SmallKind>
 
 /// The number of a list plus one, if that is small; 0 for none.
 #[tactic(auto, unfolding(crate::specs::Packed::list_in))]
+#[inline(always)]
 fn list_number(list: Option<usize>) -> Option<u32>
     ensures { IfSome result (λ number. list_in number ≡ list) }
 {
@@ -210,6 +214,7 @@ fn list_number(list: Option<usize>) -> Option<u32>
 }
 
 /// Whether the numbers of a block fit into few bytes.
+#[inline(always)]
 fn fits(block: &Block) -> bool
     ensures { result ≡ true → HasSmallNumbers block.now }
 {
@@ -224,6 +229,7 @@ fn fits(block: &Block) -> bool
 
 /// A block in few bytes, if it fits.
 #[tactic(auto, unfolding(crate::specs::Packed::block_in))]
+#[inline(always)]
 fn small(block: &Block) -> Option<Form>
     ensures { IfSome result (λ form. block_in form ≡ block.now) }
 {
@@ -244,6 +250,7 @@ fn small(block: &Block) -> Option<Form>
 }
 
 #[tactic(auto, unfolding(crate::specs::Packed::block_in))]
+#[inline(always)]
 fn form_of(alloc: Global, block: &Block) -> Result<Form, AllocError>
     ensures { IfOk result (λ form. block_in form ≡ block.now) }
 {
@@ -300,6 +307,7 @@ fn set_last(form: &mut Form, to: usize) -> bool
 
 impl PackedBlock {
     /// Packs a block into few bytes, or puts it on the heap if it doesn't fit.
+    #[inline(always)]
     pub fn new(alloc: Global, block: &Block) -> Result<PackedBlock, AllocError>
         ensures { IfOk result (λ packed. packed ≡ block.now) }
     {
@@ -407,6 +415,8 @@ impl PackedBlock {
     }
 
     /// Puts another block in its place.
+    #[cold]
+    #[inline(never)]
     fn replace(&mut self, alloc: Global, block: Block) -> Result<(), AllocError>
         ensures { OnOk result (self.new ≡ block) }
     {
@@ -507,6 +517,7 @@ pub fn block_at(blocks: &[PackedBlock], place: usize) -> Option<Block>
 }
 
 /// Puts a block behind the others.
+#[inline(always)]
 pub fn push_block(blocks: &mut Vec<PackedBlock>, block: Block) -> Result<(), AllocError>
     ensures { OnOk result (blocks.new.items ≡ blocks.old.items ++ block ∷ []) }
 {

@@ -507,6 +507,7 @@ impl BlocksSoFar {
 
     /// Begins a block in the innermost container.
     #[tactic(auto, unfolding(crate::specs::Pages::begun))]
+    #[inline(always)]
     fn begin(&mut self, kind: BlockKind, start: usize, number: usize) -> Result<(), AllocError>
         ensures { OnOk result (page self.new ≡ begun kind start number (page self.old)) }
     {
@@ -540,6 +541,7 @@ impl BlocksSoFar {
 
     /// Begins a container in the innermost one.
     #[tactic(auto, unfolding(crate::specs::Pages::opened_with))]
+    #[inline(always)]
     pub fn open(
         &mut self,
         container: Container,
@@ -563,6 +565,7 @@ impl BlocksSoFar {
 
     /// Begins a leaf in the innermost container, which is no list.
     #[tactic(auto, unfolding(crate::specs::Pages::leaf_opened))]
+    #[inline(always)]
     pub fn open_leaf(
         &mut self,
         leaf: Leaf,
