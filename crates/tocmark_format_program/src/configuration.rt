@@ -1,6 +1,6 @@
 //! Configuration files: TOML, whose keys are the long options of formatting, `exclude`, `include` and `overrides`.
 
-use crate::rules::{Entry, Rules, WANTED};
+use crate::rules::{Entry, Rules};
 use crate::settings::{Key, Setting, Settings, key_named, set_all};
 use crate::text::{line_behind, text_of};
 use std::alloc::{AllocError, AllocFailed, Global};
@@ -14,7 +14,7 @@ pub(crate) struct Configuration {
     settings: Settings,
     /// Which files aren't formatted.
     pub(crate) exclude: Rules,
-    /// Which files are formatted below a folder. `None`: those with names of Markdown.
+    /// Which files are formatted. `None`: those with names of Markdown.
     pub(crate) include: Option<Rules>,
     overrides: Vec<Override>,
 }
@@ -188,8 +188,8 @@ impl<'t> Source<'t> {
             let Some(glob) = value.as_str() else {
                 return Err(self.wrong(key, GLOBS));
             };
-            if !rules.add_glob(self.alloc, glob)? {
-                return Err(self.wrong(key, WANTED));
+            if let Some(wanted) = rules.add_glob(self.alloc, key, glob)? {
+                return Err(self.wrong(key, wanted));
             }
         }
         Ok(())

@@ -260,13 +260,16 @@ fn is_colored(rt: &HostRuntime, color: Color) -> bool {
     }
 }
 
-/// Whether standard input is the only text.
-fn is_only_input(found: &Found) -> bool {
+/// Whether a summary says nothing: standard input is the only text, or folders without files are all that is named.
+fn is_told(found: &Found) -> bool {
+    if !found.failures.is_empty() {
+        return false;
+    }
     match found.targets.as_slice() {
-        [] => false,
+        [] => !found.empty.is_empty(),
         [only] => match only.origin {
             Origin::File => false,
-            _ => found.failures.is_empty(),
+            _ => true,
         },
         _ => false,
     }
@@ -375,13 +378,16 @@ fn perform(
     for path in &found.excluded {
         report.note(path.as_str(), "excluded");
     }
+    for path in &found.empty {
+        report.found_nothing(path.as_str());
+    }
     do_all(rt, work, &found.targets, report, &mut outcomes)?;
     if !work.task.is_dry() {
         for path in &found.left_behind {
             remove_left(rt, path.as_str());
         }
     }
-    if is_only_input(found) {
+    if is_told(found) {
         report.clear();
     } else {
         report.end(&outcomes);

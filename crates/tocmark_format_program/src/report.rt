@@ -39,6 +39,10 @@ impl Totals {
     }
 }
 
+/// What is said of a folder that has no files to format.
+const NOTHING: &str =
+    "warning: no Markdown file is found below it; look at the path, include, exclude and .gitignore";
+
 /// Why a block keeps its lines.
 fn why(reason: Reason) -> &'static str {
     match reason {
@@ -116,7 +120,7 @@ impl fmt::Display for Failed<'_> {
     }
 }
 
-/// What became of a file.
+/// What became of a file, or what a folder has.
 #[derive(Clone, Copy)]
 struct Note<'m> {
     path: Quoted<'m>,
@@ -199,14 +203,24 @@ impl<E: Write + Drop> Report<E> {
         }
     }
 
+    /// Writes a line about a file or folder.
+    fn tell(&mut self, path: &str, what: &'static str) {
+        self.say(&Note {
+            path: Quoted(path),
+            what,
+        });
+    }
+
     /// Writes a line about a file, if each file is named.
     pub fn note(&mut self, path: &str, what: &'static str) {
         if self.voice.is_verbose {
-            self.say(&Note {
-                path: Quoted(path),
-                what,
-            });
+            self.tell(path, what);
         }
+    }
+
+    /// Warns of a folder that has no files to format.
+    pub fn found_nothing(&mut self, path: &str) {
+        self.tell(path, NOTHING);
     }
 
     /// Reports a file that was changed, or would be.

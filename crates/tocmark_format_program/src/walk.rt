@@ -32,6 +32,8 @@ struct Scope<'f> {
 struct Walk {
     folders: Vec<Folder>,
     targets: Vec<Target>,
+    /// Whether a file is found, even if it was found before.
+    has_files: bool,
 }
 
 impl Walk {
@@ -63,7 +65,7 @@ fn entry_fault(error: io::Error) -> Fault {
 }
 
 impl Search {
-    /// Adds the files below a folder, in the order of their paths' bytes.
+    /// Adds the files below a folder that is named, in the order of their paths' bytes.
     pub(crate) fn add_below(&mut self, rt: &HostRuntime, path: &str) -> Result<(), Refused> {
         let whole = whole_path(rt, path)?;
         if self.is_excluded_folder(rt, whole.as_str())? {
@@ -73,10 +75,19 @@ impl Search {
         let mut walk = Walk {
             folders: Vec::new(rt.alloc()),
             targets: Vec::new(rt.alloc()),
+            has_files: false,
         };
+        let failures = self.found.failures.len();
         walk.add_folder(rt, path, whole, ignores)?;
         self.walk(rt, &mut walk)?;
-        let Walk { targets, .. } = walk;
+        let Walk {
+            targets,
+            has_files,
+            ..
+        } = walk;
+        if !has_files && self.found.failures.len() == failures {
+            self.found.empty.push(String::from_str(rt.alloc(), path)?)?;
+        }
         self.add_sorted(targets)
     }
 
@@ -208,7 +219,11 @@ impl Search {
     ) -> Result<(), Refused> {
         let is_found = self.includes(rt, scope.configuration, whole.as_str())?
             && self.is_walked(rt, scope, whole.as_str(), false)?;
-        if is_found && let Some(target) = self.target(rt, scope.configuration, path, whole)? {
+        if !is_found {
+            return Ok(());
+        }
+        walk.has_files = true;
+        if let Some(target) = self.target(rt, scope.configuration, path, whole)? {
             walk.targets.push(target)?;
         }
         Ok(())
