@@ -10,7 +10,7 @@ use tocmark_command::options::{CommandOption, Takes, with_options};
 use tocmark_command::syntax::with_syntax;
 
 /// What becomes of formatted texts.
-#[derive(Clone, Copy, Drop)]
+#[derive(Clone, Copy)]
 pub struct Task {
     /// Why the call ends with status 1.
     pub terms: Terms,
@@ -28,7 +28,7 @@ impl Task {
 }
 
 /// How much is printed.
-#[derive(Clone, Copy, Drop)]
+#[derive(Drop)]
 pub struct Voice {
     /// The summary isn't printed.
     pub is_quiet: bool,
@@ -49,7 +49,7 @@ pub struct Choice {
 }
 
 /// Whether a diff is coloured.
-#[derive(Clone, Copy, Drop)]
+#[derive(Clone, Copy)]
 pub enum Color {
     /// On a terminal, unless the environment has `NO_COLOR`.
     Auto,

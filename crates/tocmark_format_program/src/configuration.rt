@@ -32,7 +32,7 @@ pub enum ConfigError {
     /// The first line that isn't UTF-8.
     NotUtf8(usize),
     /// Why it is no TOML, and the line where that shows.
-    NotToml(toml::de::Error, Option<usize>),
+    NotToml(String, Option<usize>),
     /// A key, and its line where it is found.
     UnknownKey(String, Option<usize>),
     /// A key, its line where it is found, and what it takes.
@@ -85,9 +85,9 @@ impl fmt::Display for ConfigError {
     fn fmt<W: fmt::Write>(&self, f: &mut fmt::Formatter<W>) -> fmt::Result {
         match self {
             ConfigError::NotUtf8(line) => write!(f, ":{line}: the line is not UTF-8"),
-            ConfigError::NotToml(error, line) => {
+            ConfigError::NotToml(why, line) => {
                 place(f, *line)?;
-                f.write_str(error.message())
+                f.write_str(why.as_str())
             }
             ConfigError::UnknownKey(key, line) => {
                 place(f, *line)?;
@@ -159,8 +159,12 @@ impl<'t> Source<'t> {
             Ok(table) => Ok(table),
             Err(error) if error.is_memory() => Err(ConfigError::OutOfMemory),
             Err(error) => {
-                let line = error.span().map(|span| line_at(self.text, span.start));
-                Err(ConfigError::NotToml(error, line))
+                let line = match error.span() {
+                    Some(span) => Some(line_at(self.text, span.start)),
+                    None => None,
+                };
+                let why = String::from_str(self.alloc, error.message())?;
+                Err(ConfigError::NotToml(why, line))
             }
         }
     }

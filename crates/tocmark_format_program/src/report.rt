@@ -9,7 +9,7 @@ use std::io::Write;
 use tocmark_format::{Left, Reason};
 
 /// How many texts there were, and what became of them.
-#[derive(Clone, Copy, Drop)]
+#[derive(Clone, Copy)]
 struct Totals {
     texts: usize,
     /// Those that were changed, or would be.
@@ -52,7 +52,7 @@ fn why(reason: Reason) -> &'static str {
 }
 
 /// `1 file`, `2 files`.
-#[derive(Clone, Copy)]
+#[derive(Drop)]
 struct Count {
     number: usize,
     noun: &'static str,
@@ -67,7 +67,7 @@ impl fmt::Display for Count {
 }
 
 /// Totals, and whether files would be changed or were.
-#[derive(Clone, Copy)]
+#[derive(Drop)]
 struct Summary {
     totals: Totals,
     is_dry: bool,
@@ -107,7 +107,7 @@ impl fmt::Display for Summary {
 }
 
 /// Why a file failed.
-#[derive(Clone, Copy)]
+#[derive(Drop)]
 struct Failed<'m> {
     path: Quoted<'m>,
     fault: &'m Fault,
@@ -121,7 +121,7 @@ impl fmt::Display for Failed<'_> {
 }
 
 /// What became of a file, or what a folder has.
-#[derive(Clone, Copy)]
+#[derive(Drop)]
 struct Note<'m> {
     path: Quoted<'m>,
     what: &'static str,
@@ -135,7 +135,7 @@ impl fmt::Display for Note<'_> {
 }
 
 /// A block that keeps its lines, by the first of them.
-#[derive(Clone, Copy)]
+#[derive(Drop)]
 struct Warning<'m> {
     path: Quoted<'m>,
     line: usize,

@@ -10,7 +10,7 @@ use std::collections::{HashMap, HashSet};
 use std::{fs, io};
 
 /// Where a text comes from, and what becomes of it.
-#[derive(Clone, Copy, Drop)]
+#[derive(Clone, Copy)]
 pub enum Origin {
     File,
     Input,

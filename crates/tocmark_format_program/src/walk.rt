@@ -4,6 +4,7 @@ use crate::fault::Fault;
 use crate::lookup::{Refused, joined, whole_path};
 use crate::rules::Entry;
 use crate::search::{Search, Target, is_markdown};
+use std::cmp::Ordering;
 use std::fs::DirEntry;
 use std::{fs, io};
 use tocmark_command::replace::replaced_by;
@@ -53,6 +54,10 @@ impl Walk {
         })?;
         Ok(())
     }
+}
+
+fn by_path(one: &Target, other: &Target) -> Ordering {
+    one.path.cmp(&other.path)
 }
 
 /// Why a folder's entry can't be looked at. Only a name that isn't UTF-8 is no valid one here.
@@ -105,7 +110,7 @@ impl Search {
     /// Adds texts in the order of their paths' bytes.
     fn add_sorted(&mut self, targets: Vec<Target>) -> Result<(), Refused> {
         let mut targets = targets;
-        targets.sort_by(|one, other| one.path.cmp(&other.path))?;
+        targets.sort_by(by_path)?;
         for target in targets {
             self.found.targets.push(target)?;
         }
