@@ -260,18 +260,18 @@ fn is_colored(rt: &HostRuntime, color: Color) -> bool {
     }
 }
 
-/// Whether a summary says nothing: standard input is the only text, or folders without files are all that is named.
-fn is_told(found: &Found) -> bool {
+/// Whether there is a summary: not of standard input alone, nor of folders without files alone.
+fn has_summary(found: &Found) -> bool {
     if !found.failures.is_empty() {
-        return false;
+        return true;
     }
     match found.targets.as_slice() {
-        [] => !found.empty.is_empty(),
+        [] => found.empty.is_empty(),
         [only] => match only.origin {
-            Origin::File => false,
-            _ => true,
+            Origin::File => true,
+            _ => false,
         },
-        _ => false,
+        _ => true,
     }
 }
 
@@ -387,10 +387,10 @@ fn perform(
             remove_left(rt, path.as_str());
         }
     }
-    if is_told(found) {
-        report.clear();
-    } else {
+    if has_summary(found) {
         report.end(&outcomes);
+    } else {
+        report.clear();
     }
     Ok(status_of(&outcomes, work.task.terms))
 }

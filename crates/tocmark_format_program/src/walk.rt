@@ -90,10 +90,11 @@ impl Search {
             has_files,
             ..
         } = walk;
+        self.add_sorted(targets)?;
         if !has_files && self.found.failures.len() == failures {
             self.found.empty.push(String::from_str(rt.alloc(), path)?)?;
         }
-        self.add_sorted(targets)
+        Ok(())
     }
 
     /// Searches the folders that are still to be searched, and those that are found in them.
