@@ -379,24 +379,37 @@ class Formatting(unittest.TestCase):
     def test_styles(self):
         self.assertEqual(tocmark.format("*  a\n*  b"), "* a\n* b\n")
         self.assertEqual(tocmark.format("*  a\n*  b", bullet="+"), "+ a\n+ b\n")
-        self.assertEqual(tocmark.format("1. a\n2. b", delimiter=")", numbering="first"), "1) a\n1) b\n")
+        self.assertEqual(tocmark.format("1. a\n2. b", ordered=")", numbering="first"), "1) a\n1) b\n")
         self.assertEqual(tocmark.format("1. a\n1. b", numbering="increment"), "1. a\n2. b\n")
         self.assertEqual(tocmark.format("*a* **b**", emphasis="_", strong="_"), "_a_ __b__\n")
         self.assertEqual(tocmark.format("~~~\na\n~~~", fence="`", fence_length=4), "````\na\n````\n")
 
+    def test_names_and_values_of_the_command(self):
+        text = "+  a\n\n1) **b**\n\n~~~\nc\n~~~\n"
+        kept = "+ a\n\n1) **b**\n\n~~~\nc\n~~~\n"
+        self.assertEqual(tocmark.format(text, bullet="source", ordered="source", fence="source", strong="**"), kept)
+        self.assertEqual(tocmark.format(text, bullet="", ordered="", fence="", strong=""), kept)
+        self.assertEqual(tocmark.format(text, strong="__"), tocmark.format(text, strong="_"))
+        self.assertEqual(tocmark.format(text, ordered="."), tocmark.format(text, delimiter="."))
+        with self.assertRaisesRegex(TypeError, "ordered and delimiter are one option"):
+            tocmark.format(text, ordered=".", delimiter=".")
+
     def test_blocks_of_other_syntaxes_stay(self):
         text = "a\n|b|\n|-|\n"
         self.assertTrue(tocmark.format(text).startswith("a\n\n|"))
-        for also in ("commonmark", ["commonmark"], ("gfm", "commonmark")):
-            self.assertEqual(tocmark.format(text, also=also), text)
-        with self.assertRaisesRegex(ValueError, "'x' is none of commonmark, gfm, all"):
-            tocmark.format(text, also=["x"])
+        for others in ("commonmark", ["commonmark"], ("gfm", "commonmark")):
+            self.assertEqual(tocmark.format(text, also_read=others), text)
+            self.assertEqual(tocmark.format(text, also=others), text)
+        self.assertEqual(tocmark.format(text, also_read="gfm", also="commonmark"), text)
+        for name in ("also_read", "also"):
+            with self.assertRaisesRegex(ValueError, "'x' is none of commonmark, gfm, all"):
+                tocmark.format(text, **{name: ["x"]})
 
     def test_front_matter_stays(self):
         self.assertEqual(tocmark.format(FRONT + "a\n=\n"), FRONT + "# a\n")
 
     def test_errors(self):
-        for part in ("bullet", "delimiter", "emphasis", "strong", "fence"):
+        for part in ("bullet", "ordered", "delimiter", "emphasis", "strong", "fence"):
             self.refused("a", **{part: "x"})
             self.refused("a", **{part: "--"})
             self.refused("a", **{part: None})
@@ -428,7 +441,7 @@ class Formatting(unittest.TestCase):
         self.assertEqual(tocmark.format("- a\n\n  b\n", list_indent=4), "-   a\n\n    b\n")
 
     def test_the_same_is_read(self):
-        styles = ({}, {"bullet": "-", "delimiter": ")", "numbering": "first", "emphasis": "_", "fence": "~", "hard_break": "backslash", "rule": "source", "table_width": 1})
+        styles = ({}, {"bullet": "-", "ordered": ")", "numbering": "first", "emphasis": "_", "fence": "~", "hard_break": "backslash", "rule": "source", "table_width": 1})
         for text in examples():
             for style in styles:
                 found = tocmark.format(text, syntax="all", **style)
@@ -517,6 +530,8 @@ class Commands(unittest.TestCase):
 
     def test_formatting(self):
         self.assertEqual(self.run_module("format", "--bullet", "-", given="*  a"), "- a\n")
+        for ordered, also in (("--ordered", "--also-read"), ("--delimiter", "--also")):
+            self.assertEqual(self.run_module("format", ordered, ")", also, "commonmark", given="1.  a"), "1) a\n")
         self.assertEqual(self.run_module("format", "--check", given="*  a", status=1), "")
         self.assertEqual(self.run_module("format", "--check", given="* a\n"), "")
         self.assertEqual(self.run_module("format", "--check", self.path, status=1), self.path + "\n")

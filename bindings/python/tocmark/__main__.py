@@ -34,11 +34,11 @@ def _json_of(text: str, words: argparse.Namespace) -> str:
 
 
 def _format(words: argparse.Namespace) -> int:
-    style = {name: value for name in ("bullet", "delimiter", "numbering", "emphasis", "strong", "fence", "hard_break", "rule",
+    style = {name: value for name in ("bullet", "ordered", "numbering", "emphasis", "strong", "fence", "hard_break", "rule",
                                       "fence_length", "table_width", "wrap", "list_indent") if (value := getattr(words, name)) is not None}
     if not words.file:
         text = _read_input()
-        formatted = format(text, also=words.also, **style, **_syntax_of(words))
+        formatted = format(text, also_read=words.also_read, **style, **_syntax_of(words))
         if words.check:
             return int(formatted != text)
         _print(formatted)
@@ -46,7 +46,7 @@ def _format(words: argparse.Namespace) -> int:
     status = 0
     for path in words.file:
         try:
-            if format_file(path, check=words.check, also=words.also, **style, **_syntax_of(words)) and words.check:
+            if format_file(path, check=words.check, also_read=words.also_read, **style, **_syntax_of(words)) and words.check:
                 print(path)
                 status = 1
         except (OSError, UnicodeDecodeError, Error) as error:
@@ -101,13 +101,14 @@ def _parser() -> argparse.ArgumentParser:
     one = commands.add_parser("format", help="format files in place, or standard input to standard output")
     one.add_argument("file", nargs="*", metavar="FILE")
     one.add_argument("--check", action="store_true", help="write nothing; name the files that would change, with status 1")
-    for name in ("bullet", "delimiter", "numbering", "emphasis", "strong", "fence", "hard-break", "rule"):
+    for name in ("bullet", "numbering", "emphasis", "strong", "fence", "hard-break", "rule"):
         one.add_argument(f"--{name}", help="see the function format")
+    one.add_argument("--ordered", "--delimiter", metavar="DELIMITER", help="see the function format")
     for name in ("fence-length", "table-width"):
         one.add_argument(f"--{name}", type=int, metavar="N", help="see the function format")
     for name in ("wrap", "list-indent"):
         one.add_argument(f"--{name}", type=_word_or_number, metavar="WORD|N", help="see the function format")
-    one.add_argument("--also", action="append", default=[], choices=list(SYNTAXES),
+    one.add_argument("--also-read", "--also", action="append", default=[], choices=list(SYNTAXES),
                      help="keep the blocks that this syntax has, too; repeatable")
     one.set_defaults(run=_format)
 

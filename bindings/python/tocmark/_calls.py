@@ -281,13 +281,15 @@ def edit(source: str, change: Change, *, syntax: str = "gfm", extensions: Iterab
     return rewrite(source, events, syntax=syntax, extensions=names, **options)
 
 
-def format(text: str, *, syntax: str = "gfm", extensions: Iterable[str] = (), also: Union[str, Iterable[str]] = (),
-           **style: "Unpack[Style]") -> str:
+def format(text: str, *, syntax: str = "gfm", extensions: Iterable[str] = (), also_read: Union[str, Iterable[str]] = (),
+           also: Union[str, Iterable[str]] = (), **style: "Unpack[Style]") -> str:
     """Returns a Markdown text in one style. It parses to the same events; texts side by side count as one. A block that would
-    parse otherwise keeps its lines. Under the syntaxes in `also`, a name or several, the text has the same blocks as before.
+    parse otherwise keeps its lines. Under the syntaxes in `also_read`, a name or several, the text has the same blocks as
+    before. `also` is another name of `also_read`, and `delimiter` one of `ordered`.
 
-    `bullet` is "*", "-" or "+", `delimiter` "." or ")", and `fence` "`" or "~"; "", the default, keeps what the source has.
-    `emphasis` and `strong` are "*" (the default) or "_", `numbering` "source" (the default), "first" or "increment",
+    `bullet` is "*", "-" or "+", `ordered` "." or ")", and `fence` "`" or "~"; "source", the default, or "" keeps what the source
+    has. `emphasis` is "*" (the default) or "_", `strong` "**" (the default) or "__", or one of these characters, and
+    `numbering` "source" (the default), "first" or "increment",
     `hard_break` "source" (the default), "backslash" or "spaces", and `rule` "---" (the default) or "source". A fence has at
     least `fence_length` characters, from 3 (the default) to 1,000. Tables are padded up to `table_width` columns, from 1 to
     1,000 (the default is 120), and wider ones if they are aligned. `wrap` is "keep" (the default), "no", which joins the lines
@@ -297,14 +299,14 @@ def format(text: str, *, syntax: str = "gfm", extensions: Iterable[str] = (), al
     >>> import tocmark
     >>> tocmark.format("Title\\n=====\\n*  a\\n*  b", bullet="-")
     '# Title\\n\\n- a\\n- b\\n'
-    >>> tocmark.format("a\\n|b|\\n|-|\\n", also="commonmark")
+    >>> tocmark.format("a\\n|b|\\n|-|\\n", also_read="commonmark")
     'a\\n|b|\\n|-|\\n'
     >>> tocmark.format("a", bullet="x")
     Traceback (most recent call last):
-    tocmark.InvalidStyle: bullet must be one of * - +, or empty, and not 'x'
+    tocmark.InvalidStyle: bullet must be one of * - + source, or empty, and not 'x'
 
     Raises `InvalidStyle`; `ValueError` for another name or number; `UnicodeEncodeError` as `read`; `MemoryError`.
     """
-    data, others = encoded("text", text), flags_of_each(also)
+    data, others = encoded("text", text), flags_of_each(also_read, also)
     return _text(*_library.answer(_library.format_text, data, len(data), flags_of(syntax, extensions), others, len(others),
                                   style_of(**style), guess=2 * len(data) + 256))

@@ -47,14 +47,15 @@ def replace_file(path: Path, old: str, new: str) -> None:
 
 
 def format_file(path: Path, *, check: bool = False, syntax: str = "gfm", extensions: Iterable[str] = (),
-                also: Union[str, Iterable[str]] = (), **style: "Unpack[Style]") -> bool:
+                also_read: Union[str, Iterable[str]] = (), also: Union[str, Iterable[str]] = (),
+                **style: "Unpack[Style]") -> bool:
     """Formats a file in place, as `format` does. Returns whether it changed; with `check`, whether it would, and writes
     nothing. The file has its old text or its new one at each time.
 
     Raises what `format` does, `OSError`, and `UnicodeDecodeError` if the file isn't UTF-8.
     """
     old = read_file(path)
-    new = _calls.format(old, syntax=syntax, extensions=extensions, also=also, **style)
+    new = _calls.format(old, syntax=syntax, extensions=extensions, also_read=also_read, also=also, **style)
     if new != old and not check:
         replace_file(path, old, new)
     return new != old

@@ -24,8 +24,9 @@ SYNTAXES: Mapping[str, int] = {
 _NUMBERINGS = {"source": 0, "first": 1, "increment": 2}
 _HARD_BREAKS = {"source": 0, "backslash": 1, "spaces": 2}
 _RULES = {"---": 0, "source": 1}
-_MARKS = {"bullet": ("", "*", "-", "+"), "delimiter": ("", ".", ")"), "fence": ("", "`", "~"), "emphasis": ("", "*", "_"),
-          "strong": ("", "*", "_")}
+#: What the options of marks take beside "", the default. `delimiter` is another name of `ordered`.
+_MARKS = {"bullet": ("*", "-", "+", "source"), "ordered": (".", ")", "source"), "delimiter": (".", ")", "source"),
+          "fence": ("`", "~", "source"), "emphasis": ("*", "_"), "strong": ("*", "_", "**", "__")}
 _WRAPS: dict[int | str, int] = {"keep": 0, "no": 2**32 - 1}
 
 _TOKENS = {"code_block_token": ("`", "~"), "list_token": ("*", "-", "+"), "ordered_list_token": (".", ")"),
@@ -51,10 +52,9 @@ def flags_of(syntax: str, extensions: Iterable[str]) -> int:
     return flags
 
 
-def flags_of_each(syntaxes: str | Iterable[str]) -> Any:
-    """Returns an array of the flags of each of some syntaxes, or of one."""
-    names = [syntaxes] if isinstance(syntaxes, str) else list(syntaxes)
-    flags = [flags_of(name, ()) for name in names]
+def flags_of_each(*groups: str | Iterable[str]) -> Any:
+    """Returns an array of the flags of each syntax in some groups, where a group is a name or several."""
+    flags = [flags_of(name, ()) for group in groups for name in ([group] if isinstance(group, str) else group)]
     return (_library.ctypes.c_uint32 * len(flags))(*flags)
 
 
@@ -83,8 +83,20 @@ def _is_size(value: Any, least: int) -> bool:
     return isinstance(value, int) and not isinstance(value, bool) and least <= value <= 1000
 
 
-def style_of(*, bullet: str = "", delimiter: str = "", numbering: str = "source", emphasis: str = "*", strong: str = "*",
-             fence: str = "", fence_length: int = 3, hard_break: str = "source", rule: str = "---",
+def _codes_of(marks: Mapping[str, str]) -> dict[str, int]:
+    """Returns the number of the character of each mark, or 0 for the default, or raises `InvalidStyle`."""
+    for name, mark in marks.items():
+        if mark != "" and mark not in _MARKS[name]:
+            raise InvalidStyle(-15, cause=f"{name} must be one of {' '.join(_MARKS[name])}, or empty, and not {mark!r}")
+    if marks["ordered"] and marks["delimiter"]:
+        raise TypeError("ordered and delimiter are one option: pass one of them")
+    codes = {name: 0 if mark in ("", "source") else ord(mark[0]) for name, mark in marks.items()}
+    codes["delimiter"] += codes.pop("ordered")
+    return codes
+
+
+def style_of(*, bullet: str = "", ordered: str = "", delimiter: str = "", numbering: str = "source", emphasis: str = "",
+             strong: str = "", fence: str = "", fence_length: int = 3, hard_break: str = "source", rule: str = "---",
              table_width: int = 120, wrap: int | str = "keep", list_indent: int | str = "marker") -> _library.Style:
     """Returns a style, or raises `ValueError` if a name or a number can't be, and `InvalidStyle` if a character can't."""
     for name, known in ((numbering, _NUMBERINGS), (hard_break, _HARD_BREAKS), (rule, _RULES)):
@@ -98,12 +110,9 @@ def style_of(*, bullet: str = "", delimiter: str = "", numbering: str = "source"
         raise ValueError(f"wrap must be keep, no, or from 1 to 1000, and not {wrap!r}")
     if list_indent not in ("marker", 4):
         raise ValueError(f"list_indent must be marker or 4, and not {list_indent!r}")
-    style = _library.Style(numbering=_NUMBERINGS[numbering], hard_break=_HARD_BREAKS[hard_break], rule=_RULES[rule],
-                           fence_length=fence_length, table_width=table_width, wrap=_WRAPS.get(wrap, wrap),
-                           list_indent=0 if list_indent == "marker" else 4)
-    for part, mark in (("bullet", bullet), ("delimiter", delimiter), ("emphasis", emphasis), ("strong", strong), ("fence", fence)):
-        if mark not in _MARKS[part]:
-            raise InvalidStyle(-15, cause=f"{part} must be one of {' '.join(_MARKS[part][1:])}, or empty, and not {mark!r}")
-        setattr(style, part, ord(mark) if mark else 0)
-    style.size = _library.ctypes.sizeof(style)
-    return style
+    codes = _codes_of({"bullet": bullet, "ordered": ordered, "delimiter": delimiter, "emphasis": emphasis, "strong": strong,
+                       "fence": fence})
+    return _library.Style(size=_library.ctypes.sizeof(_library.Style), numbering=_NUMBERINGS[numbering],
+                          hard_break=_HARD_BREAKS[hard_break], rule=_RULES[rule], fence_length=fence_length,
+                          table_width=table_width, wrap=_WRAPS.get(wrap, wrap),
+                          list_indent=0 if list_indent == "marker" else 4, **codes)

@@ -105,12 +105,13 @@ class Options(TypedDict, total=False):
 class Style(TypedDict, total=False):
     """The style of a formatted text."""
 
-    bullet: Literal["", "*", "-", "+"]
-    delimiter: Literal["", ".", ")"]
+    bullet: Literal["", "source", "*", "-", "+"]
+    ordered: Literal["", "source", ".", ")"]
+    delimiter: Literal["", "source", ".", ")"]
     numbering: Literal["source", "first", "increment"]
-    emphasis: Literal["*", "_"]
-    strong: Literal["*", "_"]
-    fence: Literal["", "`", "~"]
+    emphasis: Literal["", "*", "_"]
+    strong: Literal["", "*", "_", "**", "__"]
+    fence: Literal["", "source", "`", "~"]
     fence_length: int
     hard_break: Literal["source", "backslash", "spaces"]
     rule: Literal["---", "source"]

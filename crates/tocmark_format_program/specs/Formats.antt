@@ -31,6 +31,7 @@ IsOutputFault (fault.NotUtf8 line) = ⊥
 IsOutputFault fault.Name = ⊥
 IsOutputFault fault.NameWithin = ⊥
 IsOutputFault fault.NotRegular = ⊥
+IsOutputFault fault.NotIncluded = ⊥
 IsOutputFault fault.Glob = ⊥
 IsOutputFault (fault.Ignores e) = ⊥
 IsOutputFault (fault.Replace e) = ⊥

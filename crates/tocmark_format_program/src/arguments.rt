@@ -2,7 +2,7 @@
 
 use crate::lookup::{Refused, whole_path};
 use crate::outcome::Terms;
-use crate::rules::{Rules, WANTED};
+use crate::rules::Rules;
 use crate::settings::{KEYS, Key, Setting, Settings, set_all};
 use clap::{Arg, ArgAction, ArgMatches, Command};
 use std::alloc::{AllocError, Global};
@@ -10,7 +10,7 @@ use tocmark_command::options::{CommandOption, Takes, with_options};
 use tocmark_command::syntax::with_syntax;
 
 /// What becomes of formatted texts.
-#[derive(Clone, Copy, Drop)]
+#[derive(Clone, Copy)]
 pub struct Task {
     /// Why the call ends with status 1.
     pub terms: Terms,
@@ -28,7 +28,7 @@ impl Task {
 }
 
 /// How much is printed.
-#[derive(Clone, Copy, Drop)]
+#[derive(Drop)]
 pub struct Voice {
     /// The summary isn't printed.
     pub is_quiet: bool,
@@ -42,14 +42,14 @@ pub struct Choice {
     /// The options of the style.
     pub(crate) values: Vec<Setting>,
     pub exclude: Rules,
-    /// Which files are formatted below a folder. `None`: those with names of Markdown.
+    /// Which files are formatted. `None`: those with names of Markdown.
     pub include: Option<Rules>,
     /// Whether `.gitignore` files hold.
     pub respects_ignores: bool,
 }
 
 /// Whether a diff is coloured.
-#[derive(Clone, Copy, Drop)]
+#[derive(Clone, Copy)]
 pub enum Color {
     /// On a terminal, unless the environment has `NO_COLOR`.
     Auto,
@@ -202,7 +202,7 @@ static FILES: [CommandOption<'static>; 6] = [
         name: "include",
         letter: None,
         takes: Takes::Values("GLOB"),
-        help: "Below folders, format what matches, and not *.md,\n*.markdown, *.mdown and *.mkd; repeatable",
+        help: "Format the files that match, and not *.md,\n*.markdown, *.mdown and *.mkd; repeatable",
     },
     CommandOption {
         name: "no-ignore",
@@ -354,21 +354,12 @@ fn globs_of(
     };
     let folder = whole_path(rt, ".")?;
     let mut rules = Rules::new(rt.alloc(), folder.as_str())?;
-    if add_globs(rt.alloc(), &mut rules, globs)? {
-        Ok(Some(rules))
-    } else {
-        Err(Refused::Option(option, WANTED))
-    }
-}
-
-/// Adds globs to rules. `Ok(false)`: one of them is none.
-fn add_globs(alloc: Global, rules: &mut Rules, globs: &[&str]) -> Result<bool, AllocError> {
     for glob in globs {
-        if !rules.add_glob(alloc, glob)? {
-            return Ok(false);
+        if let Some(wanted) = rules.add_glob(rt.alloc(), option, glob)? {
+            return Err(Refused::Option(option, wanted));
         }
     }
-    Ok(true)
+    Ok(Some(rules))
 }
 
 /// The globs of `exclude`.

@@ -1,6 +1,6 @@
 //! Configuration files: TOML, whose keys are the long options of formatting, `exclude`, `include` and `overrides`.
 
-use crate::rules::{Entry, Rules, WANTED};
+use crate::rules::{Entry, Rules};
 use crate::settings::{Key, Setting, Settings, key_named, set_all};
 use crate::text::{line_behind, text_of};
 use std::alloc::{AllocError, AllocFailed, Global};
@@ -14,7 +14,7 @@ pub(crate) struct Configuration {
     settings: Settings,
     /// Which files aren't formatted.
     pub(crate) exclude: Rules,
-    /// Which files are formatted below a folder. `None`: those with names of Markdown.
+    /// Which files are formatted. `None`: those with names of Markdown.
     pub(crate) include: Option<Rules>,
     overrides: Vec<Override>,
 }
@@ -32,7 +32,7 @@ pub enum ConfigError {
     /// The first line that isn't UTF-8.
     NotUtf8(usize),
     /// Why it is no TOML, and the line where that shows.
-    NotToml(toml::de::Error, Option<usize>),
+    NotToml(String, Option<usize>),
     /// A key, and its line where it is found.
     UnknownKey(String, Option<usize>),
     /// A key, its line where it is found, and what it takes.
@@ -85,9 +85,9 @@ impl fmt::Display for ConfigError {
     fn fmt<W: fmt::Write>(&self, f: &mut fmt::Formatter<W>) -> fmt::Result {
         match self {
             ConfigError::NotUtf8(line) => write!(f, ":{line}: the line is not UTF-8"),
-            ConfigError::NotToml(error, line) => {
+            ConfigError::NotToml(why, line) => {
                 place(f, *line)?;
-                f.write_str(error.message())
+                f.write_str(why.as_str())
             }
             ConfigError::UnknownKey(key, line) => {
                 place(f, *line)?;
@@ -159,8 +159,12 @@ impl<'t> Source<'t> {
             Ok(table) => Ok(table),
             Err(error) if error.is_memory() => Err(ConfigError::OutOfMemory),
             Err(error) => {
-                let line = error.span().map(|span| line_at(self.text, span.start));
-                Err(ConfigError::NotToml(error, line))
+                let line = match error.span() {
+                    Some(span) => Some(line_at(self.text, span.start)),
+                    None => None,
+                };
+                let why = String::from_str(self.alloc, error.message())?;
+                Err(ConfigError::NotToml(why, line))
             }
         }
     }
@@ -188,8 +192,8 @@ impl<'t> Source<'t> {
             let Some(glob) = value.as_str() else {
                 return Err(self.wrong(key, GLOBS));
             };
-            if !rules.add_glob(self.alloc, glob)? {
-                return Err(self.wrong(key, WANTED));
+            if let Some(wanted) = rules.add_glob(self.alloc, key, glob)? {
+                return Err(self.wrong(key, wanted));
             }
         }
         Ok(())

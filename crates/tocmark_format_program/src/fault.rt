@@ -25,6 +25,8 @@ pub enum Fault {
     NameWithin,
     #[error("is no regular file")]
     NotRegular,
+    #[error("is not formatted: no glob of include matches it; if it is Markdown, pass --include GLOB")]
+    NotIncluded,
     #[error("a .gitignore that holds in it cannot be read: {0}")]
     Ignores(io::Error),
     #[error("{0}")]

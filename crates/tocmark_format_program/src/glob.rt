@@ -30,7 +30,7 @@ enum Token {
 }
 
 /// How a glob is matched.
-#[derive(Clone, Copy, Drop)]
+#[derive(Clone, Copy)]
 enum Shape {
     /// It is the text.
     Literal,
@@ -51,7 +51,7 @@ pub struct Glob {
 }
 
 /// The braces that are open.
-#[derive(Clone, Copy, Drop)]
+#[derive(Drop)]
 struct Group {
     /// The place of the last alternative's fork.
     fork: usize,

@@ -93,7 +93,10 @@ impl Ignores {
     ) -> Result<bool, AllocError> {
         let mut next = level;
         for _ in 0..self.levels.len() {
-            let Some(Level { rules, above }) = next.and_then(|at| self.levels.get(at)) else {
+            let Some(at) = next else {
+                break;
+            };
+            let Some(Level { rules, above }) = self.levels.get(at) else {
                 break;
             };
             if let Some(verdict) = rules.verdict(alloc, entry)? {

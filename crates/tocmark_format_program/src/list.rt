@@ -1,7 +1,7 @@
 //! Lists of files, as `--files-from` reads them.
 
 use crate::fault::Fault;
-use crate::lookup::Refused;
+use crate::lookup::{MISSING, Refused};
 use crate::quoted::unquoted;
 use crate::search::Search;
 use std::io::Read;
@@ -39,9 +39,9 @@ fn add_name(rt: &HostRuntime, search: &mut Search, name: &[u8]) -> Result<(), Re
 fn fault_of(bytes: &[u8], end: u8) -> Option<&'static str> {
     let has_nul = bytes.contains(&0);
     if end != 0 && has_nul {
-        Some("a NUL: pass -0 for names that end with one")
+        Some("the list of files has a NUL: pass -0 for names that end with one")
     } else if end == 0 && !has_nul && bytes.contains(&b'\n') {
-        Some("no NUL: leave out -0 for a name a line")
+        Some("the list of files has no NUL: leave out -0 for a name a line")
     } else {
         None
     }
@@ -97,14 +97,14 @@ pub fn add_list(rt: &HostRuntime, search: &mut Search, path: &str, end: u8) -> R
         Err(error) => {
             let path = String::from_str(rt.alloc(), path)?;
             if error.kind() == io::ErrorKind::NotFound {
-                return Err(Refused::Missing(path));
+                return Err(Refused::File(path, MISSING));
             }
             return Err(Refused::Unreadable(path, error));
         }
     };
     if let Some(why) = fault_of(&bytes, end) {
         let name = String::from_str(rt.alloc(), shown_name(path))?;
-        return Err(Refused::List(name, why));
+        return Err(Refused::File(name, why));
     }
     add_names(rt, search, path, &bytes, end)
 }

@@ -11,6 +11,12 @@ use std::{fmt, fs, io};
 /// The name of configuration files.
 const NAME: &str = ".tocmark.toml";
 
+/// What is said of a file that isn't there.
+pub const MISSING: &str = "no such file";
+
+/// What is said of a configuration file that isn't there, though something has its name.
+const DANGLING: &str = "is a link to a file that isn't there";
+
 /// Why a call is refused before anything is done.
 #[derive(Drop)]
 pub enum Refused {
@@ -18,14 +24,10 @@ pub enum Refused {
     Option(&'static str, &'static str),
     /// Options that don't go together, and why.
     Usage(&'static str),
-    /// A file that isn't there.
-    Missing(String),
-    /// A link to a configuration file that isn't there.
-    Dangling(String),
+    /// A configuration file or a list of files, and what is wrong with it.
+    File(String, &'static str),
     /// A configuration file or a list that can't be read.
     Unreadable(String, io::Error),
-    /// A list of files, and what is wrong in it.
-    List(String, &'static str),
     /// A list of files, a line of it, and what is wrong there.
     ListLine(String, usize, &'static str),
     /// A configuration file, and what is wrong in it.
@@ -49,9 +51,9 @@ impl Refused {
     /// The file that it is about.
     fn path(&self) -> Option<&str> {
         match self {
-            Refused::Missing(path) | Refused::Dangling(path) => Some(path.as_str()),
+            Refused::File(path, _) => Some(path.as_str()),
             Refused::Unreadable(path, _) => Some(path.as_str()),
-            Refused::List(path, _) | Refused::ListLine(path, _, _) => Some(path.as_str()),
+            Refused::ListLine(path, _, _) => Some(path.as_str()),
             Refused::Wrong(path, _) => Some(path.as_str()),
             _ => None,
         }
@@ -67,10 +69,8 @@ impl fmt::Display for Refused {
         match self {
             Refused::Option(option, wanted) => write!(f, "--{option} wants {wanted}"),
             Refused::Usage(why) => f.write_str(why),
-            Refused::Missing(_) => f.write_str(": no such file"),
-            Refused::Dangling(_) => f.write_str(": is a link to a file that isn't there"),
+            Refused::File(_, why) => write!(f, ": {why}"),
             Refused::Unreadable(_, error) => write!(f, ": cannot be read: {error}"),
-            Refused::List(_, why) => write!(f, ": the list of files has {why}"),
             Refused::ListLine(_, line, why) => write!(f, ":{line}: {why}"),
             Refused::Wrong(_, error) => write!(f, "{error}"),
             Refused::OutOfMemory => f.write_str("out of memory"),
@@ -143,7 +143,7 @@ fn configuration_in(rt: &HostRuntime, path: &str) -> Result<Option<Configuration
 fn named_configuration(rt: &HostRuntime, path: &str) -> Result<Configuration, Refused> {
     match configuration_in(rt, path)? {
         Some(configuration) => Ok(configuration),
-        None => Err(Refused::Missing(String::from_str(rt.alloc(), path)?)),
+        None => Err(Refused::File(String::from_str(rt.alloc(), path)?, MISSING)),
     }
 }
 
@@ -152,7 +152,7 @@ fn configuration_of(rt: &HostRuntime, folder: Path<'_>) -> Result<Option<Configu
     let path: PathBuf = folder.join(rt.alloc(), NAME)?;
     let found = configuration_in(rt, path.as_path().as_str())?;
     if found.is_none() && fs::symlink_metadata(rt, path.as_path()).is_ok() {
-        return Err(Refused::Dangling(path.into_string()));
+        return Err(Refused::File(path.into_string(), DANGLING));
     }
     Ok(found)
 }

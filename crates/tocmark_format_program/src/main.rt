@@ -260,15 +260,18 @@ fn is_colored(rt: &HostRuntime, color: Color) -> bool {
     }
 }
 
-/// Whether standard input is the only text.
-fn is_only_input(found: &Found) -> bool {
+/// Whether there is a summary: not of standard input alone, nor of folders without files alone.
+fn has_summary(found: &Found) -> bool {
+    if !found.failures.is_empty() {
+        return true;
+    }
     match found.targets.as_slice() {
-        [] => false,
+        [] => found.empty.is_empty(),
         [only] => match only.origin {
-            Origin::File => false,
-            _ => found.failures.is_empty(),
+            Origin::File => true,
+            _ => false,
         },
-        _ => false,
+        _ => true,
     }
 }
 
@@ -375,16 +378,19 @@ fn perform(
     for path in &found.excluded {
         report.note(path.as_str(), "excluded");
     }
+    for path in &found.empty {
+        report.found_nothing(path.as_str());
+    }
     do_all(rt, work, &found.targets, report, &mut outcomes)?;
     if !work.task.is_dry() {
         for path in &found.left_behind {
             remove_left(rt, path.as_str());
         }
     }
-    if is_only_input(found) {
-        report.clear();
-    } else {
+    if has_summary(found) {
         report.end(&outcomes);
+    } else {
+        report.clear();
     }
     Ok(status_of(&outcomes, work.task.terms))
 }

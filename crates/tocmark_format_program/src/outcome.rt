@@ -17,7 +17,7 @@ pub struct Outcome {
 }
 
 /// Why a call ends with status 1, beside a failure.
-#[derive(Clone, Copy, Drop)]
+#[derive(Clone, Copy)]
 pub struct Terms {
     /// A text that would change.
     pub checks: bool,

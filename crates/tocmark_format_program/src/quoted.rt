@@ -84,12 +84,14 @@ fn unescaped(rest: &[u8]) -> Option<(u8, &[u8])> {
     Some((byte, rest.get(1..)?))
 }
 
+/// What stands between quotation marks.
+fn within_marks(quoted: &[u8]) -> Option<&[u8]> {
+    quoted.strip_prefix(b"\"")?.strip_suffix(b"\"")
+}
+
 /// The name that Git shows in quotation marks with escapes; `None` if it isn't shown so.
 pub fn unquoted(alloc: Global, quoted: &[u8]) -> Result<Option<Vec<u8>>, AllocError> {
-    let Some(inner) = quoted
-        .strip_prefix(b"\"")
-        .and_then(|rest| rest.strip_suffix(b"\""))
-    else {
+    let Some(inner) = within_marks(quoted) else {
         return Ok(None);
     };
     let mut name = Vec::new(alloc);

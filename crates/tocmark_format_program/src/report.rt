@@ -9,7 +9,7 @@ use std::io::Write;
 use tocmark_format::{Left, Reason};
 
 /// How many texts there were, and what became of them.
-#[derive(Clone, Copy, Drop)]
+#[derive(Clone, Copy)]
 struct Totals {
     texts: usize,
     /// Those that were changed, or would be.
@@ -39,6 +39,10 @@ impl Totals {
     }
 }
 
+/// What is said of a folder that has no files to format.
+const NOTHING: &str =
+    "warning: no Markdown file is found below it; look at the path, include, exclude and .gitignore";
+
 /// Why a block keeps its lines.
 fn why(reason: Reason) -> &'static str {
     match reason {
@@ -48,7 +52,7 @@ fn why(reason: Reason) -> &'static str {
 }
 
 /// `1 file`, `2 files`.
-#[derive(Clone, Copy)]
+#[derive(Drop)]
 struct Count {
     number: usize,
     noun: &'static str,
@@ -63,7 +67,7 @@ impl fmt::Display for Count {
 }
 
 /// Totals, and whether files would be changed or were.
-#[derive(Clone, Copy)]
+#[derive(Drop)]
 struct Summary {
     totals: Totals,
     is_dry: bool,
@@ -103,7 +107,7 @@ impl fmt::Display for Summary {
 }
 
 /// Why a file failed.
-#[derive(Clone, Copy)]
+#[derive(Drop)]
 struct Failed<'m> {
     path: Quoted<'m>,
     fault: &'m Fault,
@@ -116,8 +120,8 @@ impl fmt::Display for Failed<'_> {
     }
 }
 
-/// What became of a file.
-#[derive(Clone, Copy)]
+/// What became of a file, or what a folder has.
+#[derive(Drop)]
 struct Note<'m> {
     path: Quoted<'m>,
     what: &'static str,
@@ -131,7 +135,7 @@ impl fmt::Display for Note<'_> {
 }
 
 /// A block that keeps its lines, by the first of them.
-#[derive(Clone, Copy)]
+#[derive(Drop)]
 struct Warning<'m> {
     path: Quoted<'m>,
     line: usize,
@@ -199,14 +203,24 @@ impl<E: Write + Drop> Report<E> {
         }
     }
 
+    /// Writes a line about a file or folder.
+    fn tell(&mut self, path: &str, what: &'static str) {
+        self.say(&Note {
+            path: Quoted(path),
+            what,
+        });
+    }
+
     /// Writes a line about a file, if each file is named.
     pub fn note(&mut self, path: &str, what: &'static str) {
         if self.voice.is_verbose {
-            self.say(&Note {
-                path: Quoted(path),
-                what,
-            });
+            self.tell(path, what);
         }
+    }
+
+    /// Warns of a folder that has no files to format.
+    pub fn found_nothing(&mut self, path: &str) {
+        self.tell(path, NOTHING);
     }
 
     /// Reports a file that was changed, or would be.

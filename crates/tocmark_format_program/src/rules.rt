@@ -4,7 +4,13 @@ use crate::glob::Glob;
 use std::alloc::{AllocError, Global};
 
 /// What a glob must be, as messages say it.
-pub const WANTED: &str = "a glob whose brackets and braces are closed";
+const CLOSED: &str = "a glob whose brackets and braces are closed";
+
+/// What a glob must be to match something below a folder.
+const NAMED: &str = "a glob for paths below the folder: no name in it is empty, . or ..";
+
+/// What a glob must be to match a file.
+const OF_FILES: &str = "a glob for files, without / at its end; docs/** means all below docs";
 
 /// A file or folder.
 #[derive(Clone, Copy)]
@@ -63,6 +69,21 @@ fn without_blanks(line: &str) -> &str {
     begin
 }
 
+/// What a glob of this key or option must be, if it can't match anything. All but those of `exclude` are for files alone.
+fn wanted_of(key: &str, text: &str) -> Option<&'static str> {
+    let text = match text.strip_suffix('/') {
+        Some(_) if key != "exclude" => return Some(OF_FILES),
+        Some(text) => text,
+        None => text,
+    };
+    for name in text.strip_prefix('/').unwrap_or(text).split('/') {
+        if name.is_empty() || name == "." || name == ".." {
+            return Some(NAMED);
+        }
+    }
+    None
+}
+
 /// A rule, whose glob is parsed. `Ok(None)`: it is no glob.
 fn rule_of(
     alloc: Global,
@@ -97,15 +118,23 @@ impl Rules {
         })
     }
 
-    /// Adds a glob of a configuration or a command line. `Ok(false)`: it is none.
-    pub fn add_glob(&mut self, alloc: Global, text: &str) -> Result<bool, AllocError> {
+    /// Adds a glob of this key or option. `Ok(Some(wanted))`: it isn't added, because it must be this.
+    pub fn add_glob(
+        &mut self,
+        alloc: Global,
+        key: &str,
+        text: &str,
+    ) -> Result<Option<&'static str>, AllocError> {
         let text = text.strip_prefix("./").unwrap_or(text);
+        if let Some(wanted) = wanted_of(key, text) {
+            return Ok(Some(wanted));
+        }
         match rule_of(alloc, text, false, true)? {
             Some(rule) => {
                 self.rules.push(rule)?;
-                Ok(true)
+                Ok(None)
             }
-            None => Ok(false),
+            None => Ok(Some(CLOSED)),
         }
     }
 

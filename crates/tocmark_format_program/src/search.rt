@@ -10,7 +10,7 @@ use std::collections::{HashMap, HashSet};
 use std::{fs, io};
 
 /// Where a text comes from, and what becomes of it.
-#[derive(Clone, Copy, Drop)]
+#[derive(Clone, Copy)]
 pub enum Origin {
     File,
     Input,
@@ -41,6 +41,8 @@ pub struct Found {
     pub failures: Vec<Failure>,
     /// Files that are named and excluded.
     pub excluded: Vec<String>,
+    /// Folders that are named and have no files to format.
+    pub empty: Vec<String>,
     /// Files below folders that look as if an interrupted call left them behind.
     pub left_behind: Vec<String>,
 }
@@ -114,6 +116,7 @@ impl Search {
                 targets: Vec::new(rt.alloc()),
                 failures: Vec::new(rt.alloc()),
                 excluded: Vec::new(rt.alloc()),
+                empty: Vec::new(rt.alloc()),
                 left_behind: Vec::new(rt.alloc()),
             },
         })
@@ -206,7 +209,7 @@ impl Search {
         Ok(())
     }
 
-    /// Whether a file below a folder is one of those that are formatted.
+    /// Whether a file is one of those that are formatted.
     pub(crate) fn includes(
         &self,
         rt: &HostRuntime,
@@ -264,12 +267,15 @@ impl Search {
         }
     }
 
-    /// Adds a file that is named.
+    /// Adds a file that is named, if it is one of those that are formatted.
     fn add_file(&mut self, rt: &HostRuntime, path: &str) -> Result<(), Refused> {
         let whole = self.whole(rt, path)?;
         let configuration = self.nearest(rt, folder_of(whole.as_str()))?;
         if self.covers(rt, configuration, Entry::file(whole.as_str()))? {
             return self.exclude(rt, path);
+        }
+        if !self.includes(rt, configuration, whole.as_str())? {
+            return self.fail(rt, path, Fault::NotIncluded);
         }
         if let Some(target) = self.target(rt, configuration, path, whole)? {
             self.found.targets.push(target)?;

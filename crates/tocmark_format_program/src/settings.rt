@@ -4,7 +4,7 @@ ghost use Rattle.std.specs.Prelude.{◌≡◌, ◌++◌, IfOk, OnOk};
 ghost use Rattle.tocmark_format_program.specs.AlsoRead.{also_flags, asked_flags};
 
 use std::alloc::{AllocError, Global};
-use tocmark_command::syntax::{extension_named, syntax_named};
+use tocmark_command::syntax::{extended, syntax_named};
 use tocmark_event::event::ParserOptions;
 use tocmark_format::{
     Bullet, Delimiter, Fence, HardBreak, ListIndent, Marker, Numbering, Rule, Style, Wrap,
@@ -213,20 +213,6 @@ fn put<T: Copy>(field: &mut T, value: Option<T>) -> bool {
     }
 }
 
-/// The flags with the extension of this name, or without it where `no-` stands before.
-fn extended(flags: ParserOptions, name: &str) -> Option<ParserOptions> {
-    match name.strip_prefix("no-") {
-        Some(name) => {
-            let flag = extension_named(name)?;
-            Some(ParserOptions(flags.0 & !flag.0))
-        }
-        None => {
-            let flag = extension_named(name)?;
-            Some(ParserOptions(flags.0 | flag.0))
-        }
-    }
-}
-
 /// The length of a fence that a word says.
 fn length_of(word: &str) -> Option<usize> {
     let length: usize = word.parse().ok()?;
@@ -275,8 +261,8 @@ pub(crate) fn set(settings: &mut Settings, key: Key, word: &str) -> bool {
     match key {
         Key::Syntax => put(flags, syntax_named(word)),
         Key::Extension => {
-            let extended = extended(*flags, word);
-            put(flags, extended)
+            let with = extended(*flags, word);
+            put(flags, with)
         }
         Key::AlsoRead => {
             let with = also.with(word);

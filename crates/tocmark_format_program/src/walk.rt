@@ -4,6 +4,7 @@ use crate::fault::Fault;
 use crate::lookup::{Refused, joined, whole_path};
 use crate::rules::Entry;
 use crate::search::{Search, Target, is_markdown};
+use std::cmp::Ordering;
 use std::fs::DirEntry;
 use std::{fs, io};
 use tocmark_command::replace::replaced_by;
@@ -32,6 +33,8 @@ struct Scope<'f> {
 struct Walk {
     folders: Vec<Folder>,
     targets: Vec<Target>,
+    /// Whether a file is found, even if it was found before.
+    has_files: bool,
 }
 
 impl Walk {
@@ -53,6 +56,10 @@ impl Walk {
     }
 }
 
+fn by_path(one: &Target, other: &Target) -> Ordering {
+    one.path.cmp(&other.path)
+}
+
 /// Why a folder's entry can't be looked at. Only a name that isn't UTF-8 is no valid one here.
 fn entry_fault(error: io::Error) -> Fault {
     if error.kind() == io::ErrorKind::InvalidFilename {
@@ -63,7 +70,7 @@ fn entry_fault(error: io::Error) -> Fault {
 }
 
 impl Search {
-    /// Adds the files below a folder, in the order of their paths' bytes.
+    /// Adds the files below a folder that is named, in the order of their paths' bytes.
     pub(crate) fn add_below(&mut self, rt: &HostRuntime, path: &str) -> Result<(), Refused> {
         let whole = whole_path(rt, path)?;
         if self.is_excluded_folder(rt, whole.as_str())? {
@@ -73,11 +80,21 @@ impl Search {
         let mut walk = Walk {
             folders: Vec::new(rt.alloc()),
             targets: Vec::new(rt.alloc()),
+            has_files: false,
         };
+        let failures = self.found.failures.len();
         walk.add_folder(rt, path, whole, ignores)?;
         self.walk(rt, &mut walk)?;
-        let Walk { targets, .. } = walk;
-        self.add_sorted(targets)
+        let Walk {
+            targets,
+            has_files,
+            ..
+        } = walk;
+        self.add_sorted(targets)?;
+        if !has_files && self.found.failures.len() == failures {
+            self.found.empty.push(String::from_str(rt.alloc(), path)?)?;
+        }
+        Ok(())
     }
 
     /// Searches the folders that are still to be searched, and those that are found in them.
@@ -94,7 +111,7 @@ impl Search {
     /// Adds texts in the order of their paths' bytes.
     fn add_sorted(&mut self, targets: Vec<Target>) -> Result<(), Refused> {
         let mut targets = targets;
-        targets.sort_by(|one, other| one.path.cmp(&other.path))?;
+        targets.sort_by(by_path)?;
         for target in targets {
             self.found.targets.push(target)?;
         }
@@ -208,7 +225,11 @@ impl Search {
     ) -> Result<(), Refused> {
         let is_found = self.includes(rt, scope.configuration, whole.as_str())?
             && self.is_walked(rt, scope, whole.as_str(), false)?;
-        if is_found && let Some(target) = self.target(rt, scope.configuration, path, whole)? {
+        if !is_found {
+            return Ok(());
+        }
+        walk.has_files = true;
+        if let Some(target) = self.target(rt, scope.configuration, path, whole)? {
             walk.targets.push(target)?;
         }
         Ok(())
